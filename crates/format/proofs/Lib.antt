@@ -1,0 +1,4 @@
+pub mod FirstLaws
+pub mod HeadLaws
+pub mod EndsLaws
+pub mod ShapeLaws

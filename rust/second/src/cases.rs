@@ -1,0 +1,73 @@
+//! Named cases with the answers that the paper gives them, for both
+//! implementations.
+
+mod checking;
+mod reading;
+
+use crate::draft::Draft;
+
+/// A file, and its refusal (number, place) by [`crate::read`] and by
+/// [`crate::check`].
+pub struct Case {
+    pub name: &'static str,
+    pub file: Vec<u8>,
+    pub read: (u16, u16),
+    pub check: (u16, u16),
+}
+
+const END: [u16; 3] = [0, 0, 0];
+const CLEAN: (u16, u16) = (0, 0);
+
+/// The booking of the paper, word by word.
+pub const BOOKING: [u16; 41] = [
+    1, 2, 2, 2, 2, 1, 3, 13, 15, 23, 25, 29, 32, 3, 0, 1, 0, 0, 0, 3, 0, 0, 0, 0, 0, 2, 1, 2, 2, 1,
+    0, 1, 6, 257, 2, 6, 258, 2, 0, 0, 0,
+];
+
+/// Role 1 sends and receives on kind 1, role 2 on kind 2. Kind 1 is carried by
+/// kind 2. User 1 has both roles and channels 1 (kind 1) and 2 (kind 2), user 2 has
+/// no role and channel 3 (kind 1).
+fn clinic(nodes: &[[u16; 3]]) -> Draft {
+    Draft {
+        users: vec![[3], [0]],
+        roles: vec![[1, 0, 1, 0], [2, 0, 2, 0]],
+        kinds: vec![[0], [1]],
+        channels: vec![[1, 1], [1, 2], [2, 1]],
+        sessions: vec![[1, 0, 1]],
+        nodes: nodes.to_vec(),
+    }
+}
+
+/// A case in which reading and checking give one answer.
+fn same(name: &'static str, file: Vec<u8>, answer: (u16, u16)) -> Case {
+    Case {
+        name,
+        file,
+        read: answer,
+        check: answer,
+    }
+}
+
+/// A tree in the clinic that reads clean and is checked so.
+fn checked(name: &'static str, nodes: &[[u16; 3]], check: (u16, u16)) -> Case {
+    Case {
+        name,
+        file: clinic(nodes).bytes(),
+        read: CLEAN,
+        check,
+    }
+}
+
+/// All of them.
+pub fn cases() -> Vec<Case> {
+    [
+        reading::head(),
+        reading::records(),
+        reading::trees(),
+        checking::names(),
+        checking::roles(),
+    ]
+    .into_iter()
+    .flatten()
+    .collect()
+}

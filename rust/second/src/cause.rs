@@ -1,0 +1,191 @@
+//! Why a file is refused. The number follows from the cause.
+
+use crate::file::Section;
+use crate::Verdict;
+
+/// One way to be refused. `second` says that the node stands in a fork's
+/// second branch.
+#[derive(Clone, Copy, Debug, PartialEq, Eq, PartialOrd, Ord)]
+pub enum Cause {
+    Short,
+    Odd,
+    Version,
+    Count(Section),
+    Offset(Section),
+    Shorter,
+    Longer,
+    UserRoles,
+    RoleSends,
+    RoleReceives,
+    KindCarries,
+    OwnerZero,
+    OwnerAbove,
+    ChannelKindZero,
+    ChannelKindAbove,
+    SessionUserZero,
+    SessionUserAbove,
+    StartAbove,
+    StartNotAssigned,
+    Root,
+    NoNodesLeft,
+    Tag,
+    Unused { tag: u16, field: u16 },
+    SecondChild,
+    PastLast,
+    LeftOver,
+    NinthVariable,
+    UserOperandAbove,
+    ChannelOperandAbove,
+    Unbound,
+    MadeChannel,
+    NoName,
+    NewKindZero,
+    NewKindAbove,
+    OnRoleZero,
+    OnRoleAbove,
+    OffRoleZero,
+    OffRoleAbove,
+    SendOnPlain,
+    SendWrongKind,
+    ReceiveOnUser,
+    ReceiveOnPlainVariable,
+    ReceiveOnOthers,
+    ReceiveOnReceived,
+    ComparePlain,
+    CompareKinds,
+    OnNotAssigned { second: bool },
+    OffNotActive { second: bool },
+    SendNotAllowed { second: bool },
+    ReceiveNotAllowed { second: bool },
+}
+
+/// The fields that a tag leaves unused, tag by tag.
+const UNUSED: [(u16, u16); 9] = [
+    (0, 1),
+    (0, 2),
+    (1, 2),
+    (2, 1),
+    (2, 2),
+    (3, 2),
+    (5, 2),
+    (7, 2),
+    (8, 2),
+];
+
+impl Cause {
+    /// The refusal's number.
+    pub fn number(self) -> u16 {
+        use Cause::*;
+        match self {
+            Short | Odd => 1,
+            Version => 2,
+            Count(_) => 3,
+            Offset(_) => 4,
+            Shorter | Longer => 5,
+            UserRoles | RoleSends | RoleReceives | KindCarries | OwnerZero | OwnerAbove
+            | ChannelKindZero | ChannelKindAbove => 6,
+            SessionUserZero | SessionUserAbove | StartAbove | StartNotAssigned => 7,
+            Root
+            | NoNodesLeft
+            | Tag
+            | Unused { .. }
+            | SecondChild
+            | PastLast
+            | LeftOver
+            | NinthVariable => 8,
+            UserOperandAbove | ChannelOperandAbove | Unbound | MadeChannel | NoName
+            | NewKindZero | NewKindAbove | OnRoleZero | OnRoleAbove | OffRoleZero
+            | OffRoleAbove => 9,
+            SendOnPlain
+            | SendWrongKind
+            | ReceiveOnUser
+            | ReceiveOnPlainVariable
+            | ReceiveOnOthers
+            | ReceiveOnReceived
+            | ComparePlain
+            | CompareKinds => 10,
+            OnNotAssigned { .. } => 11,
+            OffNotActive { .. } => 12,
+            SendNotAllowed { .. } | ReceiveNotAllowed { .. } => 13,
+        }
+    }
+
+    /// Every cause, in the order of the numbers.
+    pub fn all() -> Vec<Cause> {
+        use Cause::*;
+        let mut all = vec![Short, Odd, Version];
+        all.extend(Section::ALL.map(Count));
+        all.extend(Section::ALL.map(Offset));
+        all.extend([
+            Shorter,
+            Longer,
+            UserRoles,
+            RoleSends,
+            RoleReceives,
+            KindCarries,
+            OwnerZero,
+            OwnerAbove,
+            ChannelKindZero,
+            ChannelKindAbove,
+            SessionUserZero,
+            SessionUserAbove,
+            StartAbove,
+            StartNotAssigned,
+            Root,
+            NoNodesLeft,
+            Tag,
+        ]);
+        all.extend(UNUSED.map(|(tag, field)| Unused { tag, field }));
+        all.extend([
+            SecondChild,
+            PastLast,
+            LeftOver,
+            NinthVariable,
+            UserOperandAbove,
+            ChannelOperandAbove,
+            Unbound,
+            MadeChannel,
+            NoName,
+            NewKindZero,
+            NewKindAbove,
+            OnRoleZero,
+            OnRoleAbove,
+            OffRoleZero,
+            OffRoleAbove,
+            SendOnPlain,
+            SendWrongKind,
+            ReceiveOnUser,
+            ReceiveOnPlainVariable,
+            ReceiveOnOthers,
+            ReceiveOnReceived,
+            ComparePlain,
+            CompareKinds,
+        ]);
+        for second in [false, true] {
+            all.extend([
+                OnNotAssigned { second },
+                OffNotActive { second },
+                SendNotAllowed { second },
+                ReceiveNotAllowed { second },
+            ]);
+        }
+        all.sort();
+        all
+    }
+}
+
+/// A cause and where it stands.
+#[derive(Clone, Copy, Debug, PartialEq, Eq)]
+pub struct Refusal {
+    pub cause: Cause,
+    pub place: u16,
+}
+
+impl Refusal {
+    pub fn verdict(self) -> Verdict {
+        Verdict {
+            number: self.cause.number(),
+            place: self.place,
+        }
+    }
+}

@@ -1,0 +1,49 @@
+//! A file in the making: the six sections as lists of words. The header
+//! follows from them.
+
+use crate::file::{Section, HEADER};
+
+/// The sections of a file that is yet to be written out.
+#[derive(Clone, Debug, Default)]
+pub struct Draft {
+    pub users: Vec<[u16; 1]>,
+    pub roles: Vec<[u16; 4]>,
+    pub kinds: Vec<[u16; 1]>,
+    pub channels: Vec<[u16; 2]>,
+    pub sessions: Vec<[u16; 3]>,
+    pub nodes: Vec<[u16; 3]>,
+}
+
+impl Draft {
+    /// The file, with the counts and offsets that these sections have.
+    pub fn bytes(&self) -> Vec<u8> {
+        let sections = [
+            self.users.as_flattened(),
+            self.roles.as_flattened(),
+            self.kinds.as_flattened(),
+            self.channels.as_flattened(),
+            self.sessions.as_flattened(),
+            self.nodes.as_flattened(),
+        ];
+        let mut words = vec![1];
+        let widths = Section::ALL.map(|section| usize::from(section.width()));
+        words.extend(
+            sections
+                .iter()
+                .zip(widths)
+                .map(|(s, w)| (s.len() / w) as u16),
+        );
+        let mut offset = HEADER;
+        for section in sections {
+            words.push(offset as u16);
+            offset += section.len();
+        }
+        words.extend_from_slice(&sections.concat());
+        to_bytes(&words)
+    }
+}
+
+/// Words as bytes, low byte first.
+pub fn to_bytes(words: &[u16]) -> Vec<u8> {
+    words.iter().flat_map(|word| word.to_le_bytes()).collect()
+}
