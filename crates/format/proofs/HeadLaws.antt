@@ -55,8 +55,8 @@ fits h c o =
     let at = h .at in
     let c′ = six (leb (n .users) 32) (leb (n .roles) 16) (leb (n .kinds) 32) (leb (n .channels) 64) (leb (n .sessions) 32) (leb (n .nodes) 1024) c in
     let o′ = six (eqb (at .users) 13) (eqb (at .roles) (at .users + n .users)) (eqb (at .kinds) (at .roles + 4 * n .roles))
-          (eqb (at .channels) (at .kinds + n .kinds)) (eqb (at .sessions) (at .channels + 2 * n .channels))
-          (eqb (at .nodes) (at .sessions + 3 * n .sessions)) o in
+    (eqb (at .channels) (at .kinds + n .kinds)) (eqb (at .sessions) (at .channels + 2 * n .channels))
+    (eqb (at .nodes) (at .sessions + 3 * n .sessions)) o in
     let first = eqb-true (at .users) 13 (o′ .0) in
     record {
       users = leb-true _ _ (c′ .0);
@@ -70,7 +70,7 @@ fits h c o =
       kinds-at = eqb-true _ _ (o′ .2);
       channels-at = eqb-true _ _ (o′ .3);
       sessions-at = eqb-true _ _ (o′ .4);
-      nodes-at = eqb-true _ _ (o′ .5)
+      nodes-at = eqb-true _ _ (o′ .5);
     }
 
 pub headed : (f : List ℕ) (h : Head) → headOf f ≡ Fine h → Headed f h
@@ -87,7 +87,7 @@ headed f h e =
       words = refl;
       version = eqb-true _ _ (p3 .0);
       laid = fits (headAt f) (p4 .0) (p5 .0);
-      size = eqb-true _ _ (p6 .0)
+      size = eqb-true _ _ (p6 .0);
     })
 
 -- a record's offset is a word

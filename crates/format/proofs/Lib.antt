@@ -1,4 +1,1 @@
-pub mod FirstLaws
 pub mod HeadLaws
-pub mod EndsLaws
-pub mod ShapeLaws

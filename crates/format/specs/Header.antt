@@ -14,13 +14,13 @@ use Rattle.format.specs.declared.HeadAnswer.the-variants.{Fine, Refused}
 -- six words, one for each section
 abbrev pub sixAt : List ℕ → ℕ → Six
 sixAt f i = record {
-      users = wordAt f i;
-      roles = wordAt f (i + 1);
-      kinds = wordAt f (i + 2);
-      channels = wordAt f (i + 3);
-      sessions = wordAt f (i + 4);
-      nodes = wordAt f (i + 5)
-    }
+  users = wordAt f i;
+  roles = wordAt f (i + 1);
+  kinds = wordAt f (i + 2);
+  channels = wordAt f (i + 3);
+  sessions = wordAt f (i + 4);
+  nodes = wordAt f (i + 5);
+}
 
 -- the version, the six counts, the six offsets
 abbrev pub headAt : List ℕ → Head

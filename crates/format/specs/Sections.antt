@@ -53,10 +53,10 @@ channelOf f h n = record { owner = wordAt f (placeOf h Channels n); kind = recor
 -- session: user, mask of roles active at the start, root node
 abbrev pub sessionOf : List ℕ → Head → ℕ → Session
 sessionOf f h n = record {
-      user = wordAt f (placeOf h Sessions n);
-      mask = wordAt f (placeOf h Sessions n + 1);
-      root = wordAt f (placeOf h Sessions n + 2)
-    }
+  user = wordAt f (placeOf h Sessions n);
+  mask = wordAt f (placeOf h Sessions n + 1);
+  root = wordAt f (placeOf h Sessions n + 2);
+}
 
 -- node: tag, f1, f2
 abbrev pub nodeAt : List ℕ → ℕ → Node

@@ -1,6 +1,14 @@
 // Where each record stands, and what it holds. Records are numbered from 1.
-use super::words::{wide, wide_word, word};
-use super::{Channel, Head, Node, Role, Section, Session, Six};
+use super::Channel;
+use super::Head;
+use super::Node;
+use super::Role;
+use super::Section;
+use super::Session;
+use super::Six;
+use super::words::wide;
+use super::words::wide_word;
+use super::words::word;
 use masks::ChannelKind;
 ghost use mathlib.Core.Path.{_≡_};
 ghost use Prim.Native.Nat.{ℕ, _+_, _*_, _≤_, _<_};
@@ -56,7 +64,10 @@ pub fn role(file: &[u8], head: Head, n: u16) -> Role
     ensures { λ r. ⌜ r ≡ roleOf (now (file .entry)) head n ⌝ }
 {
     let at = place_of(head, Section::Roles, n);
-    Role { sends: wide_word(file, at), receives: wide_word(file, at + 2) }
+    Role {
+        sends: wide_word(file, at),
+        receives: wide_word(file, at + 2),
+    }
 }
 
 // What the channels of a kind carry.
@@ -72,7 +83,10 @@ pub fn channel(file: &[u8], head: Head, n: u16) -> Channel
     ensures { λ r. ⌜ r ≡ channelOf (now (file .entry)) head n ⌝ }
 {
     let at = place_of(head, Section::Channels, n);
-    Channel { owner: word(file, at), kind: ChannelKind(word(file, at + 1)) }
+    Channel {
+        owner: word(file, at),
+        kind: ChannelKind(word(file, at + 1)),
+    }
 }
 
 pub fn session(file: &[u8], head: Head, n: u16) -> Session
@@ -80,7 +94,11 @@ pub fn session(file: &[u8], head: Head, n: u16) -> Session
     ensures { λ r. ⌜ r ≡ sessionOf (now (file .entry)) head n ⌝ }
 {
     let at = place_of(head, Section::Sessions, n);
-    Session { user: word(file, at), mask: word(file, at + 1), root: word(file, at + 2) }
+    Session {
+        user: word(file, at),
+        mask: word(file, at + 1),
+        root: word(file, at + 2),
+    }
 }
 
 pub fn node(file: &[u8], head: Head, n: u16) -> Node
@@ -88,5 +106,9 @@ pub fn node(file: &[u8], head: Head, n: u16) -> Node
     ensures { λ r. ⌜ r ≡ nodeAt (now (file .entry)) (placeOf head Nodes n) ⌝ }
 {
     let at = place_of(head, Section::Nodes, n);
-    Node { tag: word(file, at), f1: word(file, at + 1), f2: word(file, at + 2) }
+    Node {
+        tag: word(file, at),
+        f1: word(file, at + 1),
+        f2: word(file, at + 2),
+    }
 }

@@ -60,6 +60,7 @@ extern "C" {
 /// // Another version is refusal 2.
 /// assert_eq!(pilzdamo::read(&[9; 26]).number, 2);
 /// ```
+#[inline]
 pub fn read(file: &[u8]) -> Verdict {
     // SAFETY: the engine only reads the `len` bytes from `file` on, during the
     // call; a slice vouches for them, also where there are none.

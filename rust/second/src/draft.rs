@@ -47,3 +47,13 @@ impl Draft {
 pub fn to_bytes(words: &[u16]) -> Vec<u8> {
     words.iter().flat_map(|word| word.to_le_bytes()).collect()
 }
+
+/// Word `at` of a file that has it.
+pub fn word_at(file: &[u8], at: usize) -> u16 {
+    u16::from_le_bytes([file[2 * at], file[2 * at + 1]])
+}
+
+/// Writes word `at` of a file that has it.
+pub fn set_word(file: &mut [u8], at: usize, word: u16) {
+    file[2 * at..2 * at + 2].copy_from_slice(&word.to_le_bytes());
+}

@@ -2,7 +2,7 @@
 //! file has nothing to change, it stays as it is.
 
 use crate::rng::Rng;
-use second::draft::Draft;
+use second::draft::{set_word, word_at, Draft};
 use second::{Cause, Section};
 
 /// Changes the draft for a cause of 6 to 8.
@@ -22,16 +22,16 @@ pub fn at_bytes(rng: &mut Rng, file: &mut Vec<u8>, cause: Cause) {
         Cause::Short => file.truncate(rng.below(26)),
         Cause::Odd if rng.once_in(2) => file.push(0),
         Cause::Odd => file.truncate((26 + rng.below(file.len() - 25)) | 1),
-        Cause::Version => set(file, 0, other(rng, 1)),
+        Cause::Version => set_word(file, 0, other(rng, 1)),
         Cause::Count(section) => {
             let count = rng.from(section.most() + 1, u16::MAX);
             let least = section.most() + 1;
-            set(file, 1 + section as usize, *rng.of(&[least, count]));
+            set_word(file, 1 + section as usize, *rng.of(&[least, count]));
         }
         Cause::Offset(section) => {
             let at = 7 + section as usize;
-            let due = u16::from_le_bytes([file[2 * at], file[2 * at + 1]]);
-            set(file, at, other(rng, due));
+            let due = word_at(file, at);
+            set_word(file, at, other(rng, due));
         }
         Cause::Shorter => file.truncate(26 + even(rng.below(file.len() - 25).saturating_sub(1))),
         Cause::Longer => {
@@ -40,10 +40,6 @@ pub fn at_bytes(rng: &mut Rng, file: &mut Vec<u8>, cause: Cause) {
         }
         _ => {}
     }
-}
-
-fn set(file: &mut [u8], at: usize, word: u16) {
-    file[2 * at..2 * at + 2].copy_from_slice(&word.to_le_bytes());
 }
 
 /// Another word than `due`: a near one, 0, the largest or any.

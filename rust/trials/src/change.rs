@@ -1,31 +1,28 @@
 //! Changes without an aim, on words and on bytes.
 
 use crate::rng::Rng;
-use second::draft::{to_bytes, Draft};
+use second::draft::{set_word, word_at, Draft};
 use second::Section;
 
 /// Sets one word of the file: one of the header, or of a record of any
 /// section, all of them as likely.
 pub fn one_word(rng: &mut Rng, file: &mut [u8]) {
-    let word = |file: &[u8], at: usize| u16::from_le_bytes([file[2 * at], file[2 * at + 1]]);
     let count = file.len() / 2;
-    let part = rng.below(Section::ALL.len() + 1);
-    let start = if part == 0 {
-        0
-    } else {
-        word(file, 6 + part).into()
-    };
-    let end = match part {
-        0 => 13,
-        6 => count,
-        _ => word(file, 7 + part).into(),
+    let section = rng.below(Section::ALL.len() + 1);
+    let (start, end) = match section {
+        0 => (0, 13),
+        6 => (word_at(file, 12).into(), count),
+        _ => (
+            word_at(file, 6 + section).into(),
+            word_at(file, 7 + section).into(),
+        ),
     };
     if start >= end || end > count {
         return;
     }
     let at = start + rng.index(end - start);
-    let old = word(file, at);
-    let neighbour = word(file, start + rng.below(end - start));
+    let old = word_at(file, at);
+    let neighbour = word_at(file, start + rng.below(end - start));
     let new = match rng.below(8) {
         0 => 0,
         1 => old.wrapping_add(1),
@@ -36,7 +33,7 @@ pub fn one_word(rng: &mut Rng, file: &mut [u8]) {
         6 => *rng.of(&[8, 9, 16, 17, 32, 33, 64, 65, 257, 320, 512, 519, 1024, 1025]),
         _ => neighbour,
     };
-    file[2 * at..2 * at + 2].copy_from_slice(&new.to_le_bytes());
+    set_word(file, at, new);
 }
 
 /// Gives the nodes' fields any words, mostly small ones; tags and the forks'
@@ -108,34 +105,33 @@ pub fn noise(rng: &mut Rng) -> Vec<u8> {
         .collect()
 }
 
-/// A right header, and random words for all the rest.
-pub fn noise_behind_header(rng: &mut Rng, mut draft: Draft) -> Vec<u8> {
-    let narrow = rng.once_in(2);
-    let mut fill = |words: &mut [u16]| {
-        words.fill_with(|| if narrow { rng.from(0, 9) } else { rng.word() });
-    };
-    if !narrow {
-        fill(draft.users.as_flattened_mut());
-        fill(draft.roles.as_flattened_mut());
-        fill(draft.kinds.as_flattened_mut());
-        fill(draft.channels.as_flattened_mut());
-        fill(draft.sessions.as_flattened_mut());
+/// Gives all records random words, or only the nodes; the header stays right.
+pub fn any_words(rng: &mut Rng, draft: &mut Draft) {
+    match rng.below(3) {
+        0 => draft.nodes.as_flattened_mut().fill_with(|| rng.from(0, 9)),
+        1 => fill(draft, || rng.from(0, 3)),
+        _ => fill(draft, || rng.word()),
     }
-    fill(draft.nodes.as_flattened_mut());
-    draft.bytes()
 }
 
-/// A right header of small counts, and words of any small value for all the
-/// rest; sometimes the last is missing.
-pub fn header_alone(rng: &mut Rng) -> Vec<u8> {
-    let counts: Vec<u16> = (0..6).map(|_| rng.from(0, 2)).collect();
-    let mut words = [vec![1], counts.clone()].concat();
-    let mut offset = 13;
-    for (count, section) in counts.iter().zip(Section::ALL) {
-        words.push(offset);
-        offset += count * section.width();
+fn fill(draft: &mut Draft, mut word: impl FnMut() -> u16) {
+    draft.users.as_flattened_mut().fill_with(&mut word);
+    draft.roles.as_flattened_mut().fill_with(&mut word);
+    draft.kinds.as_flattened_mut().fill_with(&mut word);
+    draft.channels.as_flattened_mut().fill_with(&mut word);
+    draft.sessions.as_flattened_mut().fill_with(&mut word);
+    draft.nodes.as_flattened_mut().fill_with(&mut word);
+}
+
+/// Few records of any section, all words 0.
+pub fn blank(rng: &mut Rng) -> Draft {
+    let mut few = || rng.below(3);
+    Draft {
+        users: vec![[0; 1]; few()],
+        roles: vec![[0; 4]; few()],
+        kinds: vec![[0; 1]; few()],
+        channels: vec![[0; 2]; few()],
+        sessions: vec![[0; 3]; few()],
+        nodes: vec![[0; 3]; few()],
     }
-    let missing = usize::from(rng.once_in(4));
-    words.resize_with(usize::from(offset) - missing, || rng.from(0, 3));
-    to_bytes(&words)
 }

@@ -2,7 +2,7 @@
 
 use crate::aim;
 use crate::change;
-use crate::grow::grow;
+use crate::grow::{grow, Bent};
 use crate::rng::Rng;
 use crate::schema::{schema, Size};
 use crate::wild::Wild;
@@ -43,14 +43,15 @@ pub fn deal(seed: u64, index: u64) -> Vec<u8> {
             change::any_bytes(rng, &mut file);
             file
         }
-        20 => match rng.below(3) {
-            0 => change::noise(rng),
-            1 => change::header_alone(rng),
-            _ => {
-                let draft = any(rng, None);
-                change::noise_behind_header(rng, draft)
-            }
-        },
+        20 if rng.once_in(3) => change::noise(rng),
+        20 => {
+            let mut draft = match rng.below(2) {
+                0 => change::blank(rng),
+                _ => any(rng, None),
+            };
+            change::any_words(rng, &mut draft);
+            draft.bytes()
+        }
         21 => {
             let causes = reading();
             let several: Vec<Cause> = (0..2 + rng.below(3)).map(|_| *rng.of(&causes)).collect();
@@ -65,7 +66,7 @@ pub fn deal(seed: u64, index: u64) -> Vec<u8> {
 
 /// The largest file: 6,874 bytes that pass the check.
 pub fn largest(seed: u64) -> Vec<u8> {
-    sound(&mut Rng::new(seed, 0), Size::FULL, None).bytes()
+    usual(seed, Size::FULL)
 }
 
 /// A file of 40 nodes that passes the check.
@@ -78,12 +79,20 @@ pub fn typical(seed: u64) -> Vec<u8> {
         sessions: 4,
         nodes: 40,
     };
-    sound(&mut Rng::new(seed, 0), size, None).bytes()
+    usual(seed, size)
+}
+
+fn usual(seed: u64, size: Size) -> Vec<u8> {
+    let rng = &mut Rng::new(seed, 0);
+    let mut draft = schema(rng, size);
+    grow(rng, &mut draft, size.nodes, Bent::USUAL, None);
+    draft.bytes()
 }
 
 fn sound(rng: &mut Rng, size: Size, wild: Option<Wild>) -> Draft {
     let mut draft = schema(rng, size);
-    grow(rng, &mut draft, size.nodes, wild);
+    let bent = Bent::any(rng);
+    grow(rng, &mut draft, size.nodes, bent, wild);
     draft
 }
 

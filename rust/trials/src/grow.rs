@@ -10,7 +10,7 @@ pub const VARIABLES: usize = 8;
 
 /// How a file's trees branch.
 #[derive(Clone, Copy)]
-struct Bent {
+pub struct Bent {
     /// A node with room below it is a fork once in so many.
     fork_once_in: usize,
     /// Where most of a fork's nodes go.
@@ -26,7 +26,15 @@ enum Branch {
 }
 
 impl Bent {
-    fn any(rng: &mut Rng) -> Bent {
+    /// Some forks, as they come.
+    pub const USUAL: Bent = Bent {
+        fork_once_in: 6,
+        most_in: None,
+        rest: 1,
+    };
+
+    /// Any at all, from chains to forks alone.
+    pub fn any(rng: &mut Rng) -> Bent {
         Bent {
             fork_once_in: *rng.of(&[1, 2, 6, 6, 6, 6, 30]),
             most_in: *rng.of(&[None, None, Some(Branch::First), Some(Branch::Second)]),
@@ -72,7 +80,7 @@ pub struct Grower<'a> {
 }
 
 /// Gives each session a tree, of `nodes` nodes together; at least one each.
-pub fn grow(rng: &mut Rng, draft: &mut Draft, nodes: u16, wild: Option<Wild>) {
+pub fn grow(rng: &mut Rng, draft: &mut Draft, nodes: u16, bent: Bent, wild: Option<Wild>) {
     let count = draft.sessions.len();
     let mut sizes = vec![1; count];
     for _ in count..nodes.into() {
@@ -80,7 +88,6 @@ pub fn grow(rng: &mut Rng, draft: &mut Draft, nodes: u16, wild: Option<Wild>) {
             sizes[rng.below(count)] += 1;
         }
     }
-    let bent = Bent::any(rng);
     let mut wild = wild.map(|wild| (1 + rng.below(usize::from(nodes.max(1))), wild));
     for (session, size) in sizes.into_iter().enumerate() {
         let [user, active, _] = draft.sessions[session];

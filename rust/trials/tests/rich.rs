@@ -2,6 +2,9 @@
 
 use second::Section;
 
+/// The least number of files that show a thing.
+const LEAST: u64 = 100;
+
 /// A file that passes the check, as words.
 struct Words(Vec<u16>);
 
@@ -105,11 +108,9 @@ fn files_that_pass_show_everything() {
     for (count, (name, _)) in shown.iter().zip(&signs) {
         println!("{count:>9} {name}");
     }
-    let rare: Vec<_> = shown
-        .iter()
-        .zip(&signs)
-        .filter(|(count, _)| **count < 100)
+    let rare: Vec<_> = (shown.iter().zip(&signs))
+        .filter(|(count, _)| **count < LEAST)
+        .map(|(_, (name, _))| name)
         .collect();
-    let names: Vec<_> = rare.iter().map(|(_, (name, _))| name).collect();
-    assert!(names.is_empty(), "under 100 files: {names:?}");
+    assert!(rare.is_empty(), "under {LEAST} files: {rare:?}");
 }

@@ -1,7 +1,7 @@
 //! Cases of refusals 1 to 8.
 
 use super::{checked, clinic, same, Case, CLEAN, END};
-use crate::draft::Draft;
+use crate::draft::{set_word, Draft};
 
 const NEW: [u16; 3] = [3, 1, 0];
 
@@ -20,7 +20,7 @@ fn changed(name: &'static str, answer: (u16, u16), change: impl Fn(&mut Draft)) 
 /// The clinic with a lone end, with one word of the file set.
 fn with_word(name: &'static str, at: usize, word: u16, answer: (u16, u16)) -> Case {
     let mut file = clinic(&[END]).bytes();
-    file[2 * at..2 * at + 2].copy_from_slice(&word.to_le_bytes());
+    set_word(&mut file, at, word);
     same(name, file, answer)
 }
 
@@ -95,11 +95,7 @@ pub fn trees() -> Vec<Case> {
         shape("first child cut off by a tag", &[fork, tag, END], 2),
         shape("second child cut off by a tag", &[fork, END, tag], 1),
         shape("unused field does not hinder", &[fork, [0, 5, 0], END], 1),
-        shape(
-            "inner fork judged, outer not",
-            &[fork, fork, END, [9, 0, 0]],
-            2,
-        ),
+        shape("inner fork judged, outer not", &[fork, fork, END, tag], 2),
         shape("first child runs past the end", &[fork, [2, 0, 0]], 3),
         shape("fork right, no second child", &[[1, 3, 0], END], 3),
         shape("fork wrong, no second child", &[[1, 2, 0], END], 1),
@@ -125,7 +121,7 @@ pub fn trees() -> Vec<Case> {
         changed("no nodes left for a session", (8, 2), |d| {
             d.sessions.push([1, 0, 2])
         }),
-        changed("a wrong root does not move the next", (8, 1), |d| {
+        changed("first root wrong, second right", (8, 1), |d| {
             d.sessions = vec![[1, 0, 7], [2, 0, 2]];
             d.nodes.push(END);
         }),

@@ -21,6 +21,8 @@ fn summary(mut samples: Vec<f64>) -> (f64, f64) {
 }
 
 fn row(name: &str, file: &[u8], calls: u32) {
+    assert_eq!(trials::engine_read(file), (0, 0), "engine: {name}");
+    assert_eq!(trials::second_read(file), (0, 0), "second: {name}");
     let engine = || {
         black_box(pilzdamo::read(black_box(file)));
     };

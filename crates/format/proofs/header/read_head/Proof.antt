@@ -50,8 +50,8 @@ laid c h = sym (both offsetsFit (c .before .before .before .before .six-at .ensu
 
 sized : (c : tie.After-length-fits) {b : Bool} → c .length-fits .result ≡ b
     → lengthFits (wordAt (now (c .before .before .before .before .before .before .before .before .before .before .before .before .args .file)) 6)
-      (wordAt (now (c .before .before .before .before .before .before .before .before .before .before .before .before .args .file)) 12)
-      (length (now (c .before .before .before .before .before .before .before .before .before .before .before .before .args .file))) ≡ b
+    (wordAt (now (c .before .before .before .before .before .before .before .before .before .before .before .before .args .file)) 12)
+    (length (now (c .before .before .before .before .before .before .before .before .before .before .before .before .args .file))) ≡ b
 sized c h =
     sym (both (λ m a. lengthFits m a (length (now (c .before .before .before .before .before .before .before .before .before .before .before .before .args .file))))
     (ap (λ x. x .nodes) (c .before .before .before .before .before .before .six-at .ensures)) (ap (λ x. x .nodes) (c .before .before .before .six-at2 .ensures)))

@@ -1,0 +1,157 @@
+-- Reading gives the first refusal in the paper's order: the least number that objects to the file, and its lowest place.
+use Prim.Native.Nat.{ℕ, suc, _+_, _*_, _%_, _≤_, _<_}
+use mathlib.Core.Path.{_≡_, refl, sym}
+use mathlib.Core.Logic.{_⊎_, inl, inr, _≢_, _↔_}
+use mathlib.Core.Bool.{Bool, true, false, cond, false≢true}
+use mathlib.Core.List.{List}
+use native.Mathlib.Omega.{arith}
+use lib.ListN.{length}
+use lib.Dec.{eqb, ltb}
+use borrow.Author.Tests.{eqb-true, eqb-false, eq-eqb, ltb-true, ltb-false}
+use Rattle.format.specs.Words.{wordAt}
+use Rattle.format.specs.Answers.{fine, refused}
+use Rattle.format.specs.Header.{sixAt, headAt, from5, from4, from3, from2, headOf}
+use Rattle.reading.specs.Reading.{after, reading}
+use Rattle.format.specs.declared.Verdict.{Verdict}
+use Rattle.format.specs.declared.HeadAnswer.{HeadAnswer}
+use Rattle.format.specs.declared.HeadAnswer.the-variants.{Fine, Refused}
+use Rattle.clinic.specs.Refusals.{Counted, BackToBack, Refusable, short, odd, version, count, offset, size, misnamed, misseated, misshapen}
+use Rattle.clinic.proofs.Firsts.{Before, First, Both, first-map, first-fine}
+use Rattle.clinic.proofs.HeadTests.{counts-iff, offsets-iff, laid}
+use Rattle.clinic.proofs.BodyFirst.{BadBody, body-first, from-six}
+
+-- a refusal of the head, at place 0
+abbrev OfHead : ℕ → Type 0 → ℕ → ℕ → Type 0
+OfHead k O n p = (n ≡ k) × (p ≡ 0) × O
+
+-- what comes later has a greater number
+abbrev Later : ℕ → (ℕ → ℕ → Type 0) → Type 0
+Later k Q = (n p : ℕ) → Q n p → k ≤ n
+
+head-later : (k : ℕ) (O : Type 0) (Q : ℕ → ℕ → Type 0) → Later (suc k) Q → Later k (Both (OfHead k O) Q)
+head-later k O Q l n p (inl h) = omega (arith, h .0)
+head-later k O Q l n p (inr q) = omega (arith, l n p q)
+
+refuse : (k : ℕ) (O : Type 0) (Q : ℕ → ℕ → Type 0) → Later (suc k) Q → O → First (Both (OfHead k O) Q) (refused k 0)
+refuse k O Q l o = inr (k, 0, refl, inl (refl, refl, o), least)
+  where
+    least : (m q : ℕ) → Both (OfHead k O) Q m q → Before k 0 m q
+    least m q (inl h) = inr (sym (h .0), omega arith)
+    least m q (inr r) = inl (l m q r)
+
+accept : (k : ℕ) (O : Type 0) (Q : ℕ → ℕ → Type 0) (v : Verdict) → (O → ⊥) → First Q v → First (Both (OfHead k O) Q) v
+accept k O Q v o = first-map Q (Both (OfHead k O) Q) v (λ n p. inr) back
+  where
+    back : (n p : ℕ) → Both (OfHead k O) Q n p → Q n p
+    back n p (inl h) = absurd (o (h .2))
+    back n p (inr q) = q
+
+-- one stage of the head: the test is P, and its refusal objects that P does not hold
+stage : (f : List ℕ) (k : ℕ) (P : Type 0) (Q : ℕ → ℕ → Type 0) (b : Bool) (x : HeadAnswer) → Later (suc k) Q → (b ≡ true) ↔ P → (P → First Q (after f x))
+    → First (Both (OfHead k (P → ⊥)) Q) (after f (cond b x (Refused k)))
+stage f k P Q true x l t go = let p = t .0 refl in accept k (P → ⊥) Q (after f x) (λ o. o p) (go p)
+stage f k P Q false x l t go = refuse k (P → ⊥) Q l (λ p. false≢true (t .1 p))
+
+eq-iff : (a b : ℕ) → (eqb a b ≡ true) ↔ (a ≡ b)
+eq-iff a b = (eqb-true a b, eq-eqb a b)
+
+module _ (f : List ℕ) where
+  -- what the refusals from a number on object to
+  abbrev From5 : ℕ → ℕ → Type 0
+  From5 = Both (OfHead 5 (length f ≢ 2 * (headAt f .at .nodes + 3 * headAt f .count .nodes))) (BadBody f (headAt f))
+
+  abbrev From4 : ℕ → ℕ → Type 0
+  From4 = Both (OfHead 4 (BackToBack (sixAt f 1) (sixAt f 7) → ⊥)) From5
+
+  abbrev From3 : ℕ → ℕ → Type 0
+  From3 = Both (OfHead 3 (Counted (sixAt f 1) → ⊥)) From4
+
+  abbrev From2 : ℕ → ℕ → Type 0
+  From2 = Both (OfHead 2 (wordAt f 0 ≢ 1)) From3
+
+  abbrev From1 : ℕ → ℕ → Type 0
+  From1 = Both (OfHead 1 ((length f < 26) ⊎ (length f % 2 ≡ 1))) From2
+
+  later5 : Later 5 From5
+  later5 = head-later 5 _ (BadBody f (headAt f)) (from-six f (headAt f))
+
+  later4 : Later 4 From4
+  later4 = head-later 4 _ From5 later5
+
+  later3 : Later 3 From3
+  later3 = head-later 3 _ From4 later4
+
+  later2 : Later 2 From2
+  later2 = head-later 2 _ From3 later3
+
+  first5 : Counted (sixAt f 1) → BackToBack (sixAt f 1) (sixAt f 7) → First From5 (after f (from5 f))
+  unfolding from5
+  first5 c b = stage f 5 _ (BadBody f (headAt f)) _ (Fine (headAt f)) (from-six f (headAt f)) (eq-iff _ _) (λ e. body-first f (headAt f) (laid (headAt f) c b))
+
+  first4 : Counted (sixAt f 1) → First From4 (after f (from4 f))
+  unfolding from4
+  first4 c = stage f 4 _ From5 _ (from5 f) later5 (offsets-iff (sixAt f 1) (sixAt f 7)) (first5 c)
+
+  first3 : First From3 (after f (from3 f))
+  unfolding from3
+  first3 = stage f 3 _ From4 _ (from4 f) later4 (counts-iff (sixAt f 1)) first4
+
+  first2 : First From2 (after f (from2 f))
+  unfolding from2
+  first2 = stage f 2 _ From3 _ (from3 f) later3 (eq-iff (wordAt f 0) 1) (λ e. first3)
+
+  first1 : First From1 (reading f)
+  unfolding reading headOf
+  first1 = go (ltb (length f) 26) refl (eqb (length f % 2) 1) refl
+    where
+      O : Type 0
+      O = (length f < 26) ⊎ (length f % 2 ≡ 1)
+
+      none : 26 ≤ length f → (length f % 2 ≡ 1 → ⊥) → O → ⊥
+      none a b (inl l) = omega arith
+      none a b (inr e) = b e
+
+      go : (a : Bool) → ltb (length f) 26 ≡ a → (b : Bool) → eqb (length f % 2) 1 ≡ b → First From1 (after f (cond a (Refused 1) (cond b (Refused 1) (from2 f))))
+      go true d b e = refuse 1 O From2 later2 (inl (ltb-true (length f) 26 d))
+      go false d true e = refuse 1 O From2 later2 (inr (eqb-true (length f % 2) 1 e))
+      go false d false e = accept 1 O From2 (after f (from2 f)) (none (ltb-false (length f) 26 d) (eqb-false (length f % 2) 1 e)) first2
+
+  to-refusable : (n p : ℕ) → From1 n p → Refusable f n p
+  to-refusable n p (inl (a, b, inl l)) = short a b l
+  to-refusable n p (inl (a, b, inr e)) = odd a b e
+  to-refusable n p (inr (inl (a, b, o))) = version a b o
+  to-refusable n p (inr (inr (inl (a, b, o)))) = count a b o
+  to-refusable n p (inr (inr (inr (inl (a, b, o))))) = offset a b o
+  to-refusable n p (inr (inr (inr (inr (inl (a, b, o)))))) = size a b o
+  to-refusable n p (inr (inr (inr (inr (inr (inl (inl (a, m)))))))) = misnamed a m
+  to-refusable n p (inr (inr (inr (inr (inr (inl (inr (a, m)))))))) = misseated a m
+  to-refusable n p (inr (inr (inr (inr (inr (inr (a, m))))))) = misshapen a m
+
+  of-refusable : (n p : ℕ) → Refusable f n p → From1 n p
+  of-refusable n p (short a b l) = inl (a, b, inl l)
+  of-refusable n p (odd a b e) = inl (a, b, inr e)
+  of-refusable n p (version a b o) = inr (inl (a, b, o))
+  of-refusable n p (count a b o) = inr (inr (inl (a, b, o)))
+  of-refusable n p (offset a b o) = inr (inr (inr (inl (a, b, o))))
+  of-refusable n p (size a b o) = inr (inr (inr (inr (inl (a, b, o)))))
+  of-refusable n p (misnamed a m) = inr (inr (inr (inr (inr (inl (inl (a, m)))))))
+  of-refusable n p (misseated a m) = inr (inr (inr (inr (inr (inl (inr (a, m)))))))
+  of-refusable n p (misshapen a m) = inr (inr (inr (inr (inr (inr (a, m))))))
+
+-- the answer of reading is the first refusal, or nothing refuses the file
+pub first-refusal : (f : List ℕ)
+    → ((reading f ≡ fine) × ((n p : ℕ) → Refusable f n p → ⊥))
+    ⊎ ((n : ℕ) × (p : ℕ) × (reading f ≡ refused n p) × Refusable f n p
+    × ((m q : ℕ) → Refusable f m q → (n < m) ⊎ ((n ≡ m) × (p ≤ q))))
+first-refusal f = first-map (From1 f) (Refusable f) (reading f) (to-refusable f) (of-refusable f) (first1 f)
+
+-- a file is read exactly when nothing refuses it
+pub reading-fine : (f : List ℕ) → (reading f ≡ fine) ↔ ((n p : ℕ) → Refusable f n p → ⊥)
+reading-fine f = (first-fine (Refusable f) (reading f) pos (first-refusal f), λ none. back none (first-refusal f))
+  where
+    pos : (n p : ℕ) → Refusable f n p → 1 ≤ n
+    pos n p r = head-later 1 _ (From2 f) (later2 f) n p (of-refusable f n p r)
+
+    back : ((n p : ℕ) → Refusable f n p → ⊥) → First (Refusable f) (reading f) → reading f ≡ fine
+    back none (inl (e, h)) = e
+    back none (inr (n, p, e, r, low)) = absurd (none n p r)

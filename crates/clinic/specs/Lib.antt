@@ -1,0 +1,4 @@
+pub mod Lists
+pub mod Tree
+pub mod File
+pub mod Refusals

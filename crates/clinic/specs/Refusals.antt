@@ -1,0 +1,98 @@
+-- What each of the refusals 1 to 8 objects to, and where, in the words of the paper.
+use Prim.Native.Nat.{ℕ, zero, suc, _+_, _*_, _-_, _%_, _≤_, _<_}
+use mathlib.Core.Path.{_≡_}
+use mathlib.Core.Logic.{_⊎_, _≢_}
+use mathlib.Core.Bool.{true, false}
+use mathlib.Core.List.{List, [], _∷_}
+use lib.ListN.{length, getD}
+use Rattle.masks.specs.Mask.{has}
+use Rattle.format.specs.Words.{wordAt}
+use Rattle.format.specs.Header.{sixAt, headAt}
+use Rattle.format.specs.Sections.{placeOf, userRoles, roleOf, carried, channelOf, sessionOf, nodesFrom}
+use Rattle.reading.specs.Shape.{boundBelow}
+use Rattle.format.specs.declared.Six.{Six}
+use Rattle.format.specs.declared.Head.{Head}
+use Rattle.format.specs.declared.Node.{Node}
+use Rattle.format.specs.declared.Section.the-variants.{Users, Roles, Kinds, Channels, Sessions, Nodes}
+use Rattle.clinic.specs.File.{InCount}
+
+-- every count is in range
+abbrev pub Counted : Six → Type 0
+Counted n = (n .users ≤ 32) × (n .roles ≤ 16) × (n .kinds ≤ 32) × (n .channels ≤ 64) × (n .sessions ≤ 32) × (n .nodes ≤ 1024)
+
+-- the sections stand back to back after the head
+abbrev pub BackToBack : Six → Six → Type 0
+BackToBack n at =
+    (at .users ≡ 13) × (at .roles ≡ at .users + n .users) × (at .kinds ≡ at .roles + 4 * n .roles) × (at .channels ≡ at .kinds + n .kinds)
+    × (at .sessions ≡ at .channels + 2 * n .channels) × (at .nodes ≡ at .sessions + 3 * n .sessions)
+
+-- 6: a user, role, kind or channel record names an item that the counts don't have; the place is the record's offset
+pub data Misnamed (f : List ℕ) (h : Head) (p : ℕ) : Type 0 where
+  user : (n x : ℕ) → InCount (h .count .users) n → has (userRoles f h n) x ≡ true → h .count .roles < x → p ≡ placeOf h Users n → Misnamed f h p
+  sends : (n x : ℕ) → InCount (h .count .roles) n → has (roleOf f h n .sends) x ≡ true → h .count .kinds < x → p ≡ placeOf h Roles n → Misnamed f h p
+  receives : (n x : ℕ) → InCount (h .count .roles) n → has (roleOf f h n .receives) x ≡ true → h .count .kinds < x → p ≡ placeOf h Roles n → Misnamed f h p
+  kind : (n : ℕ) → InCount (h .count .kinds) n → h .count .kinds < carried f h n → p ≡ placeOf h Kinds n → Misnamed f h p
+  owner : (n : ℕ) → InCount (h .count .channels) n → (InCount (h .count .users) (channelOf f h n .owner) → ⊥) → p ≡ placeOf h Channels n → Misnamed f h p
+  kind-of : (n : ℕ) → InCount (h .count .channels) n → (InCount (h .count .kinds) (channelOf f h n .kind .0) → ⊥) → p ≡ placeOf h Channels n → Misnamed f h p
+
+-- 7: no such user, a starting role not assigned; the place is the session
+pub data Misseated (f : List ℕ) (h : Head) (p : ℕ) : Type 0 where
+  no-user : InCount (h .count .sessions) p → (InCount (h .count .users) (sessionOf f h p .user) → ⊥) → Misseated f h p
+  not-assigned : (x : ℕ) → InCount (h .count .sessions) p → InCount (h .count .users) (sessionOf f h p .user) → has (sessionOf f h p .mask) x ≡ true
+      → has (userRoles f h (sessionOf f h p .user)) x ≡ false → Misseated f h p
+
+-- the node of a number in a list numbered from 1
+abbrev pub nth : List Node → ℕ → Node
+nth ns i = getD ns (i - 1) (record { tag = 0; f1 = 0; f2 = 0 })
+
+-- a tag with one child
+abbrev pub OneChild : ℕ → Type 0
+OneChild tag = (2 ≤ tag) × (tag ≤ 8)
+
+-- trees are followed by tags alone: the tree at node i can be followed to its end, and j is the number after its last node
+pub data Follows (ns : List Node) : ℕ → ℕ → Type 0 where
+  at-end : {i : ℕ} → InCount (length ns) i → nth ns i .tag ≡ 0 → Follows ns i (suc i)
+  at-step : {i j : ℕ} → InCount (length ns) i → OneChild (nth ns i .tag) → Follows ns (suc i) j → Follows ns i j
+  at-fork : {i k j : ℕ} → InCount (length ns) i → nth ns i .tag ≡ 1 → Follows ns (suc i) k → Follows ns k j → Follows ns i j
+
+-- the node due: tree 1 begins at node 1, each later one after the tree before it
+pub data Begins (ns : List Node) : ℕ → ℕ → Type 0 where
+  first : Begins ns 1 1
+  next : {k i j : ℕ} → Begins ns k i → Follows ns i j → Begins ns (suc k) j
+
+-- the tree of one of so many sessions has its node i due, or a node above leads to i; b variables are bound on the path
+pub data Reached (ns : List Node) (sessions : ℕ) : ℕ → ℕ → Type 0 where
+  root : {k i : ℕ} → InCount sessions k → Begins ns k i → Reached ns sessions i 0
+  child : {i b : ℕ} → InCount (length ns) i → OneChild (nth ns i .tag) → Reached ns sessions i b → Reached ns sessions (suc i) (boundBelow (nth ns i .tag) b)
+  first-child : {i b : ℕ} → InCount (length ns) i → nth ns i .tag ≡ 1 → Reached ns sessions i b → Reached ns sessions (suc i) b
+  second-child : {i k b : ℕ} → InCount (length ns) i → nth ns i .tag ≡ 1 → Reached ns sessions i b → Follows ns (suc i) k → Reached ns sessions k b
+
+-- 8, for the sessions' root words: a root that is not the node due; tag, unused field, second child; a tree past the last node, nodes left over,
+-- a ninth variable
+pub data Misshapen (ns : List Node) (roots : List ℕ) (p : ℕ) : Type 0 where
+  not-due : (k : ℕ) → InCount (length roots) k → Begins ns k p → InCount (length ns) p → getD roots (k - 1) 0 ≢ p → Misshapen ns roots p
+  bad-tag : InCount (length ns) p → 8 < nth ns p .tag → Misshapen ns roots p
+  unused-f1 : InCount (length ns) p → (nth ns p .tag ≡ 0) ⊎ (nth ns p .tag ≡ 2) → nth ns p .f1 ≢ 0 → Misshapen ns roots p
+  unused-f2 : InCount (length ns) p → nth ns p .tag ≤ 8 → nth ns p .tag ≢ 4 → nth ns p .tag ≢ 6 → nth ns p .f2 ≢ 0 → Misshapen ns roots p
+  second : (e : ℕ) → InCount (length ns) p → nth ns p .tag ≡ 1 → Follows ns (suc p) e → nth ns p .f1 ≢ e → Misshapen ns roots p
+  past-last : (b : ℕ) → Reached ns (length roots) p b → p ≡ suc (length ns) → Misshapen ns roots p
+  left-over : Begins ns (suc (length roots)) p → InCount (length ns) p → Misshapen ns roots p
+  ninth : (b : ℕ) → Reached ns (length roots) p b → 8 ≤ b → InCount (length ns) p → (nth ns p .tag ≡ 3) ⊎ (nth ns p .tag ≡ 5) → Misshapen ns roots p
+
+-- the root words of a file's sessions
+unfoldable pub rootWords : List ℕ → ℕ → ℕ → List ℕ
+rootWords f p zero = []
+rootWords f p (suc k) = wordAt f (p + 2) ∷ rootWords f (p + 3) k
+
+-- a refusal's number and place hold of a file
+pub data Refusable (f : List ℕ) (n p : ℕ) : Type 0 where
+  short : n ≡ 1 → p ≡ 0 → length f < 26 → Refusable f n p
+  odd : n ≡ 1 → p ≡ 0 → length f % 2 ≡ 1 → Refusable f n p
+  version : n ≡ 2 → p ≡ 0 → wordAt f 0 ≢ 1 → Refusable f n p
+  count : n ≡ 3 → p ≡ 0 → (Counted (sixAt f 1) → ⊥) → Refusable f n p
+  offset : n ≡ 4 → p ≡ 0 → (BackToBack (sixAt f 1) (sixAt f 7) → ⊥) → Refusable f n p
+  size : n ≡ 5 → p ≡ 0 → length f ≢ 2 * (headAt f .at .nodes + 3 * headAt f .count .nodes) → Refusable f n p
+  misnamed : n ≡ 6 → Misnamed f (headAt f) p → Refusable f n p
+  misseated : n ≡ 7 → Misseated f (headAt f) p → Refusable f n p
+  misshapen : n ≡ 8 → Misshapen (nodesFrom f (headAt f .at .nodes) (headAt f .count .nodes)) (rootWords f (headAt f .at .sessions) (headAt f .count .sessions)) p
+      → Refusable f n p

@@ -1,0 +1,16 @@
+use borrow.Author.Tests.{eq-eqb, ne-eqb}
+use Rattle.format.proofs.answers.or_else.Statement.{statement}
+use Rattle.format.proofs.answers.or_else.Tie as tie
+use Rattle.format.proofs.answers.or_else.Reads as reads
+use Rattle.format.proofs.answers.or_else.Lts as lts
+
+-- src/records.rt:103:9
+returns : tie.Need-returns
+returns c = rw (eq-eqb _ _ (c .if1 .taken))
+
+-- src/records.rt:99:1
+returns-2 : tie.Need-returns-2
+returns-2 c = rw (ne-eqb _ _ (c .if1 .left))
+
+pub or-else-spec : {M : Type 1} → statement M
+or-else-spec = tie.close (tie.spec returns returns-2)

@@ -1,0 +1,3 @@
+pub mod FirstLaws
+pub mod EndsLaws
+pub mod ShapeLaws

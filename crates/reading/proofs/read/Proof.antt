@@ -1,0 +1,74 @@
+use Rattle.format.proofs.HeadLaws.{headed, Headed}
+use native.Mathlib.Omega.{arith}
+use denote.Ref.{now}
+use Rattle.format.specs.declared.HeadAnswer.the-variants.{Fine, Refused}
+use Rattle.reading.specs.Reading.{after, reading}
+use Rattle.format.specs.Header.{headOf, Laid}
+use Rattle.format.specs.Answers.{orElse}
+use mathlib.Core.Path.{_≡_, refl, sym, ap, ap₂, _∙_}
+use borrow.Author.Needs.{needs}
+use Rattle.reading.proofs.read.Statement.{statement}
+use Rattle.reading.proofs.read.Tie as tie
+use Rattle.reading.proofs.read.Reads as reads
+use Rattle.reading.proofs.read.Lts as lts
+use Rattle.format.proofs.header.read_head.Reads as read-head-reads
+use Rattle.format.proofs.answers.or_else.Reads as or-else-reads
+use Rattle.reading.proofs.records.records.Reads as records-reads
+use Rattle.reading.proofs.shape.shape.Reads as shape-reads
+
+-- the head that was read
+told : (c : tie.After-known-told2) → headOf (now (c .before .before .before .before .before .args .file)) ≡ Fine (c .before .answer2 .given .0 .0)
+told c = sym (c .before .before .before .read-head .ensures) ∙ c .before .answer2 .given .1
+
+head-fits : (c : tie.After-known-told2) → Headed (now (c .before .before .before .before .before .args .file)) (c .before .answer2 .given .0 .0)
+head-fits c = headed (now (c .before .before .before .before .before .args .file)) (c .before .answer2 .given .0 .0) (told c)
+
+-- src/lib.rt:85:9
+read-head-requires : tie.Need-read-head-requires
+read-head-requires c κs = search needs
+
+-- src/lib.rt:87:29
+enum-known-answer : tie.Need-enum-known-answer
+enum-known-answer c = search needs
+
+-- src/lib.rt:88:26
+enum-known-answer-2 : tie.Need-enum-known-answer-2
+enum-known-answer-2 c = search needs
+
+-- src/lib.rt:88:52
+records-requires : tie.Need-records-requires
+records-requires c κs = head-fits c .laid
+
+-- src/lib.rt:88:82
+shape-requires : tie.Need-shape-requires
+shape-requires c κs = let l : Laid _ = head-fits (c .before) .laid in (l .nodes, l .sessions)
+
+-- src/lib.rt:88:35
+or-else-requires : tie.Need-or-else-requires
+or-else-requires c κs = search needs
+
+-- src/lib.rt:82:1
+returns : tie.Need-returns
+unfolding reading
+returns c =
+    sym (ap (after (now (c .before .before .before .before .before .args .file))) (sym (c .before .before .before .read-head .ensures) ∙ c .before .answer .given .1))
+
+-- src/lib.rt:82:1
+returns-2 : tie.Need-returns-2
+unfolding reading
+returns-2 c =
+    c .or-else .ensures ∙ ap₂ orElse (c .before .before .records .ensures) (c .before .shape .ensures)
+    ∙ sym (ap (after (now (c .before .before .before .before .before .before .before .before .args .file))) (told (c .before .before .before)))
+
+pub read-spec : {M : Type 1} → statement M
+read-spec =
+    tie.close
+    (tie.spec
+    read-head-requires
+    enum-known-answer
+    enum-known-answer-2
+    records-requires
+    shape-requires
+    or-else-requires
+    returns
+    returns-2)

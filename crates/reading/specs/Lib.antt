@@ -1,0 +1,4 @@
+pub mod Records
+pub mod Ends
+pub mod Shape
+pub mod Reading

@@ -1,0 +1,22 @@
+-- Reading a file: the first of the refusals 1 to 8, by number, and within a number at the lowest place.
+use Prim.Native.Nat.{ℕ}
+use mathlib.Core.List.{List}
+use Rattle.format.specs.Answers.{refused, orElse}
+use Rattle.format.specs.Header.{headOf}
+use Rattle.reading.specs.Records.{recordsAnswer}
+use Rattle.reading.specs.Shape.{shapeAnswer}
+use Rattle.format.specs.declared.Verdict.{Verdict}
+use Rattle.format.specs.declared.Head.{Head}
+use Rattle.format.specs.declared.HeadAnswer.{HeadAnswer}
+use Rattle.format.specs.declared.HeadAnswer.the-variants.{Fine, Refused}
+
+-- 6 to 8
+abbrev pub bodyAnswer : List ℕ → Head → Verdict
+bodyAnswer f h = orElse (recordsAnswer f h) (shapeAnswer f h)
+
+abbrev pub after : List ℕ → HeadAnswer → Verdict
+after f (Refused n) = refused n 0
+after f (Fine h) = bodyAnswer f h
+
+unfoldable pub reading : List ℕ → Verdict
+reading f = after f (headOf f)
