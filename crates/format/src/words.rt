@@ -11,6 +11,14 @@ fn joined(low: u8, high: u8) -> u16
     (low as u16) + 256 * (high as u16)
 }
 
+// A word that lies within the file.
+pub fn inner_word(file: &[u8], at: usize) -> u16
+    requires { ⌜ 2 * at + 1 < length (now file) ⌝ }
+    ensures { λ r. ⌜ r ≡ wordAt (now (file .entry)) at ⌝ }
+{
+    joined(file[2 * at], file[2 * at + 1])
+}
+
 // The word at an offset; bytes past the end count as 0.
 pub fn word(file: &[u8], at: usize) -> u16
     requires { ⌜ at < 4294967296 ⌝ }
@@ -35,7 +43,7 @@ pub fn wide_word(file: &[u8], at: usize) -> u32
     paired(word(file, at), word(file, at + 1))
 }
 
-fn paired(low: u16, high: u16) -> u32
+pub fn paired(low: u16, high: u16) -> u32
     ensures { λ r. ⌜ r ≡ low + 65536 * high ⌝ }
 {
     (low as u32) + 65536 * (high as u32)

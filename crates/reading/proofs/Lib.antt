@@ -1,3 +1,4 @@
 pub mod FirstLaws
 pub mod EndsLaws
 pub mod ShapeLaws
+pub mod SoundLaws

@@ -117,7 +117,7 @@ table-next f ends p n i e h =
     let one : 1 + i ≡ suc i = omega arith in
     rw (e, add-one i) (rw one at (table-from f 1 p n i h))
 
-length-nodes : (f : List ℕ) (p n : ℕ) → length (nodesFrom f p n) ≡ n
+pub length-nodes : (f : List ℕ) (p n : ℕ) → length (nodesFrom f p n) ≡ n
 unfolding nodesFrom
 length-nodes f p zero = refl
 length-nodes f p (suc n) = ap suc (length-nodes f (p + 3) n)

@@ -2,6 +2,7 @@
 pub mod ends;
 pub mod records;
 pub mod shape;
+pub mod sound;
 
 use format::HeadAnswer;
 use format::Verdict;
