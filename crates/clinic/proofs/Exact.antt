@@ -1,15 +1,15 @@
 -- Reading a file without a refusal of 1 to 8 is the same as its bytes being the encoding of a well formed file, and of exactly one.
 use Prim.Native.Nat.{ℕ, zero, suc, _+_, _≤_, _<_}
 use mathlib.Core.Path.{_≡_, sym, ap, ap₂, _∙_, subst}
-use mathlib.Core.List.{List, [], _∷_, map}
+use mathlib.Core.List.{List, map}
 use Rattle.format.specs.Words.{wordAt}
 use Rattle.format.specs.Answers.{fine}
 use Rattle.format.specs.Header.{headAt}
 use Rattle.format.specs.Sections.{nodeAt}
 use Rattle.reading.specs.Shape.{shapeFrom}
 use Rattle.reading.specs.Reading.{reading}
-use Rattle.format.specs.declared.Node.{Node}
 use Rattle.reading.specs.declared.Due.the-variants.{Root}
+use Rattle.reading.proofs.ReadingLaws.{reading-iff}
 use Rattle.clinic.specs.Lists.{All}
 use Rattle.clinic.specs.Tree.{Tree, flatten, height, Worded}
 use Rattle.clinic.specs.File.{File, WellFormed, encode}
@@ -17,26 +17,21 @@ use Rattle.clinic.proofs.Standing.{rootsOf}
 use Rattle.clinic.proofs.ShapeComplete.{shape-complete}
 use Rattle.clinic.proofs.ShapeSound.{shape-sound}
 use Rattle.clinic.proofs.NodeSorts.{flatten-single}
-use Rattle.clinic.proofs.WordedTrees.{worded-trees}
+use Rattle.clinic.proofs.WordedTrees.{FieldsFit, worded-trees}
 use Rattle.clinic.proofs.Bytes.{Word, small-words}
-use Rattle.clinic.proofs.Laid.{reading-parts}
 use Rattle.clinic.proofs.Rows.{rowsFrom}
 use Rattle.clinic.proofs.Tables.{Tables, rootsIn, tableBytes, tablesAt}
 use Rattle.clinic.proofs.Places.{tables-back}
-use Rattle.clinic.proofs.Whole.{bytes-back}
-use Rattle.clinic.proofs.AllLaws.{all-map}
-use Rattle.clinic.proofs.Tested.{Seated}
-use Rattle.clinic.proofs.Judged.{TablesFit, judged, not-refused}
-use Rattle.clinic.proofs.Seats.{treesOf, seats, routines, length-seats, roots-seats, trees-routines, seats-routines, all-seats, all-trees}
-use Rattle.clinic.proofs.Seats.{tablesOf, fileOf, file-back, encode-tables}
+use Rattle.clinic.proofs.WholeFile.{bytes-back}
+use Rattle.clinic.proofs.AllLaws.{all-map, all-both}
+use Rattle.clinic.proofs.RecordsJudged.{Seated}
+use Rattle.clinic.proofs.TablesJudged.{TablesFit, judged, not-refused}
+use Rattle.clinic.proofs.FileTables.{treesOf, seats, routines, length-seats, roots-seats, trees-routines, seats-routines, all-seats, all-trees}
+use Rattle.clinic.proofs.FileTables.{tablesOf, fileOf, file-back, encode-tables}
 
 -- a tree that a file may have
 abbrev Fair : Tree → Type 0
 Fair t = (height t ≤ 8) × Worded t
-
-all-fair : (ts : List Tree) → All (λ t. height t ≤ 8) ts → All Worded ts → All Fair ts
-all-fair [] low worded = tt
-all-fair (t ∷ ts) low worded = ((low .0, worded .0), all-fair ts (low .1) (worded .1))
 
 tables-fit : (F : File) → WellFormed F → TablesFit (tablesOf F)
 tables-fit F w = record {
@@ -82,15 +77,15 @@ same-tables T ts nodes roots =
     λ i. record { users = T .users; roles = T .roles; kinds = T .kinds; channels = T .channels; sessions = sessions i; nodes = trees i }
 
 -- the operands of the nodes read are words
-small-nodes : (f : List ℕ) → ((i : ℕ) → Word (wordAt f i)) → (p k : ℕ) → All (λ (n : Node). (n .f1 < 65536) × (n .f2 < 65536)) (rowsFrom (nodeAt f) 3 p k)
+read-fields : (f : List ℕ) → ((i : ℕ) → Word (wordAt f i)) → (p k : ℕ) → All FieldsFit (rowsFrom (nodeAt f) 3 p k)
 unfolding rowsFrom
-small-nodes f small p zero = tt
-small-nodes f small p (suc k) = ((small (p + 1), small (p + 2)), small-nodes f small (p + 3) k)
+read-fields f small p zero = tt
+read-fields f small p (suc k) = ((small (p + 1), small (p + 2)), read-fields f small (p + 3) k)
 
 -- read, then encode, gives the bytes back
 pub sound : (f : List ℕ) → All (λ b. b < 256) f → reading f ≡ fine → (F : File) × WellFormed F × (encode F ≡ f)
 sound f bytes e =
-    let (d, body) = reading-parts f e in
+    let (d, body) = reading-iff f .0 e in
     let T : Tables = tablesAt f (headAt f) in
     let back : tableBytes T ≡ f = bytes-back f d bytes in
     let fit : TablesFit T = judged T (subst (λ (g : List ℕ). reading g ≡ fine) (sym back) e) in
@@ -98,10 +93,10 @@ sound f bytes e =
     let F : File = fileOf T ts in
     let same : tablesOf F ≡ T = same-tables T ts nodes roots in
     let trees : treesOf (F .sessions) ≡ ts = trees-routines 1 (T .sessions) ts roots in
-    let small = small-nodes f (small-words f bytes) (headAt f .at .nodes) (headAt f .count .nodes) in
-    let worded : All Worded ts = worded-trees 1 ts (subst (All (λ (n : Node). (n .f1 < 65536) × (n .f2 < 65536))) nodes small) in (
+    let small = read-fields f (small-words f bytes) (headAt f .at .nodes) (headAt f .count .nodes) in
+    let worded : All Worded ts = worded-trees 1 ts (subst (All FieldsFit) nodes small) in (
       F,
-      formed F (subst TablesFit (sym same) fit) (subst (All Fair) (sym trees) (all-fair ts low worded)),
+      formed F (subst TablesFit (sym same) fit) (subst (All Fair) (sym trees) (all-both (λ t. height t ≤ 8) Worded ts low worded)),
       encode-tables F ∙ ap tableBytes same ∙ back,
     )
 

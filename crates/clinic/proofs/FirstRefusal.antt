@@ -7,7 +7,7 @@ use mathlib.Core.List.{List}
 use native.Mathlib.Omega.{arith}
 use lib.ListN.{length}
 use lib.Dec.{eqb, ltb}
-use borrow.Author.Tests.{eqb-true, eqb-false, eq-eqb, ltb-true, ltb-false}
+use borrow.Author.Tests.{eqb-true, eqb-false, ltb-true, ltb-false}
 use Rattle.format.specs.Words.{wordAt}
 use Rattle.format.specs.Answers.{fine, refused}
 use Rattle.format.specs.Header.{sixAt, headAt, from5, from4, from3, from2, headOf}
@@ -15,9 +15,10 @@ use Rattle.reading.specs.Reading.{after, reading}
 use Rattle.format.specs.declared.Verdict.{Verdict}
 use Rattle.format.specs.declared.HeadAnswer.{HeadAnswer}
 use Rattle.format.specs.declared.HeadAnswer.the-variants.{Fine, Refused}
-use Rattle.clinic.specs.Refusals.{Counted, BackToBack, Refusable, short, odd, version, count, offset, size, misnamed, misseated, misshapen}
-use Rattle.clinic.proofs.Firsts.{Before, First, Both, first-map, first-fine}
-use Rattle.clinic.proofs.HeadTests.{counts-iff, offsets-iff, laid}
+use Rattle.format.proofs.BoolLaws.{eq-iff}
+use Rattle.format.proofs.HeadLaws.{counts-iff, offsets-iff, laid-iff}
+use Rattle.clinic.specs.Refusals.{Counted, BackToBack, Refusable, short, odd, version, count, offset, size, misnamed, misseated, misshapen, Before, First}
+use Rattle.clinic.proofs.Firsts.{Both, first-map, first-fine}
 use Rattle.clinic.proofs.BodyFirst.{BadBody, body-first, from-six}
 
 -- a refusal of the head, at place 0
@@ -52,9 +53,6 @@ stage : (f : List ℕ) (k : ℕ) (P : Type 0) (Q : ℕ → ℕ → Type 0) (b : 
 stage f k P Q true x l t go = let p = t .0 refl in accept k (P → ⊥) Q (after f x) (λ o. o p) (go p)
 stage f k P Q false x l t go = refuse k (P → ⊥) Q l (λ p. false≢true (t .1 p))
 
-eq-iff : (a b : ℕ) → (eqb a b ≡ true) ↔ (a ≡ b)
-eq-iff a b = (eqb-true a b, eq-eqb a b)
-
 module _ (f : List ℕ) where
   -- what the refusals from a number on object to
   abbrev From5 : ℕ → ℕ → Type 0
@@ -86,7 +84,7 @@ module _ (f : List ℕ) where
 
   first5 : Counted (sixAt f 1) → BackToBack (sixAt f 1) (sixAt f 7) → First From5 (after f (from5 f))
   unfolding from5
-  first5 c b = stage f 5 _ (BadBody f (headAt f)) _ (Fine (headAt f)) (from-six f (headAt f)) (eq-iff _ _) (λ e. body-first f (headAt f) (laid (headAt f) c b))
+  first5 c b = stage f 5 _ (BadBody f (headAt f)) _ (Fine (headAt f)) (from-six f (headAt f)) (eq-iff _ _) (λ e. body-first f (headAt f) (laid-iff (headAt f) .0 (counts-iff (sixAt f 1) .1 c, offsets-iff (sixAt f 1) (sixAt f 7) .1 b)))
 
   first4 : Counted (sixAt f 1) → First From4 (after f (from4 f))
   unfolding from4
@@ -139,10 +137,7 @@ module _ (f : List ℕ) where
   of-refusable n p (misshapen a m) = inr (inr (inr (inr (inr (inr (a, m))))))
 
 -- the answer of reading is the first refusal, or nothing refuses the file
-pub first-refusal : (f : List ℕ)
-    → ((reading f ≡ fine) × ((n p : ℕ) → Refusable f n p → ⊥))
-    ⊎ ((n : ℕ) × (p : ℕ) × (reading f ≡ refused n p) × Refusable f n p
-    × ((m q : ℕ) → Refusable f m q → (n < m) ⊎ ((n ≡ m) × (p ≤ q))))
+pub first-refusal : (f : List ℕ) → First (Refusable f) (reading f)
 first-refusal f = first-map (From1 f) (Refusable f) (reading f) (to-refusable f) (of-refusable f) (first1 f)
 
 -- a file is read exactly when nothing refuses it

@@ -1,23 +1,15 @@
--- An answer that is the first objection: by number, and within a number at the lowest place.
+-- Answers that are the first refusal: of two answers, and of items in a row.
 use Prim.Native.Nat.{ℕ, zero, suc, _+_, _≤_, _<_}
-use mathlib.Core.Path.{_≡_, refl, sym, ap, _∙_, subst, subst₂}
+use mathlib.Core.Path.{_≡_, refl, sym, ap, _∙_, subst}
 use mathlib.Core.Logic.{_⊎_, inl, inr}
 use mathlib.Core.Bool.{Bool, true, false, cond, true≢false}
 use native.Mathlib.Omega.{arith}
 use lib.Dec.{eqb}
-use borrow.Author.Tests.{eqb-true, eqb-false, ne-eqb}
+use borrow.Author.Tests.{eqb-true, eqb-false}
 use Rattle.format.specs.Answers.{fine, refused, orElse, firstOf}
 use Rattle.format.specs.declared.Verdict.{Verdict}
-
--- in the paper's order
-abbrev pub Before : ℕ → ℕ → ℕ → ℕ → Type 0
-Before n p m q = (n < m) ⊎ ((n ≡ m) × (p ≤ q))
-
--- the answer is the first of the objections R, or there is none
-abbrev pub First : (ℕ → ℕ → Type 0) → Verdict → Type 0
-First R v =
-    ((v ≡ fine) × ((n p : ℕ) → R n p → ⊥))
-    ⊎ ((n : ℕ) × (p : ℕ) × (v ≡ refused n p) × R n p × ((m q : ℕ) → R m q → Before n p m q))
+use Rattle.format.proofs.AnswerLaws.{quiet-first, loud-first}
+use Rattle.clinic.specs.Refusals.{Before, First}
 
 abbrev pub Both : (ℕ → ℕ → Type 0) → (ℕ → ℕ → Type 0) → ℕ → ℕ → Type 0
 Both R Q n p = R n p ⊎ Q n p
@@ -27,23 +19,16 @@ pub first-map : (R Q : ℕ → ℕ → Type 0) (v : Verdict) → ((n p : ℕ) �
 first-map R Q v f g (inl (e, none)) = inl (e, λ n p r. none n p (g n p r))
 first-map R Q v f g (inr (n, p, e, r, low)) = inr (n, p, e, f n p r, λ m q s. low m q (g m q s))
 
--- an answer that is fine, and one that refuses
+-- an answer that is fine
 pub first-fine : (R : ℕ → ℕ → Type 0) (v : Verdict) → ((n p : ℕ) → R n p → 1 ≤ n) → First R v → v ≡ fine → (n p : ℕ) → R n p → ⊥
 first-fine R v pos (inl (e, none)) h = none
 first-fine R v pos (inr (k, x, e, r, low)) h = λ n p s. omega (arith, pos k x r, ap (λ (w : Verdict). w .number) (sym e ∙ h))
-
-pub first-refused : (R : ℕ → ℕ → Type 0) (v : Verdict) (n p : ℕ) → 1 ≤ n → First R v → v ≡ refused n p → R n p × ((m q : ℕ) → R m q → Before n p m q)
-first-refused R v n p l (inl (e, none)) h = absurd (omega (arith, ap (λ (w : Verdict). w .number) (sym e ∙ h)))
-first-refused R v n p l (inr (k, x, e, r, low)) h =
-    let a : k ≡ n = ap (λ (w : Verdict). w .number) (sym e ∙ h) in
-    let b : x ≡ p = ap (λ (w : Verdict). w .place) (sym e ∙ h) in
-    subst₂ (λ i j. R i j × ((m q : ℕ) → R m q → Before i j m q)) a b (r, low)
 
 -- the first of two answers, where the second's objections come after the first's
 pub first-or : (R Q : ℕ → ℕ → Type 0) (v w : Verdict) → ((n p : ℕ) → R n p → 1 ≤ n) → ((n p m q : ℕ) → R n p → Q m q → Before n p m q)
     → First R v → First Q w → First (Both R Q) (orElse v w)
 first-or R Q v w pos ord (inl (e, none)) b =
-    subst (First (Both R Q)) (ap (λ x. orElse x w) (sym e)) (first-map Q (Both R Q) w (λ n p. inr) back b)
+    subst (First (Both R Q)) (sym (quiet-first v w (ap (λ (x : Verdict). x .number) e))) (first-map Q (Both R Q) w (λ n p. inr) back b)
   where
     back : (n p : ℕ) → Both R Q n p → Q n p
     back n p (inl r) = absurd (none n p r)
@@ -51,7 +36,7 @@ first-or R Q v w pos ord (inl (e, none)) b =
 first-or R Q v w pos ord (inr (n, p, e, r, low)) b = inr (n, p, kept, inl r, least)
   where
     kept : orElse v w ≡ refused n p
-    kept = ap (λ x. orElse x w) e ∙ rw (ne-eqb n 0 (λ z. omega (arith, pos n p r)))
+    kept = loud-first v w (λ z. omega (arith, pos n p r, ap (λ (x : Verdict). x .number) e)) ∙ e
 
     least : (m q : ℕ) → Both R Q m q → Before n p m q
     least m q (inl s) = low m q s

@@ -65,12 +65,12 @@ grew (steps s) (t ∷ ts) = step s t ∷ ts
 grew (switches w r) [] = []
 grew (switches w r) (t ∷ ts) = switch w r t ∷ ts
 
-treesOf : List Node → List Tree
-treesOf [] = []
-treesOf (n ∷ ns) = grew (sortOf (n .tag) (n .f1) (n .f2)) (treesOf ns)
+readTrees : List Node → List Tree
+readTrees [] = []
+readTrees (n ∷ ns) = grew (sortOf (n .tag) (n .f1) (n .f2)) (readTrees ns)
 
-trees-write : (i : ℕ) (t : Tree) (ns : List Node) → treesOf (write i t ns) ≡ t ∷ treesOf ns
-unfolding write treesOf grew sortOf
+trees-write : (i : ℕ) (t : Tree) (ns : List Node) → readTrees (write i t ns) ≡ t ∷ readTrees ns
+unfolding write readTrees grew sortOf
 trees-write i end ns = refl
 trees-write i (fork a b) ns = rw (trees-write (suc i) a (write (past (suc i) a) b ns), trees-write (past (suc i) a) b ns)
 trees-write i (step repeat t) ns = rw (trees-write (suc i) t ns)
@@ -81,10 +81,10 @@ trees-write i (step (send c v) t) ns = rw (trees-write (suc i) t ns)
 trees-write i (switch on r t) ns = rw (trees-write (suc i) t ns)
 trees-write i (switch off r t) ns = rw (trees-write (suc i) t ns)
 
-trees-flatten : (i : ℕ) (ts : List Tree) → treesOf (flatten i ts) ≡ ts
-unfolding flatten treesOf
+trees-flatten : (i : ℕ) (ts : List Tree) → readTrees (flatten i ts) ≡ ts
+unfolding flatten readTrees
 trees-flatten i [] = refl
 trees-flatten i (t ∷ ts) = trees-write i t (flatten (past i t) ts) ∙ ap (t ∷_) (trees-flatten (past i t) ts)
 
 pub flatten-single : (ts us : List Tree) → flatten 1 ts ≡ flatten 1 us → ts ≡ us
-flatten-single ts us e = sym (trees-flatten 1 ts) ∙ ap treesOf e ∙ trees-flatten 1 us
+flatten-single ts us e = sym (trees-flatten 1 ts) ∙ ap readTrees e ∙ trees-flatten 1 us

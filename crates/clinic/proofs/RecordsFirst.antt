@@ -1,19 +1,19 @@
 -- Refusals 6 and 7: `recordsAnswer` is the first of what they object to.
 use Prim.Native.Nat.{ℕ, _≤_}
-use mathlib.Core.Path.{_≡_, refl, sym, ap, _∙_, subst}
+use mathlib.Core.Path.{_≡_, refl, sym, _∙_, subst}
 use mathlib.Core.Logic.{_⊎_, inl, inr}
 use mathlib.Core.List.{List}
 use native.Mathlib.Omega.{arith}
-use Rattle.format.specs.Answers.{fine, refused}
+use Rattle.format.specs.Answers.{refused}
 use Rattle.format.specs.Header.{Laid}
 use Rattle.format.specs.Sections.{part, placeOf}
 use Rattle.reading.specs.Records.{recordFits, refusalOf, sectionAnswer, recordsAnswer}
 use Rattle.format.specs.declared.Head.{Head}
 use Rattle.format.specs.declared.Section.{Section}
 use Rattle.format.specs.declared.Section.the-variants.{Users, Roles, Kinds, Channels, Sessions}
-use Rattle.clinic.specs.Refusals.{Misnamed, Misseated}
-use Rattle.clinic.proofs.Firsts.{Before, First, Both, first-map, first-fine, first-refused, first-or, Unfit, first-of}
-use Rattle.clinic.proofs.Named.{Bad, BadAt, bad-user, bad-role, bad-kind, bad-channel, bad-session, misnamed-bad, misseated-bad}
+use Rattle.clinic.specs.Refusals.{Misnamed, Misseated, Before, First}
+use Rattle.clinic.proofs.Firsts.{Both, first-map, first-or, Unfit, first-of}
+use Rattle.clinic.proofs.RecordsObjected.{Bad, BadAt, bad-user, bad-role, bad-kind, bad-channel, bad-session, misnamed-bad, misseated-bad}
 
 -- 6 of a place before 6 of a later one, and before 7
 six-six : {n p m q : ℕ} → n ≡ 6 → m ≡ 6 → p ≤ q → Before n p m q
@@ -111,45 +111,6 @@ module _ (f : List ℕ) (h : Head) where
   pub records-first : Laid h → First BadRecord (recordsAnswer f h)
   records-first L = first-map FromUsers BadRecord (recordsAnswer f h) to-record of-record (all-first L)
 
-  record-pos : (n p : ℕ) → BadRecord n p → 1 ≤ n
-  record-pos n p (inl r) = omega (arith, r .0)
-  record-pos n p (inr r) = omega (arith, r .0)
-
-  -- by the answer: nothing, 6 or 7
-  pub records-fine : Laid h → recordsAnswer f h ≡ fine → ((p : ℕ) → Misnamed f h p → ⊥) × ((p : ℕ) → Misseated f h p → ⊥)
-  records-fine L e =
-      let none = first-fine BadRecord (recordsAnswer f h) record-pos (records-first L) e in
-      (λ p m. none 6 p (inl (refl, m)), λ p m. none 7 p (inr (refl, m)))
-
-  same-place : {n p q : ℕ} → Before n p n q → p ≤ q
-  same-place (inl l) = absurd (omega arith)
-  same-place (inr (e, l)) = l
-
-  pub records-six : Laid h → (p : ℕ) → recordsAnswer f h ≡ refused 6 p → Misnamed f h p × ((q : ℕ) → Misnamed f h q → p ≤ q)
-  records-six L p e = let (b, low) = first-refused BadRecord (recordsAnswer f h) 6 p (omega arith) (records-first L) e in
-      (here b, λ q m. same-place (low 6 q (inl (refl, m))))
-    where
-      here : BadRecord 6 p → Misnamed f h p
-      here (inl b) = b .1
-      here (inr b) = absurd (omega (arith, b .0))
-
-  pub records-seven : Laid h → (p : ℕ) → recordsAnswer f h ≡ refused 7 p
-      → ((q : ℕ) → Misnamed f h q → ⊥) × Misseated f h p × ((q : ℕ) → Misseated f h q → p ≤ q)
-  records-seven L p e = let (b, low) = first-refused BadRecord (recordsAnswer f h) 7 p (omega arith) (records-first L) e in
-      (λ q m. none (low 6 q (inl (refl, m))), here b, λ q m. same-place (low 7 q (inr (refl, m))))
-    where
-      none : {q : ℕ} → Before 7 p 6 q → ⊥
-      none (inl l) = omega arith
-      none (inr (d, l)) = omega arith
-
-      here : BadRecord 7 p → Misseated f h p
-      here (inl b) = absurd (omega (arith, b .0))
-      here (inr b) = b .1
-
-  pub records-answers : Laid h → (recordsAnswer f h ≡ fine) ⊎ ((p : ℕ) × ((recordsAnswer f h ≡ refused 6 p) ⊎ (recordsAnswer f h ≡ refused 7 p)))
-  records-answers L = go (records-first L)
-    where
-      go : First BadRecord (recordsAnswer f h) → (recordsAnswer f h ≡ fine) ⊎ ((p : ℕ) × ((recordsAnswer f h ≡ refused 6 p) ⊎ (recordsAnswer f h ≡ refused 7 p)))
-      go (inl (e, none)) = inl e
-      go (inr (n, p, e, inl (a, m), low)) = inr (p, inl (e ∙ ap (λ k. refused k p) a))
-      go (inr (n, p, e, inr (a, m), low)) = inr (p, inr (e ∙ ap (λ k. refused k p) a))
+  pub record-number : (n p : ℕ) → BadRecord n p → (6 ≤ n) × (n ≤ 7)
+  record-number n p (inl r) = omega (arith, r .0)
+  record-number n p (inr r) = omega (arith, r .0)

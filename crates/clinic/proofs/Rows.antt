@@ -2,17 +2,16 @@
 use Prim.Native.Nat.{ℕ, zero, suc, _+_, _*_, _-_, _≤_}
 use mathlib.Core.Path.{_≡_, refl, sym, ap, ap₂, _∙_, subst}
 use mathlib.Core.Logic.{_↔_}
-use mathlib.Core.Bool.{Bool, true, false, cond}
+use mathlib.Core.Bool.{Bool, true}
 use mathlib.Core.List.{List, [], _∷_, _++_, append-assoc}
 use native.Mathlib.Nat.{zero-add, mul-suc, mul-zero}
 use native.Mathlib.Omega.{arith}
 use lib.ListN.{length, getD, length-append}
 use lib.Seq.{getD-append-add}
-use lib.Dec.{eqb}
-use borrow.Author.Tests.{eqb-true, eqb-false, eq-eqb}
 use Rattle.format.specs.Words.{wordAt}
-use Rattle.format.specs.Answers.{orElse, firstOf}
+use Rattle.format.specs.Answers.{firstOf}
 use Rattle.format.specs.declared.Verdict.{Verdict}
+use Rattle.format.proofs.AnswerLaws.{Quiet, first-quiet}
 use Rattle.clinic.specs.Lists.{All}
 use Rattle.clinic.specs.File.{bytesOf}
 use Rattle.clinic.proofs.Bytes.{word-back}
@@ -67,31 +66,6 @@ pub length-rows : {A : Type 0} (read : ℕ → A) (c p k : ℕ) → length (rows
 unfolding rowsFrom
 length-rows read c p zero = refl
 length-rows read c p (suc k) = ap suc (length-rows read c (p + c) k)
-
--- an answer that refuses nothing
-abbrev pub Quiet : Verdict → Type 0
-Quiet v = v .number ≡ 0
-
--- the first of two answers
-pub neither : (P : Verdict → Type 0) (v w : Verdict) → (P v → Quiet v) → P (orElse v w) → Quiet v × P w
-neither P v w quiet h = go (eqb (v .number) 0) refl h
-  where
-    go : (b : Bool) → eqb (v .number) 0 ≡ b → P (cond b w v) → Quiet v × P w
-    go true e h = (eqb-true (v .number) 0 e, h)
-    go false e h = absurd (eqb-false (v .number) 0 e (quiet h))
-
-pub in-turn : (P : Verdict → Type 0) (v w : Verdict) → Quiet v → P w → P (orElse v w)
-in-turn P v w q h = rw (eq-eqb (v .number) 0 q) h
-
--- a refusal has a number, so that nothing is refused where every item fits, and only there
-first-quiet : (fits : ℕ → Bool) (refusal : ℕ → Verdict) → ((n : ℕ) → 1 ≤ refusal n .number) → (i k : ℕ)
-    → Quiet (firstOf fits refusal i (suc k)) ↔ ((fits i ≡ true) × Quiet (firstOf fits refusal (suc i) k))
-unfolding firstOf
-first-quiet fits refusal some i k = (to (fits i) refl, λ h. rw (h .0) (h .1))
-  where
-    to : (b : Bool) → fits i ≡ b → Quiet (cond b (firstOf fits refusal (suc i) k) (refusal i)) → (fits i ≡ true) × Quiet (firstOf fits refusal (suc i) k)
-    to true e h = (e, h)
-    to false e h = absurd (omega (arith, some i))
 
 -- records of type A, of c words each, that `read` takes from the file at an offset
 module _ {A : Type 0} (enc : A → List ℕ) (c : ℕ) (fixed : (x : A) → length (enc x) ≡ c) where

@@ -1,5 +1,5 @@
 -- Trees that bind at most eight variables on a path, with their roots, pass refusal 8.
-use Prim.Native.Nat.{ℕ, suc, _+_, _-_, _≤_}
+use Prim.Native.Nat.{ℕ, suc, _+_, _-_, _≤_, _<_}
 use mathlib.Core.Path.{_≡_, refl, sym, ap, _∙_}
 use mathlib.Core.Bool.{true}
 use mathlib.Core.List.{List, [], _∷_, map}
@@ -10,23 +10,25 @@ use Rattle.reading.specs.Shape.{boundOf, rootFits, shapeFrom}
 use Rattle.format.specs.declared.Node.{Node}
 use Rattle.reading.specs.declared.Due.{Due}
 use Rattle.reading.specs.declared.Due.the-variants.{Root, Below}
+use Rattle.reading.proofs.FitsLaws.{passed, second-iff}
 use Rattle.clinic.specs.Lists.{All}
 use Rattle.clinic.specs.Tree.{Tree, end, fork, step, switch, stepNode, switchNode, past, write, flatten, binders, height}
-use Rattle.clinic.proofs.Following.{following-write}
+use Rattle.clinic.proofs.TreeEnds.{past-more, following-write}
 use Rattle.clinic.proofs.NodeSorts.{ends, forks, nodeOf}
 use Rattle.clinic.proofs.Standing.{rootsOf, Stands, roots-stand}
-use Rattle.clinic.proofs.Fitting.{passed, step-fits, step-onward, switch-fits, switch-onward, second-fits}
+use Rattle.clinic.proofs.TreeNodes.{step-fits, step-onward, switch-fits, switch-onward}
 
 -- a written tree is passed
 written : (i : ℕ) (t : Tree) (ns : List Node) (d : Due) (st : List Due) → rootFits i d ≡ true → height t ≤ 8 - boundOf d
     → shapeFrom i (write i t ns) (d ∷ st) ≡ shapeFrom (past i t) ns st
 unfolding write past height
-written i end ns d st r l = passed i (nodeOf 0 ends) ns d st (r, refl, refl, refl, refl)
+written i end ns d st r l = passed i (nodeOf 0 ends) ns d st (r, omega arith, refl, refl, refl)
 written i (fork a b) ns d st r l =
     let k : ℕ = past (suc i) a in
     let ms : List Node = write (suc i) a (write k b ns) in
     let e : k ≡ top (following (suc i) ms) = sym (ap top (following-write (suc i) a (write k b ns))) in
-    passed i (nodeOf k forks) ms d st (r, refl, refl, second-fits k (top (following (suc i) ms)) e, refl)
+    let l′ : 0 < top (following (suc i) ms) = omega (arith, past-more (suc i) a) in
+    passed i (nodeOf k forks) ms d st (r, omega arith, refl, second-iff (nodeOf k forks) (top (following (suc i) ms)) refl l′ .1 e, refl)
     ∙ written (suc i) a (write k b ns) (Below (boundOf d)) (Below (boundOf d) ∷ st) refl (omega arith)
     ∙ written k b ns (Below (boundOf d)) st refl (omega arith)
 written i (step s t) ns d st r l =

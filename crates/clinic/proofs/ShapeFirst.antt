@@ -15,12 +15,13 @@ use Rattle.format.specs.declared.Verdict.{Verdict}
 use Rattle.format.specs.declared.Node.{Node}
 use Rattle.reading.specs.declared.Due.{Due}
 use Rattle.reading.specs.declared.Due.the-variants.{Root}
+use Rattle.reading.proofs.FitsLaws.{fits-apart}
 use Rattle.clinic.specs.File.{InCount}
 use Rattle.clinic.specs.Refusals.{nth, Misshapen, not-due, bad-tag, unused-f1, unused-f2, second, past-last, left-over, ninth}
-use Rattle.clinic.proofs.Followed.{at-node, endsFrom}
-use Rattle.clinic.proofs.Walked.{stackAt, stack-step, reached-stack}
-use Rattle.clinic.proofs.Chained.{Chain, due-reached, chain-start, chain-step}
-use Rattle.clinic.proofs.Fits.{node-fits, fits-none, unfit-some}
+use Rattle.clinic.proofs.FollowedEnds.{at-node, endsFrom}
+use Rattle.clinic.proofs.StackDue.{stackAt, stack-step, reached-stack}
+use Rattle.clinic.proofs.DueChain.{Chain, due-reached, chain-start, chain-step}
+use Rattle.clinic.proofs.NodesObjected.{fits-none, unfit-some}
 
 module _ (ns : List Node) (roots : List ℕ) where
   -- nothing is misshapen past the last node where nothing is due there
@@ -105,16 +106,13 @@ module _ (ns : List Node) (roots : List ℕ) where
           → (Chain ns roots (suc i) (onward x d st) → ((q : ℕ) → Misshapen ns roots q → suc i ≤ q) → FirstShape (shapeFrom (suc i) l (onward x d st)))
           → FirstShape (cond t (shapeFrom (suc i) l (onward x d st)) (refused 8 i))
       go true f rec =
-          let k = node-fits i (nth ns i) d _ (test ∙ f) in
+          let k = fits-apart i (nth ns i) d _ .0 (test ∙ f) in
           rec (subst (λ r. Chain ns roots (suc i) (onward r d st)) node (chain-step ns roots i d st c (k .1) h))
           (after-fit i n (fits-none ns roots i d st c s k))
       go false f rec = inr (i, refl, unfit-some ns roots i d c (h .0) (test ∙ f), n)
 
-  from-start : FirstShape (shapeFrom 1 ns (map Root roots))
-  unfolding stackAt
-  from-start = walk ns 1 (map Root roots) (omega arith) refl (omega arith) refl (chain-start ns roots) (λ q m. place-low q m .0)
-
 pub shape-first : (ns : List Node) (roots : List ℕ)
     → ((shapeFrom 1 ns (map Root roots) ≡ fine) × ((q : ℕ) → Misshapen ns roots q → ⊥))
     ⊎ ((p : ℕ) × (shapeFrom 1 ns (map Root roots) ≡ refused 8 p) × Misshapen ns roots p × ((q : ℕ) → Misshapen ns roots q → p ≤ q))
-shape-first ns roots = from-start ns roots
+unfolding stackAt
+shape-first ns roots = walk ns roots ns 1 (map Root roots) (omega arith) refl (omega arith) refl (chain-start ns roots) (λ q m. place-low ns roots q m .0)

@@ -7,12 +7,12 @@ use lib.ListN.{length}
 use Rattle.format.specs.declared.Node.{Node}
 use Rattle.clinic.specs.Lists.{All}
 use Rattle.clinic.specs.Tree.{Step, repeat, new, compare, receive, send, Switch, on, off, Tree, end, fork, step, switch, stepNode, switchNode, past, write, flatten, StepWorded, Worded}
-use Rattle.clinic.proofs.Following.{past-more, past-length}
+use Rattle.clinic.proofs.TreeEnds.{past-more, past-length}
 
-abbrev FieldsFit : Node → Type 0
+abbrev pub FieldsFit : Node → Type 0
 FieldsFit n = (n .f1 < 65536) × (n .f2 < 65536)
 
-abbrev WordsFit : Node → Type 0
+abbrev pub WordsFit : Node → Type 0
 WordsFit n = (n .tag < 65536) × (n .f1 < 65536) × (n .f2 < 65536)
 
 fields-step : (s : Step) → FieldsFit (stepNode s) → StepWorded s
@@ -36,7 +36,7 @@ fields-write i (fork a b) ns h =
 fields-write i (step s t) ns h = let p = fields-write (suc i) t ns (h .1) in ((fields-step s (h .0), p .0), p .1)
 fields-write i (switch w r t) ns h = let p = fields-write (suc i) t ns (h .1) in ((fields-switch w r (h .0), p .0), p .1)
 
-pub worded-trees : (i : ℕ) (ts : List Tree) → All (λ (n : Node). (n .f1 < 65536) × (n .f2 < 65536)) (flatten i ts) → All Worded ts
+pub worded-trees : (i : ℕ) (ts : List Tree) → All FieldsFit (flatten i ts) → All Worded ts
 unfolding flatten
 worded-trees i [] h = tt
 worded-trees i (t ∷ ts) h = let p = fields-write i t (flatten (past i t) ts) h in (p .0, worded-trees (past i t) ts (p .1))
@@ -62,8 +62,7 @@ write-words i (fork a b) ns w l h =
 write-words i (step s t) ns w l h = (step-words s (w .0), write-words (suc i) t ns (w .1) l h)
 write-words i (switch v r t) ns w l h = (switch-words v r (w .0), write-words (suc i) t ns (w .1) l h)
 
-pub worded-nodes : (i : ℕ) (ts : List Tree) → All Worded ts → i + length (flatten i ts) ≤ 65536
-    → All (λ (n : Node). (n .tag < 65536) × (n .f1 < 65536) × (n .f2 < 65536)) (flatten i ts)
+pub worded-nodes : (i : ℕ) (ts : List Tree) → All Worded ts → i + length (flatten i ts) ≤ 65536 → All WordsFit (flatten i ts)
 unfolding flatten
 worded-nodes i [] w l = tt
 worded-nodes i (t ∷ ts) w l =

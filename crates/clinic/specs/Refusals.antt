@@ -7,13 +7,15 @@ use mathlib.Core.List.{List, [], _∷_}
 use lib.ListN.{length, getD}
 use Rattle.masks.specs.Mask.{has}
 use Rattle.format.specs.Words.{wordAt}
+use Rattle.format.specs.Answers.{fine, refused}
 use Rattle.format.specs.Header.{sixAt, headAt}
 use Rattle.format.specs.Sections.{placeOf, userRoles, roleOf, carried, channelOf, sessionOf, nodesFrom}
 use Rattle.reading.specs.Shape.{boundBelow}
+use Rattle.format.specs.declared.Verdict.{Verdict}
 use Rattle.format.specs.declared.Six.{Six}
 use Rattle.format.specs.declared.Head.{Head}
 use Rattle.format.specs.declared.Node.{Node}
-use Rattle.format.specs.declared.Section.the-variants.{Users, Roles, Kinds, Channels, Sessions, Nodes}
+use Rattle.format.specs.declared.Section.the-variants.{Users, Roles, Kinds, Channels}
 use Rattle.clinic.specs.File.{InCount}
 
 -- every count is in range
@@ -96,3 +98,13 @@ pub data Refusable (f : List ℕ) (n p : ℕ) : Type 0 where
   misseated : n ≡ 7 → Misseated f (headAt f) p → Refusable f n p
   misshapen : n ≡ 8 → Misshapen (nodesFrom f (headAt f .at .nodes) (headAt f .count .nodes)) (rootWords f (headAt f .at .sessions) (headAt f .count .sessions)) p
       → Refusable f n p
+
+-- the order of refusals: by number, and within a number the lowest place first
+abbrev pub Before : ℕ → ℕ → ℕ → ℕ → Type 0
+Before n p m q = (n < m) ⊎ ((n ≡ m) × (p ≤ q))
+
+-- the answer is the first in that order of the refusals that hold, and refuses nothing where none does
+abbrev pub First : (ℕ → ℕ → Type 0) → Verdict → Type 0
+First R v =
+    ((v ≡ fine) × ((n p : ℕ) → R n p → ⊥))
+    ⊎ ((n : ℕ) × (p : ℕ) × (v ≡ refused n p) × R n p × ((m q : ℕ) → R m q → Before n p m q))

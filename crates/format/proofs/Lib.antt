@@ -1,1 +1,3 @@
+pub mod BoolLaws
+pub mod AnswerLaws
 pub mod HeadLaws

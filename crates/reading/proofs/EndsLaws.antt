@@ -1,21 +1,19 @@
 -- The table of ends, as the backward loop fills it, against the trees that can be followed.
--- Assumes nothing.
 use Prim.Native.Nat.{ℕ, zero, suc, _+_, _*_, _-_, _≤_, _<_}
 use mathlib.Core.Path.{_≡_, refl, sym, ap, _∙_}
-use mathlib.Core.Bool.{Bool, true, false}
+use mathlib.Core.Bool.{Bool, true, false, cond}
 use mathlib.Core.List.{List, [], _∷_, _++_, append-assoc, append-nil}
 use native.Mathlib.Omega.{arith}
 use native.Mathlib.Numerals.{add-one}
 use lib.ListN.{length, getD, take, drop, set, length-append, length-drop, length-set, take-append-drop, List·getD-eq-default, drop-of-length-le}
 use lib.Seq.{set-split, drop-at, length-take-le, getD-at, getD-drop, getD-set-other, getD-set-same}
 use lib.Dec.{eqb, leb}
-use mathlib.Core.Bool.{cond}
 use Rattle.format.specs.Words.{wordAt}
-use Rattle.format.specs.Sections.{nodeAt, nodesFrom}
+use Rattle.format.specs.Sections.{nodesFrom}
 use Rattle.reading.specs.Ends.{top, rest, grown, following, tableFrom, tableOf, endOf}
 use Rattle.format.specs.declared.Node.{Node}
 
-pub top-grown : (t i : ℕ) (st : List ℕ) → top (grown t i st) ≡ endOf t (suc i) (top st) (top (rest st))
+top-grown : (t i : ℕ) (st : List ℕ) → top (grown t i st) ≡ endOf t (suc i) (top st) (top (rest st))
 top-grown t i st = go (eqb t 0) (eqb t 1) (leb t 8)
   where
     go : (a b c : Bool) → top (cond a (suc i ∷ st) (cond b (rest st) (cond c st []))) ≡ cond a (suc i) (cond b (top (rest st)) (cond c (top st) 0))
@@ -39,7 +37,7 @@ head-at p [] i e = simp append-nil (List·getD-eq-default p 0 (omega arith))
 head-at p (y ∷ ys) i e = getD-at p y ys 0 i e
 
 -- each end on the following has the next one at its own place in the table
-abbrev pub Chain : List ℕ → ℕ → ℕ → List ℕ → Type 0
+abbrev Chain : List ℕ → ℕ → ℕ → List ℕ → Type 0
 Chain l lo hi [] = Unit {0}
 Chain l lo hi (e ∷ st) = (lo < e) × (e ≤ hi) × (getD l e 0 ≡ top st) × Chain l lo hi st
 
@@ -60,7 +58,7 @@ chain-grown l t i hi st le e h = go (eqb t 0) (eqb t 1) (leb t 8)
     go false false true = h
     go false false false = tt
 
-pub chain-following : (pre : List ℕ) (i : ℕ) (ns : List Node) → length pre ≡ i → Chain (pre ++ tableFrom i ns) i (i + length ns) (following i ns)
+chain-following : (pre : List ℕ) (i : ℕ) (ns : List Node) → length pre ≡ i → Chain (pre ++ tableFrom i ns) i (i + length ns) (following i ns)
 unfolding following tableFrom
 chain-following pre i [] e = tt
 chain-following pre i (n ∷ ns) e =
@@ -77,7 +75,7 @@ chain-following pre i (n ∷ ns) e =
     chain-grown l (n .tag) i (i + suc (length ns)) st (omega arith) next (chain-low l i (i + suc (length ns)) st h)
 
 -- the table from the number i on, read at a node's end
-pub two : (l : List ℕ) (i : ℕ) (ns : List Node) → i ≤ length l → drop i l ≡ tableFrom i ns → getD l 0 0 ≡ 0
+two : (l : List ℕ) (i : ℕ) (ns : List Node) → i ≤ length l → drop i l ≡ tableFrom i ns → getD l 0 0 ≡ 0
     → (top (following i ns) < length l) × (getD l (top (following i ns)) 0 ≡ top (rest (following i ns)))
 two l i ns le e z = go (following i ns) chain
   where
@@ -94,7 +92,7 @@ two l i ns le e z = go (following i ns) chain
     go [] h = (omega (arith, long), z)
     go (x ∷ st) h = (omega (arith, long), h .2)
 
-pub first-at : (l : List ℕ) (i : ℕ) (ns : List Node) → drop i l ≡ tableFrom i ns → getD l i 0 ≡ top (following i ns)
+first-at : (l : List ℕ) (i : ℕ) (ns : List Node) → drop i l ≡ tableFrom i ns → getD l i 0 ≡ top (following i ns)
 first-at l i ns e = let z : i + 0 ≡ i = omega arith in (rw z at (sym (getD-drop i l 0 0))) ∙ ap (λ x. getD x 0 0) e ∙ table-head i ns
 
 drop-set : (l : List ℕ) (i v : ℕ) → i < length l → drop i (set l i v) ≡ v ∷ drop (suc i) l

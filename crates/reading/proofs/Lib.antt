@@ -1,4 +1,6 @@
-pub mod FirstLaws
+pub mod RecordLaws
 pub mod EndsLaws
+pub mod FitsLaws
 pub mod ShapeLaws
 pub mod SoundLaws
+pub mod ReadingLaws

@@ -1,32 +1,18 @@
 -- The stack of trees due in an array, and one turn of the walk over the nodes.
 use Prim.Native.Nat.{ℕ, zero, suc, _+_, _*_, _-_, _≤_, _<_}
-use mathlib.Core.Path.{_≡_, refl, sym, ap, ap₂, _∙_}
-use mathlib.Core.Bool.{Bool, true, false, cond, not, _&&_, _||_, and-eq-true-iff}
+use mathlib.Core.Path.{_≡_, refl, sym, ap, _∙_}
+use mathlib.Core.Bool.{Bool, true, false, cond}
 use mathlib.Core.List.{List, [], _∷_}
 use native.Mathlib.Omega.{arith}
 use native.Mathlib.Numerals.{add-one}
 use lib.ListN.{length, getD, set, length-set}
 use lib.Seq.{getD-set-other, getD-set-same}
-use lib.Dec.{eqb, leb, ltb}
-use borrow.Author.Tests.{ltb-true}
+use lib.Dec.{eqb}
 use Rattle.format.specs.Words.{wordAt}
 use Rattle.format.specs.Answers.{fine, refused}
 use Rattle.format.specs.Sections.{nodeAt, nodesFrom}
 use Rattle.reading.specs.Ends.{top, following, tableFrom, tableOf}
-use Rattle.reading.specs.Shape.{
-  boundOf,
-  rootFits,
-  binds,
-  unusedFit,
-  secondFits,
-  roomFor,
-  nodeFits,
-  boundBelow,
-  depthAfter,
-  onward,
-  shapeFrom,
-  rootsFrom,
-}
+use Rattle.reading.specs.Shape.{boundOf, nodeFits, boundBelow, depthAfter, onward, shapeFrom, rootsFrom}
 use Rattle.format.specs.declared.Verdict.{Verdict}
 use Rattle.format.specs.declared.Node.{Node}
 use Rattle.reading.specs.declared.Due.{Due}
@@ -39,7 +25,7 @@ module _ {A : Type 0} (z : A) where
   pile a zero = []
   pile a (suc d) = getD a d z ∷ pile a d
 
-  pub pile-set : (a : List A) (i : ℕ) (v : A) (d : ℕ) → d ≤ i → pile (set a i v) d ≡ pile a d
+  pile-set : (a : List A) (i : ℕ) (v : A) (d : ℕ) → d ≤ i → pile (set a i v) d ≡ pile a d
   pile-set a i v zero h = refl
   pile-set a i v (suc d) h =
       let other : getD (set a i v) d z ≡ getD a d z = getD-set-other a i d v z (λ e. let no : d ≡ i = e in omega arith) in
@@ -111,7 +97,7 @@ table-from f k p (suc n) (suc i) h =
     let n1 : suc n - suc i ≡ n - i = omega arith in
     rw (n1) (rw (k1, p1) at (table-from f (suc k) (p + 3) n i (omega arith)))
 
-pub table-next : (f ends : List ℕ) (p n i : ℕ) → ends ≡ tableOf (nodesFrom f p n) → i ≤ n → getD ends (i + 1) 0 ≡ top (following (suc i) (nodesFrom f (p + 3 * i) (n - i)))
+table-next : (f ends : List ℕ) (p n i : ℕ) → ends ≡ tableOf (nodesFrom f p n) → i ≤ n → getD ends (i + 1) 0 ≡ top (following (suc i) (nodesFrom f (p + 3 * i) (n - i)))
 unfolding tableOf
 table-next f ends p n i e h =
     let one : 1 + i ≡ suc i = omega arith in
@@ -127,7 +113,7 @@ unfolding tableOf
 table-size f ends p n e = ap length e ∙ omega (arith, table-length 1 (nodesFrom f p n), length-nodes f p n)
 
 -- a turn: the node at i is judged, and the walk goes on with what is due then
-pub turn : (f ends : List ℕ) (p n i : ℕ) (d : Due) (st : List Due) → ends ≡ tableOf (nodesFrom f p n) → 1 ≤ i → i ≤ n
+turn : (f ends : List ℕ) (p n i : ℕ) (d : Due) (st : List Due) → ends ≡ tableOf (nodesFrom f p n) → 1 ≤ i → i ≤ n
     → shapeFrom i (nodesFrom f (p + 3 * (i - 1)) (n + 1 - i)) (d ∷ st)
     ≡ cond (nodeFits i (nodeAt f (p + 3 * (i - 1))) d (getD ends (i + 1) 0))
     (shapeFrom (i + 1) (nodesFrom f (p + 3 * (i + 1 - 1)) (n + 1 - (i + 1))) (onward (nodeAt f (p + 3 * (i - 1))) d st)) (refused 8 i)
@@ -138,13 +124,6 @@ turn f ends p n i d st e pos h =
     let back : i + 1 - 1 ≡ i = omega arith in
     let left : n + 1 - (i + 1) ≡ n - i = omega arith in
     rw (more, along, back, left, table-next f ends p n i e h, add-one i)
-
--- a node that fits has room for the variable that it binds
-pub fits-room : (i : ℕ) (n : Node) (d : Due) (e : ℕ) → nodeFits i n d e ≡ true → binds (n .tag) ≡ true → boundOf d < 8
-unfolding nodeFits
-fits-room i n d e h b =
-    let r : roomFor n d ≡ true = and-eq-true-iff (((rootFits i d && leb (n .tag) 8) && unusedFit n) && secondFits n e) (roomFor n d) .0 h .1 in
-    ltb-true (boundOf d) 8 (rw b at r)
 
 -- the end of the walk
 pub over-empty : (f : List ℕ) (p n i : ℕ) → n < i → shapeFrom i (nodesFrom f p (n + 1 - i)) [] ≡ fine

@@ -1,11 +1,10 @@
-use Rattle.format.proofs.HeadLaws.{headed, Headed}
-use native.Mathlib.Omega.{arith}
+use Rattle.format.proofs.HeadLaws.{head-laid}
 use denote.Ref.{now}
-use Rattle.format.specs.declared.HeadAnswer.the-variants.{Fine, Refused}
+use Rattle.format.specs.declared.HeadAnswer.the-variants.{Fine}
 use Rattle.reading.specs.Reading.{after, reading}
 use Rattle.format.specs.Header.{headOf, Laid}
 use Rattle.format.specs.Answers.{orElse}
-use mathlib.Core.Path.{_≡_, refl, sym, ap, ap₂, _∙_}
+use mathlib.Core.Path.{_≡_, sym, ap, ap₂, _∙_}
 use borrow.Author.Needs.{needs}
 use Rattle.reading.proofs.read.Statement.{statement}
 use Rattle.reading.proofs.read.Tie as tie
@@ -20,8 +19,8 @@ use Rattle.reading.proofs.shape.shape.Reads as shape-reads
 told : (c : tie.After-known-told2) → headOf (now (c .before .before .before .before .before .args .file)) ≡ Fine (c .before .answer2 .given .0 .0)
 told c = sym (c .before .before .before .read-head .ensures) ∙ c .before .answer2 .given .1
 
-head-fits : (c : tie.After-known-told2) → Headed (now (c .before .before .before .before .before .args .file)) (c .before .answer2 .given .0 .0)
-head-fits c = headed (now (c .before .before .before .before .before .args .file)) (c .before .answer2 .given .0 .0) (told c)
+laid : (c : tie.After-known-told2) → Laid (c .before .answer2 .given .0 .0)
+laid c = head-laid (now (c .before .before .before .before .before .args .file)) (c .before .answer2 .given .0 .0) (told c)
 
 -- src/lib.rt:85:9
 read-head-requires : tie.Need-read-head-requires
@@ -37,11 +36,11 @@ enum-known-answer-2 c = search needs
 
 -- src/lib.rt:88:52
 records-requires : tie.Need-records-requires
-records-requires c κs = head-fits c .laid
+records-requires c κs = laid c
 
 -- src/lib.rt:88:82
 shape-requires : tie.Need-shape-requires
-shape-requires c κs = let l : Laid _ = head-fits (c .before) .laid in (l .nodes, l .sessions)
+shape-requires c κs = let l : Laid _ = laid (c .before) in (l .nodes, l .sessions)
 
 -- src/lib.rt:88:35
 or-else-requires : tie.Need-or-else-requires

@@ -1,10 +1,10 @@
-use Prim.Native.Nat.{ℕ, zero, suc, _+_, _*_, _-_, _≤_, _<_}
-use mathlib.Core.Path.{_≡_, refl, sym, ap, _∙_}
+use Prim.Native.Nat.{suc, _+_, _*_, _-_, _≤_}
+use mathlib.Core.Path.{_≡_, refl, ap, _∙_}
 use native.Mathlib.Omega.{arith}
 use borrow.Author.Needs.{needs}
-use lib.ListN.{length, getD, drop, set, length-set}
+use lib.ListN.{length, getD, drop, length-set}
 use Rattle.format.specs.Sections.{nodesFrom}
-use Rattle.reading.specs.Ends.{tableFrom, tableOf}
+use Rattle.reading.specs.Ends.{tableFrom}
 use Rattle.reading.proofs.EndsLaws.{in-table, same-end, again, begin, finish, keep-first}
 use Rattle.reading.proofs.ends.ends.Statement.{statement}
 use Rattle.reading.proofs.ends.ends.Tie as tie

@@ -1,5 +1,5 @@
 use lib.Dec.{leb}
-use mathlib.Core.Path.{_≡_, refl, sym, ap, ap₂, _∙_}
+use mathlib.Core.Path.{ap}
 use Rattle.reading.specs.Records.{recordFits}
 use borrow.Author.Needs.{needs}
 use Rattle.reading.proofs.records.record_fits.Statement.{statement}

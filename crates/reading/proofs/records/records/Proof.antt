@@ -1,6 +1,6 @@
 use Rattle.reading.specs.Records.{recordsAnswer}
 use Rattle.format.specs.Answers.{orElse}
-use mathlib.Core.Path.{_≡_, refl, sym, ap, ap₂, _∙_}
+use mathlib.Core.Path.{ap₂, _∙_}
 use borrow.Author.Needs.{needs}
 use Rattle.reading.proofs.records.records.Statement.{statement}
 use Rattle.reading.proofs.records.records.Tie as tie

@@ -1,7 +1,7 @@
 use Rattle.reading.specs.Records.{numberOf}
 use Rattle.format.specs.Answers.{refused}
 use borrow.Author.Tests.{eq-eqb, ne-eqb}
-use mathlib.Core.Path.{_≡_, refl, sym, ap, ap₂, _∙_}
+use mathlib.Core.Path.{_≡_, sym, ap, ap₂, _∙_}
 use borrow.Author.Needs.{needs}
 use Rattle.reading.proofs.records.refusal_of.Statement.{statement}
 use Rattle.reading.proofs.records.refusal_of.Tie as tie

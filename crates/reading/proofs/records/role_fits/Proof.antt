@@ -1,7 +1,7 @@
 use Rattle.format.specs.declared.Role.{Role}
 use Rattle.masks.specs.Mask.{namesOnly}
 use mathlib.Core.Bool.{_&&_}
-use mathlib.Core.Path.{_≡_, refl, sym, ap, ap₂, _∙_}
+use mathlib.Core.Path.{ap, ap₂, _∙_}
 use Rattle.reading.specs.Records.{recordFits}
 use borrow.Author.Needs.{needs}
 use Rattle.reading.proofs.records.role_fits.Statement.{statement}

@@ -1,13 +1,13 @@
 use Rattle.format.proofs.HeadLaws.{few, place-fits}
 use mathlib.Core.Bool.{true, false}
-use Rattle.reading.proofs.FirstLaws.{first-stops, first-goes-on, first-ends}
+use Rattle.format.proofs.AnswerLaws.{first-stops, first-goes-on, first-ends}
 use Rattle.reading.specs.Records.{recordFits, refusalOf, sectionAnswer}
 use Rattle.format.specs.Sections.{part}
 use Rattle.format.specs.Answers.{firstOf}
 use borrow.Author.Tests.{not-true, not-false}
 use native.Mathlib.Omega.{arith}
-use Prim.Native.Nat.{ℕ, _+_, _-_, _≤_}
-use mathlib.Core.Path.{_≡_, refl, sym, ap, ap₂, _∙_}
+use Prim.Native.Nat.{_+_, _-_, _≤_}
+use mathlib.Core.Path.{_≡_, sym, ap, _∙_}
 use borrow.Author.Needs.{needs}
 use Rattle.reading.proofs.records.section_answer.Statement.{statement}
 use Rattle.reading.proofs.records.section_answer.Tie as tie

@@ -1,12 +1,12 @@
-use lib.Dec.{ltb, leb}
 use Rattle.masks.specs.Mask.{within}
 use denote.Ref.{now}
 use Rattle.format.specs.Sections.{sessionOf, userRoles}
 use Rattle.format.specs.declared.Session.{Session}
-use mathlib.Core.Bool.{Bool, true, false, _&&_, and-eq-true-iff}
-use borrow.Author.Tests.{not-true, not-false, ltb-true}
+use mathlib.Core.Bool.{Bool}
+use borrow.Author.Tests.{not-true, not-false}
 use Rattle.reading.specs.Records.{recordFits, inCount}
-use mathlib.Core.Path.{_≡_, refl, sym, ap, ap₂, _∙_}
+use Rattle.reading.proofs.RecordLaws.{inCount-iff}
+use mathlib.Core.Path.{_≡_, sym, ap, _∙_}
 use borrow.Author.Needs.{needs}
 use Rattle.reading.proofs.records.session_fits.Statement.{statement}
 use Rattle.reading.proofs.records.session_fits.Tie as tie
@@ -38,7 +38,7 @@ returns c = rw (seated (c .before) (not-true _ (c .if1 .taken)))
 -- src/records.rt:52:27
 user-roles-requires : tie.Need-user-roles-requires
 user-roles-requires c κs =
-    ltb-true _ _ (and-eq-true-iff _ _ .0 (sym (c .before .in-count .ensures) ∙ not-false _ (c .if1 .left)) .0)
+    inCount-iff _ _ .0 (sym (c .before .in-count .ensures) ∙ not-false _ (c .if1 .left)) .0
 
 -- src/records.rt:52:5
 roles-within-requires : tie.Need-roles-within-requires

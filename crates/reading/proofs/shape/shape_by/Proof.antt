@@ -2,7 +2,7 @@ use Rattle.format.specs.Sections.{nodesFrom}
 use Rattle.reading.specs.Ends.{tableOf}
 use denote.Ref.{now}
 use native.Mathlib.Omega.{arith}
-use mathlib.Core.Path.{_≡_, refl, sym, ap, ap₂, _∙_}
+use mathlib.Core.Path.{ap₂, _∙_}
 use borrow.Author.Needs.{needs}
 use Rattle.reading.proofs.shape.shape_by.Statement.{statement}
 use Rattle.reading.proofs.shape.shape_by.Tie as tie

@@ -1,6 +1,6 @@
-use Prim.Native.Nat.{ℕ, zero, suc, _+_, _*_, _-_, _≤_, _<_}
+use Prim.Native.Nat.{ℕ, _+_, _*_, _-_, _≤_, _<_}
 use mathlib.Core.Path.{_≡_, refl, sym, ap, ap₂, _∙_}
-use mathlib.Core.Bool.{Bool, true, false, cond}
+use mathlib.Core.Bool.{cond}
 use native.Mathlib.Omega.{arith}
 use borrow.Author.Needs.{needs}
 use borrow.Author.Tests.{not-true, not-false}
@@ -9,11 +9,11 @@ use Rattle.format.specs.Words.{wordAt}
 use denote.Ref.{now}
 use Rattle.format.specs.Answers.{refused}
 use Rattle.format.specs.Sections.{nodesFrom}
-use Rattle.reading.specs.Shape.{nodeFits, boundBelow, boundOf, onward, shapeFrom, rootsFrom, shapeAnswer}
+use Rattle.reading.specs.Shape.{boundBelow, boundOf, onward, shapeFrom, rootsFrom, shapeAnswer}
 use Rattle.format.specs.declared.Session.{Session}
-use Rattle.reading.specs.declared.Due.{Due}
 use Rattle.reading.specs.declared.Due.the-variants.{Root, Below}
-use Rattle.reading.proofs.ShapeLaws.{pile, blank, pile-top, roots-push, due-after, judged, fits-room, over-empty, over-due, left-over, table-size, depth-most}
+use Rattle.reading.proofs.FitsLaws.{fits-room}
+use Rattle.reading.proofs.ShapeLaws.{pile, blank, pile-top, roots-push, due-after, judged, over-empty, over-due, left-over, table-size, depth-most}
 use Rattle.reading.proofs.shape.walk.Statement.{statement}
 use Rattle.reading.proofs.shape.walk.Tie as tie
 use Rattle.reading.proofs.shape.walk.Reads as reads

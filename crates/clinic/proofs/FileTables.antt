@@ -40,7 +40,7 @@ unfolding seats rootsOf
 roots-seats at [] = refl
 roots-seats at (s ∷ ss) = ap {B = List ℕ} (λ l. at ∷ l) (roots-seats (past at (s .tree)) ss)
 
-pub routines-seats : (at : ℕ) (ss : List Routine) → routines (seats at ss) (treesOf ss) ≡ ss
+routines-seats : (at : ℕ) (ss : List Routine) → routines (seats at ss) (treesOf ss) ≡ ss
 unfolding seats routines
 routines-seats at [] = refl
 routines-seats at (s ∷ ss) = ap {B = List Routine} (λ l. s ∷ l) (routines-seats (past at (s .tree)) ss)

@@ -1,24 +1,11 @@
--- What tests on tags and Booleans say.
+-- What tests on tags say.
 use Prim.Native.Nat.{ℕ}
 use mathlib.Core.Path.{_≡_, refl}
 use mathlib.Core.Logic.{_⊎_, inl, inr, _≢_, _↔_}
-use mathlib.Core.Bool.{Bool, true, false, cond, _&&_, _||_, true≢false}
+use mathlib.Core.Bool.{Bool, true, false, cond, _||_, or-true, true≢false}
 use lib.Dec.{eqb, ltb}
 use borrow.Author.Tests.{eqb-true, eq-eqb, ne-eqb}
 use Rattle.reading.specs.Shape.{used}
-
-pub and-false : (a b : Bool) → (a && b) ≡ false → (a ≡ false) ⊎ ((a ≡ true) × (b ≡ false))
-and-false true b h = inr (refl, h)
-and-false false b h = inl refl
-
-pub or-false : (a b : Bool) → (a || b) ≡ false → (a ≡ false) × (b ≡ false)
-or-false true b h = absurd (true≢false h)
-or-false false b h = (refl, h)
-
--- the second of two tests has to hold where the first does not
-pub or-right : (a b : Bool) → (a || b) ≡ true → a ≡ false → b ≡ true
-or-right true b h e = absurd (true≢false e)
-or-right false b h e = h
 
 -- a number is one of two
 pub one-of : (t x y : ℕ) → ((eqb t x || eqb t y) ≡ true) ↔ ((t ≡ x) ⊎ (t ≡ y))
@@ -28,13 +15,9 @@ one-of t x y = (λ h. to (eqb t x) refl h, back)
     to true e h = inl (eqb-true t x e)
     to false e h = inr (eqb-true t y h)
 
-    right : (a : Bool) → (a || true) ≡ true
-    right true = refl
-    right false = refl
-
     back : (t ≡ x) ⊎ (t ≡ y) → (eqb t x || eqb t y) ≡ true
     back (inl e) = rw (eq-eqb t x e)
-    back (inr e) = rw (eq-eqb t y e) (right (eqb t x))
+    back (inr e) = rw (eq-eqb t y e) (or-true (eqb t x))
 
 -- tags with no field in use, and with at most one
 pub no-field : (t : ℕ) → (ltb 0 (used t) ≡ false) ↔ ((t ≡ 0) ⊎ (t ≡ 2))

@@ -1,28 +1,28 @@
 -- What reading judges of tables: their bytes are read without refusal where the tables fit, and only there.
 use Prim.Native.Nat.{ℕ, zero, suc, _+_, _*_, _≤_}
 use mathlib.Core.Path.{_≡_, refl, sym, ap, ap₂, _∙_, subst}
+use mathlib.Core.Logic.{_↔_}
 use mathlib.Core.List.{List, _∷_, map}
-use native.Mathlib.Omega.{arith}
 use lib.ListN.{length}
-use Rattle.format.specs.Words.{wordAt}
 use Rattle.format.specs.Answers.{fine}
 use Rattle.format.specs.Header.{Laid}
 use Rattle.format.specs.Sections.{nodeAt, nodesFrom}
 use Rattle.reading.specs.Records.{recordsAnswer}
-use Rattle.reading.specs.Shape.{rootsFrom, shapeFrom, shapeAnswer}
+use Rattle.reading.specs.Shape.{shapeFrom, shapeAnswer}
 use Rattle.reading.specs.Reading.{reading, bodyAnswer}
 use Rattle.format.specs.declared.Head.{Head}
 use Rattle.format.specs.declared.Verdict.{Verdict}
-use Rattle.format.specs.declared.Session.{Session}
 use Rattle.format.specs.declared.Node.{Node}
-use Rattle.reading.specs.declared.Due.{Due}
 use Rattle.reading.specs.declared.Due.the-variants.{Root}
-use Rattle.clinic.proofs.Laid.{Headed, reading-parts, reading-whole}
+use Rattle.format.proofs.HeadLaws.{Headed}
+use Rattle.format.proofs.AnswerLaws.{Quiet, both-quiet}
+use Rattle.reading.proofs.ReadingLaws.{reading-iff}
 use Rattle.clinic.proofs.Bytes.{length-bytesOf}
-use Rattle.clinic.proofs.Rows.{rowsFrom, neither, in-turn, rows-back}
+use Rattle.clinic.proofs.Rows.{rowsFrom, rows-back}
 use Rattle.clinic.proofs.Tables.{Tables, sessionRow, nodeRow, rootsIn, sessionAt, session-back, node-back, tableWords, tableBytes, headFor, head-back}
+use Rattle.clinic.proofs.Roots.{roots-due, roots-rows}
 use Rattle.clinic.proofs.Places.{places, length-tables}
-use Rattle.clinic.proofs.Tested.{RecordsFit, records-quiet}
+use Rattle.clinic.proofs.RecordsJudged.{RecordsFit, records-quiet}
 
 -- counts in range, records that name only what exists, and a shape of nodes that is not refused
 pub record TablesFit (T : Tables) : Type 0 where
@@ -40,11 +40,6 @@ unfolding nodesFrom rowsFrom
 nodes-rows f p zero = refl
 nodes-rows f p (suc k) = ap {B = List Node} (λ l. nodeAt f p ∷ l) (nodes-rows f (p + 3) k)
 
-roots-rows : (f : List ℕ) (p k : ℕ) → rootsFrom f p k ≡ map Root (rootsIn (rowsFrom (sessionAt f) 3 p k))
-unfolding rootsFrom rowsFrom
-roots-rows f p zero = refl
-roots-rows f p (suc k) = ap {B = List Due} (λ l. Root (wordAt f (p + 2)) ∷ l) (roots-rows f (p + 3) k)
-
 module _ (T : Tables) where
   abbrev file : List ℕ
   file = tableBytes T
@@ -60,13 +55,17 @@ module _ (T : Tables) where
       let nodes = rows-back nodeRow 3 (λ x. refl) file (nodeAt file) (node-back file) (head .at .nodes) (T .nodes) post at in
       let sessions = rows-back sessionRow 3 (λ x. refl) file (sessionAt file) (session-back file) (head .at .sessions) (T .sessions) post′ at′ in
       ap₂ (shapeFrom 1) (nodes-rows file (head .at .nodes) (head .count .nodes) ∙ nodes)
-      (roots-rows file (head .at .sessions) (head .count .sessions) ∙ ap (λ (l : List Session). map Root (rootsIn l)) sessions)
+      (roots-due file (head .at .sessions) (head .count .sessions)
+      ∙ ap (map Root) (roots-rows file (head .at .sessions) (head .count .sessions) ∙ ap rootsIn sessions))
+
+  body-quiet : (bodyAnswer file head ≡ fine) ↔ (Quiet (recordsAnswer file head) × (shapeAnswer file head ≡ fine))
+  body-quiet = both-quiet (λ v. v ≡ fine) (recordsAnswer file head) (shapeAnswer file head) (ap (λ (v : Verdict). v .number))
 
   pub judged : reading (tableBytes T) ≡ fine → TablesFit T
   judged e =
-      let (d, body) = reading-parts file e in
+      let (d, body) = reading-iff file .0 e in
       let l : Laid head = subst Laid (head-back T) (d .laid) in
-      let (quiet, shape) = neither (λ v. v ≡ fine) (recordsAnswer file head) (shapeAnswer file head) (ap (λ (v : Verdict). v .number))
+      let (quiet, shape) = body-quiet .0
       (subst (λ (h : Head). bodyAnswer file h ≡ fine) (head-back T) body) in
       record {
         few-users = l .users;
@@ -100,8 +99,6 @@ module _ (T : Tables) where
   tables-headed t =
       let len : length file ≡ 2 * (head .at .nodes + 3 * head .count .nodes) = length-bytesOf (tableWords T) ∙ ap (λ (n : ℕ). 2 * n) (length-tables T) in
       record {
-        long = omega arith;
-        even = omega arith;
         version = ap (λ (h : Head). h .version) (head-back T);
         laid = subst Laid (sym (head-back T)) (tables-laid t);
         size = len ∙ sym (ap (λ (h : Head). 2 * (h .at .nodes + 3 * h .count .nodes)) (head-back T));
@@ -109,6 +106,5 @@ module _ (T : Tables) where
 
   pub not-refused : TablesFit T → reading (tableBytes T) ≡ fine
   not-refused t =
-      let body : bodyAnswer file head ≡ fine =
-      in-turn (λ v. v ≡ fine) (recordsAnswer file head) (shapeAnswer file head) (records-quiet T .1 (t .records)) (shape-read ∙ t .shape) in
-      reading-whole file (tables-headed t) (subst (λ (h : Head). bodyAnswer file h ≡ fine) (sym (head-back T)) body)
+      let body : bodyAnswer file head ≡ fine = body-quiet .1 (records-quiet T .1 (t .records), shape-read ∙ t .shape) in
+      reading-iff file .1 (tables-headed t, subst (λ (h : Head). bodyAnswer file h ≡ fine) (sym (head-back T)) body)

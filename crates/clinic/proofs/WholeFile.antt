@@ -9,10 +9,10 @@ use Rattle.format.specs.Header.{headAt, Laid}
 use Rattle.format.specs.Sections.{nodeAt}
 use Rattle.format.specs.declared.Head.{Head}
 use Rattle.format.specs.declared.Six.{Six}
+use Rattle.format.proofs.HeadLaws.{Headed}
 use Rattle.clinic.specs.Lists.{All}
 use Rattle.clinic.specs.File.{headWords, bytesOf}
 use Rattle.clinic.proofs.Bytes.{Byte, Word, length-bytesOf, paired, small-words}
-use Rattle.clinic.proofs.Laid.{Headed}
 use Rattle.clinic.proofs.Rows.{holds-all, holds-words, wordsFrom, words-joined, length-rows, rows-words}
 use Rattle.clinic.proofs.Tables.{oneRow, roleRow, channelRow, sessionRow, nodeRow, roleAt, channelAt, sessionAt}
 use Rattle.clinic.proofs.Tables.{headWordsOf, tableWords, tableBytes, tablesAt}
@@ -108,7 +108,7 @@ module _ (f : List ℕ) (d : Headed f) (bytes : All Byte f) where
   pub bytes-back : tableBytes (tablesAt f (headAt f)) ≡ f
   unfolding tableBytes
   bytes-back =
-      let (ws, e) = paired f (d .even) bytes in
+      let (ws, e) = paired f (omega (arith, d .size)) bytes in
       let len : wordAt f 12 + 3 * wordAt f 6 ≡ length ws = omega (arith, d .size, ap length e, length-bytesOf ws) in
       let all : wordsFrom (bytesOf ws) 0 (length ws) ≡ ws = holds-words (bytesOf ws) 0 ws (holds-all ws) in
       ap bytesOf (tables-words ∙ ap (wordsFrom f 0) len ∙ ap (λ (g : List ℕ). wordsFrom g 0 (length ws)) (sym e) ∙ all) ∙ e

@@ -14,7 +14,7 @@ use Rattle.reading.specs.declared.Due.{Due}
 use Rattle.reading.specs.declared.Due.the-variants.{Root, Below}
 use Rattle.clinic.specs.File.{InCount}
 use Rattle.clinic.specs.Refusals.{nth, OneChild, Follows, at-end, at-step, at-fork, Begins, first, next, Reached, root, child, first-child, second-child}
-use Rattle.clinic.proofs.Walked.{onward-end, onward-fork, onward-one}
+use Rattle.clinic.proofs.StackDue.{onward-end, onward-fork, onward-one}
 
 module _ (ns : List Node) (roots : List ℕ) where
   -- a tree is due at node i

@@ -1,13 +1,12 @@
 -- The records of tables against the refusals 6 and 7: none is refused where every record names only what exists, and only there.
 use Prim.Native.Nat.{ℕ, _+_, _*_, _-_, _≤_, _<_}
 use mathlib.Core.Path.{_≡_, refl, ap, _∙_, subst}
-use mathlib.Core.Logic.{_↔_}
-use mathlib.Core.Bool.{Bool, true, _&&_, and-eq-true-iff}
+use mathlib.Core.Logic.{_↔_, Iff·trans, Iff·and}
+use mathlib.Core.Bool.{Bool, true, _&&_}
 use mathlib.Core.List.{List, _++_}
 use native.Mathlib.Omega.{arith}
 use lib.ListN.{length, getD, List·getD-append}
-use lib.Dec.{ltb, leb}
-use borrow.Author.Tests.{ltb-true, lt-ltb, leb-true, le-leb}
+use lib.Dec.{leb}
 use Rattle.masks.specs.Mask.{namesOnly, NamesOnly, within, Within}
 use Rattle.masks.proofs.Bounds.{namesOnly-iff, within-iff}
 use Rattle.format.specs.Words.{wordAt}
@@ -21,10 +20,13 @@ use Rattle.format.specs.declared.Channel.{Channel}
 use Rattle.format.specs.declared.Session.{Session}
 use Rattle.format.specs.declared.Section.{Section}
 use Rattle.format.specs.declared.Section.the-variants.{Users, Roles, Kinds, Channels, Sessions}
+use Rattle.format.proofs.BoolLaws.{le-iff, and-iff}
+use Rattle.format.proofs.AnswerLaws.{Quiet, both-quiet}
+use Rattle.reading.proofs.RecordLaws.{inCount-iff}
 use Rattle.clinic.specs.Lists.{All}
 use Rattle.clinic.specs.File.{InCount}
 use Rattle.clinic.proofs.AllLaws.{all-iff}
-use Rattle.clinic.proofs.Rows.{Quiet, neither, in-turn, section-quiet}
+use Rattle.clinic.proofs.Rows.{section-quiet}
 use Rattle.clinic.proofs.Tables.{Tables, oneRow, roleRow, channelRow, sessionRow, roleAt, channelAt, sessionAt}
 use Rattle.clinic.proofs.Tables.{cat-one, one-back, role-back, channel-back, session-back, tableBytes, headFor}
 use Rattle.clinic.proofs.Places.{places}
@@ -41,20 +43,6 @@ pub record RecordsFit (T : Tables) : Type 0 where
   pub channels-fit : All (λ c. InCount (length (T .users)) (c .owner) × InCount (length (T .kinds)) (c .kind .0)) (T .channels)
   pub sessions-fit : All (λ s. Seated (T .users) (s .user) (s .mask)) (T .sessions)
 
-inCount-iff : (n x : ℕ) → (inCount n x ≡ true) ↔ InCount n x
-inCount-iff n x = (
-  λ e. let (a, b) = and-eq-true-iff (ltb 0 x) (leb x n) .0 e in (ltb-true 0 x a, leb-true x n b),
-  λ h. and-eq-true-iff (ltb 0 x) (leb x n) .1 (lt-ltb 0 x (h .0), le-leb x n (h .1)),
-)
-
--- two tests, of which the second may rest on the first
-both-iff : (a b : Bool) {P Q : Type 0} → ((a ≡ true) ↔ P) → (P → (b ≡ true) ↔ Q) → ((a && b) ≡ true) ↔ (P × Q)
-both-iff a b p q =
-    (λ e. let (x, y) = and-eq-true-iff a b .0 e in (p .0 x, q (p .0 x) .0 y), λ h. and-eq-true-iff a b .1 (p .1 (h .0), q (h .0) .1 (h .1)))
-
-then-iff : {A B C : Type 0} → (A ↔ B) → (B ↔ C) → A ↔ C
-then-iff p q = (λ a. q .0 (p .0 a), λ c. p .1 (q .1 c))
-
 module _ (T : Tables) where
   abbrev file : List ℕ
   file = tableBytes T
@@ -70,7 +58,7 @@ module _ (T : Tables) where
   users-quiet =
       let (post, at) = places T .users in
       let test : ℕ → Bool = namesOnly (length (T .roles)) in
-      then-iff
+      Iff·trans
       (section-quiet oneRow 1 (λ x. refl) file (wordAt file) (one-back file) test (refusalOf head Users) (λ n. omega arith) (head .at .users) (T .users) post at)
       (all-iff (T .users) (namesOnly-iff (length (T .roles))))
 
@@ -80,10 +68,10 @@ module _ (T : Tables) where
       let (post, at) = places T .roles in
       let k : ℕ = length (T .kinds) in
       let test : Role → Bool = (λ r. namesOnly k (r .sends) && namesOnly k (r .receives)) in
-      then-iff
+      Iff·trans
       (section-quiet roleRow 4 (λ x. refl) file (roleAt file) (role-back file) test (refusalOf head Roles) (λ n. omega arith) (head .at .roles) (T .roles) post at)
       (all-iff (T .roles)
-      (λ r. both-iff (namesOnly k (r .sends)) (namesOnly k (r .receives)) (namesOnly-iff k (r .sends)) (λ p. namesOnly-iff k (r .receives))))
+      (λ r. and-iff (namesOnly-iff k (r .sends)) (λ p. namesOnly-iff k (r .receives))))
 
   kinds-quiet : Quiet (answer Kinds) ↔ All (λ k. k ≤ length (T .kinds)) (T .kinds)
   unfolding sectionAnswer recordFits
@@ -91,9 +79,9 @@ module _ (T : Tables) where
       let (post, at) = places T .kinds in
       let n : ℕ = length (T .kinds) in
       let test : ℕ → Bool = (λ k. leb k n) in
-      then-iff
+      Iff·trans
       (section-quiet oneRow 1 (λ x. refl) file (wordAt file) (one-back file) test (refusalOf head Kinds) (λ n. omega arith) (head .at .kinds) (T .kinds) post at)
-      (all-iff (T .kinds) (λ k. (leb-true k n, le-leb k n)))
+      (all-iff (T .kinds) (λ k. le-iff k n))
 
   channels-quiet : Quiet (answer Channels) ↔ All (λ c. InCount (length (T .users)) (c .owner) × InCount (length (T .kinds)) (c .kind .0)) (T .channels)
   unfolding sectionAnswer recordFits
@@ -102,10 +90,10 @@ module _ (T : Tables) where
       let u : ℕ = length (T .users) in
       let k : ℕ = length (T .kinds) in
       let test : Channel → Bool = (λ c. inCount u (c .owner) && inCount k (c .kind .0)) in
-      then-iff
+      Iff·trans
       (section-quiet channelRow 2 (λ x. refl) file (channelAt file) (channel-back file) test (refusalOf head Channels) (λ n. omega arith)
       (head .at .channels) (T .channels) post at)
-      (all-iff (T .channels) (λ c. both-iff (inCount u (c .owner)) (inCount k (c .kind .0)) (inCount-iff u (c .owner)) (λ p. inCount-iff k (c .kind .0))))
+      (all-iff (T .channels) (λ c. and-iff (inCount-iff u (c .owner)) (λ p. inCount-iff k (c .kind .0))))
 
   -- the roles assigned to a user that exists
   assigned : (x : ℕ) → InCount (length (T .users)) x → userRoles file head x ≡ getD (T .users) (x - 1) 0
@@ -125,42 +113,24 @@ module _ (T : Tables) where
       let (post, at) = places T .sessions in
       let u : ℕ = length (T .users) in
       let test : Session → Bool = (λ s. inCount u (s .user) && within (s .mask) (userRoles file head (s .user))) in
-      then-iff
+      Iff·trans
       (section-quiet sessionRow 3 (λ x. refl) file (sessionAt file) (session-back file) test (refusalOf head Sessions) (λ n. omega arith)
       (head .at .sessions) (T .sessions) post at)
       (all-iff (T .sessions)
-      (λ s. both-iff (inCount u (s .user)) (within (s .mask) (userRoles file head (s .user))) (inCount-iff u (s .user)) (assigned-iff (s .user) (s .mask))))
+      (λ s. and-iff (inCount-iff u (s .user)) (assigned-iff (s .user) (s .mask))))
+
+  both : (v w : Verdict) → Quiet (orElse v w) ↔ (Quiet v × Quiet w)
+  both v w = both-quiet Quiet v w (λ q. q)
 
   pub records-quiet : Quiet (recordsAnswer (tableBytes T) (headFor T)) ↔ RecordsFit T
   unfolding recordsAnswer
-  records-quiet = (to, from)
-    where
-      from-channels : Verdict
-      from-channels = orElse (answer Channels) (answer Sessions)
-
-      from-kinds : Verdict
-      from-kinds = orElse (answer Kinds) from-channels
-
-      from-roles : Verdict
-      from-roles = orElse (answer Roles) from-kinds
-
-      to : Quiet (orElse (answer Users) from-roles) → RecordsFit T
-      to q =
-          let (users, q1) = neither Quiet (answer Users) from-roles (λ z. z) q in
-          let (roles, q2) = neither Quiet (answer Roles) from-kinds (λ z. z) q1 in
-          let (kinds, q3) = neither Quiet (answer Kinds) from-channels (λ z. z) q2 in
-          let (channels, sessions) = neither Quiet (answer Channels) (answer Sessions) (λ z. z) q3 in
-          record {
-            users-fit = users-quiet .0 users;
-            roles-fit = roles-quiet .0 roles;
-            kinds-fit = kinds-quiet .0 kinds;
-            channels-fit = channels-quiet .0 channels;
-            sessions-fit = sessions-quiet .0 sessions;
-          }
-
-      from : RecordsFit T → Quiet (orElse (answer Users) from-roles)
-      from t =
-          in-turn Quiet (answer Users) from-roles (users-quiet .1 (t .users-fit))
-          (in-turn Quiet (answer Roles) from-kinds (roles-quiet .1 (t .roles-fit))
-          (in-turn Quiet (answer Kinds) from-channels (kinds-quiet .1 (t .kinds-fit))
-          (in-turn Quiet (answer Channels) (answer Sessions) (channels-quiet .1 (t .channels-fit)) (sessions-quiet .1 (t .sessions-fit)))))
+  records-quiet =
+      let from-channels = Iff·trans (both _ _) (Iff·and channels-quiet sessions-quiet) in
+      let from-kinds = Iff·trans (both _ _) (Iff·and kinds-quiet from-channels) in
+      let from-roles = Iff·trans (both _ _) (Iff·and roles-quiet from-kinds) in
+      let all = Iff·trans (both _ _) (Iff·and users-quiet from-roles) in (
+        λ q.
+            let (users, (roles, (kinds, (channels, sessions)))) = all .0 q in
+            record { users-fit = users; roles-fit = roles; kinds-fit = kinds; channels-fit = channels; sessions-fit = sessions },
+        λ t. all .1 (t .users-fit, (t .roles-fit, (t .kinds-fit, (t .channels-fit, t .sessions-fit)))),
+      )

@@ -1,38 +1,26 @@
 -- A node that fits is objected to by nothing, and one that does not fit is objected to.
 use Prim.Native.Nat.{ℕ, suc, _-_, _≤_}
 use mathlib.Core.Path.{_≡_, refl, sym, ap, _∙_, subst}
-use mathlib.Core.Logic.{_⊎_, inl, inr}
-use mathlib.Core.Bool.{true, false, not, _&&_, _||_, and-eq-true-iff, true≢false}
+use mathlib.Core.Bool.{true, false, _||_, and-eq-true-iff, true≢false}
 use mathlib.Core.List.{List, [], _∷_, map}
 use native.Mathlib.Omega.{arith}
 use lib.ListN.{length, getD, drop}
 use lib.Seq.{drop-length}
 use lib.Dec.{eqb, leb, ltb}
-use borrow.Author.Tests.{eqb-true, eqb-false, leb-true, leb-false, ltb-true, ltb-false, not-false, eq-eqb, ne-eqb}
+use borrow.Author.Tests.{eqb-true, eqb-false, leb-true, leb-false, ltb-false, not-false}
 use Rattle.reading.specs.Ends.{top}
 use Rattle.reading.specs.Shape.{boundOf, rootFits, used, unusedFit, secondFits, roomFor, nodeFits}
 use Rattle.format.specs.declared.Node.{Node}
 use Rattle.reading.specs.declared.Due.{Due}
 use Rattle.reading.specs.declared.Due.the-variants.{Root, Below}
+use Rattle.format.proofs.BoolLaws.{and-fails, or-fails, or-resolve}
+use Rattle.reading.proofs.FitsLaws.{Fitting, room, second-iff}
 use Rattle.clinic.specs.File.{InCount}
 use Rattle.clinic.specs.Refusals.{nth, Misshapen, not-due, bad-tag, unused-f1, unused-f2, second, past-last, left-over, ninth}
-use Rattle.clinic.proofs.Tests.{and-false, or-false, or-right, one-of, no-field, one-field}
-use Rattle.clinic.proofs.Followed.{endsFrom, follows-on, follows-top, ends-follow}
-use Rattle.clinic.proofs.Walked.{stackAt, begins-stack, begins-root, reached-stack}
-use Rattle.clinic.proofs.Chained.{IsDue, due-reached}
-
--- the five tests of a node
-abbrev pub Fits : ℕ → Node → Due → ℕ → Type 0
-Fits i n d e = (rootFits i d ≡ true) × (n .tag ≤ 8) × (unusedFit n ≡ true) × (secondFits n e ≡ true) × (roomFor n d ≡ true)
-
-pub node-fits : (i : ℕ) (n : Node) (d : Due) (e : ℕ) → nodeFits i n d e ≡ true → Fits i n d e
-unfolding nodeFits
-node-fits i n d e h =
-    let a = and-eq-true-iff (((rootFits i d && leb (n .tag) 8) && unusedFit n) && secondFits n e) (roomFor n d) .0 h in
-    let b = and-eq-true-iff ((rootFits i d && leb (n .tag) 8) && unusedFit n) (secondFits n e) .0 (a .0) in
-    let c = and-eq-true-iff (rootFits i d && leb (n .tag) 8) (unusedFit n) .0 (b .0) in
-    let r = and-eq-true-iff (rootFits i d) (leb (n .tag) 8) .0 (c .0) in
-    (r .0, leb-true (n .tag) 8 (r .1), c .1, b .1, a .1)
+use Rattle.clinic.proofs.TagTests.{one-of, no-field, one-field}
+use Rattle.clinic.proofs.FollowedEnds.{endsFrom, follows-on, follows-top, ends-follow}
+use Rattle.clinic.proofs.StackDue.{stackAt, begins-stack, begins-root, reached-stack}
+use Rattle.clinic.proofs.DueChain.{IsDue, due-reached}
 
 module _ (ns : List Node) (roots : List ℕ) where
   same-due : {d d′ : Due} {st st′ : List Due} → d ∷ st ≡ d′ ∷ st′ → d ≡ d′
@@ -43,7 +31,7 @@ module _ (ns : List Node) (roots : List ℕ) where
 
   -- a node that fits
   pub fits-none : (i : ℕ) (d : Due) (st : List Due) → InCount (length ns) i → stackAt ns roots i ≡ d ∷ st
-      → Fits i (nth ns i) d (top (endsFrom ns (suc i))) → Misshapen ns roots i → ⊥
+      → Fitting i (nth ns i) d (top (endsFrom ns (suc i))) → Misshapen ns roots i → ⊥
   fits-none i d st c s f (not-due k q b _ ne) =
       let e : d ≡ Root (getD roots (k - 1) 0) = same-due (sym s ∙ begins-root ns roots b q) in
       ne (eqb-true (getD roots (k - 1) 0) i (subst (λ x. rootFits i x ≡ true) e (f .0)))
@@ -51,16 +39,15 @@ module _ (ns : List Node) (roots : List ℕ) where
   fits-none i d st c s f (unused-f1 _ t ne) =
       let n = nth ns i in
       let h = and-eq-true-iff (ltb 0 (used (n .tag)) || eqb (n .f1) 0) (ltb 1 (used (n .tag)) || eqb (n .f2) 0) .0 (f .2) .0 in
-      ne (eqb-true (n .f1) 0 (or-right _ _ h (no-field (n .tag) .1 t)))
+      ne (eqb-true (n .f1) 0 (or-resolve _ _ h (no-field (n .tag) .1 t)))
   fits-none i d st c s f (unused-f2 _ l t t′ ne) =
       let n = nth ns i in
       let h = and-eq-true-iff (ltb 0 (used (n .tag)) || eqb (n .f1) 0) (ltb 1 (used (n .tag)) || eqb (n .f2) 0) .0 (f .2) .1 in
-      ne (eqb-true (n .f2) 0 (or-right _ _ h (one-field (n .tag) .1 (t, t′))))
+      ne (eqb-true (n .f2) 0 (or-resolve _ _ h (one-field (n .tag) .1 (t, t′))))
   fits-none i d st c s f (second e _ t h ne) =
       let n = nth ns i in
       let e′ : top (endsFrom ns (suc i)) ≡ e = follows-top ns h in
-      let x : (eqb e 0 || eqb (n .f1) e) ≡ true = or-right _ _ (subst (λ z. secondFits n z ≡ true) e′ (f .3)) (ap not (eq-eqb (n .tag) 1 t)) in
-      ne (eqb-true (n .f1) e (or-right _ _ x (ne-eqb e 0 (λ z. omega (arith, follows-on h)))))
+      ne (second-iff n e t (omega (arith, follows-on h)) .0 (subst (λ z. secondFits n z ≡ true) e′ (f .3)))
   fits-none i d st c s f (past-last b r e) = omega arith
   fits-none i d st c s f (left-over b _) =
       let e : suc (length roots) - 1 ≡ length roots = omega arith in
@@ -70,8 +57,7 @@ module _ (ns : List Node) (roots : List ℕ) where
       let n = nth ns i in
       let (d′, st′, s′, e) = reached-stack ns roots r in
       let m : boundOf d ≡ b = ap boundOf (same-due (sym s ∙ s′)) ∙ e in
-      let x = or-right _ _ (f .4) (ap not (one-of (n .tag) 3 5 .1 t)) in
-      omega (arith, ltb-true (boundOf d) 8 x)
+      omega (arith, room n d (f .4) (one-of (n .tag) 3 5 .1 t))
 
   -- a node that does not fit
   bad-root : (i : ℕ) (d : Due) → InCount (length ns) i → IsDue ns roots i d → rootFits i d ≡ false → Misshapen ns roots i
@@ -79,17 +65,17 @@ module _ (ns : List Node) (roots : List ℕ) where
   bad-root i (Below b) c h f = absurd (true≢false f)
 
   bad-unused : (i : ℕ) → InCount (length ns) i → nth ns i .tag ≤ 8 → unusedFit (nth ns i) ≡ false → Misshapen ns roots i
-  bad-unused i c l f = go (and-false _ _ f)
+  bad-unused i c l f = and-fails _ _ f first second-field
     where
       n : Node
       n = nth ns i
 
-      go : ((ltb 0 (used (n .tag)) || eqb (n .f1) 0) ≡ false)
-          ⊎ (((ltb 0 (used (n .tag)) || eqb (n .f1) 0) ≡ true) × ((ltb 1 (used (n .tag)) || eqb (n .f2) 0) ≡ false))
-          → Misshapen ns roots i
-      go (inl h) = let p = or-false _ _ h in unused-f1 c (no-field (n .tag) .0 (p .0)) (eqb-false (n .f1) 0 (p .1))
-      go (inr h) =
-          let p = or-false _ _ (h .1) in
+      first : (ltb 0 (used (n .tag)) || eqb (n .f1) 0) ≡ false → Misshapen ns roots i
+      first h = let p = or-fails _ _ h in unused-f1 c (no-field (n .tag) .0 (p .0)) (eqb-false (n .f1) 0 (p .1))
+
+      second-field : (ltb 0 (used (n .tag)) || eqb (n .f1) 0) ≡ true → (ltb 1 (used (n .tag)) || eqb (n .f2) 0) ≡ false → Misshapen ns roots i
+      second-field _ h =
+          let p = or-fails _ _ h in
           let q = one-field (n .tag) .0 (p .0) in
           unused-f2 c l (q .0) (q .1) (eqb-false (n .f2) 0 (p .1))
 
@@ -97,42 +83,24 @@ module _ (ns : List Node) (roots : List ℕ) where
   bad-second i c f =
       let n = nth ns i in
       let e : ℕ = top (endsFrom ns (suc i)) in
-      let p = or-false _ _ f in
-      let q = or-false _ _ (p .1) in
+      let p = or-fails _ _ f in
+      let q = or-fails _ _ (p .1) in
       second e c (eqb-true (n .tag) 1 (not-false _ (p .0))) (ends-follow ns (suc i) e (omega arith) refl (eqb-false e 0 (q .0))) (eqb-false (n .f1) e (q .1))
 
   bad-room : (i : ℕ) (d : Due) → InCount (length ns) i → IsDue ns roots i d → roomFor (nth ns i) d ≡ false → Misshapen ns roots i
   bad-room i d c h f =
       let n = nth ns i in
-      let p = or-false _ _ f in
+      let p = or-fails _ _ f in
       ninth (boundOf d) (due-reached ns roots i d h) (ltb-false (boundOf d) 8 (p .1)) c (one-of (n .tag) 3 5 .0 (not-false _ (p .0)))
 
   pub unfit-some : (i : ℕ) (d : Due) → InCount (length ns) i → IsDue ns roots i d → nodeFits i (nth ns i) d (top (endsFrom ns (suc i))) ≡ false → Misshapen ns roots i
   unfolding nodeFits
-  unfit-some i d c h f = one (and-false _ _ f)
-    where
-      n : Node
-      n = nth ns i
-
-      e : ℕ
-      e = top (endsFrom ns (suc i))
-
-      four : (rootFits i d ≡ false) ⊎ ((rootFits i d ≡ true) × (leb (n .tag) 8 ≡ false)) → Misshapen ns roots i
-      four (inl x) = bad-root i d c h x
-      four (inr x) = bad-tag c (leb-false (n .tag) 8 (x .1))
-
-      three : ((rootFits i d && leb (n .tag) 8) ≡ false) ⊎ (((rootFits i d && leb (n .tag) 8) ≡ true) × (unusedFit n ≡ false)) → Misshapen ns roots i
-      three (inl x) = four (and-false _ _ x)
-      three (inr x) = bad-unused i c (leb-true (n .tag) 8 (and-eq-true-iff (rootFits i d) (leb (n .tag) 8) .0 (x .0) .1)) (x .1)
-
-      two : (((rootFits i d && leb (n .tag) 8) && unusedFit n) ≡ false)
-          ⊎ ((((rootFits i d && leb (n .tag) 8) && unusedFit n) ≡ true) × (secondFits n e ≡ false))
-          → Misshapen ns roots i
-      two (inl x) = three (and-false _ _ x)
-      two (inr x) = bad-second i c (x .1)
-
-      one : ((((rootFits i d && leb (n .tag) 8) && unusedFit n) && secondFits n e) ≡ false)
-          ⊎ (((((rootFits i d && leb (n .tag) 8) && unusedFit n) && secondFits n e) ≡ true) × (roomFor n d ≡ false))
-          → Misshapen ns roots i
-      one (inl x) = two (and-false _ _ x)
-      one (inr x) = bad-room i d c h (x .1)
+  unfit-some i d c h f =
+      let n = nth ns i in
+      and-fails _ _ f
+      (λ f. and-fails _ _ f
+      (λ f. and-fails _ _ f
+      (λ f. and-fails _ _ f (bad-root i d c h) (λ _ x. bad-tag c (leb-false (n .tag) 8 x)))
+      (λ t. bad-unused i c (leb-true (n .tag) 8 (and-eq-true-iff (rootFits i d) (leb (n .tag) 8) .0 t .1))))
+      (λ _. bad-second i c))
+      (λ _. bad-room i d c h)

@@ -1,9 +1,9 @@
 -- The encoding of a well formed file is bytes: everything in it fits a word.
-use Prim.Native.Nat.{ℕ, zero, suc, _+_, _-_, _^_, _≤_, _<_}
+use Prim.Native.Nat.{ℕ, _+_, _-_, _^_, _≤_, _<_}
 use mathlib.Core.Path.{sym, subst}
 use mathlib.Core.List.{List, [], _∷_, _++_}
 use native.Mathlib.Omega.{arith}
-use lib.ListN.{length, getD}
+use lib.ListN.{length}
 use Rattle.masks.specs.Mask.{NamesOnly}
 use Rattle.masks.proofs.Bounds.{namesOnly-iff, namesOnly-lt}
 use Rattle.format.specs.declared.Role.{Role}
@@ -11,35 +11,26 @@ use Rattle.format.specs.declared.Node.{Node}
 use Rattle.clinic.specs.Lists.{All}
 use Rattle.clinic.specs.Tree.{past, flatten, Worded}
 use Rattle.clinic.specs.File.{Routine, File, WellFormed, nodesOf, headWords, wordsOf, encode}
-use Rattle.clinic.proofs.Following.{past-length}
-use Rattle.clinic.proofs.WordedTrees.{worded-nodes}
+use Rattle.clinic.proofs.TreeEnds.{past-length}
+use Rattle.clinic.proofs.WordedTrees.{WordsFit, worded-nodes}
 use Rattle.clinic.proofs.Bytes.{Byte, Word, small-bytes}
 use Rattle.clinic.proofs.Rows.{cat}
 use Rattle.clinic.proofs.Tables.{oneRow, roleRow, channelRow, sessionRow, nodeRow, headWordsOf, tableWords}
-use Rattle.clinic.proofs.AllLaws.{all-map}
-use Rattle.clinic.proofs.Tested.{Seated}
-use Rattle.clinic.proofs.Seats.{treesOf, seats, length-seats, all-trees, tablesOf, words-tables}
+use Rattle.clinic.proofs.AllLaws.{all-map, all-append, all-get}
+use Rattle.clinic.proofs.RecordsJudged.{Seated}
+use Rattle.clinic.proofs.FileTables.{treesOf, seats, length-seats, all-trees, tablesOf, words-tables}
 
 -- every one is a word; a record, so that the list is found from it
 record Small (l : List ℕ) : Type 0 where
   words : All Word l
 
 small-append : {k l : List ℕ} → Small k → Small l → Small (k ++ l)
-small-append {k} {l} h g = record { words = go k (h .words) }
-  where
-    go : (k : List ℕ) → All Word k → All Word (k ++ l)
-    go [] h = g .words
-    go (x ∷ k) h = (h .0, go k (h .1))
+small-append {k} {l} h g = record { words = all-append Word k l (h .words) (g .words) }
 
 small-cat : {A : Type 0} (enc : A → List ℕ) (xs : List A) → All (λ x. All Word (enc x)) xs → Small (cat enc xs)
 unfolding cat
 small-cat enc [] h = record { words = tt }
 small-cat enc (x ∷ xs) h = let first : Small (enc x) = record { words = h .0 } in small-append first (small-cat enc xs (h .1))
-
-all-get : (P : ℕ → Type 0) (xs : List ℕ) (i : ℕ) → i < length xs → All P xs → P (getD xs i 0)
-all-get P [] i l h = absurd (omega arith)
-all-get P (x ∷ xs) zero l h = h .0
-all-get P (x ∷ xs) (suc i) l h = all-get P xs i (omega arith) (h .1)
 
 -- a mask of items up to n is below 2 ^ k for any k from n on
 mask-lt : (k n m : ℕ) → n ≤ k → NamesOnly n m → m < 2 ^ k
@@ -68,10 +59,10 @@ module _ (F : File) (w : WellFormed F) where
   small-user s h =
       let few = w .few-users in
       let there : s .user - 1 < length (F .users) = omega arith in
-      let all = all-get (NamesOnly (length (F .roles))) (F .users) (s .user - 1) there (w .users-fit) in
+      let all = all-get (NamesOnly (length (F .roles))) (F .users) (s .user - 1) 0 there (w .users-fit) in
       (omega arith, small-mask (s .mask) (λ x p. all x (h .1 x p)))
 
-  small-node : (n : Node) → (n .tag < 65536) × (n .f1 < 65536) × (n .f2 < 65536) → All Word (nodeRow n)
+  small-node : (n : Node) → WordsFit n → All Word (nodeRow n)
   small-node n h = (h .0, (h .1, (h .2, tt)))
 
   small-nodes : All (λ n. All Word (nodeRow n)) (nodesOf F)
