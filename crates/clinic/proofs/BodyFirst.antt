@@ -6,8 +6,8 @@ use mathlib.Core.List.{List}
 use native.Mathlib.Omega.{arith}
 use Rattle.format.specs.Header.{Laid}
 use Rattle.format.specs.Sections.{nodesFrom}
-use Rattle.reading.specs.Records.{recordsAnswer}
-use Rattle.reading.specs.Shape.{shapeAnswer}
+use Rattle.tables.specs.Records.{recordsAnswer}
+use Rattle.trees.specs.Shape.{shapeAnswer}
 use Rattle.reading.specs.Reading.{bodyAnswer}
 use Rattle.format.specs.declared.Verdict.{Verdict}
 use Rattle.format.specs.declared.Head.{Head}

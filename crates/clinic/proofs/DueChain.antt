@@ -8,10 +8,10 @@ use lib.ListN.{length, getD, drop, length-drop}
 use lib.Seq.{drop-cons}
 use lib.Dec.{eqb}
 use borrow.Author.Tests.{eqb-true, eqb-false}
-use Rattle.reading.specs.Shape.{boundOf, onward}
+use Rattle.trees.specs.Shape.{boundOf, onward}
 use Rattle.format.specs.declared.Node.{Node}
-use Rattle.reading.specs.declared.Due.{Due}
-use Rattle.reading.specs.declared.Due.the-variants.{Root, Below}
+use Rattle.trees.specs.declared.Due.{Due}
+use Rattle.trees.specs.declared.Due.the-variants.{Root, Below}
 use Rattle.clinic.specs.File.{InCount}
 use Rattle.clinic.specs.Refusals.{nth, OneChild, Follows, at-end, at-step, at-fork, Begins, first, next, Reached, root, child, first-child, second-child}
 use Rattle.clinic.proofs.StackDue.{onward-end, onward-fork, onward-one}

@@ -6,9 +6,9 @@ use Rattle.format.specs.Words.{wordAt}
 use Rattle.format.specs.Answers.{fine}
 use Rattle.format.specs.Header.{headAt}
 use Rattle.format.specs.Sections.{nodeAt}
-use Rattle.reading.specs.Shape.{shapeFrom}
+use Rattle.trees.specs.Shape.{shapeFrom}
 use Rattle.reading.specs.Reading.{reading}
-use Rattle.reading.specs.declared.Due.the-variants.{Root}
+use Rattle.trees.specs.declared.Due.the-variants.{Root}
 use Rattle.reading.proofs.ReadingLaws.{reading-iff}
 use Rattle.clinic.specs.Lists.{All}
 use Rattle.clinic.specs.Tree.{Tree, flatten, height, Worded}

@@ -9,7 +9,7 @@ use lib.ListN.{length, drop, drop-of-length-le}
 use lib.Seq.{drop-cons}
 use lib.Dec.{eqb, leb}
 use borrow.Author.Tests.{eqb-true, eqb-false, leb-true, ne-eqb, le-leb}
-use Rattle.reading.specs.Ends.{top, rest, grown, following}
+use Rattle.trees.specs.Ends.{top, rest, grown, following}
 use Rattle.format.specs.declared.Node.{Node}
 use Rattle.clinic.specs.File.{InCount}
 use Rattle.clinic.specs.Refusals.{nth, OneChild, Follows, at-end, at-step, at-fork}

@@ -6,7 +6,7 @@ use mathlib.Core.List.{List, [], _∷_}
 use native.Mathlib.Omega.{arith}
 use lib.Dec.{eqb}
 use borrow.Author.Tests.{eqb-true}
-use Rattle.reading.specs.Shape.{unusedFit}
+use Rattle.trees.specs.Shape.{unusedFit}
 use Rattle.format.specs.declared.Node.{Node}
 use Rattle.clinic.specs.Tree.{Step, repeat, new, compare, receive, send, Switch, on, off, Tree, end, fork, step, switch, words, stepNode, switchNode, past, write, flatten}
 

@@ -8,13 +8,13 @@ use lib.ListN.{length, getD, drop}
 use lib.Seq.{drop-length}
 use lib.Dec.{eqb, leb, ltb}
 use borrow.Author.Tests.{eqb-true, eqb-false, leb-true, leb-false, ltb-false, not-false}
-use Rattle.reading.specs.Ends.{top}
-use Rattle.reading.specs.Shape.{boundOf, rootFits, used, unusedFit, secondFits, roomFor, nodeFits}
+use Rattle.trees.specs.Ends.{top}
+use Rattle.trees.specs.Shape.{boundOf, rootFits, used, unusedFit, secondFits, roomFor, nodeFits}
 use Rattle.format.specs.declared.Node.{Node}
-use Rattle.reading.specs.declared.Due.{Due}
-use Rattle.reading.specs.declared.Due.the-variants.{Root, Below}
+use Rattle.trees.specs.declared.Due.{Due}
+use Rattle.trees.specs.declared.Due.the-variants.{Root, Below}
 use Rattle.format.proofs.BoolLaws.{and-fails, or-fails, or-resolve}
-use Rattle.reading.proofs.FitsLaws.{Fitting, room, second-iff}
+use Rattle.trees.proofs.FitsLaws.{Fitting, room, second-iff}
 use Rattle.clinic.specs.File.{InCount}
 use Rattle.clinic.specs.Refusals.{nth, Misshapen, not-due, bad-tag, unused-f1, unused-f2, second, past-last, left-over, ninth}
 use Rattle.clinic.proofs.TagTests.{one-of, no-field, one-field}

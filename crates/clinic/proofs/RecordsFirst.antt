@@ -7,7 +7,7 @@ use native.Mathlib.Omega.{arith}
 use Rattle.format.specs.Answers.{refused}
 use Rattle.format.specs.Header.{Laid}
 use Rattle.format.specs.Sections.{part, placeOf}
-use Rattle.reading.specs.Records.{recordFits, refusalOf, sectionAnswer, recordsAnswer}
+use Rattle.tables.specs.Records.{recordFits, refusalOf, sectionAnswer, recordsAnswer}
 use Rattle.format.specs.declared.Head.{Head}
 use Rattle.format.specs.declared.Section.{Section}
 use Rattle.format.specs.declared.Section.the-variants.{Users, Roles, Kinds, Channels, Sessions}

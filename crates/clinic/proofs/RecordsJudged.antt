@@ -12,7 +12,7 @@ use Rattle.masks.proofs.Bounds.{namesOnly-iff, within-iff}
 use Rattle.format.specs.Words.{wordAt}
 use Rattle.format.specs.Answers.{orElse}
 use Rattle.format.specs.Sections.{userRoles}
-use Rattle.reading.specs.Records.{inCount, recordFits, refusalOf, sectionAnswer, recordsAnswer}
+use Rattle.tables.specs.Records.{inCount, recordFits, refusalOf, sectionAnswer, recordsAnswer}
 use Rattle.format.specs.declared.Head.{Head}
 use Rattle.format.specs.declared.Verdict.{Verdict}
 use Rattle.format.specs.declared.Role.{Role}
@@ -22,7 +22,7 @@ use Rattle.format.specs.declared.Section.{Section}
 use Rattle.format.specs.declared.Section.the-variants.{Users, Roles, Kinds, Channels, Sessions}
 use Rattle.format.proofs.BoolLaws.{le-iff, and-iff}
 use Rattle.format.proofs.AnswerLaws.{Quiet, both-quiet}
-use Rattle.reading.proofs.RecordLaws.{inCount-iff}
+use Rattle.tables.proofs.RecordLaws.{inCount-iff}
 use Rattle.clinic.specs.Lists.{All}
 use Rattle.clinic.specs.File.{InCount}
 use Rattle.clinic.proofs.AllLaws.{all-iff}

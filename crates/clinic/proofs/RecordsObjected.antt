@@ -10,12 +10,12 @@ use Rattle.masks.specs.Mask.{has, namesOnly}
 use Rattle.masks.proofs.Bounds.{namesOnly-iff, within-iff}
 use Rattle.masks.proofs.Meets.{item-above, item-outside}
 use Rattle.format.specs.Sections.{placeOf, part, roleOf, carried, channelOf, sessionOf}
-use Rattle.reading.specs.Records.{inCount, recordFits}
+use Rattle.tables.specs.Records.{inCount, recordFits}
 use Rattle.format.specs.declared.Head.{Head}
 use Rattle.format.specs.declared.Section.{Section}
 use Rattle.format.specs.declared.Section.the-variants.{Users, Roles, Kinds, Channels, Sessions}
 use Rattle.format.proofs.BoolLaws.{and-fails}
-use Rattle.reading.proofs.RecordLaws.{inCount-iff}
+use Rattle.tables.proofs.RecordLaws.{inCount-iff}
 use Rattle.clinic.specs.File.{InCount}
 use Rattle.clinic.specs.Refusals.{Misnamed, user, sends, receives, kind, owner, kind-of, Misseated, no-user, not-assigned}
 

@@ -3,9 +3,9 @@ use Prim.Native.Nat.{ℕ, zero, suc, _+_}
 use mathlib.Core.Path.{_≡_, refl, ap}
 use mathlib.Core.List.{List, _∷_, map}
 use Rattle.format.specs.Words.{wordAt}
-use Rattle.reading.specs.Shape.{rootsFrom}
-use Rattle.reading.specs.declared.Due.{Due}
-use Rattle.reading.specs.declared.Due.the-variants.{Root}
+use Rattle.trees.specs.Shape.{rootsFrom}
+use Rattle.trees.specs.declared.Due.{Due}
+use Rattle.trees.specs.declared.Due.the-variants.{Root}
 use Rattle.clinic.specs.Refusals.{rootWords}
 use Rattle.clinic.proofs.Rows.{rowsFrom}
 use Rattle.clinic.proofs.Tables.{rootsIn, sessionAt}

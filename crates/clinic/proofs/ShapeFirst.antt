@@ -9,13 +9,13 @@ use lib.ListN.{length, getD, drop, length-drop}
 use lib.Dec.{eqb}
 use borrow.Author.Tests.{eqb-true, eqb-false}
 use Rattle.format.specs.Answers.{fine, refused}
-use Rattle.reading.specs.Ends.{top, following}
-use Rattle.reading.specs.Shape.{boundOf, onward, nodeFits, shapeFrom}
+use Rattle.trees.specs.Ends.{top, following}
+use Rattle.trees.specs.Shape.{boundOf, onward, nodeFits, shapeFrom}
 use Rattle.format.specs.declared.Verdict.{Verdict}
 use Rattle.format.specs.declared.Node.{Node}
-use Rattle.reading.specs.declared.Due.{Due}
-use Rattle.reading.specs.declared.Due.the-variants.{Root}
-use Rattle.reading.proofs.FitsLaws.{fits-apart}
+use Rattle.trees.specs.declared.Due.{Due}
+use Rattle.trees.specs.declared.Due.the-variants.{Root}
+use Rattle.trees.proofs.FitsLaws.{fits-apart}
 use Rattle.clinic.specs.File.{InCount}
 use Rattle.clinic.specs.Refusals.{nth, Misshapen, not-due, bad-tag, unused-f1, unused-f2, second, past-last, left-over, ninth}
 use Rattle.clinic.proofs.FollowedEnds.{at-node, endsFrom}

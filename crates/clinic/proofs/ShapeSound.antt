@@ -5,13 +5,13 @@ use mathlib.Core.Bool.{Bool, true, false, cond}
 use mathlib.Core.List.{List, [], _∷_, map}
 use native.Mathlib.Omega.{arith}
 use Rattle.format.specs.Answers.{fine, refused}
-use Rattle.reading.specs.Ends.{top, following}
-use Rattle.reading.specs.Shape.{boundOf, rootFits, secondFits, roomFor, nodeFits, onward, shapeFrom}
+use Rattle.trees.specs.Ends.{top, following}
+use Rattle.trees.specs.Shape.{boundOf, rootFits, secondFits, roomFor, nodeFits, onward, shapeFrom}
 use Rattle.format.specs.declared.Verdict.{Verdict}
 use Rattle.format.specs.declared.Node.{Node}
-use Rattle.reading.specs.declared.Due.{Due}
-use Rattle.reading.specs.declared.Due.the-variants.{Root, Below}
-use Rattle.reading.proofs.FitsLaws.{Fitting, fits-apart, second-iff}
+use Rattle.trees.specs.declared.Due.{Due}
+use Rattle.trees.specs.declared.Due.the-variants.{Root, Below}
+use Rattle.trees.proofs.FitsLaws.{Fitting, fits-apart, second-iff}
 use Rattle.clinic.specs.Lists.{All}
 use Rattle.clinic.specs.Tree.{Step, Switch, Tree, end, fork, step, switch, stepNode, switchNode, past, write, flatten, binders, height}
 use Rattle.clinic.proofs.TreeEnds.{past-more, following-write}

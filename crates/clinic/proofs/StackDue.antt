@@ -6,10 +6,10 @@ use native.Mathlib.Omega.{arith}
 use lib.ListN.{length, getD, drop}
 use lib.Seq.{drop-cons}
 use borrow.Author.Tests.{ne-eqb}
-use Rattle.reading.specs.Shape.{boundOf, boundBelow, onward}
+use Rattle.trees.specs.Shape.{boundOf, boundBelow, onward}
 use Rattle.format.specs.declared.Node.{Node}
-use Rattle.reading.specs.declared.Due.{Due}
-use Rattle.reading.specs.declared.Due.the-variants.{Root, Below}
+use Rattle.trees.specs.declared.Due.{Due}
+use Rattle.trees.specs.declared.Due.the-variants.{Root, Below}
 use Rattle.clinic.specs.File.{InCount}
 use Rattle.clinic.specs.Refusals.{nth, OneChild, Follows, at-end, at-step, at-fork, Begins, first, next, Reached, root, child, first-child, second-child}
 

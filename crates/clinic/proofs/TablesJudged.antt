@@ -7,13 +7,13 @@ use lib.ListN.{length}
 use Rattle.format.specs.Answers.{fine}
 use Rattle.format.specs.Header.{Laid}
 use Rattle.format.specs.Sections.{nodeAt, nodesFrom}
-use Rattle.reading.specs.Records.{recordsAnswer}
-use Rattle.reading.specs.Shape.{shapeFrom, shapeAnswer}
+use Rattle.tables.specs.Records.{recordsAnswer}
+use Rattle.trees.specs.Shape.{shapeFrom, shapeAnswer}
 use Rattle.reading.specs.Reading.{reading, bodyAnswer}
 use Rattle.format.specs.declared.Head.{Head}
 use Rattle.format.specs.declared.Verdict.{Verdict}
 use Rattle.format.specs.declared.Node.{Node}
-use Rattle.reading.specs.declared.Due.the-variants.{Root}
+use Rattle.trees.specs.declared.Due.the-variants.{Root}
 use Rattle.format.proofs.HeadLaws.{Headed}
 use Rattle.format.proofs.AnswerLaws.{Quiet, both-quiet}
 use Rattle.reading.proofs.ReadingLaws.{reading-iff}

@@ -5,7 +5,7 @@ use mathlib.Core.Logic.{_⊎_, inl, inr, _≢_, _↔_}
 use mathlib.Core.Bool.{Bool, true, false, cond, _||_, or-true, true≢false}
 use lib.Dec.{eqb, ltb}
 use borrow.Author.Tests.{eqb-true, eq-eqb, ne-eqb}
-use Rattle.reading.specs.Shape.{used}
+use Rattle.trees.specs.Shape.{used}
 
 -- a number is one of two
 pub one-of : (t x y : ℕ) → ((eqb t x || eqb t y) ≡ true) ↔ ((t ≡ x) ⊎ (t ≡ y))

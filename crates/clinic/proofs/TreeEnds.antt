@@ -4,7 +4,7 @@ use mathlib.Core.Path.{_≡_, refl}
 use mathlib.Core.List.{List, _∷_}
 use native.Mathlib.Omega.{arith}
 use lib.ListN.{length}
-use Rattle.reading.specs.Ends.{following}
+use Rattle.trees.specs.Ends.{following}
 use Rattle.format.specs.declared.Node.{Node}
 use Rattle.clinic.specs.Tree.{repeat, new, compare, receive, send, on, off, Tree, end, fork, step, switch, past, write}
 

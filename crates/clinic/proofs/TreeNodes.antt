@@ -6,10 +6,10 @@ use mathlib.Core.List.{List, _∷_}
 use native.Mathlib.Omega.{arith}
 use native.Mathlib.Nat.{add-zero}
 use borrow.Author.Tests.{ltb-true, lt-ltb}
-use Rattle.reading.specs.Shape.{boundOf, rootFits, roomFor, onward}
-use Rattle.reading.specs.declared.Due.{Due}
-use Rattle.reading.specs.declared.Due.the-variants.{Below}
-use Rattle.reading.proofs.FitsLaws.{Fitting}
+use Rattle.trees.specs.Shape.{boundOf, rootFits, roomFor, onward}
+use Rattle.trees.specs.declared.Due.{Due}
+use Rattle.trees.specs.declared.Due.the-variants.{Below}
+use Rattle.trees.proofs.FitsLaws.{Fitting}
 use Rattle.clinic.specs.Tree.{Step, repeat, new, compare, receive, send, Switch, on, off, stepNode, switchNode, binders}
 
 -- what a step's node asks and leaves

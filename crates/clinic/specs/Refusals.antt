@@ -10,7 +10,7 @@ use Rattle.format.specs.Words.{wordAt}
 use Rattle.format.specs.Answers.{fine, refused}
 use Rattle.format.specs.Header.{sixAt, headAt}
 use Rattle.format.specs.Sections.{placeOf, userRoles, roleOf, carried, channelOf, sessionOf, nodesFrom}
-use Rattle.reading.specs.Shape.{boundBelow}
+use Rattle.trees.specs.Shape.{boundBelow}
 use Rattle.format.specs.declared.Verdict.{Verdict}
 use Rattle.format.specs.declared.Six.{Six}
 use Rattle.format.specs.declared.Head.{Head}

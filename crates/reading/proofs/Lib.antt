@@ -1,6 +1,1 @@
-pub mod RecordLaws
-pub mod EndsLaws
-pub mod FitsLaws
-pub mod ShapeLaws
-pub mod SoundLaws
 pub mod ReadingLaws

@@ -1,4 +1,1 @@
-pub mod Records
-pub mod Ends
-pub mod Shape
 pub mod Reading

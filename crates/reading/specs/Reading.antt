@@ -3,8 +3,8 @@ use Prim.Native.Nat.{ℕ}
 use mathlib.Core.List.{List}
 use Rattle.format.specs.Answers.{refused, orElse}
 use Rattle.format.specs.Header.{headOf}
-use Rattle.reading.specs.Records.{recordsAnswer}
-use Rattle.reading.specs.Shape.{shapeAnswer}
+use Rattle.tables.specs.Records.{recordsAnswer}
+use Rattle.trees.specs.Shape.{shapeAnswer}
 use Rattle.format.specs.declared.Verdict.{Verdict}
 use Rattle.format.specs.declared.Head.{Head}
 use Rattle.format.specs.declared.HeadAnswer.{HeadAnswer}

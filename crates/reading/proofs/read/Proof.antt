@@ -12,8 +12,8 @@ use Rattle.reading.proofs.read.Reads as reads
 use Rattle.reading.proofs.read.Lts as lts
 use Rattle.format.proofs.header.read_head.Reads as read-head-reads
 use Rattle.format.proofs.answers.or_else.Reads as or-else-reads
-use Rattle.reading.proofs.records.records.Reads as records-reads
-use Rattle.reading.proofs.shape.shape.Reads as shape-reads
+use Rattle.tables.proofs.records.Reads as records-reads
+use Rattle.trees.proofs.shape.shape.Reads as shape-reads
 
 -- the head that was read
 told : (c : tie.After-known-told2) → headOf (now (c .before .before .before .before .before .args .file)) ≡ Fine (c .before .answer2 .given .0 .0)

@@ -1,0 +1,35 @@
+use Rattle.format.specs.declared.Role.{Role}
+use Rattle.masks.specs.Mask.{namesOnly}
+use mathlib.Core.Bool.{_&&_}
+use mathlib.Core.Path.{ap, ap₂, _∙_}
+use Rattle.tables.specs.Records.{recordFits}
+use borrow.Author.Needs.{needs}
+use Rattle.tables.proofs.role_fits.Statement.{statement}
+use Rattle.tables.proofs.role_fits.Tie as tie
+use Rattle.tables.proofs.role_fits.Reads as reads
+use Rattle.tables.proofs.role_fits.Lts as lts
+use Rattle.format.proofs.sections.role.Reads as role-reads
+use Rattle.masks.proofs.names_only.Reads as names-only-reads
+
+-- src/records.rt:32:9
+role-requires : tie.Need-role-requires
+role-requires c κs = search needs
+
+-- src/records.rt:33:5
+names-only-requires : tie.Need-names-only-requires
+names-only-requires c κs = search needs
+
+-- src/records.rt:33:46
+names-only-requires-2 : tie.Need-names-only-requires-2
+names-only-requires-2 c κs = search needs
+
+-- src/records.rt:28:1
+returns : tie.Need-returns
+unfolding recordFits
+returns c =
+    ap₂ _&&_ (c .before .names-only .ensures ∙ ap (λ (x : Role). namesOnly (c .before .before .before .before .args .head .count .kinds) (x .sends)) (c .before .before .role .ensures))
+    (c .names-only2 .ensures ∙ ap (λ (x : Role). namesOnly (c .before .before .before .before .args .head .count .kinds) (x .receives)) (c .before .before .role .ensures))
+
+pub role-fits-spec : {M : Type 1} → statement M
+role-fits-spec =
+    tie.close (tie.spec role-requires names-only-requires names-only-requires-2 returns)

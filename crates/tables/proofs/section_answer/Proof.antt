@@ -1,0 +1,108 @@
+use Rattle.format.proofs.HeadLaws.{few, place-fits}
+use mathlib.Core.Bool.{true, false}
+use Rattle.format.proofs.AnswerLaws.{first-stops, first-goes-on, first-ends}
+use Rattle.tables.specs.Records.{recordFits, refusalOf, sectionAnswer}
+use Rattle.format.specs.Sections.{part}
+use Rattle.format.specs.Answers.{firstOf}
+use borrow.Author.Tests.{not-true, not-false}
+use native.Mathlib.Omega.{arith}
+use Prim.Native.Nat.{_+_, _-_, _≤_}
+use mathlib.Core.Path.{_≡_, sym, ap, _∙_}
+use borrow.Author.Needs.{needs}
+use Rattle.tables.proofs.section_answer.Statement.{statement}
+use Rattle.tables.proofs.section_answer.Tie as tie
+use Rattle.tables.proofs.section_answer.Reads as reads
+use Rattle.tables.proofs.section_answer.Lts as lts
+use Rattle.tables.proofs.record_fits.Reads as record-fits-reads
+use Rattle.tables.proofs.refusal_of.Reads as refusal-of-reads
+use Rattle.format.proofs.sections.part_of.Reads as part-of-reads
+
+abbrev Inv-loop : tie.InvT-loop
+Inv-loop file head section count n₀ n =
+    (1 ≤ n) × (count ≡ part section (head .count)) × (n ≤ count + 1) × (firstOf (recordFits file head section) (refusalOf head section) n (count + 1 - n) ≡ sectionAnswer file head section)
+
+abbrev μ-loop : tie.MeasureT-loop
+μ-loop file head section count n₀ n = count + 1 - n
+
+-- src/records.rt:100:9
+part-of-requires : tie.Need-part-of-requires Inv-loop μ-loop
+part-of-requires c κs = search needs
+
+-- src/records.rt:102:5
+loop-holds : tie.Need-loop-holds Inv-loop μ-loop
+unfolding sectionAnswer
+loop-holds c =
+    let a = c .before .before .args in
+    let all : c .part-of .result + 1 - 1 ≡ part (a .section) (a .head .count) = omega (arith, c .part-of .ensures) in
+    (omega arith, c .part-of .ensures, omega arith, ap (firstOf (recordFits (a .file .now) (a .head) (a .section)) (refusalOf (a .head) (a .section)) 1) all)
+
+-- src/records.rt:103:13
+record-fits-requires : tie.Need-record-fits-requires Inv-loop μ-loop
+record-fits-requires c κs = search needs
+
+-- src/records.rt:104:13
+refusal-of-requires : tie.Need-refusal-of-requires Inv-loop μ-loop
+refusal-of-requires c κs =
+    let a = c .before .before .before .before .before .before .args in
+    let l = c .before .before .before .loop in
+    (omega arith, place-fits (a .head) (c .before .before .before .before .before .before .pre) (a .section) (l .n) (omega arith))
+
+-- src/records.rt:104:13
+returns : tie.Need-returns Inv-loop μ-loop
+returns c =
+    let a = c .before .before .before .before .before .before .before .args in
+    let l = c .before .before .before .before .loop in
+    let wrong : recordFits (a .file .now) (a .head) (a .section) (l .n) ≡ false =
+    sym (c .before .before .record-fits .ensures) ∙ not-true _ (c .before .if1 .taken) in
+    c .refusal-of .ensures
+    ∙ sym (first-stops (recordFits (a .file .now) (a .head) (a .section)) (refusalOf (a .head) (a .section)) (l .n) (c .before .before .before .before .before .part-of .result) (omega arith) wrong)
+    ∙ l .inv .3
+
+-- src/records.rt:106:9
+add-n : tie.Need-add-n Inv-loop μ-loop
+add-n c =
+    let a = c .before .before .before .before .before .before .args in
+    let small : c .before .before .before .loop .n ≤ 1024 =
+    omega (arith, few (a .head) (c .before .before .before .before .before .before .pre) (a .section)) in
+    omega arith
+
+-- src/records.rt:102:5
+loop-less : tie.Need-loop-less Inv-loop μ-loop
+loop-less c = search needs
+
+-- src/records.rt:102:5
+loop-again : tie.Need-loop-again Inv-loop μ-loop
+loop-again c =
+    let a = c .before .before .before .before .before .before .args in
+    let l = c .before .before .before .loop in
+    let right : recordFits (a .file .now) (a .head) (a .section) (l .n) ≡ true = sym (c .before .record-fits .ensures) ∙ not-false _ (c .if1 .left) in (
+      omega arith,
+      l .inv .1,
+      omega arith,
+      sym (first-goes-on (recordFits (a .file .now) (a .head) (a .section)) (refusalOf (a .head) (a .section)) (l .n) (c .before .before .before .before .part-of .result) (omega arith) right)
+          ∙ l .inv .3,
+    )
+
+-- src/records.rt:96:1
+returns-2 : tie.Need-returns-2 Inv-loop μ-loop
+returns-2 c =
+    let a = c .before .before .before .before .args in
+    let l = c .before .loop in
+    sym (first-ends (recordFits (a .file .now) (a .head) (a .section)) (refusalOf (a .head) (a .section)) (l .n) (c .before .before .part-of .result) (omega arith))
+    ∙ l .inv .3
+
+pub section-answer-spec : {M : Type 1} → statement M
+section-answer-spec =
+    tie.close
+    (tie.spec
+    Inv-loop
+    μ-loop
+    part-of-requires
+    loop-holds
+    record-fits-requires
+    refusal-of-requires
+    returns
+    add-n
+    loop-less
+    loop-again
+    returns-2)

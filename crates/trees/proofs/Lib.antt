@@ -1,0 +1,4 @@
+pub mod EndsLaws
+pub mod FitsLaws
+pub mod ShapeLaws
+pub mod SoundLaws

@@ -1,0 +1,302 @@
+-- The quicker look for 8: where it accepts, 8 refuses nothing.
+use Prim.Native.Nat.{ℕ, zero, suc, _+_, _*_, _-_, _/_, _%_, _≤_, _<_}
+use mathlib.Core.Path.{_≡_, refl, sym, ap, ap₂, _∙_}
+use mathlib.Core.Bool.{Bool, true, false, cond, not, _&&_, _||_, and-eq-true-iff}
+use mathlib.Core.Logic.{_⊎_, inl, inr}
+use mathlib.Core.List.{List, [], _∷_, map}
+use native.Mathlib.Omega.{arith}
+use native.Mathlib.Numerals.{add-one}
+use lib.ListN.{length, getD, set}
+use lib.Dec.{eqb, leb, ltb}
+use borrow.Author.Tests.{eqb-true, eqb-false, eq-eqb, ne-eqb, leb-false, lt-leb, lt-ltb}
+use Rattle.format.specs.Words.{wordAt}
+use Rattle.format.specs.Answers.{fine, refused}
+use Rattle.format.specs.Sections.{nodeAt, nodesFrom}
+use Rattle.format.specs.declared.Node.{Node}
+use Rattle.format.specs.declared.Head.{Head}
+use Rattle.trees.specs.Ends.{top, rest, grown, following}
+use Rattle.trees.specs.Shape.{
+  boundOf,
+  rootFits,
+  binds,
+  unusedFit,
+  secondFits,
+  roomFor,
+  nodeFits,
+  boundBelow,
+  onward,
+  shapeFrom,
+  rootsFrom,
+  shapeAnswer,
+}
+use Rattle.trees.specs.declared.Due.{Due}
+use Rattle.trees.specs.declared.Due.the-variants.{Root, Below}
+use Rattle.trees.proofs.ShapeLaws.{pile, pile-push, pile-top}
+
+-- a tree that waits for those before it to end: the number that names it, and the variables bound above it
+pub record Waiting : Type 0 where
+  pub number : ℕ
+  pub bound : ℕ
+
+abbrev pub waiting : ℕ → ℕ → Waiting
+waiting n b = record { number = n; bound = b }
+
+abbrev none : List Waiting → Bool
+none [] = true
+none (w ∷ st) = false
+
+-- what follows an end: the tree on top, at the number that names it
+abbrev pub resumed : (ℕ → List Waiting → Bool) → ℕ → List Waiting → Bool
+resumed go j [] = false
+resumed go j (w ∷ st) = eqb (w .number) j && go (w .bound) st
+
+-- the look from node i on, with b variables bound there
+unfoldable pub accepts : ℕ → List Node → ℕ → List Waiting → Bool
+accepts i [] b st = none st
+accepts i (n ∷ ns) b st =
+    (leb (n .tag) 8 && unusedFit n)
+    && cond (eqb (n .tag) 0) (resumed (accepts (suc i) ns) (suc i) st)
+    (cond (eqb (n .tag) 1) (accepts (suc i) ns b (waiting (n .f1) b ∷ st))
+    (not (binds (n .tag) && leb 8 b) && accepts (suc i) ns (boundBelow (n .tag) b) st))
+
+both : (a b : Bool) → (a && b) ≡ true → (a ≡ true) × (b ≡ true)
+both a b = and-eq-true-iff a b .0
+
+-- the trees that were followed end where those that wait begin
+accepts-follows : (i : ℕ) (ns : List Node) (b : ℕ) (st : List Waiting) → accepts i ns b st ≡ true → following i ns ≡ map (λ (w : Waiting). w .number) st
+unfolding accepts following
+accepts-follows i [] b [] h = refl
+accepts-follows i [] b (w ∷ st) h = let no : _≡_ {A = ℕ} 0 1 = cc in absurd (omega arith)
+accepts-follows i (n ∷ ns) b st h =
+    let p = both (leb (n .tag) 8 && unusedFit n) _ h in
+    let q = both (leb (n .tag) 8) (unusedFit n) (p .0) in
+    go (eqb (n .tag) 0) (eqb (n .tag) 1) (leb (n .tag) 8) st (q .0) (p .1) (accepts-follows (suc i) ns)
+  where
+    go : (x y z : Bool) (st : List Waiting) → z ≡ true
+        → cond x (resumed (accepts (suc i) ns) (suc i) st)
+        (cond y (accepts (suc i) ns b (waiting (n .f1) b ∷ st)) (not (binds (n .tag) && leb 8 b) && accepts (suc i) ns (boundBelow (n .tag) b) st)) ≡ true
+        → ((b : ℕ) (st : List Waiting) → accepts (suc i) ns b st ≡ true → following (suc i) ns ≡ map (λ (w : Waiting). w .number) st)
+        → cond x (suc i ∷ following (suc i) ns) (cond y (rest (following (suc i) ns)) (cond z (following (suc i) ns) [])) ≡ map (λ (w : Waiting). w .number) st
+    go true y z [] t e ih = let no : _≡_ {A = ℕ} 0 1 = cc in absurd (omega arith)
+    go true y z (w ∷ st) t e ih =
+        let p = both (eqb (w .number) (suc i)) (accepts (suc i) ns (w .bound) st) e in
+        ap₂ _∷_ (sym (eqb-true _ _ (p .0))) (ih (w .bound) st (p .1))
+    go false true z st t e ih = ap rest (ih b (waiting (n .f1) b ∷ st) e)
+    go false false z st t e ih = rw t (ih (boundBelow (n .tag) b) st (both (not (binds (n .tag) && leb 8 b)) _ e .1))
+
+-- what waits, and what is due: t is the number after the last node, below all that waits
+abbrev Matches : ℕ → List Waiting → List Due → Type 0
+Matches t [] ds = ⊥
+Matches t (w ∷ []) [] = w .number ≡ t
+Matches t (w ∷ v ∷ st) [] = ⊥
+Matches t (w ∷ st) (d ∷ ds) = (boundOf d ≡ w .bound) × (rootFits (w .number) d ≡ true) × Matches t st ds
+
+-- a node that the look passes fits
+fits : (i : ℕ) (n : Node) (d : Due) (e : ℕ) → rootFits i d ≡ true → leb (n .tag) 8 ≡ true → unusedFit n ≡ true → secondFits n e ≡ true → roomFor n d ≡ true
+    → nodeFits i n d e ≡ true
+unfolding nodeFits
+fits i n d e r t u s m = rw (r, t, u, s, m)
+
+passes : (i : ℕ) (n : Node) (ns : List Node) (d : Due) (ds : List Due) → nodeFits i n d (top (following (suc i) ns)) ≡ true
+    → shapeFrom i (n ∷ ns) (d ∷ ds) ≡ shapeFrom (suc i) ns (onward n d ds)
+unfolding shapeFrom
+passes i n ns d ds h = rw h
+
+-- the last tree has ended at the last node
+over : (t i : ℕ) (ns : List Node) → suc i ≡ t → i + suc (length ns) ≡ t → shapeFrom (suc i) ns [] ≡ fine
+unfolding shapeFrom
+over t i [] e l = refl
+over t i (n ∷ ns) e l = let no : ⊥ = omega arith in absurd no
+
+not-binder : (tag : ℕ) (x : Bool) → binds tag ≡ false → (not (binds tag) || x) ≡ true
+not-binder tag x e = rw e
+
+second : (n : Node) (e : ℕ) → n .f1 ≡ e → secondFits n e ≡ true
+second n e h = go (eqb (n .tag) 1) (eqb e 0)
+  where
+    go : (x y : Bool) → (not x || (y || eqb (n .f1) e)) ≡ true
+    go false y = refl
+    go true true = refl
+    go true false = eq-eqb (n .f1) e h
+
+not-fork : (n : Node) (e : ℕ) → (n .tag ≡ 1 → ⊥) → secondFits n e ≡ true
+not-fork n e h = rw (ne-eqb (n .tag) 1 h)
+
+room : (b : ℕ) (x : Bool) → not (x && leb 8 b) ≡ true → (not x || ltb b 8) ≡ true
+room b true h = go (leb 8 b) refl h
+  where
+    go : (y : Bool) → leb 8 b ≡ y → not y ≡ true → ltb b 8 ≡ true
+    go false e g = lt-ltb b 8 (leb-false 8 b e)
+    go true e g = let no : _≡_ {A = ℕ} 0 1 = cc in absurd (omega arith)
+room b false h = refl
+
+module _ (t : ℕ) where
+  pub accepts-shape : (i : ℕ) (ns : List Node) (b : ℕ) (st : List Waiting) (d : Due) (ds : List Due) → i + length ns ≡ t → Matches t st ds
+      → boundOf d ≡ b → rootFits i d ≡ true → accepts i ns b st ≡ true → shapeFrom i ns (d ∷ ds) ≡ fine
+  unfolding accepts
+  accepts-shape i [] b [] d ds l m bd r h = absurd m
+  accepts-shape i [] b (w ∷ st) d ds l m bd r h = let no : _≡_ {A = ℕ} 0 1 = cc in absurd (omega arith)
+  accepts-shape i (n ∷ ns) b st d ds l m bd r h =
+      let p = both (leb (n .tag) 8 && unusedFit n) _ h in
+      let q = both (leb (n .tag) 8) (unusedFit n) (p .0) in
+      go (eqb (n .tag) 0) refl (eqb (n .tag) 1) refl st ds m (q .0) (q .1) (p .1) (accepts-shape (suc i) ns)
+    where
+      e′ : ℕ
+      e′ = top (following (suc i) ns)
+
+      next : suc i + length ns ≡ t
+      next = omega arith
+
+      at-end : (e : ℕ) → n .tag ≡ 0 → leb (n .tag) 8 ≡ true → unusedFit n ≡ true → nodeFits i n d e ≡ true
+      at-end e tag lt u = fits i n d e r lt u (not-fork n e (λ z. let no : n .tag ≡ 1 = z in omega arith)) (not-binder (n .tag) (ltb (boundOf d) 8) (rw tag))
+
+      go : (x : Bool) → eqb (n .tag) 0 ≡ x → (y : Bool) → eqb (n .tag) 1 ≡ y → (st : List Waiting) (ds : List Due) → Matches t st ds
+          → leb (n .tag) 8 ≡ true → unusedFit n ≡ true
+          → cond x (resumed (accepts (suc i) ns) (suc i) st)
+          (cond y (accepts (suc i) ns b (waiting (n .f1) b ∷ st)) (not (binds (n .tag) && leb 8 b) && accepts (suc i) ns (boundBelow (n .tag) b) st)) ≡ true
+          → ((b : ℕ) (st : List Waiting) (d : Due) (ds : List Due) → suc i + length ns ≡ t → Matches t st ds → boundOf d ≡ b → rootFits (suc i) d ≡ true
+          → accepts (suc i) ns b st ≡ true → shapeFrom (suc i) ns (d ∷ ds) ≡ fine)
+          → shapeFrom i (n ∷ ns) (d ∷ ds) ≡ fine
+      go true x y e [] ds m lt u a ih = absurd m
+      go true x y e (w ∷ []) [] m lt u a ih =
+          let tag : n .tag ≡ 0 = eqb-true (n .tag) 0 x in
+          let number : w .number ≡ suc i = eqb-true (w .number) (suc i) (both (eqb (w .number) (suc i)) (accepts (suc i) ns (w .bound) []) a .0) in
+          let ended : shapeFrom (suc i) ns (onward n d []) ≡ fine = rw x (over t i ns (sym number ∙ m) l) in
+          passes i n ns d [] (at-end e′ tag lt u) ∙ ended
+      go true x y e (w ∷ v ∷ st) [] m lt u a ih = absurd m
+      go true x y e (w ∷ st) (d′ ∷ ds) m lt u a ih =
+          let tag : n .tag ≡ 0 = eqb-true (n .tag) 0 x in
+          let p = both (eqb (w .number) (suc i)) (accepts (suc i) ns (w .bound) st) a in
+          let number : w .number ≡ suc i = eqb-true (w .number) (suc i) (p .0) in
+          let left : shapeFrom (suc i) ns (onward n d (d′ ∷ ds)) ≡ fine =
+          rw x (ih (w .bound) st d′ ds next (m .2) (m .0) (rw number at (m .1)) (p .1)) in
+          passes i n ns d (d′ ∷ ds) (at-end e′ tag lt u) ∙ left
+      go false x true e st ds m lt u a ih =
+          let tag : n .tag ≡ 1 = eqb-true (n .tag) 1 e in
+          let bound : boundBelow (n .tag) (boundOf d) ≡ b = rw tag bd in
+          let child : Due = Below (boundBelow (n .tag) (boundOf d)) in
+          let two : n .f1 ≡ top (following (suc i) ns) = sym (ap top (accepts-follows (suc i) ns b (waiting (n .f1) b ∷ st) a)) in
+          let left : shapeFrom (suc i) ns (onward n d ds) ≡ fine = rw (x, e) (ih b (waiting (n .f1) b ∷ st) child (child ∷ ds) next (bound, refl, m) bound refl a) in
+          passes i n ns d ds (fits i n d e′ r lt u (second n e′ two) (not-binder (n .tag) (ltb (boundOf d) 8) (rw tag))) ∙ left
+      go false x false e st ds m lt u a ih =
+          let p = both (not (binds (n .tag) && leb 8 b)) (accepts (suc i) ns (boundBelow (n .tag) b) st) a in
+          let left : shapeFrom (suc i) ns (onward n d ds) ≡ fine =
+          rw (x, e) (ih (boundBelow (n .tag) b) st (Below (boundBelow (n .tag) (boundOf d))) ds next m (ap (boundBelow (n .tag)) bd) refl (p .1)) in
+          passes i n ns d ds (fits i n d e′ r lt u (not-fork n e′ (eqb-false (n .tag) 1 e)) (rw bd (room b (binds (n .tag)) (p .0)))) ∙ left
+
+-- the sessions' trees wait in order, and below them is the number after the last node
+unfoldable pub waitsFrom : List ℕ → ℕ → ℕ → ℕ → List Waiting
+waitsFrom f p zero t = waiting t 0 ∷ []
+waitsFrom f p (suc k) t = waiting (wordAt f (p + 2)) 0 ∷ waitsFrom f (p + 3) k t
+
+waits-match : (f : List ℕ) (p k t : ℕ) → Matches t (waitsFrom f p k t) (rootsFrom f p k)
+unfolding waitsFrom rootsFrom
+waits-match f p zero t = refl
+waits-match f p (suc k) t = (refl, eq-eqb (wordAt f (p + 2)) (wordAt f (p + 2)) refl, waits-match f (p + 3) k t)
+
+same-head : {A : Type 0} {a b : A} {x y : List A} → a ∷ x ≡ b ∷ y → (a ≡ b) × (x ≡ y)
+same-head e = (cc, cc)
+
+pub starts : (f : List ℕ) (p k t : ℕ) (ns : List Node) (w : Waiting) (st : List Waiting) → w ∷ st ≡ waitsFrom f p k t → w .number ≡ 1 → 1 + length ns ≡ t
+    → accepts 1 ns 0 st ≡ true → shapeFrom 1 ns (rootsFrom f p k) ≡ fine
+unfolding waitsFrom rootsFrom shapeFrom
+starts f p zero t [] w st e one l h = refl
+starts f p zero t (n ∷ ns) w st e one l h =
+    let t1 : t ≡ 1 = sym (ap (λ (x : Waiting). x .number) (same-head e .0)) ∙ one in
+    let no : ⊥ = omega arith in
+    absurd no
+starts f p (suc k) t ns w st e one l h =
+    let at-one : wordAt f (p + 2) ≡ 1 = sym (ap (λ (x : Waiting). x .number) (same-head e .0)) ∙ one in
+    accepts-shape t 1 ns 0 st (Root (wordAt f (p + 2))) (rootsFrom f (p + 3) k) l (rw (same-head e .1) (waits-match f (p + 3) k t)) refl
+    (eq-eqb (wordAt f (p + 2)) 1 at-one) h
+
+-- the same look as the loop goes: node i of n, whose words begin at p + 3 * (i - 1)
+module _ (f : List ℕ) (p n i : ℕ) (pos : 1 ≤ i) (h : i ≤ n) (node : Node) (its : node ≡ nodeAt f (p + 3 * (i - 1))) where
+  -- from this node on, and from the next one
+  abbrev pub Here : ℕ → List Waiting → Type 0
+  Here b st = accepts i (nodesFrom f (p + 3 * (i - 1)) (n + 1 - i)) b st ≡ true
+
+  abbrev pub Next : ℕ → List Waiting → Type 0
+  Next b st = accepts (i + 1) (nodesFrom f (p + 3 * (i + 1 - 1)) (n + 1 - (i + 1))) b st ≡ true
+
+  turned : (b : ℕ) (st : List Waiting)
+      → ((leb (node .tag) 8 && unusedFit node)
+      && cond (eqb (node .tag) 0) (resumed (accepts (i + 1) (nodesFrom f (p + 3 * (i + 1 - 1)) (n + 1 - (i + 1)))) (i + 1) st)
+      (cond (eqb (node .tag) 1) (accepts (i + 1) (nodesFrom f (p + 3 * (i + 1 - 1)) (n + 1 - (i + 1))) b (waiting (node .f1) b ∷ st))
+      (not (binds (node .tag) && leb 8 b) && accepts (i + 1) (nodesFrom f (p + 3 * (i + 1 - 1)) (n + 1 - (i + 1))) (boundBelow (node .tag) b) st)))
+      ≡ accepts i (nodesFrom f (p + 3 * (i - 1)) (n + 1 - i)) b st
+  unfolding accepts nodesFrom
+  turned b st =
+      let more : n + 1 - i ≡ suc (n - i) = omega arith in
+      let along : p + 3 * (i - 1) + 3 ≡ p + 3 * i = omega arith in
+      let back : i + 1 - 1 ≡ i = omega arith in
+      let left : n + 1 - (i + 1) ≡ n - i = omega arith in
+      rw (more, along, back, left, add-one i, its)
+
+  pub on-end : (b : ℕ) (w : Waiting) (st : List Waiting) → node .tag ≡ 0 → node .f1 ≡ 0 → node .f2 ≡ 0 → w .number ≡ i + 1 → Next (w .bound) st → Here b (w ∷ st)
+  on-end b w st t u v e a = sym (turned b (w ∷ st)) ∙ rw (t, u, v, eq-eqb (w .number) (i + 1) e) a
+
+  pub on-fork : (b : ℕ) (st : List Waiting) → node .tag ≡ 1 → node .f2 ≡ 0 → Next b (waiting (node .f1) b ∷ st) → Here b st
+  on-fork b st t v a = sym (turned b st) ∙ rw (t, v) a
+
+  pub on-repeat : (b : ℕ) (st : List Waiting) → node .tag ≡ 2 → node .f1 ≡ 0 → node .f2 ≡ 0 → Next b st → Here b st
+  on-repeat b st t u v a = sym (turned b st) ∙ rw (t, u, v) a
+
+  pub on-binder : (b : ℕ) (st : List Waiting) → (node .tag ≡ 3) ⊎ (node .tag ≡ 5) → node .f2 ≡ 0 → b < 8 → Next (b + 1) st → Here b st
+  on-binder b st (inl t) v few a = sym (turned b st) ∙ rw (t, v, lt-leb 8 b few) a
+  on-binder b st (inr t) v few a = sym (turned b st) ∙ rw (t, v, lt-leb 8 b few) a
+
+  pub on-operands : (b : ℕ) (st : List Waiting) → (node .tag ≡ 4) ⊎ (node .tag ≡ 6) → Next b st → Here b st
+  on-operands b st (inl t) a = sym (turned b st) ∙ rw t a
+  on-operands b st (inr t) a = sym (turned b st) ∙ rw t a
+
+  pub on-switch : (b : ℕ) (st : List Waiting) → (node .tag ≡ 7) ⊎ (node .tag ≡ 8) → node .f2 ≡ 0 → Next b st → Here b st
+  on-switch b st (inl t) v a = sym (turned b st) ∙ rw (t, v) a
+  on-switch b st (inr t) v a = sym (turned b st) ∙ rw (t, v) a
+
+-- a tag of 8 at most that is none of 0 to 6
+pub switch-tag : (t : ℕ) → (t ≡ 0 → ⊥) → (t ≡ 1 → ⊥) → (t ≡ 2 → ⊥) → ((t ≡ 3) ⊎ (t ≡ 5) → ⊥) → ((t ≡ 4) ⊎ (t ≡ 6) → ⊥) → t ≤ 8 → (t ≡ 7) ⊎ (t ≡ 8)
+switch-tag zero a b c d e le = absurd (a refl)
+switch-tag (suc zero) a b c d e le = absurd (b refl)
+switch-tag (suc (suc zero)) a b c d e le = absurd (c refl)
+switch-tag (suc (suc (suc zero))) a b c d e le = absurd (d (inl refl))
+switch-tag (suc (suc (suc (suc zero)))) a b c d e le = absurd (e (inl refl))
+switch-tag (suc (suc (suc (suc (suc zero))))) a b c d e le = absurd (d (inr refl))
+switch-tag (suc (suc (suc (suc (suc (suc zero)))))) a b c d e le = absurd (e (inr refl))
+switch-tag (suc (suc (suc (suc (suc (suc (suc zero))))))) a b c d e le = inl refl
+switch-tag (suc (suc (suc (suc (suc (suc (suc (suc zero)))))))) a b c d e le = inr refl
+switch-tag (suc (suc (suc (suc (suc (suc (suc (suc (suc t))))))))) a b c d e le = let no : ⊥ = omega arith in absurd no
+
+-- past the last node nothing may wait
+pub on-last : (f : List ℕ) (p n i b : ℕ) → n < i → accepts i (nodesFrom f p (n + 1 - i)) b [] ≡ true
+unfolding accepts nodesFrom
+on-last f p n i b h = let done : n + 1 - i ≡ 0 = omega arith in rw done
+
+-- what waits, each as one number in an array
+abbrev pub unpack : ℕ → Waiting
+unpack w = waiting (w % 65536) (w / 65536)
+
+abbrev pub held : List ℕ → ℕ → List Waiting
+held a d = map unpack (pile 0 a d)
+
+pub unpacked : (x b : ℕ) → x < 65536 → unpack (x + 65536 * b) ≡ waiting x b
+unpacked x b h =
+    let low : (x + 65536 * b) % 65536 ≡ x = omega arith in
+    let high : (x + 65536 * b) / 65536 ≡ b = omega arith in
+    rw (low, high)
+
+pub held-push : (a : List ℕ) (d x b : ℕ) → d < length a → x < 65536 → held (set a d (x + 65536 * b)) (d + 1) ≡ waiting x b ∷ held a d
+held-push a d x b h small =
+    ap (held (set a d (x + 65536 * b))) (add-one d) ∙ ap (map unpack) (pile-push 0 a d (x + 65536 * b) h) ∙ ap (λ w. w ∷ held a d) (unpacked x b small)
+
+pub held-top : (a : List ℕ) (d : ℕ) → 0 < d → held a d ≡ unpack (getD a (d - 1) 0) ∷ held a (d - 1)
+held-top a d pos = ap (map unpack) (pile-top 0 a d pos)
+
+pub waits-push : (f : List ℕ) (p s d t x : ℕ) (a : List ℕ) → d < s → d + 1 < length a → x < 65536 → x ≡ wordAt f (p + 3 * (s - d - 1) + 2)
+    → held a (d + 1) ≡ waitsFrom f (p + 3 * (s - d)) d t
+    → held (set a (d + 1) (x + 65536 * 0)) (d + 1 + 1) ≡ waitsFrom f (p + 3 * (s - (d + 1))) (d + 1) t
+unfolding waitsFrom
+waits-push f p s d t x a h l small its e =
+    let one : s - suc d ≡ s - d - 1 = omega arith in
+    let along : p + 3 * (s - d - 1) + 3 ≡ p + 3 * (s - d) = omega arith in
+    held-push a (d + 1) x 0 l small ∙ ap₂ _∷_ (ap (λ k. waiting k 0) its) e ∙ rw (add-one d, one, along)

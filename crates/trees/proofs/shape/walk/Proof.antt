@@ -1,0 +1,309 @@
+use Prim.Native.Nat.{ℕ, _+_, _*_, _-_, _≤_, _<_}
+use mathlib.Core.Path.{_≡_, refl, sym, ap, ap₂, _∙_}
+use mathlib.Core.Bool.{cond}
+use native.Mathlib.Omega.{arith}
+use borrow.Author.Needs.{needs}
+use borrow.Author.Tests.{not-true, not-false}
+use lib.ListN.{length, getD, set, length-set}
+use Rattle.format.specs.Words.{wordAt}
+use denote.Ref.{now}
+use Rattle.format.specs.Answers.{refused}
+use Rattle.format.specs.Sections.{nodesFrom}
+use Rattle.trees.specs.Shape.{boundBelow, boundOf, onward, shapeFrom, rootsFrom, shapeAnswer}
+use Rattle.format.specs.declared.Session.{Session}
+use Rattle.trees.specs.declared.Due.the-variants.{Root, Below}
+use Rattle.trees.proofs.FitsLaws.{fits-room}
+use Rattle.trees.proofs.ShapeLaws.{pile, blank, pile-top, roots-push, due-after, judged, over-empty, over-due, left-over, table-size, depth-most}
+use Rattle.trees.proofs.shape.walk.Statement.{statement}
+use Rattle.trees.proofs.shape.walk.Tie as tie
+use Rattle.trees.proofs.shape.walk.Reads as reads
+use Rattle.trees.proofs.shape.walk.Lts as lts
+use Rattle.format.proofs.sections.node.Reads as node-reads
+use Rattle.format.proofs.sections.session.Reads as session-reads
+use Rattle.trees.proofs.shape.bound_below.Reads as bound-below-reads
+use Rattle.trees.proofs.shape.bound_of.Reads as bound-of-reads
+use Rattle.trees.proofs.shape.depth_after.Reads as depth-after-reads
+use Rattle.trees.proofs.shape.node_fits.Reads as node-fits-reads
+use Rattle.format.proofs.words.narrow.Reads as narrow-reads
+use Rattle.format.proofs.words.wide.Reads as wide-reads
+
+abbrev Inv-loop : tie.InvT-loop
+Inv-loop file head ends stack₀ sessions depth₀ stack depth =
+    (depth ≤ sessions) × (length stack ≡ 1057) × (pile blank stack depth ≡ rootsFrom file (head .at .sessions + 3 * (sessions - depth)) depth)
+
+abbrev μ-loop : tie.MeasureT-loop
+μ-loop file head ends stack₀ sessions depth₀ stack depth = sessions - depth
+
+abbrev Inv-loop2 : tie.InvT-loop2
+Inv-loop2 file head ends stack₀ sessions depth₀ nodes i₀ stack depth i =
+    (1 ≤ i) × (i ≤ nodes + 1) × (length stack ≡ 1057) × (depth ≤ 31 + i)
+    × (shapeFrom i (nodesFrom file (head .at .nodes + 3 * (i - 1)) (nodes + 1 - i)) (pile blank stack depth) ≡ shapeAnswer file head)
+
+abbrev μ-loop2 : tie.MeasureT-loop2
+μ-loop2 file head ends stack₀ sessions depth₀ nodes i₀ stack depth i = nodes + 1 - i
+
+-- what was found of the node, and what is left
+module _ (c : tie.After-node-fits Inv-loop μ-loop Inv-loop2 μ-loop2) where
+  going : cond (c .node-fits .result)
+      (shapeFrom (c .before .before .before .before .before .before .before .loop2 .i + 1)
+      (nodesFrom (c .before .before .before .before .before .before .before .before .before .before .before .before .before .args .file .now) (c .before .before .before .before .before .before .before .before .before .before .before .before .before .args .head .at .nodes + 3 * (c .before .before .before .before .before .before .before .loop2 .i + 1 - 1)) (c .before .before .before .before .before .before .before .before .before .before .before .before .before .args .head .count .nodes + 1 - (c .before .before .before .before .before .before .before .loop2 .i + 1)))
+      (onward (c .before .before .before .node .result) (getD (c .before .before .before .before .before .before .before .loop2 .stack) (c .before .before .before .before .before .before .before .loop2 .depth - 1) blank) (pile blank (c .before .before .before .before .before .before .before .loop2 .stack) (c .before .before .before .before .before .before .before .loop2 .depth - 1))))
+      (refused 8 (c .before .before .before .before .before .before .before .loop2 .i))
+      ≡ shapeAnswer (c .before .before .before .before .before .before .before .before .before .before .before .before .before .args .file .now) (c .before .before .before .before .before .before .before .before .before .before .before .before .before .args .head)
+  going =
+      let a = c .before .before .before .before .before .before .before .before .before .before .before .before .before .args in
+      let l = c .before .before .before .before .before .before .before .loop2 in
+      judged (a .file .now) (a .ends .now) (a .head .at .nodes) (a .head .count .nodes) (l .i) (getD (l .stack) (l .depth - 1) blank)
+      (pile blank (l .stack) (l .depth - 1)) (shapeAnswer (a .file .now) (a .head)) (c .before .before .before .node .result) (c .node-fits .result)
+      (getD (a .ends .now) (c .before .before .wide2 .result + 1) 0) (c .before .before .before .before .before .before .before .before .before .before .before .before .before .pre .2) (omega arith) (omega arith) (c .before .before .before .node .ensures)
+      (ap (λ k. getD (a .ends .now) (k + 1) 0) (c .before .before .wide2 .ensures .0)) (c .node-fits .ensures)
+      (ap (shapeFrom (l .i) (nodesFrom (a .file .now) (a .head .at .nodes + 3 * (l .i - 1)) (a .head .count .nodes + 1 - l .i)))
+      (sym (pile-top blank (l .stack) (l .depth) (omega arith))) ∙ l .inv .4)
+
+-- src/shape.rt:109:9
+wide-requires : tie.Need-wide-requires Inv-loop μ-loop Inv-loop2 μ-loop2
+wide-requires c κs = search needs
+
+-- src/shape.rt:111:5
+loop-holds : tie.Need-loop-holds Inv-loop μ-loop Inv-loop2 μ-loop2
+unfolding rootsFrom
+loop-holds c = (omega arith, refl, refl)
+
+-- src/shape.rt:112:45
+sub-narrow : tie.Need-sub-narrow Inv-loop μ-loop Inv-loop2 μ-loop2
+sub-narrow c = search needs
+
+-- src/shape.rt:112:38
+narrow-requires : tie.Need-narrow-requires Inv-loop μ-loop Inv-loop2 μ-loop2
+narrow-requires c κs = search needs
+
+-- src/shape.rt:112:13
+session-requires : tie.Need-session-requires Inv-loop μ-loop Inv-loop2 μ-loop2
+session-requires c κs = search needs
+
+-- src/shape.rt:113:9
+mul-stack : tie.Need-mul-stack Inv-loop μ-loop Inv-loop2 μ-loop2
+mul-stack c = search needs
+
+-- src/shape.rt:113:9
+array-set-from-stack : tie.Need-array-set-from-stack Inv-loop μ-loop Inv-loop2 μ-loop2
+array-set-from-stack c = search needs
+
+-- src/shape.rt:114:9
+add-depth : tie.Need-add-depth Inv-loop μ-loop Inv-loop2 μ-loop2
+add-depth c = search needs
+
+-- src/shape.rt:111:5
+loop-less : tie.Need-loop-less Inv-loop μ-loop Inv-loop2 μ-loop2
+loop-less c = search needs
+
+-- src/shape.rt:111:5
+loop-again : tie.Need-loop-again Inv-loop μ-loop Inv-loop2 μ-loop2
+loop-again c =
+    let a = c .before .before .before .before .before .before .before .args in
+    let l = c .before .before .before .loop in
+    let s = c .before .before .before .before .wide .result in
+    let root : c .session .result .root ≡ wordAt (a .file .now) (a .head .at .sessions + 3 * (s - l .depth - 1) + 2) =
+    ap (λ (x : Session). x .root) (c .session .ensures)
+    ∙ ap (λ k. wordAt (a .file .now) (a .head .at .sessions + 3 * (k - 1) + 2)) (c .before .narrow .ensures) in (
+      omega arith,
+      simp length-set (omega arith),
+      ap (λ x. pile blank (set (l .stack) (l .depth) (Root x)) (l .depth + 1)) root
+          ∙ roots-push (a .file .now) (a .head .at .sessions) s (l .depth) (l .stack) (omega arith) (omega arith) (l .inv .2),
+    )
+
+-- src/shape.rt:118:5
+loop2-holds : tie.Need-loop2-holds Inv-loop μ-loop Inv-loop2 μ-loop2
+unfolding shapeAnswer
+loop2-holds c =
+    let a = c .before .before .before .before .before .args in
+    let l = c .before .loop in
+    let s = c .before .before .wide .result in
+    let all : l .depth ≡ a .head .count .sessions = omega (arith, c .before .before .wide .ensures .0) in
+    let from : a .head .at .sessions + 3 * (s - l .depth) ≡ a .head .at .sessions = omega arith in
+    let st : pile blank (l .stack) (l .depth) ≡ rootsFrom (a .file .now) (a .head .at .sessions) (a .head .count .sessions) =
+    l .inv .2 ∙ ap₂ (rootsFrom (a .file .now)) from all in
+    let at : a .head .at .nodes + 3 * (1 - 1) ≡ a .head .at .nodes = omega arith in
+    let n : a .head .count .nodes + 1 - 1 ≡ a .head .count .nodes = omega arith in
+    (omega arith, omega arith, l .inv .1, omega arith, rw (at, n, st))
+
+-- src/shape.rt:120:13
+returns : tie.Need-returns Inv-loop μ-loop Inv-loop2 μ-loop2
+returns c =
+    let a = c .before .before .before .before .before .before .before .before .args in
+    let l = c .before .before .loop2 in
+    let from : ℕ = a .head .at .nodes + 3 * (l .i - 1) in
+    sym (left-over (a .file .now) from (a .head .count .nodes) (l .i) (omega arith))
+    ∙ ap (λ d. shapeFrom (l .i) (nodesFrom (a .file .now) from (a .head .count .nodes + 1 - l .i)) (pile blank (l .stack) d)) (sym (c .if1 .taken)) ∙ l .inv .4
+
+-- src/shape.rt:122:25
+sub-due : tie.Need-sub-due Inv-loop μ-loop Inv-loop2 μ-loop2
+sub-due c = search needs
+
+-- src/shape.rt:122:19
+mul-due : tie.Need-mul-due Inv-loop μ-loop Inv-loop2 μ-loop2
+mul-due c = search needs
+
+-- src/shape.rt:122:19
+array-copy-out-due : tie.Need-array-copy-out-due Inv-loop μ-loop Inv-loop2 μ-loop2
+array-copy-out-due c = search needs
+
+-- src/shape.rt:123:13
+node-requires : tie.Need-node-requires Inv-loop μ-loop Inv-loop2 μ-loop2
+node-requires c κs = search needs
+
+-- src/shape.rt:124:40
+wide-requires-2 : tie.Need-wide-requires-2 Inv-loop μ-loop Inv-loop2 μ-loop2
+wide-requires-2 c κs = search needs
+
+-- src/shape.rt:124:40
+add-node-fits : tie.Need-add-node-fits Inv-loop μ-loop Inv-loop2 μ-loop2
+add-node-fits c = search needs
+
+-- src/shape.rt:124:35
+mul-node-fits : tie.Need-mul-node-fits Inv-loop μ-loop Inv-loop2 μ-loop2
+mul-node-fits c = search needs
+
+-- src/shape.rt:124:35
+shared-slice-read-node-fits :
+    tie.Need-shared-slice-read-node-fits Inv-loop μ-loop Inv-loop2 μ-loop2
+shared-slice-read-node-fits c =
+    let a = c .before .before .before .before .before .before .before .before .before .before .before .before .args in
+    omega (arith, table-size (a .file .now) (a .ends .now) (a .head .at .nodes) (a .head .count .nodes) (c .before .before .before .before .before .before .before .before .before .before .before .before .pre .2), c .before .wide2 .ensures .0)
+
+-- src/shape.rt:124:13
+node-fits-requires : tie.Need-node-fits-requires Inv-loop μ-loop Inv-loop2 μ-loop2
+node-fits-requires c κs = search needs
+
+-- src/shape.rt:125:13
+returns-2 : tie.Need-returns-2 Inv-loop μ-loop Inv-loop2 μ-loop2
+returns-2 c =
+    let h = going (c .before) in rw (not-true (c .before .node-fits .result) (c .if2 .taken)) at h
+
+-- src/shape.rt:127:52
+bound-of-requires : tie.Need-bound-of-requires Inv-loop μ-loop Inv-loop2 μ-loop2
+bound-of-requires c κs = search needs
+
+-- src/shape.rt:127:32
+bound-below-requires : tie.Need-bound-below-requires Inv-loop μ-loop Inv-loop2 μ-loop2
+bound-below-requires c κs =
+    λ b. let l = c .before .before .before .before .before .before .before .before .before .loop2 in
+    let small : boundOf (getD (l .stack) (l .depth - 1) blank) < 8 =
+    fits-room _ _ _ _ (sym (c .before .before .node-fits .ensures) ∙ not-false _ (c .before .if2 .left)) b in
+    omega (arith, c .bound-of .ensures)
+
+-- src/shape.rt:128:15
+sub-stack : tie.Need-sub-stack Inv-loop μ-loop Inv-loop2 μ-loop2
+sub-stack c = search needs
+
+-- src/shape.rt:128:9
+mul-stack-2 : tie.Need-mul-stack-2 Inv-loop μ-loop Inv-loop2 μ-loop2
+mul-stack-2 c = search needs
+
+-- src/shape.rt:128:9
+array-set-from-stack-2 : tie.Need-array-set-from-stack-2 Inv-loop μ-loop Inv-loop2 μ-loop2
+array-set-from-stack-2 c = search needs
+
+-- src/shape.rt:129:9
+mul-stack-3 : tie.Need-mul-stack-3 Inv-loop μ-loop Inv-loop2 μ-loop2
+mul-stack-3 c = search needs
+
+-- src/shape.rt:129:9
+array-set-from-stack-3 : tie.Need-array-set-from-stack-3 Inv-loop μ-loop Inv-loop2 μ-loop2
+array-set-from-stack-3 c = search needs
+
+-- src/shape.rt:130:9
+depth-after-requires : tie.Need-depth-after-requires Inv-loop μ-loop Inv-loop2 μ-loop2
+depth-after-requires c κs = search needs
+
+-- src/shape.rt:131:9
+add-i : tie.Need-add-i Inv-loop μ-loop Inv-loop2 μ-loop2
+add-i c = search needs
+
+-- src/shape.rt:118:5
+loop2-less : tie.Need-loop2-less Inv-loop μ-loop Inv-loop2 μ-loop2
+loop2-less c = search needs
+
+-- src/shape.rt:118:5
+loop2-again : tie.Need-loop2-again Inv-loop μ-loop Inv-loop2 μ-loop2
+loop2-again c =
+    let l = c .before .before .before .before .before .before .before .before .before .before .before .loop2 in
+    let n = c .before .before .before .before .before .before .before .node .result in
+    let due = getD (l .stack) (l .depth - 1) blank in
+    let bound : c .before .bound-below .result ≡ boundBelow (n .tag) (boundOf due) =
+    c .before .bound-below .ensures ∙ ap (boundBelow (n .tag)) (c .before .before .bound-of .ensures) in
+    let pos : 0 < l .depth = omega arith in
+    let room : l .depth < length (l .stack) = omega arith in
+    let left = going (c .before .before .before .before) in (
+      omega arith,
+      omega arith,
+      simp length-set (l .inv .2),
+      omega (arith, c .depth-after .ensures, depth-most (n .tag) (l .depth)),
+      ap (shapeFrom (l .i + 1) _)
+          (ap₂ (λ x k. pile blank (set (set (l .stack) (l .depth - 1) (Below x)) (l .depth) (Below x)) k) bound (c .depth-after .ensures)
+          ∙ due-after n (l .stack) (l .depth) due pos room)
+          ∙ (rw (not-false (c .before .before .before .before .node-fits .result) (c .before .before .before .if2 .left)) at left),
+    )
+
+-- src/shape.rt:134:9
+returns-3 : tie.Need-returns-3 Inv-loop μ-loop Inv-loop2 μ-loop2
+returns-3 c =
+    let a = c .before .before .before .before .before .before .before .before .args in
+    let l = c .before .before .loop2 in
+    let from : ℕ = a .head .at .nodes + 3 * (l .i - 1) in
+    sym (over-empty (a .file .now) from (a .head .count .nodes) (l .i) (omega arith))
+    ∙ ap (λ d. shapeFrom (l .i) (nodesFrom (a .file .now) from (a .head .count .nodes + 1 - l .i)) (pile blank (l .stack) d)) (sym (c .if3 .taken)) ∙ l .inv .4
+
+-- src/shape.rt:104:1
+returns-4 : tie.Need-returns-4 Inv-loop μ-loop Inv-loop2 μ-loop2
+returns-4 c =
+    let a = c .before .before .before .before .before .before .before .before .args in
+    let l = c .before .before .loop2 in
+    let from : ℕ = a .head .at .nodes + 3 * (l .i - 1) in
+    let some : 0 < l .depth = omega arith in
+    sym (over-due (a .file .now) from (a .head .count .nodes) (l .i) (getD (l .stack) (l .depth - 1) blank) (pile blank (l .stack) (l .depth - 1)) (omega arith))
+    ∙ ap (shapeFrom (l .i) (nodesFrom (a .file .now) from (a .head .count .nodes + 1 - l .i))) (sym (pile-top blank (l .stack) (l .depth) some)) ∙ l .inv .4
+
+pub walk-spec : {M : Type 1} → statement M
+walk-spec =
+    tie.close
+    (tie.spec
+    Inv-loop
+    μ-loop
+    Inv-loop2
+    μ-loop2
+    wide-requires
+    loop-holds
+    sub-narrow
+    narrow-requires
+    session-requires
+    mul-stack
+    array-set-from-stack
+    add-depth
+    loop-less
+    loop-again
+    loop2-holds
+    returns
+    sub-due
+    mul-due
+    array-copy-out-due
+    node-requires
+    wide-requires-2
+    add-node-fits
+    mul-node-fits
+    shared-slice-read-node-fits
+    node-fits-requires
+    returns-2
+    bound-of-requires
+    bound-below-requires
+    sub-stack
+    mul-stack-2
+    array-set-from-stack-2
+    mul-stack-3
+    array-set-from-stack-3
+    depth-after-requires
+    add-i
+    loop2-less
+    loop2-again
+    returns-3
+    returns-4)

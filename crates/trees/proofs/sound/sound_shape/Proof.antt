@@ -1,0 +1,431 @@
+use Prim.Native.Nat.{ℕ, zero, suc, _+_, _*_, _-_, _/_, _%_, _≤_, _<_}
+use mathlib.Core.Path.{_≡_, refl, sym, ap, ap₂, _∙_}
+use mathlib.Core.Bool.{Bool, true, false, not, _&&_, false≢true, and-eq-true-iff}
+use mathlib.Core.List.{List, [], _∷_}
+use native.Mathlib.Omega.{arith}
+use native.Mathlib.Numerals.{add-one}
+use borrow.Author.Needs.{needs}
+use borrow.Author.Tests.{not-false, eqb-true, ltb-true}
+use lib.ListN.{length, getD, set, length-set, replicate}
+use lib.Dec.{eqb, ltb}
+use Rattle.format.specs.Words.{wordAt}
+use Rattle.format.specs.Answers.{fine}
+use Rattle.format.specs.Sections.{nodesFrom}
+use Rattle.format.specs.declared.Session.{Session}
+use Rattle.trees.specs.Shape.{shapeAnswer}
+use Rattle.trees.proofs.ShapeLaws.{pile, length-nodes}
+use Rattle.trees.proofs.SoundLaws.{Waiting, waiting, unpack, unpacked, held, held-push, held-top, accepts, waitsFrom, waits-push, starts, on-end, on-fork, on-repeat, on-binder, on-operands, on-switch, on-last, switch-tag}
+use Rattle.trees.proofs.sound.sound_shape.Statement.{statement}
+use Rattle.trees.proofs.sound.sound_shape.Tie as tie
+use Rattle.trees.proofs.sound.sound_shape.Reads as reads
+use Rattle.trees.proofs.sound.sound_shape.Lts as lts
+use Rattle.format.proofs.sections.node.Reads as node-reads
+use Rattle.format.proofs.sections.session.Reads as session-reads
+use Rattle.format.proofs.words.narrow.Reads as narrow-reads
+use Rattle.format.proofs.words.paired.Reads as paired-reads
+use Rattle.format.proofs.words.wide.Reads as wide-reads
+use Rattle.trees.proofs.sound.bound_above.Reads as bound-above-reads
+use Rattle.trees.proofs.sound.named.Reads as named-reads
+
+abbrev Inv-loop : tie.InvT-loop
+Inv-loop file head nodes sessions stack₀ depth₀ stack depth =
+    (depth ≤ sessions) × (length stack ≡ 1058)
+    × (held stack (depth + 1) ≡ waitsFrom file (head .at .sessions + 3 * (sessions - depth)) depth (nodes + 1))
+
+abbrev μ-loop : tie.MeasureT-loop
+μ-loop file head nodes sessions stack₀ depth₀ stack depth = sessions - depth
+
+abbrev Inv-loop2 : tie.InvT-loop2
+Inv-loop2 file head nodes sessions stack₀ depth₀ bound₀ i₀ stack depth bound i =
+    (1 ≤ i) × (i ≤ nodes + 1) × (length stack ≡ 1058) × (depth ≤ 31 + i)
+    × (accepts i (nodesFrom file (head .at .nodes + 3 * (i - 1)) (nodes + 1 - i)) bound (held stack depth) ≡ true → shapeAnswer file head ≡ fine)
+
+abbrev μ-loop2 : tie.MeasureT-loop2
+μ-loop2 file head nodes sessions stack₀ depth₀ bound₀ i₀ stack depth bound i = nodes + 1 - i
+
+-- two tests that both held
+both : (a b : Bool) → not (a && b) ≡ false → (a ≡ true) × (b ≡ true)
+both a b h = and-eq-true-iff a b .0 (not-false (a && b) h)
+
+-- src/sound.rt:34:9
+wide-requires : tie.Need-wide-requires Inv-loop μ-loop Inv-loop2 μ-loop2
+wide-requires c κs = search needs
+
+-- src/sound.rt:36:23
+add-paired : tie.Need-add-paired Inv-loop μ-loop Inv-loop2 μ-loop2
+add-paired c = search needs
+
+-- src/sound.rt:36:16
+paired-requires : tie.Need-paired-requires Inv-loop μ-loop Inv-loop2 μ-loop2
+paired-requires c κs = search needs
+
+-- src/sound.rt:36:5
+array-write-stack : tie.Need-array-write-stack Inv-loop μ-loop Inv-loop2 μ-loop2
+array-write-stack c = search needs
+
+-- src/sound.rt:38:5
+loop-holds : tie.Need-loop-holds Inv-loop μ-loop Inv-loop2 μ-loop2
+unfolding waitsFrom
+loop-holds c =
+    let n = c .before .before .before .args .head .count .nodes in (
+      omega arith,
+      refl,
+      ap (λ v. held (set (replicate 1058 0) 0 v) 1) (c .paired .ensures) ∙ held-push (replicate 1058 0) 0 (n + 1) 0 (omega arith) (omega arith),
+    )
+
+-- src/sound.rt:39:45
+sub-narrow : tie.Need-sub-narrow Inv-loop μ-loop Inv-loop2 μ-loop2
+sub-narrow c = search needs
+
+-- src/sound.rt:39:38
+narrow-requires : tie.Need-narrow-requires Inv-loop μ-loop Inv-loop2 μ-loop2
+narrow-requires c κs = search needs
+
+-- src/sound.rt:39:13
+session-requires : tie.Need-session-requires Inv-loop μ-loop Inv-loop2 μ-loop2
+session-requires c κs = search needs
+
+-- src/sound.rt:40:9
+add-depth : tie.Need-add-depth Inv-loop μ-loop Inv-loop2 μ-loop2
+add-depth c = search needs
+
+-- src/sound.rt:41:24
+paired-requires-2 : tie.Need-paired-requires-2 Inv-loop μ-loop Inv-loop2 μ-loop2
+paired-requires-2 c κs = search needs
+
+-- src/sound.rt:41:9
+mul-stack : tie.Need-mul-stack Inv-loop μ-loop Inv-loop2 μ-loop2
+mul-stack c = search needs
+
+-- src/sound.rt:41:9
+array-write-stack-2 : tie.Need-array-write-stack-2 Inv-loop μ-loop Inv-loop2 μ-loop2
+array-write-stack-2 c = search needs
+
+-- src/sound.rt:38:5
+loop-less : tie.Need-loop-less Inv-loop μ-loop Inv-loop2 μ-loop2
+loop-less c = search needs
+
+-- src/sound.rt:38:5
+loop-again : tie.Need-loop-again Inv-loop μ-loop Inv-loop2 μ-loop2
+loop-again c =
+    let a = c .before .before .before .before .before .before .before .before .args in
+    let l = c .before .before .before .before .loop in
+    let s = c .before .before .before .before .before .before .wide .result in
+    let x = c .before .session .result .root in
+    let root : x ≡ wordAt (a .file .now) (a .head .at .sessions + 3 * (s - l .depth - 1) + 2) =
+    ap (λ (y : Session). y .root) (c .before .session .ensures)
+    ∙ ap (λ k. wordAt (a .file .now) (a .head .at .sessions + 3 * (k - 1) + 2)) (c .before .before .narrow .ensures) in (
+      omega arith,
+      simp length-set (omega arith),
+      ap (λ v. held (set (l .stack) (l .depth + 1) v) (l .depth + 1 + 1)) (c .paired2 .ensures)
+          ∙ waits-push (a .file .now) (a .head .at .sessions) s (l .depth) (a .head .count .nodes + 1) x (l .stack) (omega arith) (omega arith) (omega arith) root (l .inv .2),
+    )
+
+-- src/sound.rt:43:14
+mul-named : tie.Need-mul-named Inv-loop μ-loop Inv-loop2 μ-loop2
+mul-named c = search needs
+
+-- src/sound.rt:43:14
+array-read-named : tie.Need-array-read-named Inv-loop μ-loop Inv-loop2 μ-loop2
+array-read-named c = search needs
+
+-- src/sound.rt:43:8
+named-requires : tie.Need-named-requires Inv-loop μ-loop Inv-loop2 μ-loop2
+named-requires c κs = search needs
+
+-- src/sound.rt:44:9
+returns : tie.Need-returns Inv-loop μ-loop Inv-loop2 μ-loop2
+returns c = λ e. absurd (false≢true e)
+
+-- src/sound.rt:48:5
+loop2-holds : tie.Need-loop2-holds Inv-loop μ-loop Inv-loop2 μ-loop2
+unfolding shapeAnswer
+loop2-holds c =
+    let a = c .before .before .before .before .before .before .before .args in
+    let l = c .before .before .before .loop in
+    let s = c .before .before .before .before .before .wide .result in
+    let n = a .head .count .nodes in
+    let top = unpack (getD (l .stack) (l .depth) 0) in
+    let all : l .depth ≡ a .head .count .sessions = omega (arith, c .before .before .before .before .before .wide .ensures .0) in
+    let from : a .head .at .sessions + 3 * (s - l .depth) ≡ a .head .at .sessions = omega arith in
+    let st : top ∷ held (l .stack) (l .depth) ≡ waitsFrom (a .file .now) (a .head .at .sessions) (a .head .count .sessions) (n + 1) =
+    sym (ap (held (l .stack)) (add-one (l .depth))) ∙ l .inv .2 ∙ ap₂ (λ p k. waitsFrom (a .file .now) p k (n + 1)) from all in
+    let one : top .number ≡ 1 = sym (c .before .named .ensures) ∙ c .if1 .left in
+    let at : a .head .at .nodes + 3 * (1 - 1) ≡ a .head .at .nodes = omega arith in
+    let count : n + 1 - 1 ≡ n = omega arith in
+    let long : 1 + length (nodesFrom (a .file .now) (a .head .at .nodes) n) ≡ n + 1 = omega (arith, length-nodes (a .file .now) (a .head .at .nodes) n) in (
+      omega arith,
+      omega arith,
+      l .inv .1,
+      omega arith,
+      λ h. starts (a .file .now) (a .head .at .sessions) (a .head .count .sessions) (n + 1) (nodesFrom (a .file .now) (a .head .at .nodes) n)
+          top (held (l .stack) (l .depth)) st one long (rw (at, count) at h),
+    )
+
+-- src/sound.rt:49:13
+node-requires : tie.Need-node-requires Inv-loop μ-loop Inv-loop2 μ-loop2
+node-requires c κs = search needs
+
+-- src/sound.rt:51:9
+add-i : tie.Need-add-i Inv-loop μ-loop Inv-loop2 μ-loop2
+add-i c = search needs
+
+-- src/sound.rt:55:21
+returns-2 : tie.Need-returns-2 Inv-loop μ-loop Inv-loop2 μ-loop2
+returns-2 c = λ e. absurd (false≢true e)
+
+-- src/sound.rt:58:21
+returns-3 : tie.Need-returns-3 Inv-loop μ-loop Inv-loop2 μ-loop2
+returns-3 c = λ e. absurd (false≢true e)
+
+-- src/sound.rt:60:17
+sub-depth : tie.Need-sub-depth Inv-loop μ-loop Inv-loop2 μ-loop2
+sub-depth c = search needs
+
+-- src/sound.rt:61:28
+mul-next : tie.Need-mul-next Inv-loop μ-loop Inv-loop2 μ-loop2
+mul-next c = search needs
+
+-- src/sound.rt:61:28
+array-read-next : tie.Need-array-read-next Inv-loop μ-loop Inv-loop2 μ-loop2
+array-read-next c = search needs
+
+-- src/sound.rt:62:20
+named-requires-2 : tie.Need-named-requires-2 Inv-loop μ-loop Inv-loop2 μ-loop2
+named-requires-2 c κs = search needs
+
+-- src/sound.rt:63:21
+returns-4 : tie.Need-returns-4 Inv-loop μ-loop Inv-loop2 μ-loop2
+returns-4 c = λ e. absurd (false≢true e)
+
+-- src/sound.rt:65:17
+bound-above-requires : tie.Need-bound-above-requires Inv-loop μ-loop Inv-loop2 μ-loop2
+bound-above-requires c κs = search needs
+
+-- src/sound.rt:48:5
+loop2-less : tie.Need-loop2-less Inv-loop μ-loop Inv-loop2 μ-loop2
+loop2-less c = search needs
+
+-- src/sound.rt:48:5
+loop2-again : tie.Need-loop2-again Inv-loop μ-loop Inv-loop2 μ-loop2
+loop2-again c =
+    let a = c .before .before .before .before .before .before .before .before .before .before .before .before .before .before .before .before .before .before .args in
+    let l = c .before .before .before .before .before .before .before .before .before .before .loop2 in
+    let node = c .before .before .before .before .before .before .before .before .node .result in
+    let law = on-end (a .file .now) (a .head .at .nodes) (a .head .count .nodes) (l .i) (omega arith) (omega arith) node (c .before .before .before .before .before .before .before .before .node .ensures) in
+    let w = unpack (getD (l .stack) (l .depth - 1) 0) in
+    let zeros = both (eqb (node .f1) 0) (eqb (node .f2) 0) (c .before .before .before .before .if2 .left) in
+    let pos : 0 < l .depth = omega arith in
+    let number : w .number ≡ l .i + 1 = sym (c .before .before .named2 .ensures) ∙ c .before .if4 .left in (
+      omega arith,
+      omega arith,
+      l .inv .2,
+      omega arith,
+      λ h. l .inv .4 (rw (held-top (l .stack) (l .depth) pos)
+          (law (l .bound) w (held (l .stack) (l .depth - 1)) (c .before .before .before .before .before .before .before .match .keys1) (eqb-true _ _ (zeros .0)) (eqb-true _ _ (zeros .1)) number (rw (c .bound-above .ensures) at h))),
+    )
+
+-- src/sound.rt:69:21
+returns-5 : tie.Need-returns-5 Inv-loop μ-loop Inv-loop2 μ-loop2
+returns-5 c = λ e. absurd (false≢true e)
+
+-- src/sound.rt:71:32
+paired-requires-3 : tie.Need-paired-requires-3 Inv-loop μ-loop Inv-loop2 μ-loop2
+paired-requires-3 c κs = search needs
+
+-- src/sound.rt:71:17
+mul-stack-2 : tie.Need-mul-stack-2 Inv-loop μ-loop Inv-loop2 μ-loop2
+mul-stack-2 c = search needs
+
+-- src/sound.rt:71:17
+array-write-stack-3 : tie.Need-array-write-stack-3 Inv-loop μ-loop Inv-loop2 μ-loop2
+array-write-stack-3 c = search needs
+
+-- src/sound.rt:72:17
+add-depth-2 : tie.Need-add-depth-2 Inv-loop μ-loop Inv-loop2 μ-loop2
+add-depth-2 c = search needs
+
+-- src/sound.rt:48:5
+loop2-less-2 : tie.Need-loop2-less-2 Inv-loop μ-loop Inv-loop2 μ-loop2
+loop2-less-2 c = search needs
+
+-- src/sound.rt:48:5
+loop2-again-2 : tie.Need-loop2-again-2 Inv-loop μ-loop Inv-loop2 μ-loop2
+loop2-again-2 c =
+    let a = c .before .before .before .before .before .before .before .before .before .before .before .before .before .before .args in
+    let l = c .before .before .before .before .before .before .loop2 in
+    let node = c .before .before .before .before .node .result in
+    let law = on-fork (a .file .now) (a .head .at .nodes) (a .head .count .nodes) (l .i) (omega arith) (omega arith) node (c .before .before .before .before .node .ensures) in
+    let room : l .depth < length (l .stack) = omega arith in
+    let pushed : held (set (l .stack) (l .depth) (c .paired3 .result)) (l .depth + 1) ≡ waiting (node .f1) (l .bound) ∷ held (l .stack) (l .depth) =
+    ap (λ v. held (set (l .stack) (l .depth) v) (l .depth + 1)) (c .paired3 .ensures) ∙ held-push (l .stack) (l .depth) (node .f1) (l .bound) room (omega arith) in (
+      omega arith,
+      omega arith,
+      simp length-set (l .inv .2),
+      omega arith,
+      λ h. l .inv .4 (law (l .bound) (held (l .stack) (l .depth)) (c .before .before .before .match .keys2) (c .before .if5 .left) (rw pushed at h)),
+    )
+
+-- src/sound.rt:76:21
+returns-6 : tie.Need-returns-6 Inv-loop μ-loop Inv-loop2 μ-loop2
+returns-6 c = λ e. absurd (false≢true e)
+
+-- src/sound.rt:48:5
+loop2-less-3 : tie.Need-loop2-less-3 Inv-loop μ-loop Inv-loop2 μ-loop2
+loop2-less-3 c = search needs
+
+-- src/sound.rt:48:5
+loop2-again-3 : tie.Need-loop2-again-3 Inv-loop μ-loop Inv-loop2 μ-loop2
+loop2-again-3 c =
+    let a = c .before .before .before .before .before .before .before .before .before .before .before .before .before .before .args in
+    let l = c .before .before .before .before .before .before .loop2 in
+    let node = c .before .before .before .before .node .result in
+    let law = on-repeat (a .file .now) (a .head .at .nodes) (a .head .count .nodes) (l .i) (omega arith) (omega arith) node (c .before .before .before .before .node .ensures) in
+    let zeros = both (eqb (node .f1) 0) (eqb (node .f2) 0) (c .if6 .left) in (
+      omega arith,
+      omega arith,
+      l .inv .2,
+      omega arith,
+      λ h. l .inv .4 (law (l .bound) (held (l .stack) (l .depth)) (c .before .before .before .match .keys3) (eqb-true _ _ (zeros .0)) (eqb-true _ _ (zeros .1)) h),
+    )
+
+-- src/sound.rt:81:21
+returns-7 : tie.Need-returns-7 Inv-loop μ-loop Inv-loop2 μ-loop2
+returns-7 c = λ e. absurd (false≢true e)
+
+-- src/sound.rt:83:17
+add-bound : tie.Need-add-bound Inv-loop μ-loop Inv-loop2 μ-loop2
+add-bound c =
+    let passed = both (eqb (c .before .before .before .node .result .f2) 0) (ltb (c .before .before .before .before .before .loop2 .bound) 8) (c .if7 .left) in
+    omega (arith, ltb-true (c .before .before .before .before .before .loop2 .bound) 8 (passed .1))
+
+-- src/sound.rt:48:5
+loop2-less-4 : tie.Need-loop2-less-4 Inv-loop μ-loop Inv-loop2 μ-loop2
+loop2-less-4 c = search needs
+
+-- src/sound.rt:48:5
+loop2-again-4 : tie.Need-loop2-again-4 Inv-loop μ-loop Inv-loop2 μ-loop2
+loop2-again-4 c =
+    let a = c .before .before .before .before .before .before .before .before .before .before .before .before .before .args in
+    let l = c .before .before .before .before .before .loop2 in
+    let node = c .before .before .before .node .result in
+    let law = on-binder (a .file .now) (a .head .at .nodes) (a .head .count .nodes) (l .i) (omega arith) (omega arith) node (c .before .before .before .node .ensures) in
+    let passed = both (eqb (node .f2) 0) (ltb (l .bound) 8) (c .if7 .left) in (
+      omega arith,
+      omega arith,
+      l .inv .2,
+      omega arith,
+      λ h. l .inv .4 (law (l .bound) (held (l .stack) (l .depth)) (c .before .before .match .keys4) (eqb-true _ _ (passed .0)) (ltb-true _ _ (passed .1)) h),
+    )
+
+-- src/sound.rt:48:5
+loop2-less-5 : tie.Need-loop2-less-5 Inv-loop μ-loop Inv-loop2 μ-loop2
+loop2-less-5 c = search needs
+
+-- src/sound.rt:48:5
+loop2-again-5 : tie.Need-loop2-again-5 Inv-loop μ-loop Inv-loop2 μ-loop2
+loop2-again-5 c =
+    let a = c .before .before .before .before .before .before .before .before .before .before .before .args in
+    let l = c .before .before .before .loop2 in
+    let node = c .before .node .result in
+    let law = on-operands (a .file .now) (a .head .at .nodes) (a .head .count .nodes) (l .i) (omega arith) (omega arith) node (c .before .node .ensures) in (
+      omega arith,
+      omega arith,
+      l .inv .2,
+      omega arith,
+      λ h. l .inv .4 (law (l .bound) (held (l .stack) (l .depth)) (c .match .keys5) h),
+    )
+
+-- src/sound.rt:88:21
+returns-8 : tie.Need-returns-8 Inv-loop μ-loop Inv-loop2 μ-loop2
+returns-8 c = λ e. absurd (false≢true e)
+
+-- src/sound.rt:48:5
+loop2-less-6 : tie.Need-loop2-less-6 Inv-loop μ-loop Inv-loop2 μ-loop2
+loop2-less-6 c = search needs
+
+-- src/sound.rt:48:5
+loop2-again-6 : tie.Need-loop2-again-6 Inv-loop μ-loop Inv-loop2 μ-loop2
+loop2-again-6 c =
+    let a = c .before .before .before .before .before .before .before .before .before .before .before .before .before .before .args in
+    let l = c .before .before .before .before .before .before .loop2 in
+    let node = c .before .before .before .before .node .result in
+    let law = on-switch (a .file .now) (a .head .at .nodes) (a .head .count .nodes) (l .i) (omega arith) (omega arith) node (c .before .before .before .before .node .ensures) in (
+      omega arith,
+      omega arith,
+      l .inv .2,
+      omega arith,
+      λ h. l .inv .4 (law (l .bound) (held (l .stack) (l .depth)) (switch-tag (node .tag) (c .before .before .before .match .rest .0 .0 .0 .0 .1) (c .before .before .before .match .rest .0 .0 .0 .1) (c .before .before .before .match .rest .0 .0 .1) (c .before .before .before .match .rest .0 .1) (c .before .before .before .match .rest .1) (omega arith)) (c .if9 .left) h),
+    )
+
+-- src/sound.rt:92:17
+returns-9 : tie.Need-returns-9 Inv-loop μ-loop Inv-loop2 μ-loop2
+returns-9 c = λ e. absurd (false≢true e)
+
+-- src/sound.rt:29:1
+returns-10 : tie.Need-returns-10 Inv-loop μ-loop Inv-loop2 μ-loop2
+returns-10 c =
+    λ e. let a = c .before .before .before .before .before .before .before .before .before .args in
+    let l = c .before .loop2 in
+    l .inv .4 (rw (eqb-true (l .depth) 0 e) (on-last (a .file .now) (a .head .at .nodes + 3 * (l .i - 1)) (a .head .count .nodes) (l .i) (l .bound) (omega arith)))
+
+pub sound-shape-spec : {M : Type 1} → statement M
+sound-shape-spec =
+    tie.close
+    (tie.spec
+    Inv-loop
+    μ-loop
+    Inv-loop2
+    μ-loop2
+    wide-requires
+    add-paired
+    paired-requires
+    array-write-stack
+    loop-holds
+    sub-narrow
+    narrow-requires
+    session-requires
+    add-depth
+    paired-requires-2
+    mul-stack
+    array-write-stack-2
+    loop-less
+    loop-again
+    mul-named
+    array-read-named
+    named-requires
+    returns
+    loop2-holds
+    node-requires
+    add-i
+    returns-2
+    returns-3
+    sub-depth
+    mul-next
+    array-read-next
+    named-requires-2
+    returns-4
+    bound-above-requires
+    loop2-less
+    loop2-again
+    returns-5
+    paired-requires-3
+    mul-stack-2
+    array-write-stack-3
+    add-depth-2
+    loop2-less-2
+    loop2-again-2
+    returns-6
+    loop2-less-3
+    loop2-again-3
+    returns-7
+    add-bound
+    loop2-less-4
+    loop2-again-4
+    loop2-less-5
+    loop2-again-5
+    returns-8
+    loop2-less-6
+    loop2-again-6
+    returns-9
+    returns-10)

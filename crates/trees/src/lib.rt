@@ -1,0 +1,10 @@
+// Refusal 8: the shape of the trees.
+pub mod ends;
+pub mod shape;
+pub mod sound;
+
+// A tree that is still to be read: a session's, with its root word, or one below a node, with the number of variables bound above it.
+pub enum Due {
+    Root(u16),
+    Below(u16),
+}

@@ -1,0 +1,97 @@
+// A quicker look for 8: one pass in order, which can tell that nothing is refused, and no more than that.
+use format::Head;
+use format::sections::node;
+use format::sections::session;
+use format::words::narrow;
+use format::words::paired;
+use format::words::wide;
+ghost use mathlib.Core.Path.{_≡_};
+ghost use mathlib.Core.Bool.{true};
+ghost use Prim.Native.Nat.{_/_, _%_, _≤_};
+ghost use Rattle.format.specs.Answers.{fine};
+ghost use Rattle.trees.specs.Shape.{shapeAnswer};
+
+// The number that names a tree that waits, and the variables bound above it, as one number on the stack.
+fn named(w: u32) -> u16
+    ensures { λ r. ⌜ r ≡ w % 65536 ⌝ }
+{
+    (w % 65536) as u16
+}
+
+fn bound_above(w: u32) -> u16
+    ensures { λ r. ⌜ r ≡ w / 65536 ⌝ }
+{
+    (w / 65536) as u16
+}
+
+// True only where 8 refuses nothing. The stack has the trees that wait, each with the number that names it, and below them all the number
+// after the last node. An end is followed by the tree on top.
+pub fn sound_shape(file: &[u8], head: Head) -> bool
+    requires { ⌜ (head .count .nodes ≤ 1024) × (head .count .sessions ≤ 32) ⌝ }
+    ensures { λ r. ⌜ (r ≡ true → shapeAnswer (now (file .entry)) head ≡ fine) ⌝ }
+{
+    let nodes = head.count.nodes;
+    let sessions = wide(head.count.sessions);
+    let mut stack = [0u32; 1058];
+    stack[0] = paired(nodes + 1, 0);
+    let mut depth: usize = 0;
+    while depth < sessions {
+        let it = session(file, head, narrow(sessions - depth));
+        depth += 1;
+        stack[depth] = paired(it.root, 0);
+    }
+    if named(stack[depth]) != 1 {
+        return false;
+    }
+    let mut bound: u16 = 0;
+    let mut i: u16 = 1;
+    while i <= nodes {
+        let it = node(file, head, i);
+        let tag = it.tag;
+        i += 1;
+        match tag {
+            0 => {
+                if !((it.f1 == 0) & (it.f2 == 0)) {
+                    return false;
+                }
+                if depth == 0 {
+                    return false;
+                }
+                depth -= 1;
+                let next = stack[depth];
+                if named(next) != i {
+                    return false;
+                }
+                bound = bound_above(next);
+            }
+            1 => {
+                if it.f2 != 0 {
+                    return false;
+                }
+                stack[depth] = paired(it.f1, bound);
+                depth += 1;
+            }
+            2 => {
+                if !((it.f1 == 0) & (it.f2 == 0)) {
+                    return false;
+                }
+            }
+            3 | 5 => {
+                if !((it.f2 == 0) & (bound < 8)) {
+                    return false;
+                }
+                bound += 1;
+            }
+            4 | 6 => {}
+            7 | 8 => {
+                if it.f2 != 0 {
+                    return false;
+                }
+            }
+            _ => {
+                return false;
+            }
+        }
+    }
+    depth == 0
+}
