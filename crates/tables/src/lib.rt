@@ -106,7 +106,7 @@ fn refusal_of(head: Head, section: Section, n: u16) -> Verdict
 }
 
 // The first record of a section that does not fit.
-pub fn section_answer(file: &[u8], head: Head, section: Section) -> Verdict
+fn section_answer(file: &[u8], head: Head, section: Section) -> Verdict
     requires { ⌜ Laid head ⌝ }
     ensures { λ r. ⌜ r ≡ sectionAnswer (now (file .entry)) head section ⌝ }
 {

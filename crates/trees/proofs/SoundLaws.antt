@@ -8,7 +8,7 @@ use native.Mathlib.Omega.{arith}
 use native.Mathlib.Numerals.{add-one}
 use lib.ListN.{length, getD, set}
 use lib.Dec.{eqb, leb, ltb}
-use borrow.Author.Tests.{eqb-true, eqb-false, eq-eqb, ne-eqb, leb-false, lt-leb, lt-ltb}
+use borrow.Author.Tests.{leb-true, eqb-true, eqb-false, eq-eqb, ne-eqb, leb-false, lt-leb, lt-ltb}
 use Rattle.format.specs.Words.{wordAt}
 use Rattle.format.specs.Answers.{fine, refused}
 use Rattle.format.specs.Sections.{nodeAt, nodesFrom}
@@ -31,6 +31,7 @@ use Rattle.trees.specs.Shape.{
 }
 use Rattle.trees.specs.declared.Due.{Due}
 use Rattle.trees.specs.declared.Due.the-variants.{Root, Below}
+use Rattle.trees.proofs.FitsLaws.{Fitting, passed}
 use Rattle.trees.proofs.ShapeLaws.{pile, pile-push, pile-top}
 
 -- a tree that waits for those before it to end: the number that names it, and the variables bound above it
@@ -59,17 +60,14 @@ accepts i (n ∷ ns) b st =
     (cond (eqb (n .tag) 1) (accepts (suc i) ns b (waiting (n .f1) b ∷ st))
     (not (binds (n .tag) && leb 8 b) && accepts (suc i) ns (boundBelow (n .tag) b) st))
 
-both : (a b : Bool) → (a && b) ≡ true → (a ≡ true) × (b ≡ true)
-both a b = and-eq-true-iff a b .0
-
 -- the trees that were followed end where those that wait begin
 accepts-follows : (i : ℕ) (ns : List Node) (b : ℕ) (st : List Waiting) → accepts i ns b st ≡ true → following i ns ≡ map (λ (w : Waiting). w .number) st
 unfolding accepts following
 accepts-follows i [] b [] h = refl
 accepts-follows i [] b (w ∷ st) h = let no : _≡_ {A = ℕ} 0 1 = cc in absurd (omega arith)
 accepts-follows i (n ∷ ns) b st h =
-    let p = both (leb (n .tag) 8 && unusedFit n) _ h in
-    let q = both (leb (n .tag) 8) (unusedFit n) (p .0) in
+    let p = and-eq-true-iff (leb (n .tag) 8 && unusedFit n) _ .0 h in
+    let q = and-eq-true-iff (leb (n .tag) 8) (unusedFit n) .0 (p .0) in
     go (eqb (n .tag) 0) (eqb (n .tag) 1) (leb (n .tag) 8) st (q .0) (p .1) (accepts-follows (suc i) ns)
   where
     go : (x y z : Bool) (st : List Waiting) → z ≡ true
@@ -79,10 +77,10 @@ accepts-follows i (n ∷ ns) b st h =
         → cond x (suc i ∷ following (suc i) ns) (cond y (rest (following (suc i) ns)) (cond z (following (suc i) ns) [])) ≡ map (λ (w : Waiting). w .number) st
     go true y z [] t e ih = let no : _≡_ {A = ℕ} 0 1 = cc in absurd (omega arith)
     go true y z (w ∷ st) t e ih =
-        let p = both (eqb (w .number) (suc i)) (accepts (suc i) ns (w .bound) st) e in
+        let p = and-eq-true-iff (eqb (w .number) (suc i)) (accepts (suc i) ns (w .bound) st) .0 e in
         ap₂ _∷_ (sym (eqb-true _ _ (p .0))) (ih (w .bound) st (p .1))
     go false true z st t e ih = ap rest (ih b (waiting (n .f1) b ∷ st) e)
-    go false false z st t e ih = rw t (ih (boundBelow (n .tag) b) st (both (not (binds (n .tag) && leb 8 b)) _ e .1))
+    go false false z st t e ih = rw t (ih (boundBelow (n .tag) b) st (and-eq-true-iff (not (binds (n .tag) && leb 8 b)) _ .0 e .1))
 
 -- what waits, and what is due: t is the number after the last node, below all that waits
 abbrev Matches : ℕ → List Waiting → List Due → Type 0
@@ -90,17 +88,6 @@ Matches t [] ds = ⊥
 Matches t (w ∷ []) [] = w .number ≡ t
 Matches t (w ∷ v ∷ st) [] = ⊥
 Matches t (w ∷ st) (d ∷ ds) = (boundOf d ≡ w .bound) × (rootFits (w .number) d ≡ true) × Matches t st ds
-
--- a node that the look passes fits
-fits : (i : ℕ) (n : Node) (d : Due) (e : ℕ) → rootFits i d ≡ true → leb (n .tag) 8 ≡ true → unusedFit n ≡ true → secondFits n e ≡ true → roomFor n d ≡ true
-    → nodeFits i n d e ≡ true
-unfolding nodeFits
-fits i n d e r t u s m = rw (r, t, u, s, m)
-
-passes : (i : ℕ) (n : Node) (ns : List Node) (d : Due) (ds : List Due) → nodeFits i n d (top (following (suc i) ns)) ≡ true
-    → shapeFrom i (n ∷ ns) (d ∷ ds) ≡ shapeFrom (suc i) ns (onward n d ds)
-unfolding shapeFrom
-passes i n ns d ds h = rw h
 
 -- the last tree has ended at the last node
 over : (t i : ℕ) (ns : List Node) → suc i ≡ t → i + suc (length ns) ≡ t → shapeFrom (suc i) ns [] ≡ fine
@@ -137,8 +124,8 @@ module _ (t : ℕ) where
   accepts-shape i [] b [] d ds l m bd r h = absurd m
   accepts-shape i [] b (w ∷ st) d ds l m bd r h = let no : _≡_ {A = ℕ} 0 1 = cc in absurd (omega arith)
   accepts-shape i (n ∷ ns) b st d ds l m bd r h =
-      let p = both (leb (n .tag) 8 && unusedFit n) _ h in
-      let q = both (leb (n .tag) 8) (unusedFit n) (p .0) in
+      let p = and-eq-true-iff (leb (n .tag) 8 && unusedFit n) _ .0 h in
+      let q = and-eq-true-iff (leb (n .tag) 8) (unusedFit n) .0 (p .0) in
       go (eqb (n .tag) 0) refl (eqb (n .tag) 1) refl st ds m (q .0) (q .1) (p .1) (accepts-shape (suc i) ns)
     where
       e′ : ℕ
@@ -147,8 +134,8 @@ module _ (t : ℕ) where
       next : suc i + length ns ≡ t
       next = omega arith
 
-      at-end : (e : ℕ) → n .tag ≡ 0 → leb (n .tag) 8 ≡ true → unusedFit n ≡ true → nodeFits i n d e ≡ true
-      at-end e tag lt u = fits i n d e r lt u (not-fork n e (λ z. let no : n .tag ≡ 1 = z in omega arith)) (not-binder (n .tag) (ltb (boundOf d) 8) (rw tag))
+      at-end : (e : ℕ) → n .tag ≡ 0 → leb (n .tag) 8 ≡ true → unusedFit n ≡ true → Fitting i n d e
+      at-end e tag lt u = (r, leb-true (n .tag) 8 lt, u, not-fork n e (λ z. let no : n .tag ≡ 1 = z in omega arith), not-binder (n .tag) (ltb (boundOf d) 8) (rw tag))
 
       go : (x : Bool) → eqb (n .tag) 0 ≡ x → (y : Bool) → eqb (n .tag) 1 ≡ y → (st : List Waiting) (ds : List Due) → Matches t st ds
           → leb (n .tag) 8 ≡ true → unusedFit n ≡ true
@@ -160,29 +147,29 @@ module _ (t : ℕ) where
       go true x y e [] ds m lt u a ih = absurd m
       go true x y e (w ∷ []) [] m lt u a ih =
           let tag : n .tag ≡ 0 = eqb-true (n .tag) 0 x in
-          let number : w .number ≡ suc i = eqb-true (w .number) (suc i) (both (eqb (w .number) (suc i)) (accepts (suc i) ns (w .bound) []) a .0) in
+          let number : w .number ≡ suc i = eqb-true (w .number) (suc i) (and-eq-true-iff (eqb (w .number) (suc i)) (accepts (suc i) ns (w .bound) []) .0 a .0) in
           let ended : shapeFrom (suc i) ns (onward n d []) ≡ fine = rw x (over t i ns (sym number ∙ m) l) in
-          passes i n ns d [] (at-end e′ tag lt u) ∙ ended
+          passed i n ns d [] (at-end e′ tag lt u) ∙ ended
       go true x y e (w ∷ v ∷ st) [] m lt u a ih = absurd m
       go true x y e (w ∷ st) (d′ ∷ ds) m lt u a ih =
           let tag : n .tag ≡ 0 = eqb-true (n .tag) 0 x in
-          let p = both (eqb (w .number) (suc i)) (accepts (suc i) ns (w .bound) st) a in
+          let p = and-eq-true-iff (eqb (w .number) (suc i)) (accepts (suc i) ns (w .bound) st) .0 a in
           let number : w .number ≡ suc i = eqb-true (w .number) (suc i) (p .0) in
           let left : shapeFrom (suc i) ns (onward n d (d′ ∷ ds)) ≡ fine =
           rw x (ih (w .bound) st d′ ds next (m .2) (m .0) (rw number at (m .1)) (p .1)) in
-          passes i n ns d (d′ ∷ ds) (at-end e′ tag lt u) ∙ left
+          passed i n ns d (d′ ∷ ds) (at-end e′ tag lt u) ∙ left
       go false x true e st ds m lt u a ih =
           let tag : n .tag ≡ 1 = eqb-true (n .tag) 1 e in
           let bound : boundBelow (n .tag) (boundOf d) ≡ b = rw tag bd in
           let child : Due = Below (boundBelow (n .tag) (boundOf d)) in
           let two : n .f1 ≡ top (following (suc i) ns) = sym (ap top (accepts-follows (suc i) ns b (waiting (n .f1) b ∷ st) a)) in
           let left : shapeFrom (suc i) ns (onward n d ds) ≡ fine = rw (x, e) (ih b (waiting (n .f1) b ∷ st) child (child ∷ ds) next (bound, refl, m) bound refl a) in
-          passes i n ns d ds (fits i n d e′ r lt u (second n e′ two) (not-binder (n .tag) (ltb (boundOf d) 8) (rw tag))) ∙ left
+          passed i n ns d ds (r, leb-true (n .tag) 8 lt, u, second n e′ two, not-binder (n .tag) (ltb (boundOf d) 8) (rw tag)) ∙ left
       go false x false e st ds m lt u a ih =
-          let p = both (not (binds (n .tag) && leb 8 b)) (accepts (suc i) ns (boundBelow (n .tag) b) st) a in
+          let p = and-eq-true-iff (not (binds (n .tag) && leb 8 b)) (accepts (suc i) ns (boundBelow (n .tag) b) st) .0 a in
           let left : shapeFrom (suc i) ns (onward n d ds) ≡ fine =
           rw (x, e) (ih (boundBelow (n .tag) b) st (Below (boundBelow (n .tag) (boundOf d))) ds next m (ap (boundBelow (n .tag)) bd) refl (p .1)) in
-          passes i n ns d ds (fits i n d e′ r lt u (not-fork n e′ (eqb-false (n .tag) 1 e)) (rw bd (room b (binds (n .tag)) (p .0)))) ∙ left
+          passed i n ns d ds (r, leb-true (n .tag) 8 lt, u, not-fork n e′ (eqb-false (n .tag) 1 e), rw bd (room b (binds (n .tag)) (p .0))) ∙ left
 
 -- the sessions' trees wait in order, and below them is the number after the last node
 unfoldable pub waitsFrom : List ℕ → ℕ → ℕ → ℕ → List Waiting

@@ -1,7 +1,7 @@
 // Refusal 8: the shape of the trees.
-pub mod ends;
+mod ends;
 pub mod shape;
-pub mod sound;
+mod sound;
 
 // A tree that is still to be read: a session's, with its root word, or one below a node, with the number of variables bound above it.
 pub enum Due {

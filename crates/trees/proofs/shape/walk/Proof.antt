@@ -62,7 +62,7 @@ module _ (c : tie.After-node-fits Inv-loop μ-loop Inv-loop2 μ-loop2) where
 
 -- src/shape.rt:109:9
 wide-requires : tie.Need-wide-requires Inv-loop μ-loop Inv-loop2 μ-loop2
-wide-requires c κs = search needs
+wide-requires c κs = omega arith
 
 -- src/shape.rt:111:5
 loop-holds : tie.Need-loop-holds Inv-loop μ-loop Inv-loop2 μ-loop2
@@ -71,31 +71,31 @@ loop-holds c = (omega arith, refl, refl)
 
 -- src/shape.rt:112:45
 sub-narrow : tie.Need-sub-narrow Inv-loop μ-loop Inv-loop2 μ-loop2
-sub-narrow c = search needs
+sub-narrow c = omega arith
 
 -- src/shape.rt:112:38
 narrow-requires : tie.Need-narrow-requires Inv-loop μ-loop Inv-loop2 μ-loop2
-narrow-requires c κs = search needs
+narrow-requires c κs = omega arith
 
 -- src/shape.rt:112:13
 session-requires : tie.Need-session-requires Inv-loop μ-loop Inv-loop2 μ-loop2
-session-requires c κs = search needs
+session-requires c κs = omega arith
 
 -- src/shape.rt:113:9
 mul-stack : tie.Need-mul-stack Inv-loop μ-loop Inv-loop2 μ-loop2
-mul-stack c = search needs
+mul-stack c = omega arith
 
 -- src/shape.rt:113:9
 array-set-from-stack : tie.Need-array-set-from-stack Inv-loop μ-loop Inv-loop2 μ-loop2
-array-set-from-stack c = search needs
+array-set-from-stack c = omega arith
 
 -- src/shape.rt:114:9
 add-depth : tie.Need-add-depth Inv-loop μ-loop Inv-loop2 μ-loop2
-add-depth c = search needs
+add-depth c = omega arith
 
 -- src/shape.rt:111:5
 loop-less : tie.Need-loop-less Inv-loop μ-loop Inv-loop2 μ-loop2
-loop-less c = search needs
+loop-less c = omega arith
 
 -- src/shape.rt:111:5
 loop-again : tie.Need-loop-again Inv-loop μ-loop Inv-loop2 μ-loop2
@@ -138,31 +138,31 @@ returns c =
 
 -- src/shape.rt:122:25
 sub-due : tie.Need-sub-due Inv-loop μ-loop Inv-loop2 μ-loop2
-sub-due c = search needs
+sub-due c = omega arith
 
 -- src/shape.rt:122:19
 mul-due : tie.Need-mul-due Inv-loop μ-loop Inv-loop2 μ-loop2
-mul-due c = search needs
+mul-due c = omega arith
 
 -- src/shape.rt:122:19
 array-copy-out-due : tie.Need-array-copy-out-due Inv-loop μ-loop Inv-loop2 μ-loop2
-array-copy-out-due c = search needs
+array-copy-out-due c = omega arith
 
 -- src/shape.rt:123:13
 node-requires : tie.Need-node-requires Inv-loop μ-loop Inv-loop2 μ-loop2
-node-requires c κs = search needs
+node-requires c κs = omega arith
 
 -- src/shape.rt:124:40
 wide-requires-2 : tie.Need-wide-requires-2 Inv-loop μ-loop Inv-loop2 μ-loop2
-wide-requires-2 c κs = search needs
+wide-requires-2 c κs = omega arith
 
 -- src/shape.rt:124:40
 add-node-fits : tie.Need-add-node-fits Inv-loop μ-loop Inv-loop2 μ-loop2
-add-node-fits c = search needs
+add-node-fits c = omega arith
 
 -- src/shape.rt:124:35
 mul-node-fits : tie.Need-mul-node-fits Inv-loop μ-loop Inv-loop2 μ-loop2
-mul-node-fits c = search needs
+mul-node-fits c = omega arith
 
 -- src/shape.rt:124:35
 shared-slice-read-node-fits :
@@ -173,7 +173,7 @@ shared-slice-read-node-fits c =
 
 -- src/shape.rt:124:13
 node-fits-requires : tie.Need-node-fits-requires Inv-loop μ-loop Inv-loop2 μ-loop2
-node-fits-requires c κs = search needs
+node-fits-requires c κs = omega arith
 
 -- src/shape.rt:125:13
 returns-2 : tie.Need-returns-2 Inv-loop μ-loop Inv-loop2 μ-loop2
@@ -182,7 +182,7 @@ returns-2 c =
 
 -- src/shape.rt:127:52
 bound-of-requires : tie.Need-bound-of-requires Inv-loop μ-loop Inv-loop2 μ-loop2
-bound-of-requires c κs = search needs
+bound-of-requires c κs = omega arith
 
 -- src/shape.rt:127:32
 bound-below-requires : tie.Need-bound-below-requires Inv-loop μ-loop Inv-loop2 μ-loop2
@@ -194,35 +194,35 @@ bound-below-requires c κs =
 
 -- src/shape.rt:128:15
 sub-stack : tie.Need-sub-stack Inv-loop μ-loop Inv-loop2 μ-loop2
-sub-stack c = search needs
+sub-stack c = omega arith
 
 -- src/shape.rt:128:9
 mul-stack-2 : tie.Need-mul-stack-2 Inv-loop μ-loop Inv-loop2 μ-loop2
-mul-stack-2 c = search needs
+mul-stack-2 c = omega arith
 
 -- src/shape.rt:128:9
 array-set-from-stack-2 : tie.Need-array-set-from-stack-2 Inv-loop μ-loop Inv-loop2 μ-loop2
-array-set-from-stack-2 c = search needs
+array-set-from-stack-2 c = omega arith
 
 -- src/shape.rt:129:9
 mul-stack-3 : tie.Need-mul-stack-3 Inv-loop μ-loop Inv-loop2 μ-loop2
-mul-stack-3 c = search needs
+mul-stack-3 c = omega arith
 
 -- src/shape.rt:129:9
 array-set-from-stack-3 : tie.Need-array-set-from-stack-3 Inv-loop μ-loop Inv-loop2 μ-loop2
-array-set-from-stack-3 c = search needs
+array-set-from-stack-3 c = omega arith
 
 -- src/shape.rt:130:9
 depth-after-requires : tie.Need-depth-after-requires Inv-loop μ-loop Inv-loop2 μ-loop2
-depth-after-requires c κs = search needs
+depth-after-requires c κs = omega arith
 
 -- src/shape.rt:131:9
 add-i : tie.Need-add-i Inv-loop μ-loop Inv-loop2 μ-loop2
-add-i c = search needs
+add-i c = omega arith
 
 -- src/shape.rt:118:5
 loop2-less : tie.Need-loop2-less Inv-loop μ-loop Inv-loop2 μ-loop2
-loop2-less c = search needs
+loop2-less c = omega arith
 
 -- src/shape.rt:118:5
 loop2-again : tie.Need-loop2-again Inv-loop μ-loop Inv-loop2 μ-loop2

@@ -49,19 +49,19 @@ both a b h = and-eq-true-iff a b .0 (not-false (a && b) h)
 
 -- src/sound.rt:34:9
 wide-requires : tie.Need-wide-requires Inv-loop μ-loop Inv-loop2 μ-loop2
-wide-requires c κs = search needs
+wide-requires c κs = omega arith
 
 -- src/sound.rt:36:23
 add-paired : tie.Need-add-paired Inv-loop μ-loop Inv-loop2 μ-loop2
-add-paired c = search needs
+add-paired c = omega arith
 
 -- src/sound.rt:36:16
 paired-requires : tie.Need-paired-requires Inv-loop μ-loop Inv-loop2 μ-loop2
-paired-requires c κs = search needs
+paired-requires c κs = omega arith
 
 -- src/sound.rt:36:5
 array-write-stack : tie.Need-array-write-stack Inv-loop μ-loop Inv-loop2 μ-loop2
-array-write-stack c = search needs
+array-write-stack c = omega arith
 
 -- src/sound.rt:38:5
 loop-holds : tie.Need-loop-holds Inv-loop μ-loop Inv-loop2 μ-loop2
@@ -75,35 +75,35 @@ loop-holds c =
 
 -- src/sound.rt:39:45
 sub-narrow : tie.Need-sub-narrow Inv-loop μ-loop Inv-loop2 μ-loop2
-sub-narrow c = search needs
+sub-narrow c = omega arith
 
 -- src/sound.rt:39:38
 narrow-requires : tie.Need-narrow-requires Inv-loop μ-loop Inv-loop2 μ-loop2
-narrow-requires c κs = search needs
+narrow-requires c κs = omega arith
 
 -- src/sound.rt:39:13
 session-requires : tie.Need-session-requires Inv-loop μ-loop Inv-loop2 μ-loop2
-session-requires c κs = search needs
+session-requires c κs = omega arith
 
 -- src/sound.rt:40:9
 add-depth : tie.Need-add-depth Inv-loop μ-loop Inv-loop2 μ-loop2
-add-depth c = search needs
+add-depth c = omega arith
 
 -- src/sound.rt:41:24
 paired-requires-2 : tie.Need-paired-requires-2 Inv-loop μ-loop Inv-loop2 μ-loop2
-paired-requires-2 c κs = search needs
+paired-requires-2 c κs = omega arith
 
 -- src/sound.rt:41:9
 mul-stack : tie.Need-mul-stack Inv-loop μ-loop Inv-loop2 μ-loop2
-mul-stack c = search needs
+mul-stack c = omega arith
 
 -- src/sound.rt:41:9
 array-write-stack-2 : tie.Need-array-write-stack-2 Inv-loop μ-loop Inv-loop2 μ-loop2
-array-write-stack-2 c = search needs
+array-write-stack-2 c = omega arith
 
 -- src/sound.rt:38:5
 loop-less : tie.Need-loop-less Inv-loop μ-loop Inv-loop2 μ-loop2
-loop-less c = search needs
+loop-less c = omega arith
 
 -- src/sound.rt:38:5
 loop-again : tie.Need-loop-again Inv-loop μ-loop Inv-loop2 μ-loop2
@@ -123,15 +123,15 @@ loop-again c =
 
 -- src/sound.rt:43:14
 mul-named : tie.Need-mul-named Inv-loop μ-loop Inv-loop2 μ-loop2
-mul-named c = search needs
+mul-named c = omega arith
 
 -- src/sound.rt:43:14
 array-read-named : tie.Need-array-read-named Inv-loop μ-loop Inv-loop2 μ-loop2
-array-read-named c = search needs
+array-read-named c = omega arith
 
 -- src/sound.rt:43:8
 named-requires : tie.Need-named-requires Inv-loop μ-loop Inv-loop2 μ-loop2
-named-requires c κs = search needs
+named-requires c κs = omega arith
 
 -- src/sound.rt:44:9
 returns : tie.Need-returns Inv-loop μ-loop Inv-loop2 μ-loop2
@@ -164,11 +164,11 @@ loop2-holds c =
 
 -- src/sound.rt:49:13
 node-requires : tie.Need-node-requires Inv-loop μ-loop Inv-loop2 μ-loop2
-node-requires c κs = search needs
+node-requires c κs = omega arith
 
 -- src/sound.rt:51:9
 add-i : tie.Need-add-i Inv-loop μ-loop Inv-loop2 μ-loop2
-add-i c = search needs
+add-i c = omega arith
 
 -- src/sound.rt:55:21
 returns-2 : tie.Need-returns-2 Inv-loop μ-loop Inv-loop2 μ-loop2
@@ -180,19 +180,19 @@ returns-3 c = λ e. absurd (false≢true e)
 
 -- src/sound.rt:60:17
 sub-depth : tie.Need-sub-depth Inv-loop μ-loop Inv-loop2 μ-loop2
-sub-depth c = search needs
+sub-depth c = omega arith
 
 -- src/sound.rt:61:28
 mul-next : tie.Need-mul-next Inv-loop μ-loop Inv-loop2 μ-loop2
-mul-next c = search needs
+mul-next c = omega arith
 
 -- src/sound.rt:61:28
 array-read-next : tie.Need-array-read-next Inv-loop μ-loop Inv-loop2 μ-loop2
-array-read-next c = search needs
+array-read-next c = omega arith
 
 -- src/sound.rt:62:20
 named-requires-2 : tie.Need-named-requires-2 Inv-loop μ-loop Inv-loop2 μ-loop2
-named-requires-2 c κs = search needs
+named-requires-2 c κs = omega arith
 
 -- src/sound.rt:63:21
 returns-4 : tie.Need-returns-4 Inv-loop μ-loop Inv-loop2 μ-loop2
@@ -200,11 +200,11 @@ returns-4 c = λ e. absurd (false≢true e)
 
 -- src/sound.rt:65:17
 bound-above-requires : tie.Need-bound-above-requires Inv-loop μ-loop Inv-loop2 μ-loop2
-bound-above-requires c κs = search needs
+bound-above-requires c κs = omega arith
 
 -- src/sound.rt:48:5
 loop2-less : tie.Need-loop2-less Inv-loop μ-loop Inv-loop2 μ-loop2
-loop2-less c = search needs
+loop2-less c = omega arith
 
 -- src/sound.rt:48:5
 loop2-again : tie.Need-loop2-again Inv-loop μ-loop Inv-loop2 μ-loop2
@@ -231,23 +231,23 @@ returns-5 c = λ e. absurd (false≢true e)
 
 -- src/sound.rt:71:32
 paired-requires-3 : tie.Need-paired-requires-3 Inv-loop μ-loop Inv-loop2 μ-loop2
-paired-requires-3 c κs = search needs
+paired-requires-3 c κs = omega arith
 
 -- src/sound.rt:71:17
 mul-stack-2 : tie.Need-mul-stack-2 Inv-loop μ-loop Inv-loop2 μ-loop2
-mul-stack-2 c = search needs
+mul-stack-2 c = omega arith
 
 -- src/sound.rt:71:17
 array-write-stack-3 : tie.Need-array-write-stack-3 Inv-loop μ-loop Inv-loop2 μ-loop2
-array-write-stack-3 c = search needs
+array-write-stack-3 c = omega arith
 
 -- src/sound.rt:72:17
 add-depth-2 : tie.Need-add-depth-2 Inv-loop μ-loop Inv-loop2 μ-loop2
-add-depth-2 c = search needs
+add-depth-2 c = omega arith
 
 -- src/sound.rt:48:5
 loop2-less-2 : tie.Need-loop2-less-2 Inv-loop μ-loop Inv-loop2 μ-loop2
-loop2-less-2 c = search needs
+loop2-less-2 c = omega arith
 
 -- src/sound.rt:48:5
 loop2-again-2 : tie.Need-loop2-again-2 Inv-loop μ-loop Inv-loop2 μ-loop2
@@ -272,7 +272,7 @@ returns-6 c = λ e. absurd (false≢true e)
 
 -- src/sound.rt:48:5
 loop2-less-3 : tie.Need-loop2-less-3 Inv-loop μ-loop Inv-loop2 μ-loop2
-loop2-less-3 c = search needs
+loop2-less-3 c = omega arith
 
 -- src/sound.rt:48:5
 loop2-again-3 : tie.Need-loop2-again-3 Inv-loop μ-loop Inv-loop2 μ-loop2
@@ -301,7 +301,7 @@ add-bound c =
 
 -- src/sound.rt:48:5
 loop2-less-4 : tie.Need-loop2-less-4 Inv-loop μ-loop Inv-loop2 μ-loop2
-loop2-less-4 c = search needs
+loop2-less-4 c = omega arith
 
 -- src/sound.rt:48:5
 loop2-again-4 : tie.Need-loop2-again-4 Inv-loop μ-loop Inv-loop2 μ-loop2
@@ -320,7 +320,7 @@ loop2-again-4 c =
 
 -- src/sound.rt:48:5
 loop2-less-5 : tie.Need-loop2-less-5 Inv-loop μ-loop Inv-loop2 μ-loop2
-loop2-less-5 c = search needs
+loop2-less-5 c = omega arith
 
 -- src/sound.rt:48:5
 loop2-again-5 : tie.Need-loop2-again-5 Inv-loop μ-loop Inv-loop2 μ-loop2
@@ -342,7 +342,7 @@ returns-8 c = λ e. absurd (false≢true e)
 
 -- src/sound.rt:48:5
 loop2-less-6 : tie.Need-loop2-less-6 Inv-loop μ-loop Inv-loop2 μ-loop2
-loop2-less-6 c = search needs
+loop2-less-6 c = omega arith
 
 -- src/sound.rt:48:5
 loop2-again-6 : tie.Need-loop2-again-6 Inv-loop μ-loop Inv-loop2 μ-loop2
