@@ -2,6 +2,7 @@
 use Prim.Native.Nat.{ℕ, _+_, _*_, _-_, _/_, _%_, _≤_}
 use mathlib.Core.List.{List, [], _∷_, _++_, map}
 use lib.ListN.{length, getD}
+unfoldable pub use Rattle.format.specs.Words.{bytesOf}
 use Rattle.masks.specs.Mask.{NamesOnly, Within}
 use Rattle.format.specs.declared.Role.{Role}
 use Rattle.format.specs.declared.Channel.{Channel}
@@ -83,9 +84,5 @@ wordsOf F =
     ++ F .users ++ roleWords (F .roles) ++ F .kinds ++ channelWords (F .channels) ++ sessionWords 1 (F .sessions) ++ nodeWords (nodesOf F)
 
 -- each word low byte first
-unfoldable pub bytesOf : List ℕ → List ℕ
-bytesOf [] = []
-bytesOf (w ∷ ws) = w % 256 ∷ w / 256 ∷ bytesOf ws
-
 unfoldable pub encode : File → List ℕ
 encode F = bytesOf (wordsOf F)
