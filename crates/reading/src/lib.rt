@@ -1,19 +1,28 @@
 // Reading a clinic file: the refusals 1 to 8, in order.
+use format::Head;
 use format::HeadAnswer;
 use format::Verdict;
+use format::answers::or_else;
+use format::header::read_head;
 ghost use mathlib.Core.Path.{_≡_};
-ghost use Rattle.reading.specs.Reading.{reading};
+ghost use Rattle.format.specs.Header.{Laid};
+ghost use Rattle.reading.specs.Reading.{bodyAnswer, reading};
+
+// What follows the head: the first of the refusals 6 to 8.
+pub fn body(file: &[u8], head: Head) -> Verdict
+    requires { ⌜ Laid head ⌝ }
+    ensures { λ r. ⌜ r ≡ bodyAnswer (now (file .entry)) head ⌝ }
+{
+    or_else(tables::records(file, head), trees::shape::shape(file, head))
+}
 
 // The first of the refusals 1 to 8.
 pub fn read(file: &[u8]) -> Verdict
     ensures { λ r. ⌜ r ≡ reading (now (file .entry)) ⌝ }
 {
-    let answer = format::header::read_head(file);
+    let answer = read_head(file);
     match answer {
         HeadAnswer::Refused(number) => Verdict { number, place: 0 },
-        HeadAnswer::Fine(head) => format::answers::or_else(
-            tables::records(file, head),
-            trees::shape::shape(file, head),
-        ),
+        HeadAnswer::Fine(head) => body(file, head),
     }
 }

@@ -1,0 +1,29 @@
+use Rattle.format.specs.Answers.{orElse}
+use mathlib.Core.Path.{_≡_, ap₂, _∙_}
+use borrow.Author.Needs.{needs}
+use Rattle.reading.proofs.body.Statement.{statement}
+use Rattle.reading.proofs.body.Tie as tie
+use Rattle.reading.proofs.body.Reads as reads
+use Rattle.reading.proofs.body.Lts as lts
+use Rattle.format.proofs.answers.or_else.Reads as or-else-reads
+use Rattle.tables.proofs.records.Reads as records-reads
+use Rattle.trees.proofs.shape.shape.Reads as shape-reads
+
+-- src/lib.rt:16:13
+records-requires : tie.Need-records-requires
+records-requires c κs = search needs
+
+-- src/lib.rt:16:42
+shape-requires : tie.Need-shape-requires
+shape-requires c κs = search needs
+
+-- src/lib.rt:16:5
+or-else-requires : tie.Need-or-else-requires
+or-else-requires c κs = search needs
+
+-- src/lib.rt:12:1
+returns : tie.Need-returns
+returns c = c .or-else .ensures ∙ ap₂ orElse (c .before .before .records .ensures) (c .before .shape .ensures)
+
+pub body-spec : {M : Type 1} → statement M
+body-spec = tie.close (tie.spec records-requires shape-requires or-else-requires returns)
