@@ -35,7 +35,7 @@ pub record TablesFit (T : Tables) : Type 0 where
   pub records : RecordsFit T
   pub shape : shapeFrom 1 (T .nodes) (map Root (rootsIn (T .sessions))) ≡ fine
 
-nodes-rows : (f : List ℕ) (p k : ℕ) → nodesFrom f p k ≡ rowsFrom (nodeAt f) 3 p k
+pub nodes-rows : (f : List ℕ) (p k : ℕ) → nodesFrom f p k ≡ rowsFrom (nodeAt f) 3 p k
 unfolding nodesFrom rowsFrom
 nodes-rows f p zero = refl
 nodes-rows f p (suc k) = ap {B = List Node} (λ l. nodeAt f p ∷ l) (nodes-rows f (p + 3) k)

@@ -1,4 +1,6 @@
 // Reading a clinic file: the refusals 1 to 8, in order.
+pub mod long;
+
 use format::Head;
 use format::HeadAnswer;
 use format::Verdict;

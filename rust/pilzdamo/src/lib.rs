@@ -1,14 +1,27 @@
 //! Safe calls to the engine, which is proved to do what the paper says.
 //!
-//! ```
-//! // A file with no users, roles, kinds, channels, sessions or nodes.
-//! let words = [1u16, 0, 0, 0, 0, 0, 0, 13, 13, 13, 13, 13, 13];
-//! let file: Vec<u8> = words.iter().flat_map(|word| word.to_le_bytes()).collect();
-//! assert!(pilzdamo::read(&file).is_clean());
+//! [`read`] judges what a clinic file says: refusals 1 to 10, its form, its
+//! records, its trees, and the names and kinds in them. [`check`] judges the
+//! roles as well, 11 to 13; a file that it lets pass has none of the thirteen.
 //!
-//! // An empty input is refusal 1, and its place is 0.
-//! let verdict = pilzdamo::read(&[]);
-//! assert_eq!((verdict.number, verdict.place), (1, 0));
+//! ```
+//! // Session 1 sends on channel 1 and on channel 2, with no role active.
+//! let words = [
+//!     1, 2, 2, 2, 2, 1, 3, 13, 15, 23, 25, 29, 32, // version, counts, offsets
+//!     3, 0, // users
+//!     1, 0, 0, 0, 3, 0, 0, 0, // roles
+//!     0, 0, // kinds
+//!     2, 1, 2, 2, // channels
+//!     1, 0, 1, // session
+//!     6, 257, 2, 6, 258, 2, 0, 0, 0u16, // nodes
+//! ];
+//! let mut file: Vec<u8> = words.into_iter().flat_map(u16::to_le_bytes).collect();
+//! assert!(pilzdamo::read(&file).is_clean());
+//! assert_eq!(pilzdamo::check(&file).to_string(), "refused 13 1");
+//!
+//! // With role 2 active from the start it passes.
+//! file[2 * 30] = 2;
+//! assert!(pilzdamo::check(&file).is_clean());
 //! ```
 
 use std::fmt;
@@ -37,7 +50,7 @@ impl Verdict {
 /// `clean`, or `refused N P` with number and place.
 ///
 /// ```
-/// assert_eq!(pilzdamo::read(&[]).to_string(), "refused 1 0");
+/// assert_eq!(pilzdamo::check(&[]).to_string(), "refused 1 0");
 /// ```
 impl fmt::Display for Verdict {
     fn fmt(&self, out: &mut fmt::Formatter<'_>) -> fmt::Result {
@@ -50,9 +63,10 @@ impl fmt::Display for Verdict {
 
 extern "C" {
     fn pilzdamo_read(file: *const u8, len: usize) -> Verdict;
+    fn pilzdamo_check(file: *const u8, len: usize) -> Verdict;
 }
 
-/// Judges a clinic file by refusals 1 to 8.
+/// Judges a clinic file by refusals 1 to 10.
 ///
 /// Any bytes will do, of any length. Nothing is written and nothing is kept.
 ///
@@ -65,4 +79,19 @@ pub fn read(file: &[u8]) -> Verdict {
     // SAFETY: the engine only reads the `len` bytes from `file` on, during the
     // call; a slice vouches for them, also where there are none.
     unsafe { pilzdamo_read(file.as_ptr(), file.len()) }
+}
+
+/// Judges a clinic file by refusals 1 to 13: by those of [`read`], and then
+/// by the roles that are active at each node.
+///
+/// Any bytes will do, of any length. Nothing is written and nothing is kept.
+///
+/// ```
+/// // What is refused by 1 to 10 is refused alike.
+/// assert_eq!(pilzdamo::check(&[9; 26]), pilzdamo::read(&[9; 26]));
+/// ```
+#[inline]
+pub fn check(file: &[u8]) -> Verdict {
+    // SAFETY: as in `read`.
+    unsafe { pilzdamo_check(file.as_ptr(), file.len()) }
 }

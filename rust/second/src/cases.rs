@@ -6,13 +6,22 @@ mod reading;
 
 use crate::draft::Draft;
 
-/// A file, and its refusal (number, place) by [`crate::read`] and by
-/// [`crate::check`].
+/// A file, and its refusal (number, place) by [`crate::check`].
 pub struct Case {
     pub name: &'static str,
     pub file: Vec<u8>,
-    pub read: (u16, u16),
-    pub check: (u16, u16),
+    pub answer: (u16, u16),
+}
+
+impl Case {
+    /// The answer of a judge who goes up to refusal `most` only.
+    pub fn up_to(&self, most: u16) -> (u16, u16) {
+        if self.answer.0 <= most {
+            self.answer
+        } else {
+            CLEAN
+        }
+    }
 }
 
 const END: [u16; 3] = [0, 0, 0];
@@ -38,24 +47,13 @@ fn clinic(nodes: &[[u16; 3]]) -> Draft {
     }
 }
 
-/// A case in which reading and checking give one answer.
-fn same(name: &'static str, file: Vec<u8>, answer: (u16, u16)) -> Case {
-    Case {
-        name,
-        file,
-        read: answer,
-        check: answer,
-    }
+fn case(name: &'static str, file: Vec<u8>, answer: (u16, u16)) -> Case {
+    Case { name, file, answer }
 }
 
-/// A tree in the clinic that reads clean and is checked so.
-fn checked(name: &'static str, nodes: &[[u16; 3]], check: (u16, u16)) -> Case {
-    Case {
-        name,
-        file: clinic(nodes).bytes(),
-        read: CLEAN,
-        check,
-    }
+/// A tree in the clinic.
+fn checked(name: &'static str, nodes: &[[u16; 3]], answer: (u16, u16)) -> Case {
+    case(name, clinic(nodes).bytes(), answer)
 }
 
 /// All of them.

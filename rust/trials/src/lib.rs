@@ -13,7 +13,7 @@ mod schema;
 mod tally;
 mod wild;
 
-pub use answers::{agreed, engine_read, second_check, second_read, second_read_names, Answer};
+pub use answers::{agreed, engine_check, engine_read, second_check, second_read, Answer};
 pub use deal::{deal, largest, typical};
 pub use rng::Rng;
 pub use tally::{compare, Tally};

@@ -1,10 +1,10 @@
 //! Bytes that are no file, or only a part of one.
 
-use trials::{engine_read, largest, second_read, seed, typical, Rng};
+use trials::{largest, seed, typical, Rng};
 
 /// The number of the answer that both give.
 fn agreed(file: &[u8], origin: &str) -> u16 {
-    trials::agreed(file, engine_read, second_read, format_args!("{origin}")).0
+    trials::agreed(file, origin).0
 }
 
 fn lengths() -> impl Iterator<Item = usize> {

@@ -1,14 +1,15 @@
 //! The named cases, on both implementations.
 
-use trials::{engine_read, second_check, second_read};
+use trials::{engine_check, engine_read, second_check, second_read};
 
 #[test]
 fn named_cases() {
     for case in second::cases::cases() {
-        let name = case.name;
-        assert_eq!(engine_read(&case.file), case.read, "engine: {name}");
-        assert_eq!(second_read(&case.file), case.read, "second: {name}");
-        assert_eq!(second_check(&case.file), case.check, "check: {name}");
+        let (file, name) = (&case.file, case.name);
+        assert_eq!(engine_read(file), case.up_to(10), "engine reads: {name}");
+        assert_eq!(second_read(file), case.up_to(10), "second reads: {name}");
+        assert_eq!(engine_check(file), case.answer, "engine checks: {name}");
+        assert_eq!(second_check(file), case.answer, "second checks: {name}");
     }
 }
 
@@ -16,6 +17,5 @@ fn named_cases() {
 fn the_largest_file() {
     let file = trials::largest(trials::seed());
     assert_eq!(file.len(), 6_874);
-    assert_eq!(engine_read(&file), (0, 0));
-    assert_eq!(second_check(&file), (0, 0));
+    assert_eq!(trials::agreed(&file, "largest"), (0, 0));
 }

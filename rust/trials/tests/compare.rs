@@ -1,8 +1,8 @@
 //! The engine against the second implementation, on random files.
 
-use trials::{compare, engine_read, files, second_read, seed};
+use trials::{compare, files, seed};
 
 #[test]
-fn reading() {
-    compare(seed(), files(), 8, engine_read, second_read).demand("reading");
+fn random_files() {
+    compare(seed(), files()).demand();
 }

@@ -1,7 +1,7 @@
 //! Forks below forks, up to 1,024 of them.
 
 use second::draft::Draft;
-use trials::{agreed, engine_read, second_read};
+use trials::agreed;
 
 /// A tree of `forks` forks, each the first child of the one above it, and then
 /// `ends` ends. All second children are as they should be.
@@ -19,9 +19,8 @@ fn forks_then_ends(forks: u16, ends: u16) -> Draft {
 }
 
 fn place(draft: &Draft, what: &str) -> u16 {
-    let (forks, file) = (draft.nodes.len(), draft.bytes());
-    let origin = format_args!("{what} in {forks} nodes");
-    agreed(&file, engine_read, second_read, origin).1
+    let nodes = draft.nodes.len();
+    agreed(&draft.bytes(), format_args!("{what} in {nodes} nodes")).1
 }
 
 #[test]

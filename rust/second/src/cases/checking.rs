@@ -1,6 +1,6 @@
 //! Cases of refusals 9 to 13, on files that read clean.
 
-use super::{checked, clinic, same, Case, BOOKING, CLEAN, END};
+use super::{case, checked, clinic, Case, BOOKING, CLEAN, END};
 use crate::draft::{to_bytes, Draft};
 
 /// The nodes of the booking once placed.
@@ -72,14 +72,13 @@ pub fn names() -> Vec<Case> {
 pub fn roles() -> Vec<Case> {
     let bare = [[6, 257, 2], [6, 258, 2], END];
     let (on, off, send) = ([7, 1, 0], [8, 1, 0], [6, 257, 2]);
+    let stranger = Draft {
+        sessions: vec![[2, 0, 1]],
+        ..clinic(&[on, END])
+    };
     vec![
-        Case {
-            name: "the booking",
-            file: booking(&bare),
-            read: CLEAN,
-            check: (13, 1),
-        },
-        same("the booking, placed", booking(&PLACED), CLEAN),
+        case("the booking", booking(&bare), (13, 1)),
+        case("the booking, placed", booking(&PLACED), CLEAN),
         checked("off from mask 0", &[off, END], (12, 1)),
         checked(
             "on 1, on 1, off 1, send",
@@ -102,15 +101,6 @@ pub fn roles() -> Vec<Case> {
             (13, 4),
         ),
         checked("the other role", &[[7, 2, 0], send, END], (13, 2)),
-        Case {
-            name: "on of a role not assigned",
-            check: (11, 1),
-            read: CLEAN,
-            file: Draft {
-                sessions: vec![[2, 0, 1]],
-                ..clinic(&[on, END])
-            }
-            .bytes(),
-        },
+        case("on of a role not assigned", stranger.bytes(), (11, 1)),
     ]
 }

@@ -1,27 +1,27 @@
 //! Cases of refusals 1 to 8.
 
-use super::{checked, clinic, same, Case, CLEAN, END};
+use super::{case, checked, clinic, Case, CLEAN, END};
 use crate::draft::{set_word, Draft};
 
 const NEW: [u16; 3] = [3, 1, 0];
 
 /// A tree in the clinic that reading refuses with 8 at this place.
 fn shape(name: &'static str, nodes: &[[u16; 3]], place: u16) -> Case {
-    same(name, clinic(nodes).bytes(), (8, place))
+    case(name, clinic(nodes).bytes(), (8, place))
 }
 
 /// The clinic with a lone end, changed.
 fn changed(name: &'static str, answer: (u16, u16), change: impl Fn(&mut Draft)) -> Case {
     let mut draft = clinic(&[END]);
     change(&mut draft);
-    same(name, draft.bytes(), answer)
+    case(name, draft.bytes(), answer)
 }
 
 /// The clinic with a lone end, with one word of the file set.
 fn with_word(name: &'static str, at: usize, word: u16, answer: (u16, u16)) -> Case {
     let mut file = clinic(&[END]).bytes();
     set_word(&mut file, at, word);
-    same(name, file, answer)
+    case(name, file, answer)
 }
 
 /// A chain of this many binders, ended.
@@ -33,14 +33,14 @@ pub fn head() -> Vec<Case> {
     let lone = clinic(&[END]).bytes();
     let longer = |more: usize| [lone.clone(), vec![0; more]].concat();
     vec![
-        same("empty input", vec![], (1, 0)),
-        same("25 bytes", lone[..25].to_vec(), (1, 0)),
-        same("26 bytes of the header alone", lone[..26].to_vec(), (5, 0)),
-        same("odd length", longer(1), (1, 0)),
-        same("odd length, another version", vec![2; 27], (1, 0)),
-        same("one word too many", longer(2), (5, 0)),
-        same("one word too few", lone[..lone.len() - 2].to_vec(), (5, 0)),
-        same("nothing at all in it", Draft::default().bytes(), CLEAN),
+        case("empty input", vec![], (1, 0)),
+        case("25 bytes", lone[..25].to_vec(), (1, 0)),
+        case("26 bytes of the header alone", lone[..26].to_vec(), (5, 0)),
+        case("odd length", longer(1), (1, 0)),
+        case("odd length, another version", vec![2; 27], (1, 0)),
+        case("one word too many", longer(2), (5, 0)),
+        case("one word too few", lone[..lone.len() - 2].to_vec(), (5, 0)),
+        case("nothing at all in it", Draft::default().bytes(), CLEAN),
         with_word("version 0", 0, 0, (2, 0)),
         with_word("version 2", 0, 2, (2, 0)),
         with_word("33 users", 1, 33, (3, 0)),

@@ -1,4 +1,4 @@
-//! Times reading, the engine against the second implementation.
+//! Times reading and checking, the engine against the second implementation.
 
 use std::hint::black_box;
 use std::time::Instant;
@@ -20,23 +20,27 @@ fn summary(mut samples: Vec<f64>) -> (f64, f64) {
     (samples[0], samples[samples.len() / 2])
 }
 
-fn row(name: &str, file: &[u8], calls: u32) {
-    assert_eq!(trials::engine_read(file), (0, 0), "engine: {name}");
-    assert_eq!(trials::second_read(file), (0, 0), "second: {name}");
-    let engine = || {
-        black_box(pilzdamo::read(black_box(file)));
-    };
-    let second = || {
-        black_box(second::read(black_box(file)));
-    };
+/// Times one question about a file that passes.
+fn row<V, W>(
+    name: &str,
+    file: &[u8],
+    calls: u32,
+    engine: impl Fn(&[u8]) -> V,
+    second: impl Fn(&[u8]) -> W,
+) {
+    assert_eq!(trials::agreed(file, name), (0, 0));
     let (mut of_engine, mut of_second) = (Vec::new(), Vec::new());
     for _ in 0..SAMPLES {
-        of_engine.push(sample(calls, engine));
-        of_second.push(sample(calls, second));
+        of_engine.push(sample(calls, || {
+            black_box(engine(black_box(file)));
+        }));
+        of_second.push(sample(calls, || {
+            black_box(second(black_box(file)));
+        }));
     }
     let ((best, median), (best_second, median_second)) = (summary(of_engine), summary(of_second));
     println!(
-        "{name:<22} {:>6} {best:>12.0} {median:>12.0} {best_second:>12.0} {median_second:>12.0} \
+        "{name:<14} {:>6} {best:>12.0} {median:>12.0} {best_second:>12.0} {median_second:>12.0} \
          {:>10.2} {:>12.2}",
         file.len(),
         best / best_second,
@@ -46,12 +50,13 @@ fn row(name: &str, file: &[u8], calls: u32) {
 
 fn main() {
     let seed = trials::seed();
-    println!("Reading, refusals 1 to 8, in ns a call; {SAMPLES} samples each, in turns.");
-    println!("The reader has no output, so no buffers are cleared before a call.");
+    println!("Nanoseconds a call; {SAMPLES} samples each, in turns.");
+    println!("Read: refusals 1 to 10. Check: 1 to 13. Largest: 1,024 nodes. Typical: 40 nodes.");
+    println!("There is no output, so no buffers are cleared before a call.");
     println!();
     println!(
-        "{:<22} {:>6} {:>12} {:>12} {:>12} {:>12} {:>10} {:>12}",
-        "file",
+        "{:<14} {:>6} {:>12} {:>12} {:>12} {:>12} {:>10} {:>12}",
+        "call",
         "bytes",
         "engine best",
         "median",
@@ -60,6 +65,18 @@ fn main() {
         "best ratio",
         "median ratio"
     );
-    row("largest, 1,024 nodes", &trials::largest(seed), 50);
-    row("typical, 40 nodes", &trials::typical(seed), 300);
+    for (size, file, calls) in [
+        ("largest", trials::largest(seed), 50),
+        ("typical", trials::typical(seed), 300),
+    ] {
+        let name = |question: &str| format!("{question} {size}");
+        row(
+            &name("read"),
+            &file,
+            calls,
+            pilzdamo::read,
+            second::read_names,
+        );
+        row(&name("check"), &file, calls, pilzdamo::check, second::check);
+    }
 }

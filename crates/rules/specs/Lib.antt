@@ -1,0 +1,5 @@
+pub mod Schema
+pub mod Names
+pub mod Rules
+pub mod Checking
+pub mod Kept

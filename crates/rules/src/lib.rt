@@ -1,0 +1,18 @@
+// The rules of the check: grants, operands, the rules at one node, and the pass over the nodes that finds 9 to 13.
+pub mod grants;
+pub mod judge;
+pub mod names;
+pub mod steps;
+
+use format::Verdict;
+
+pub enum Way {
+    Sends,
+    Receives,
+}
+
+// The first of 9 and 10, and where these refuse nothing the first of 11 to 13.
+pub struct Judged {
+    pub names: Verdict,
+    pub roles: Verdict,
+}

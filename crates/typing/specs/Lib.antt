@@ -1,0 +1,5 @@
+pub mod Tables
+pub mod Typing
+pub mod Kinding
+pub mod Faults
+pub mod Cases
