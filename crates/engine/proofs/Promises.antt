@@ -1,5 +1,5 @@
 -- What the engine promises, each promise under a sentence of the paper (01) or of the demands; nothing else stands here.
--- What a caller gets is in the contracts of the exported functions (src/lib.rt): of any bytes handed over `pilzdamo_read` answers `readingNames`, the refusals 1 to 10,
+-- What a caller gets is in the contracts of the exported functions (src/lib.rt): of any bytes handed over `pilzdamo_read` answers `reading`, the refusals 1 to 8,
 -- and `pilzdamo_check` `checking`, the refusals 1 to 13.
 use Prim.Native.Nat.{ℕ, _≤_, _<_}
 use mathlib.Core.Path.{_≡_}

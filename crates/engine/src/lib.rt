@@ -2,14 +2,15 @@
 // pointer and a length there.
 use format::Verdict;
 ghost use mathlib.Core.Path.{_≡_};
-ghost use Rattle.checking.specs.Check.{readingNames, checking};
+ghost use Rattle.checking.specs.Check.{checking};
+ghost use Rattle.reading.specs.Reading.{reading};
 
-// Reads a clinic file, of any bytes and any length: the first of the refusals 1 to 10, or 0 and 0 where there is none.
+// Reads a clinic file, of any bytes and any length: the first of the refusals 1 to 8, or 0 and 0 where there is none.
 #[no_mangle]
 pub extern "C" fn pilzdamo_read(file: &[u8]) -> Verdict
-    ensures { λ r. ⌜ r ≡ readingNames (now (file .entry)) ⌝ }
+    ensures { λ r. ⌜ r ≡ reading (now (file .entry)) ⌝ }
 {
-    checking::read_names(file)
+    reading::read(file)
 }
 
 // Checks a clinic file: the first of the refusals 1 to 13, or 0 and 0 where it passes.

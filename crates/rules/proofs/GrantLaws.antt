@@ -1,22 +1,23 @@
 -- Grants: a lookup, a mask of roles, and the table of these masks.
-use Prim.Native.Nat.{ℕ, zero, suc, _+_, _-_, _≤_, _<_}
+use Prim.Native.Nat.{ℕ, zero, suc, _+_, _-_, _^_, _≤_, _<_}
 use mathlib.Core.Path.{_≡_, refl, sym, ap, _∙_}
-use mathlib.Core.Bool.{Bool, false, cond}
-use mathlib.Core.List.{List, _∷_}
+use mathlib.Core.Bool.{Bool, true, false, cond}
+use mathlib.Core.List.{List, [], _∷_}
 use native.Mathlib.Omega.{arith}
 use native.Mathlib.Numerals.{add-one}
-use lib.ListN.{length, getD, take, drop, set, drop-of-length-le}
-use lib.Seq.{set-split, drop-at, length-take-le}
-use borrow.Author.Tests.{eq-eqb, ne-eqb}
+use lib.ListN.{length, getD, take, drop, set, replicate, drop-of-length-le, List·getD-eq-default}
+use lib.Dec.{ltb}
+use lib.Seq.{set-split, drop-at, length-take-le, getD-take, take-take, take-set-le}
+use borrow.Author.Tests.{eq-eqb, ne-eqb, ltb-true, ltb-false}
 use Rattle.masks.specs.Mask.{has, with}
-use Rattle.masks.proofs.Laws.{has-none}
+use Rattle.masks.proofs.Laws.{has-none, has-above}
 use Rattle.masks.specs.declared.UserRole.{UserRole}
 use Rattle.masks.specs.declared.ChannelKind.{ChannelKind}
 use Rattle.format.specs.Sections.{roleOf}
 use Rattle.format.specs.declared.Head.{Head}
 use Rattle.rules.specs.declared.Way.{Way}
 use Rattle.rules.specs.Schema.{Schema, schemaOf, granted, permits, permittingTo, permitting}
-use Rattle.rules.specs.Kept.{grantsFrom}
+use Rattle.rules.specs.Kept.{grantsTo, grantsFrom, addRole, Beyond, Granting}
 
 pub no-role : (f : List ℕ) (h : Head) (w : Way) (r : UserRole) (k : ChannelKind) → r .0 ≡ 0 → permits (schemaOf f h) w r k ≡ false
 unfolding permits
@@ -36,37 +37,86 @@ permitting-more D w k n m can e y = rw (e, y, add-one n)
 drop-set : (l : List ℕ) (i v : ℕ) → i < length l → drop i (set l i v) ≡ v ∷ drop (suc i) l
 drop-set l i v h = rw (set-split l i v h) (drop-at (take i l) (v ∷ drop (suc i) l) i (length-take-le i l (omega arith)))
 
--- one kind more, below those in the table
-pub grants-more : (D : Schema) (w : Way) (l : List ℕ) (k n v : ℕ) → 0 < k → k ≤ length l → length l ≡ n → v ≡ permitting D w (k - 1)
-    → drop k l ≡ grantsFrom D w k (n - k) → drop (k - 1) (set l (k - 1) v) ≡ grantsFrom D w (k - 1) (n - (k - 1))
-unfolding grantsFrom
-grants-more D w l zero n v pos le len e h = let no : ⊥ = omega arith in absurd no
-grants-more D w l (suc k) n v pos le len e h =
+drop-first : (l : List ℕ) (i : ℕ) → i < length l → drop i l ≡ getD l i 0 ∷ drop (suc i) l
+drop-first [] i h = let no : ⊥ = omega arith in absurd no
+drop-first (x ∷ l) zero h = refl
+drop-first (x ∷ l) (suc i) h = drop-first l i (omega arith)
+
+pub add-none : (g r : ℕ) (l : List ℕ) (k : ℕ) → k ≡ length l → drop k l ≡ addRole g r k (drop k l)
+unfolding addRole
+add-none g r l k e = let none : drop k l ≡ [] = drop-of-length-le l {i = k} (omega arith) in rw none
+
+-- one kind more, below those that are done: of l₀, the first k are as they were
+pub add-more : (g r : ℕ) (l₀ l : List ℕ) (k v : ℕ) → 0 < k → k ≤ length l₀ → length l ≡ length l₀ → v ≡ cond (has g (k - 1)) (with (getD l (k - 1) 0) r) (getD l (k - 1) 0)
+    → take k l ≡ take k l₀ → drop k l ≡ addRole g r k (drop k l₀)
+    → (take (k - 1) (set l (k - 1) v) ≡ take (k - 1) l₀) × (drop (k - 1) (set l (k - 1) v) ≡ addRole g r (k - 1) (drop (k - 1) l₀))
+unfolding addRole
+add-more g r l₀ l zero v pos le len e t d = let no : ⊥ = omega arith in absurd no
+add-more g r l₀ l (suc k) v pos le len e t d =
     let k1 : suc k - 1 ≡ k = omega arith in
-    let more : n - k ≡ suc (n - suc k) = omega arith in
-    rw (k1, more) (drop-set l k v (omega arith) ∙ rw (h, e, k1))
+    let same : getD l k 0 ≡ getD l₀ k 0 = sym (getD-take (suc k) l k 0 (omega arith)) ∙ ap (λ x. getD x k 0) t ∙ getD-take (suc k) l₀ k 0 (omega arith) in
+    let low : take k l ≡ take k l₀ = sym (take-take k (suc k) l (omega arith)) ∙ ap (take k) t ∙ take-take k (suc k) l₀ (omega arith) in
+    rw k1 (
+      take-set-le k l k v (omega arith) ∙ low,
+      drop-set l k v (omega arith) ∙ rw (d, e, k1, same, drop-first l₀ k (omega arith)),
+    )
+
+-- a role more in all of them
+pub grants-more : (f : List ℕ) (h : Head) (w : Way) (g r k n : ℕ) → g ≡ granted w (roleOf f h (r + 1))
+    → addRole g (r + 1) k (grantsTo (schemaOf f h) w r k n) ≡ grantsTo (schemaOf f h) w (r + 1) k n
+unfolding addRole grantsTo
+grants-more f h w g r k zero e = refl
+grants-more f h w g r k (suc n) e =
+    let some : has g k ≡ permits (schemaOf f h) w (record { 0 = r + 1 }) (record { 0 = k }) = some-role f h w (record { 0 = r + 1 }) (record { 0 = k }) g (λ z. omega arith) e in
+    let first = permitting-more (schemaOf f h) w (record { 0 = k }) r (permittingTo (schemaOf f h) w (record { 0 = k }) r) (has g k) refl some in
+    rw (first, grants-more f h w g r (suc k) n e)
+
+pub same-taken : (m n x : ℕ) → take n (replicate m x) ≡ replicate (length (take n (replicate m x))) x
+same-taken m zero x = refl
+same-taken zero (suc n) x = refl
+same-taken (suc m) (suc n) x = ap (λ (l : List ℕ). x ∷ l) (same-taken m n x)
+
+-- no role yet
+pub grants-begin : (D : Schema) (w : Way) (k n : ℕ) → replicate n 0 ≡ grantsTo D w 0 k n
+unfolding grantsTo permittingTo
+grants-begin D w k zero = refl
+grants-begin D w k (suc n) = ap (λ (x : List ℕ). 0 ∷ x) (grants-begin D w (suc k) n)
 
 -- a look into the table
 grant-at : (D : Schema) (w : Way) (k n i : ℕ) → i < n → getD (grantsFrom D w k n) i 0 ≡ permitting D w (k + i)
-unfolding grantsFrom
+unfolding grantsTo
 grant-at D w k zero i h = let no : ⊥ = omega arith in absurd no
 grant-at D w k (suc n) zero h = let z : k + 0 ≡ k = omega arith in rw z
 grant-at D w k (suc n) (suc i) h = let s : suc k + i ≡ k + suc i = omega arith in rw s at (grant-at D w (suc k) n i (omega arith))
 
-pub grant-look : (D : Schema) (w : Way) (l : List ℕ) (i : ℕ) → l ≡ grantsFrom D w 0 (length l) → i < length l → getD l i 0 ≡ permitting D w i
+grant-look : (D : Schema) (w : Way) (l : List ℕ) (i : ℕ) → l ≡ grantsFrom D w 0 (length l) → i < length l → getD l i 0 ≡ permitting D w i
 grant-look D w l i e h =
     let z : 0 + i ≡ i = omega arith in
     ap (λ x. getD x i 0) e ∙ (rw z at (grant-at D w 0 (length l) i h))
 
-pub grants-none : (D : Schema) (w : Way) (l : List ℕ) (k : ℕ) → k ≡ length l → drop k l ≡ grantsFrom D w k (length l - k)
-unfolding grantsFrom
-grants-none D w l k e = let none : length l - k ≡ 0 = omega arith in drop-of-length-le l {i = k} (omega arith) ∙ rw none
+pub grants-length : (D : Schema) (w : Way) (r k n : ℕ) → length (grantsTo D w r k n) ≡ n
+unfolding grantsTo
+grants-length D w r k zero = refl
+grants-length D w r k (suc n) = ap suc (grants-length D w r (suc k) n)
 
-grants-length : (D : Schema) (w : Way) (k n : ℕ) → length (grantsFrom D w k n) ≡ n
-unfolding grantsFrom
-grants-length D w k zero = refl
-grants-length D w k (suc n) = ap suc (grants-length D w (suc k) n)
+-- kinds above 32: none of them is in a mask of 32 bits
+pub beyond-none : (D : Schema) (w : Way) → Beyond D w 0
+unfolding permittingTo
+beyond-none D w k h = refl
+
+pub beyond-more : (f : List ℕ) (h : Head) (w : Way) (g r : ℕ) → g ≡ granted w (roleOf f h (r + 1)) → g < 2 ^ 32 → Beyond (schemaOf f h) w r → Beyond (schemaOf f h) w (r + 1)
+beyond-more f h w g r e small ih k above =
+    let some : has g k ≡ permits (schemaOf f h) w (record { 0 = r + 1 }) (record { 0 = k }) = some-role f h w (record { 0 = r + 1 }) (record { 0 = k }) g (λ z. omega arith) e in
+    let off : false ≡ permits (schemaOf f h) w (record { 0 = r + 1 }) (record { 0 = k }) = sym (has-above 32 g k small above) ∙ some in
+    sym (permitting-more (schemaOf f h) w (record { 0 = k }) r (permittingTo (schemaOf f h) w (record { 0 = k }) r) false refl off) ∙ ih k above
+
+pub granting : (D : Schema) (w : Way) (l : List ℕ) → l ≡ grantsFrom D w 0 (length l) → length l ≡ 33 → Beyond D w (D .roles) → Granting D w l
+granting D w l e long past k = go (ltb k 33) refl
+  where
+    go : (b : Bool) → ltb k 33 ≡ b → getD l k 0 ≡ permitting D w k
+    go true t = grant-look D w l k e (omega (arith, ltb-true k 33 t))
+    go false t = List·getD-eq-default l 0 (omega (arith, ltb-false k 33 t)) ∙ sym (past k (omega (arith, ltb-false k 33 t)))
 
 -- a table that was filled has the length that it had
 pub grants-filled : (D : Schema) (w : Way) (l : List ℕ) (n : ℕ) → l ≡ grantsFrom D w 0 n → l ≡ grantsFrom D w 0 (length l)
-grants-filled D w l n e = e ∙ ap (grantsFrom D w 0) (sym (ap length e ∙ grants-length D w 0 n))
+grants-filled D w l n e = e ∙ ap (grantsFrom D w 0) (sym (ap length e ∙ grants-length D w (D .roles) 0 n))

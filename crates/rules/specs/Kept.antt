@@ -1,24 +1,43 @@
 -- What the pass over the nodes keeps: tables of grants, the variables bound on the path, and the contexts that wait, each as numbers in an array.
-use Prim.Native.Nat.{ℕ, zero, suc, _+_, _*_, _-_, _/_, _%_, _≤_}
+use Prim.Native.Nat.{ℕ, zero, suc, _+_, _*_, _-_, _/_, _%_, _≤_, _<_}
+use mathlib.Core.Path.{_≡_}
 use mathlib.Core.Bool.{Bool, true, false, cond, _&&_, _||_}
 use mathlib.Core.List.{List, [], _∷_, map}
 use lib.Dec.{eqb, leb, ltb}
 use lib.ListN.{getD, take}
-use Rattle.masks.specs.Mask.{with, without}
+use Rattle.masks.specs.Mask.{has, with, without}
 use Rattle.format.specs.Answers.{fine, refused}
 use Rattle.format.specs.declared.Verdict.{Verdict}
 use Rattle.format.specs.declared.Head.{Head}
+use Rattle.format.specs.declared.Node.{Node}
 use Rattle.rules.specs.declared.Way.{Way}
 use Rattle.rules.specs.declared.Judged.{Judged}
-use Rattle.rules.specs.Schema.{Schema, permitting}
-use Rattle.rules.specs.Names.{Bound, unbound, within}
-use Rattle.rules.specs.Rules.{Context}
+use Rattle.rules.specs.declared.Step.{Step}
+use Rattle.rules.specs.Schema.{Schema, permittingTo, permitting}
+use Rattle.rules.specs.Names.{Bound, unbound, within, kindOf}
+use Rattle.rules.specs.Rules.{Context, wrong, barred}
 use Rattle.rules.specs.Checking.{namesAnswer, rolesAnswer}
 
--- the roles that permit a step on the kinds k, k + 1, .. (n of them), a mask each
-unfoldable pub grantsFrom : Schema → Way → ℕ → ℕ → List ℕ
-grantsFrom D w k zero = []
-grantsFrom D w k (suc n) = permitting D w k ∷ grantsFrom D w (suc k) n
+-- those of the roles 1 to r that permit a step on the kinds k, k + 1, .. (n of them), a mask each
+unfoldable pub grantsTo : Schema → Way → ℕ → ℕ → ℕ → List ℕ
+grantsTo D w r k zero = []
+grantsTo D w r k (suc n) = permittingTo D w (record { 0 = k }) r ∷ grantsTo D w r (suc k) n
+
+abbrev pub grantsFrom : Schema → Way → ℕ → ℕ → List ℕ
+grantsFrom D w k n = grantsTo D w (D .roles) k n
+
+-- such masks with one role more, which has the kinds g
+unfoldable pub addRole : ℕ → ℕ → ℕ → List ℕ → List ℕ
+addRole g r k [] = []
+addRole g r k (m ∷ ms) = cond (has g k) (with m r) m ∷ addRole g r (suc k) ms
+
+-- none of the roles 1 to r permits a step on a kind above 32
+abbrev pub Beyond : Schema → Way → ℕ → Type 0
+Beyond D w r = (k : ℕ) → 32 < k → permittingTo D w (record { 0 = k }) r ≡ 0
+
+-- a table that has for each kind the roles that permit a step on it
+abbrev pub Granting : Schema → Way → List ℕ → Type 0
+Granting D w l = (k : ℕ) → getD l k 0 ≡ permitting D w k
 
 -- a variable as one number: its kind in the low word, and 1 in the high one where new bound it
 abbrev pub variable : ℕ → Bound
@@ -71,6 +90,13 @@ depthBelow tag d = cond (eqb tag 0) (d - 1) (cond (eqb tag 1) (d + 1) d)
 -- the variable that new, or receive, binds; others bind none
 abbrev pub bindingBy : ℕ → ℕ → ℕ → Bound
 bindingBy tag x carried = cond (eqb tag 3) (record { sort = x; fresh = true }) (cond (eqb tag 5) (record { sort = carried; fresh = false }) unbound)
+
+-- what a node comes to in the context w: where its names are not refused, also its roles' refusal and what it leaves to its child
+abbrev pub Stepped : Schema → List ℕ → ℕ → Node → Step → Type 0
+Stepped D vs w n s = (s .wrong ≡ wrong D (contextOf vs w) n)
+    × (s .wrong ≡ 0
+    → (s .barred ≡ barred D (contextOf vs w) n) × (variable (s .binding) ≡ bindingBy (n .tag) (n .f1) (D .carries (kindOf D (varsOf vs (boundIn w)) (n .f1))))
+    × (userIn (s .child) ≡ userIn w) × (maskIn (s .child) ≡ maskBelow (n .tag) (n .f1) (maskIn w)) × (boundIn (s .child) ≡ boundBelow (n .tag) (boundIn w)))
 
 -- a node's refusal as an answer; 0 refuses nothing
 abbrev pub answerAt : ℕ → ℕ → Verdict

@@ -12,10 +12,11 @@ use masks::with_role;
 ghost use mathlib.Core.Path.{_≡_};
 ghost use mathlib.Core.Bool.{cond};
 ghost use Prim.Native.Nat.{_≤_};
-ghost use lib.ListN.{length};
+ghost use lib.ListN.{length, getD, replicate};
 ghost use Rattle.masks.specs.Mask.{with};
 ghost use Rattle.rules.specs.Schema.{granted, schemaOf, permits, permittingTo, permitting};
-ghost use Rattle.rules.specs.Kept.{grantsFrom};
+ghost use Rattle.rules.specs.Kept.{grantsFrom, addRole, Beyond};
+ghost use Rattle.rules.specs.declared.Way.the-variants.{Sends, Receives};
 
 fn granted_by(way: Way, it: Role) -> u32
     ensures { λ r. ⌜ r ≡ granted way it ⌝ }
@@ -61,27 +62,41 @@ pub fn permitting(file: &[u8], head: Head, way: Way, kind: ChannelKind) -> u16
     mask
 }
 
-// These masks for the kinds 0, 1, .., as many as the table has room for.
-pub fn fill_grants(file: &[u8], head: Head, way: Way, table: &mut [u16])
-    requires { ⌜ (head .count .roles ≤ 16) × (length (now table) ≤ 33) ⌝ }
-    ensures { λ r. ⌜ now (table .exit) ≡ grantsFrom (schemaOf (now (file .entry)) head) way 0 (length (now (table .entry))) ⌝ }
+// One role more in the masks for the kinds 0, 1, .., where the role has the kind.
+fn add_role(table: &mut [u16], role: UserRole, kinds: u32)
+    requires { ⌜ (role .0 ≤ 16) × (length (now table) ≤ 33) ⌝ }
+    ensures { λ r. ⌜ now (table .exit) ≡ addRole kinds (role .0) 0 (now (table .entry)) ⌝ }
 {
     let mut k = table.len();
     while 0 < k {
         k -= 1;
-        table[k] = permitting(file, head, way, ChannelKind(narrow(k)));
+        table[k] = with_if(table[k], role, has_kind(kinds, ChannelKind(narrow(k))));
     }
 }
 
-// The roles that permit a step on a kind, from the table that has them. A kind past it, which no file has that 6 leaves clean, is looked up by
-// itself, so that nothing is asked of the file.
-pub fn grant_of(file: &[u8], head: Head, way: Way, table: &[u16], kind: u16) -> u16
-    requires { ⌜ (head .count .roles ≤ 16) × (now table ≡ grantsFrom (schemaOf (now file) head) way 0 (length (now table))) ⌝ }
-    ensures { λ r. ⌜ r ≡ permitting (schemaOf (now (file .entry)) head) way kind ⌝ }
+// The masks of the roles that permit sending, and receiving, on the kinds 0, 1, .., as many as the tables have room for.
+pub fn fill_grants(file: &[u8], head: Head, sends: &mut [u16], receives: &mut [u16])
+    requires { ⌜ (head .count .roles ≤ 16) × (length (now sends) ≤ 33) × (length (now receives) ≤ 33) × (now sends ≡ replicate (length (now sends)) 0) × (now receives ≡ replicate (length (now receives)) 0) ⌝ }
+    ensures { λ r. ⌜ (now (sends .exit) ≡ grantsFrom (schemaOf (now (file .entry)) head) Sends 0 (length (now (sends .entry))))
+        × (now (receives .exit) ≡ grantsFrom (schemaOf (now (file .entry)) head) Receives 0 (length (now (receives .entry))))
+        × Beyond (schemaOf (now (file .entry)) head) Sends (head .count .roles) × Beyond (schemaOf (now (file .entry)) head) Receives (head .count .roles) ⌝ }
+{
+    let mut n: u16 = 0;
+    while n < head.count.roles {
+        n += 1;
+        let it = sections::role(file, head, n);
+        add_role(sends, UserRole(n), it.sends);
+        add_role(receives, UserRole(n), it.receives);
+    }
+}
+
+// The roles that permit a step on a kind, from the table that has them. No role has a kind past it.
+pub fn grant_of(table: &[u16], kind: u16) -> u16
+    ensures { λ r. ⌜ r ≡ getD (now (table .entry)) kind 0 ⌝ }
 {
     let k = wide(kind);
     if k < table.len() {
         return table[k];
     }
-    permitting(file, head, way, ChannelKind(kind))
+    0
 }

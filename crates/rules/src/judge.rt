@@ -1,6 +1,6 @@
 // The pass over the nodes, which finds 9 to 13.
 use super::Judged;
-use super::Way;
+use super::Step;
 use super::grants::fill_grants;
 use super::steps::barred_at;
 use super::steps::binding_at;
@@ -19,13 +19,13 @@ use format::words::wide;
 ghost use mathlib.Core.Path.{_≡_};
 ghost use mathlib.Core.List.{[], map};
 ghost use Prim.Native.Nat.{_≤_, _<_};
-ghost use lib.ListN.{length};
+ghost use lib.ListN.{length, replicate};
 ghost use Rattle.format.specs.Header.{Laid};
 ghost use Rattle.rules.specs.Schema.{schemaOf};
 ghost use Rattle.rules.specs.Names.{kindOf};
 ghost use Rattle.rules.specs.Rules.{wrong, barred};
 ghost use Rattle.rules.specs.Checking.{openings};
-ghost use Rattle.rules.specs.Kept.{grantsFrom, variable, varsOf, userIn, maskIn, boundIn, packing, contextOf, stacked, Falls, maskBelow, boundBelow, bindingBy, answerAt, judgement};
+ghost use Rattle.rules.specs.Kept.{Granting, variable, varsOf, userIn, maskIn, boundIn, packing, contextOf, stacked, Falls, maskBelow, boundBelow, bindingBy, Stepped, answerAt, judgement};
 ghost use Rattle.rules.specs.declared.Way.the-variants.{Sends, Receives};
 
 // A context as one number: its user, its mask, and how many variables it has.
@@ -82,7 +82,7 @@ fn barred_in(
     top: u64,
     it: Node,
 ) -> u16
-    requires { ⌜ (head .count .roles ≤ 16) × (boundIn top ≤ length (now vars)) × (now sends ≡ grantsFrom (schemaOf (now file) head) Sends 0 (length (now sends))) × (now receives ≡ grantsFrom (schemaOf (now file) head) Receives 0 (length (now receives))) ⌝ }
+    requires { ⌜ (head .count .roles ≤ 16) × (boundIn top ≤ length (now vars)) × Granting (schemaOf (now file) head) Sends (now sends) × Granting (schemaOf (now file) head) Receives (now receives) ⌝ }
     ensures { λ r. ⌜ r ≡ barred (schemaOf (now (file .entry)) head) (contextOf (now (vars .entry)) top) it ⌝ }
 {
     let bound = bound_in(top);
@@ -105,6 +105,36 @@ fn binding_in(file: &[u8], head: Head, vars: &[u32], top: u64, it: Node) -> u32
         (schemaOf (now (file .entry)) head .carries (kindOf (schemaOf (now (file .entry)) head) (varsOf (now (vars .entry)) (boundIn top)) (it .f1))) ⌝ }
 {
     binding_at(file, head, vars, bound_in(top), it)
+}
+
+// All of it in one.
+fn step_at(
+    file: &[u8],
+    head: Head,
+    sends: &[u16],
+    receives: &[u16],
+    vars: &[u32],
+    top: u64,
+    it: Node,
+) -> Step
+    requires { ⌜ (head .count .roles ≤ 16) × (boundIn top < 65535) × (boundIn top ≤ length (now vars)) × Granting (schemaOf (now file) head) Sends (now sends) × Granting (schemaOf (now file) head) Receives (now receives) ⌝ }
+    ensures { λ r. ⌜ Stepped (schemaOf (now (file .entry)) head) (now (vars .entry)) top it r ⌝ }
+{
+    let wrong = wrong_in(file, head, vars, top, it);
+    if wrong != 0 {
+        return Step {
+            wrong,
+            barred: 0,
+            binding: 0,
+            child: 0,
+        };
+    }
+    Step {
+        wrong: 0,
+        barred: barred_in(file, head, sends, receives, vars, top, it),
+        binding: binding_in(file, head, vars, top, it),
+        child: child_of(top, it),
+    }
 }
 
 // The sessions' contexts on the stack, session 1 on top, and how many they are.
@@ -139,7 +169,7 @@ fn answer_at(number: u16, i: u16) -> Verdict
 // The nodes in order, each in the context on top of the stack. The variables on the path to a node are the first of `vars`: a branch writes
 // only past those of its fork. There is room for as many as there are nodes, so that nothing is asked of the trees.
 fn walk(file: &[u8], head: Head, sends: &[u16], receives: &[u16]) -> Judged
-    requires { ⌜ Laid head × (now sends ≡ grantsFrom (schemaOf (now file) head) Sends 0 (length (now sends))) × (now receives ≡ grantsFrom (schemaOf (now file) head) Receives 0 (length (now receives))) ⌝ }
+    requires { ⌜ Laid head × Granting (schemaOf (now file) head) Sends (now sends) × Granting (schemaOf (now file) head) Receives (now receives) ⌝ }
     ensures { λ r. ⌜ r ≡ judgement (now (file .entry)) head ⌝ }
 {
     let fine = Verdict {
@@ -158,19 +188,17 @@ fn walk(file: &[u8], head: Head, sends: &[u16], receives: &[u16]) -> Judged
         }
         let top = stack[depth - 1];
         let it = node(file, head, i);
-        let wrong = wrong_in(file, head, &vars, top, it);
-        if wrong != 0 {
+        let step = step_at(file, head, sends, receives, &vars, top, it);
+        if step.wrong != 0 {
             return Judged {
-                names: answer_at(wrong, i),
+                names: answer_at(step.wrong, i),
                 roles: fine,
             };
         }
-        let barred = barred_in(file, head, sends, receives, &vars, top, it);
-        roles = or_else(roles, answer_at(barred, i));
-        vars[wide(bound_in(top))] = binding_in(file, head, &vars, top, it);
-        let child = child_of(top, it);
-        stack[depth - 1] = child;
-        stack[depth] = child;
+        roles = or_else(roles, answer_at(step.barred, i));
+        vars[wide(bound_in(top))] = step.binding;
+        stack[depth - 1] = step.child;
+        stack[depth] = step.child;
         depth = depth_below(it.tag, depth);
         i += 1;
     }
@@ -179,11 +207,10 @@ fn walk(file: &[u8], head: Head, sends: &[u16], receives: &[u16]) -> Judged
 
 // The same, with two tables of grants lent to work in.
 fn judge_by(file: &[u8], head: Head, sends: &mut [u16], receives: &mut [u16]) -> Judged
-    requires { ⌜ Laid head × (length (now sends) ≤ 33) × (length (now receives) ≤ 33) ⌝ }
+    requires { ⌜ Laid head × (length (now sends) ≡ 33) × (length (now receives) ≡ 33) × (now sends ≡ replicate (length (now sends)) 0) × (now receives ≡ replicate (length (now receives)) 0) ⌝ }
     ensures { λ r. ⌜ r ≡ judgement (now (file .entry)) head ⌝ }
 {
-    fill_grants(file, head, Way::Sends, sends);
-    fill_grants(file, head, Way::Receives, receives);
+    fill_grants(file, head, sends, receives);
     walk(file, head, sends, receives)
 }
 
@@ -194,11 +221,5 @@ pub fn judge(file: &[u8], head: Head) -> Judged
 {
     let mut sends = [0u16; 33];
     let mut receives = [0u16; 33];
-    let kinds = wide(head.count.kinds);
-    judge_by(
-        file,
-        head,
-        &mut sends[..kinds + 1],
-        &mut receives[..kinds + 1],
-    )
+    judge_by(file, head, &mut sends, &mut receives)
 }

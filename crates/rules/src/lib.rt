@@ -16,3 +16,12 @@ pub struct Judged {
     pub names: Verdict,
     pub roles: Verdict,
 }
+
+// What a node comes to: its refusals for names and for roles, 0 where there is none, and the variable and the context that it leaves to its child,
+// as they are kept.
+pub struct Step {
+    pub wrong: u16,
+    pub barred: u16,
+    pub binding: u32,
+    pub child: u64,
+}

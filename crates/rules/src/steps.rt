@@ -1,5 +1,4 @@
 // The rules at one node: its refusal for names, its refusal for roles, and what it leaves to its child.
-use super::Way;
 use super::grants::grant_of;
 use super::names::assigned_to;
 use super::names::carried_by;
@@ -23,7 +22,7 @@ ghost use lib.ListN.{length};
 ghost use Rattle.rules.specs.Schema.{schemaOf};
 ghost use Rattle.rules.specs.Names.{kindOf};
 ghost use Rattle.rules.specs.Rules.{namesFit, kindsFit, barred};
-ghost use Rattle.rules.specs.Kept.{grantsFrom, variable, varsOf, maskBelow, boundBelow, bindingBy, depthBelow};
+ghost use Rattle.rules.specs.Kept.{Granting, variable, varsOf, maskBelow, boundBelow, bindingBy, depthBelow};
 ghost use Rattle.rules.specs.declared.Way.the-variants.{Sends, Receives};
 
 // 9 before 10.
@@ -97,24 +96,18 @@ pub fn barred_at(
     mask: u16,
     it: Node,
 ) -> u16
-    requires { ⌜ (head .count .roles ≤ 16) × (bound ≤ length (now vars)) × (now sends ≡ grantsFrom (schemaOf (now file) head) Sends 0 (length (now sends))) × (now receives ≡ grantsFrom (schemaOf (now file) head) Receives 0 (length (now receives))) ⌝ }
+    requires { ⌜ (head .count .roles ≤ 16) × (bound ≤ length (now vars)) × Granting (schemaOf (now file) head) Sends (now sends) × Granting (schemaOf (now file) head) Receives (now receives) ⌝ }
     ensures { λ r. ⌜ r ≡ barred (schemaOf (now (file .entry)) head) (record { user = user; mask = mask; vars = varsOf (now (vars .entry)) bound }) it ⌝ }
 {
     let tag = it.tag;
     match tag {
         5 => {
             let kind = kind_of(file, head, vars, bound, it.f1);
-            unless(
-                is_able(mask, grant_of(file, head, Way::Receives, receives, kind)),
-                13,
-            )
+            unless(is_able(mask, grant_of(receives, kind)), 13)
         }
         6 => {
             let kind = kind_of(file, head, vars, bound, it.f1);
-            unless(
-                is_able(mask, grant_of(file, head, Way::Sends, sends, kind)),
-                13,
-            )
+            unless(is_able(mask, grant_of(sends, kind)), 13)
         }
         7 => unless(has_role(assigned_to(file, head, user), UserRole(it.f1)), 11),
         8 => unless(has_role(mask, UserRole(it.f1)), 12),

@@ -1,8 +1,8 @@
 //! Safe calls to the engine, which is proved to do what the paper says.
 //!
-//! [`read`] judges what a clinic file says: refusals 1 to 10, its form, its
-//! records, its trees, and the names and kinds in them. [`check`] judges the
-//! roles as well, 11 to 13; a file that it lets pass has none of the thirteen.
+//! [`read`] judges the format of a clinic file: refusals 1 to 8, its form, its
+//! records and its trees. [`check`] judges the names, kinds and roles as well,
+//! 9 to 13; a file that it lets pass has none of the thirteen.
 //!
 //! ```
 //! // Session 1 sends on channel 1 and on channel 2, with no role active.
@@ -66,7 +66,7 @@ extern "C" {
     fn pilzdamo_check(file: *const u8, len: usize) -> Verdict;
 }
 
-/// Judges a clinic file by refusals 1 to 10.
+/// Judges a clinic file by refusals 1 to 8.
 ///
 /// Any bytes will do, of any length. Nothing is written and nothing is kept.
 ///
@@ -82,12 +82,12 @@ pub fn read(file: &[u8]) -> Verdict {
 }
 
 /// Judges a clinic file by refusals 1 to 13: by those of [`read`], and then
-/// by the roles that are active at each node.
+/// by the names and kinds at each node and the roles that are active there.
 ///
 /// Any bytes will do, of any length. Nothing is written and nothing is kept.
 ///
 /// ```
-/// // What is refused by 1 to 10 is refused alike.
+/// // What is refused by 1 to 8 is refused alike.
 /// assert_eq!(pilzdamo::check(&[9; 26]), pilzdamo::read(&[9; 26]));
 /// ```
 #[inline]

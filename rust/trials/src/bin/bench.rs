@@ -51,7 +51,7 @@ fn row<V, W>(
 fn main() {
     let seed = trials::seed();
     println!("Nanoseconds a call; {SAMPLES} samples each, in turns.");
-    println!("Read: refusals 1 to 10. Check: 1 to 13. Largest: 1,024 nodes. Typical: 40 nodes.");
+    println!("Read: refusals 1 to 8. Check: 1 to 13. Largest: 1,024 nodes. Typical: 40 nodes.");
     println!("There is no output, so no buffers are cleared before a call.");
     println!();
     println!(
@@ -70,13 +70,7 @@ fn main() {
         ("typical", trials::typical(seed), 300),
     ] {
         let name = |question: &str| format!("{question} {size}");
-        row(
-            &name("read"),
-            &file,
-            calls,
-            pilzdamo::read,
-            second::read_names,
-        );
+        row(&name("read"), &file, calls, pilzdamo::read, second::read);
         row(&name("check"), &file, calls, pilzdamo::check, second::check);
     }
 }

@@ -1,79 +1,99 @@
--- The invariant: from k on the table is filled.
+-- The invariant: the tables have the roles 1 to n.
 use borrow.Author.Needs.{needs}
 use mathlib.Core.Path.{_≡_, refl, ap, _∙_}
-use Prim.Native.Nat.{_≤_, _-_}
+use Prim.Native.Nat.{_+_, _≤_, _-_}
 use native.Mathlib.Omega.{arith}
-use lib.ListN.{length, drop, length-set}
-use Rattle.rules.specs.Schema.{schemaOf, permitting}
-use Rattle.rules.specs.Kept.{grantsFrom}
-use Rattle.rules.proofs.GrantLaws.{grants-none, grants-more}
+use lib.ListN.{length}
+use Rattle.format.specs.declared.Role.{Role}
+use Rattle.rules.specs.declared.Way.the-variants.{Sends, Receives}
+use Rattle.rules.specs.Schema.{schemaOf}
+use Rattle.rules.specs.Kept.{grantsTo, addRole, Beyond}
+use Rattle.rules.proofs.GrantLaws.{grants-begin, grants-more, grants-length, beyond-none, beyond-more}
 use Rattle.rules.proofs.grants.fill_grants.Statement.{statement}
 use Rattle.rules.proofs.grants.fill_grants.Tie as tie
 use Rattle.rules.proofs.grants.fill_grants.Reads as reads
 use Rattle.rules.proofs.grants.fill_grants.Lts as lts
-use Rattle.format.proofs.words.narrow.Reads as narrow-reads
-use Rattle.rules.proofs.grants.permitting.Reads as permitting-reads
+use Rattle.format.proofs.sections.role.Reads as role-reads
+use Rattle.rules.proofs.grants.add_role.Reads as add-role-reads
 
 abbrev Inv-loop : tie.InvT-loop
-Inv-loop file head way table₀ k₀ table k =
-    (k ≤ length table₀) × (length table ≡ length table₀)
-    × (drop k table ≡ grantsFrom (schemaOf file head) way k (length table₀ - k))
+Inv-loop file head sends₀ receives₀ n₀ sends receives n =
+    (n ≤ head .count .roles) × (length sends ≡ length sends₀) × (length receives ≡ length receives₀)
+    × (sends ≡ grantsTo (schemaOf file head) Sends n 0 (length sends₀)) × (receives ≡ grantsTo (schemaOf file head) Receives n 0 (length receives₀))
+    × Beyond (schemaOf file head) Sends n × Beyond (schemaOf file head) Receives n
 
 abbrev μ-loop : tie.MeasureT-loop
-μ-loop file head way table₀ k₀ table k = k
+μ-loop file head sends₀ receives₀ n₀ sends receives n = head .count .roles - n
 
--- src/grants.rt:70:5
+-- src/grants.rt:84:5
 loop-holds : tie.Need-loop-holds Inv-loop μ-loop
-loop-holds c = let a = c .before .before .args in (omega arith, refl, grants-none (schemaOf (a .file .now) (a .head)) (a .way) (a .table .now) (length (a .table .now)) refl)
+loop-holds c = let a = c .before .before .before .args in
+    let D = schemaOf (a .file .now) (a .head) in
+    let p = c .before .before .before .pre in (
+      omega arith,
+      refl,
+      refl,
+      p .3 ∙ grants-begin D Sends 0 (length (a .sends .now)),
+      p .4 ∙ grants-begin D Receives 0 (length (a .receives .now)),
+      beyond-none D Sends,
+      beyond-none D Receives,
+    )
 
--- src/grants.rt:71:9
-sub-k : tie.Need-sub-k Inv-loop μ-loop
-sub-k c = search needs
+-- src/grants.rt:85:9
+add-n : tie.Need-add-n Inv-loop μ-loop
+add-n c = search needs
 
--- src/grants.rt:72:60
-narrow-requires : tie.Need-narrow-requires Inv-loop μ-loop
-narrow-requires c κs = search needs
+-- src/grants.rt:86:13
+role-requires : tie.Need-role-requires Inv-loop μ-loop
+role-requires c κs = search needs
 
--- src/grants.rt:72:20
-permitting-requires : tie.Need-permitting-requires Inv-loop μ-loop
-permitting-requires c κs = search needs
+-- src/grants.rt:87:9
+add-role-requires : tie.Need-add-role-requires Inv-loop μ-loop
+add-role-requires c κs = search needs
 
--- src/grants.rt:72:9
-mul-table : tie.Need-mul-table Inv-loop μ-loop
-mul-table c = search needs
+-- src/grants.rt:88:9
+add-role-requires-2 : tie.Need-add-role-requires-2 Inv-loop μ-loop
+add-role-requires-2 c κs = search needs
 
--- src/grants.rt:72:9
-slice-write-table : tie.Need-slice-write-table Inv-loop μ-loop
-slice-write-table c = search needs
-
--- src/grants.rt:70:5
+-- src/grants.rt:84:5
 loop-less : tie.Need-loop-less Inv-loop μ-loop
 loop-less c = search needs
 
--- src/grants.rt:70:5
+-- src/grants.rt:84:5
 loop-again : tie.Need-loop-again Inv-loop μ-loop
 loop-again c =
-    let a = c .before .before .before .before .before .before .args in
-    let l = c .before .before .before .loop in
+    let a = c .before .before .before .before .before .before .before .before .before .before .before .before .before .before .before .args in
+    let l = c .before .before .before .before .before .before .before .before .before .before .before .loop in
     let D = schemaOf (a .file .now) (a .head) in
-    let its : c .permitting .result ≡ permitting D (a .way) (l .k - 1) = c .permitting .ensures ∙ ap (permitting D (a .way)) (c .before .narrow .ensures) in (
+    let it = c .before .before .before .before .before .before .before .before .role in
+    let s = c .before .before .before .before .before .before .add-role .ensures ∙ ap (addRole (it .result .sends) (l .n + 1) 0) (l .inv .3)
+    ∙ grants-more (a .file .now) (a .head) Sends (it .result .sends) (l .n) 0 (length (a .sends .now)) (ap (λ (x : Role). x .sends) (it .ensures)) in
+    let r = c .before .before .add-role2 .ensures ∙ ap (addRole (it .result .receives) (l .n + 1) 0) (l .inv .4)
+    ∙ grants-more (a .file .now) (a .head) Receives (it .result .receives) (l .n) 0 (length (a .receives .now)) (ap (λ (x : Role). x .receives) (it .ensures)) in (
       omega arith,
-      simp length-set (omega arith),
-      grants-more D (a .way) (l .table) (l .k) (length (a .table .now)) (c .permitting .result) (omega arith) (omega arith) (l .inv .1) its (l .inv .2),
+      ap length s ∙ grants-length D Sends (l .n + 1) 0 (length (a .sends .now)),
+      ap length r ∙ grants-length D Receives (l .n + 1) 0 (length (a .receives .now)),
+      s,
+      r,
+      beyond-more (a .file .now) (a .head) Sends (it .result .sends) (l .n) (ap (λ (x : Role). x .sends) (it .ensures)) (omega arith) (l .inv .5),
+      beyond-more (a .file .now) (a .head) Receives (it .result .receives) (l .n) (ap (λ (x : Role). x .receives) (it .ensures)) (omega arith) (l .inv .6),
     )
 
--- src/grants.rt:65:1
+-- src/grants.rt:78:1
 same-length : tie.Need-same-length Inv-loop μ-loop
 same-length c = search needs
 
--- src/grants.rt:65:1
+-- src/grants.rt:78:1
+same-length-2 : tie.Need-same-length-2 Inv-loop μ-loop
+same-length-2 c = search needs
+
+-- src/grants.rt:78:1
 returns : tie.Need-returns Inv-loop μ-loop
 returns c =
-    let a = c .before .before .before .before .args in
-    let l = c .before .loop in
-    let z : l .k ≡ 0 = omega arith in
-    let n : length (a .table .now) - 0 ≡ length (a .table .now) = omega arith in
-    rw (z, n) at (l .inv .2)
+    let a = c .before .before .before .before .before .before .args in
+    let l = c .before .before .loop in
+    let all : l .n ≡ a .head .count .roles = omega arith in
+    (rw all at (l .inv .3), rw all at (l .inv .4), rw all at (l .inv .5), rw all at (l .inv .6))
 
 pub fill-grants-spec : {M : Type 1} → statement M
 fill-grants-spec =
@@ -82,12 +102,12 @@ fill-grants-spec =
     Inv-loop
     μ-loop
     loop-holds
-    sub-k
-    narrow-requires
-    permitting-requires
-    mul-table
-    slice-write-table
+    add-n
+    role-requires
+    add-role-requires
+    add-role-requires-2
     loop-less
     loop-again
     same-length
+    same-length-2
     returns)

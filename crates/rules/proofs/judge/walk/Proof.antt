@@ -23,7 +23,7 @@ use Rattle.rules.proofs.StackLaws.{
   belowOn,
 }
 use Rattle.rules.proofs.ChildLaws.{after-kept}
-use Rattle.rules.proofs.PassLaws.{Left, left-same, on-role, begins, goes-on, refuses, runs-out, ends}
+use Rattle.rules.proofs.PassLaws.{Left, left-same, begins, goes-on, refuses, runs-out, ends}
 use Rattle.rules.proofs.judge.walk.Statement.{statement}
 use Rattle.rules.proofs.judge.walk.Tie as tie
 use Rattle.rules.proofs.judge.walk.Reads as reads
@@ -32,12 +32,9 @@ use Rattle.format.proofs.answers.or_else.Reads as or-else-reads
 use Rattle.format.proofs.sections.node.Reads as node-reads
 use Rattle.format.proofs.words.wide.Reads as wide-reads
 use Rattle.rules.proofs.judge.answer_at.Reads as answer-at-reads
-use Rattle.rules.proofs.judge.barred_in.Reads as barred-in-reads
-use Rattle.rules.proofs.judge.binding_in.Reads as binding-in-reads
 use Rattle.rules.proofs.judge.bound_in.Reads as bound-in-reads
-use Rattle.rules.proofs.judge.child_of.Reads as child-of-reads
 use Rattle.rules.proofs.judge.open_sessions.Reads as open-sessions-reads
-use Rattle.rules.proofs.judge.wrong_in.Reads as wrong-in-reads
+use Rattle.rules.proofs.judge.step_at.Reads as step-at-reads
 use Rattle.rules.proofs.steps.depth_below.Reads as depth-below-reads
 
 abbrev Inv-loop : tie.InvT-loop
@@ -66,15 +63,15 @@ module _ (c : tie.Else1 Inv-loop μ-loop) where
   few : boundIn (getD (c .before .before .loop .stack) (c .before .before .loop .depth - 1) 0) < 1024
   few = omega (arith, low, within, c .before .before .before .before .before .before .before .before .before .pre .0 .nodes)
 
--- src/judge.rt:134:47
+-- src/judge.rt:208:47
 slice-aggregate-open-sessions : tie.Need-slice-aggregate-open-sessions Inv-loop μ-loop
 slice-aggregate-open-sessions c = search needs
 
--- src/judge.rt:134:9
+-- src/judge.rt:208:9
 open-sessions-requires : tie.Need-open-sessions-requires Inv-loop μ-loop
 open-sessions-requires c κs = search needs
 
--- src/judge.rt:139:5
+-- src/judge.rt:213:5
 loop-holds : tie.Need-loop-holds Inv-loop μ-loop
 loop-holds c = let a = c .before .before .before .before .before .before .args in
     let os = c .before .open-sessions .ensures in
@@ -88,170 +85,155 @@ loop-holds c = let a = c .before .before .before .before .before .before .args i
       begins (a .file .now) (a .head) _ ws (contexts-bare _ ws (os .2) ∙ os .3),
     )
 
--- src/judge.rt:141:13
+-- src/judge.rt:215:13
 returns : tie.Need-returns Inv-loop μ-loop
 returns c = let a = c .before .before .before .before .before .before .before .before .before .args in
     let l = c .before .before .loop in
     let none : stacked (l .stack) (l .depth) ≡ [] = ap (stacked (l .stack)) (c .if1 .taken) ∙ stacked-none (l .stack) in
     runs-out (a .file .now) (a .head) (l .i) (l .vars) (l .roles) (subst (λ ws. Left (a .file .now) (a .head) (l .i) (l .vars) ws (l .roles)) none (l .inv .6))
 
--- src/judge.rt:143:25
+-- src/judge.rt:217:25
 sub-top : tie.Need-sub-top Inv-loop μ-loop
 sub-top c = search needs
 
--- src/judge.rt:143:19
+-- src/judge.rt:217:19
 mul-top : tie.Need-mul-top Inv-loop μ-loop
 mul-top c = search needs
 
--- src/judge.rt:143:19
+-- src/judge.rt:217:19
 array-read-top : tie.Need-array-read-top Inv-loop μ-loop
 array-read-top c = search needs
 
--- src/judge.rt:144:13
+-- src/judge.rt:218:13
 node-requires : tie.Need-node-requires Inv-loop μ-loop
 node-requires c κs = search needs
 
--- src/judge.rt:145:42
-slice-aggregate-wrong-in : tie.Need-slice-aggregate-wrong-in Inv-loop μ-loop
-slice-aggregate-wrong-in c = search needs
+-- src/judge.rt:219:57
+slice-aggregate-step-at : tie.Need-slice-aggregate-step-at Inv-loop μ-loop
+slice-aggregate-step-at c = search needs
 
--- src/judge.rt:145:13
-wrong-in-requires : tie.Need-wrong-in-requires Inv-loop μ-loop
-wrong-in-requires c κs = omega (arith, few (c .before .before), c .before .before .before .before .loop .inv .3)
+-- src/judge.rt:219:13
+step-at-requires : tie.Need-step-at-requires Inv-loop μ-loop
+step-at-requires c κs =
+    let p = c .before .before .before .before .before .before .before .before .before .before .before .pre in (
+      p .0 .roles,
+      omega (arith, few (c .before .before)),
+      omega (arith, few (c .before .before), c .before .before .before .before .loop .inv .3),
+      p .1,
+      p .2,
+    )
 
--- src/judge.rt:148:24
+-- src/judge.rt:222:24
 answer-at-requires : tie.Need-answer-at-requires Inv-loop μ-loop
 answer-at-requires c κs = search needs
 
--- src/judge.rt:147:13
+-- src/judge.rt:221:13
 returns-2 : tie.Need-returns-2 Inv-loop μ-loop
-returns-2 c = let a = c .before .before .before .before .before .before .before .before .before .before .before .before .before .before .args in
-    let l = c .before .before .before .before .before .before .before .loop in
-    let left = subst (λ ws. Left (a .file .now) (a .head) (l .i) (l .vars) ws (l .roles)) (stacked-top (l .stack) (l .depth) (some (c .before .before .before .before .before))) (l .inv .6) in
+returns-2 c =
+    let a = c .before .before .before .before .before .before .before .before .before .before .before .before .before .before .before .args in
+    let l = c .before .before .before .before .before .before .before .before .loop in
+    let left = subst (λ ws. Left (a .file .now) (a .head) (l .i) (l .vars) ws (l .roles)) (stacked-top (l .stack) (l .depth) (some (c .before .before .before .before .before .before))) (l .inv .6) in
     ap (λ (x : Verdict). record { names = x; roles = fine }) (c .answer-at .ensures)
-    ∙ refuses (a .file .now) (a .head) (l .i) (l .vars) (stacked (l .stack) (l .depth - 1)) (getD (l .stack) (l .depth - 1) 0) (c .before .before .wrong-in .result) (l .roles)
-    (c .before .before .before .before .node .result) (l .inv .0) (within (c .before .before .before .before .before)) (c .before .before .before .before .node .ensures) (c .before .before .wrong-in .ensures) (c .before .if2 .taken) left
+    ∙ refuses (a .file .now) (a .head) (l .i) (l .vars) (stacked (l .stack) (l .depth - 1)) (getD (l .stack) (l .depth - 1) 0) (c .before .before .before .step-at .result .wrong) (l .roles)
+    (c .before .before .before .before .before .node .result) (l .inv .0) (within (c .before .before .before .before .before .before)) (c .before .before .before .before .before .node .ensures) (c .before .before .before .step-at .ensures .0) (c .before .if2 .taken) left
 
--- src/judge.rt:152:61
-slice-aggregate-barred-in : tie.Need-slice-aggregate-barred-in Inv-loop μ-loop
-slice-aggregate-barred-in c = search needs
-
--- src/judge.rt:152:13
-barred-in-requires : tie.Need-barred-in-requires Inv-loop μ-loop
-barred-in-requires c κs = (c .before .before .before .before .before .before .before .before .before .before .before .before .before .before .pre .0 .roles, omega (arith, few (c .before .before .before .before .before), c .before .before .before .before .before .before .before .loop .inv .3), c .before .before .before .before .before .before .before .before .before .before .before .before .before .before .pre .1, c .before .before .before .before .before .before .before .before .before .before .before .before .before .before .pre .2)
-
--- src/judge.rt:153:32
+-- src/judge.rt:226:32
 answer-at-requires-2 : tie.Need-answer-at-requires-2 Inv-loop μ-loop
 answer-at-requires-2 c κs = search needs
 
--- src/judge.rt:153:9
+-- src/judge.rt:226:9
 or-else-requires : tie.Need-or-else-requires Inv-loop μ-loop
 or-else-requires c κs = search needs
 
--- src/judge.rt:154:60
-slice-aggregate-binding-in : tie.Need-slice-aggregate-binding-in Inv-loop μ-loop
-slice-aggregate-binding-in c = search needs
-
--- src/judge.rt:154:37
-binding-in-requires : tie.Need-binding-in-requires Inv-loop μ-loop
-binding-in-requires c κs = omega (arith, few (c .before .before .before .before .before .before .before .before .before), c .before .before .before .before .before .before .before .before .before .before .before .loop .inv .3)
-
--- src/judge.rt:154:19
+-- src/judge.rt:227:19
 bound-in-requires : tie.Need-bound-in-requires Inv-loop μ-loop
 bound-in-requires c κs = search needs
 
--- src/judge.rt:154:14
+-- src/judge.rt:227:14
 wide-requires : tie.Need-wide-requires Inv-loop μ-loop
 wide-requires c κs = search needs
 
--- src/judge.rt:154:9
+-- src/judge.rt:227:9
 mul-vars : tie.Need-mul-vars Inv-loop μ-loop
 mul-vars c = search needs
 
--- src/judge.rt:154:9
+-- src/judge.rt:227:9
 array-write-vars : tie.Need-array-write-vars Inv-loop μ-loop
-array-write-vars c = omega (arith, few (c .before .before .before .before .before .before .before .before .before .before .before .before), c .before .bound-in .ensures, c .wide .ensures .0)
+array-write-vars c = omega (arith, few (c .before .before .before .before .before .before .before .before .before), c .before .bound-in .ensures, c .wide .ensures .0)
 
--- src/judge.rt:155:13
-child-of-requires : tie.Need-child-of-requires Inv-loop μ-loop
-child-of-requires c κs = (
-  omega (arith, few (c .before .before .before .before .before .before .before .before .before .before .before .before)),
-  λ t. let a = c .before .before .before .before .before .before .before .before .before .before .before .before .before .before .before .before .before .before .before .before .before .args in
-      let l = c .before .before .before .before .before .before .before .before .before .before .before .before .before .before .loop in
-      let none = sym (c .before .before .before .before .before .before .before .before .before .wrong-in .ensures) ∙ c .before .before .before .before .before .before .before .before .if2 .left in
-      omega (arith, on-role (schemaOf (a .file .now) (a .head)) (contextOf (l .vars) (getD (l .stack) (l .depth - 1) 0)) (c .before .before .before .before .before .before .before .before .before .before .before .node .result) none t, c .before .before .before .before .before .before .before .before .before .before .before .before .before .before .before .before .before .before .before .before .before .pre .0 .roles),
-)
-
--- src/judge.rt:156:15
+-- src/judge.rt:228:15
 sub-stack : tie.Need-sub-stack Inv-loop μ-loop
-sub-stack c = omega (arith, some (c .before .before .before .before .before .before .before .before .before .before .before .before .before))
+sub-stack c = omega (arith, some (c .before .before .before .before .before .before .before .before .before))
 
--- src/judge.rt:156:9
+-- src/judge.rt:228:9
 mul-stack : tie.Need-mul-stack Inv-loop μ-loop
-mul-stack c = omega (arith, room (c .before .before .before .before .before .before .before .before .before .before .before .before .before))
+mul-stack c = omega (arith, room (c .before .before .before .before .before .before .before .before .before))
 
--- src/judge.rt:156:9
+-- src/judge.rt:228:9
 array-write-stack : tie.Need-array-write-stack Inv-loop μ-loop
-array-write-stack c = omega (arith, room (c .before .before .before .before .before .before .before .before .before .before .before .before .before))
+array-write-stack c = omega (arith, room (c .before .before .before .before .before .before .before .before .before))
 
--- src/judge.rt:157:9
+-- src/judge.rt:229:9
 mul-stack-2 : tie.Need-mul-stack-2 Inv-loop μ-loop
-mul-stack-2 c = omega (arith, room (c .before .before .before .before .before .before .before .before .before .before .before .before .before))
+mul-stack-2 c = omega (arith, room (c .before .before .before .before .before .before .before .before .before))
 
--- src/judge.rt:157:9
+-- src/judge.rt:229:9
 array-write-stack-2 : tie.Need-array-write-stack-2 Inv-loop μ-loop
-array-write-stack-2 c = omega (arith, room (c .before .before .before .before .before .before .before .before .before .before .before .before .before))
+array-write-stack-2 c = omega (arith, room (c .before .before .before .before .before .before .before .before .before))
 
--- src/judge.rt:158:9
+-- src/judge.rt:230:9
 depth-below-requires : tie.Need-depth-below-requires Inv-loop μ-loop
-depth-below-requires c κs = (some (c .before .before .before .before .before .before .before .before .before .before .before .before .before), omega (arith, room (c .before .before .before .before .before .before .before .before .before .before .before .before .before)))
+depth-below-requires c κs = (some (c .before .before .before .before .before .before .before .before .before), omega (arith, room (c .before .before .before .before .before .before .before .before .before)))
 
--- src/judge.rt:159:9
+-- src/judge.rt:231:9
 add-i : tie.Need-add-i Inv-loop μ-loop
-add-i c = omega (arith, within (c .before .before .before .before .before .before .before .before .before .before .before .before .before .before), c .before .before .before .before .before .before .before .before .before .before .before .before .before .before .before .before .before .before .before .before .before .before .before .pre .0 .nodes)
+add-i c = omega (arith, within (c .before .before .before .before .before .before .before .before .before .before), c .before .before .before .before .before .before .before .before .before .before .before .before .before .before .before .before .before .before .before .pre .0 .nodes)
 
--- src/judge.rt:139:5
+-- src/judge.rt:213:5
 loop-less : tie.Need-loop-less Inv-loop μ-loop
-loop-less c = omega (arith, within (c .before .before .before .before .before .before .before .before .before .before .before .before .before .before))
+loop-less c = omega (arith, within (c .before .before .before .before .before .before .before .before .before .before))
 
--- src/judge.rt:139:5
+-- src/judge.rt:213:5
 loop-again : tie.Need-loop-again Inv-loop μ-loop
-loop-again c = let a = c .before .before .before .before .before .before .before .before .before .before .before .before .before .before .before .before .before .before .before .before .before .before .before .args in
-    let l = c .before .before .before .before .before .before .before .before .before .before .before .before .before .before .before .before .loop in
+loop-again c =
+    let a = c .before .before .before .before .before .before .before .before .before .before .before .before .before .before .before .before .before .before .before .args in
+    let l = c .before .before .before .before .before .before .before .before .before .before .before .before .loop in
+    let here = c .before .before .before .before .before .before .before .before .before .before in
     let D = schemaOf (a .file .now) (a .head) in
     let w = getD (l .stack) (l .depth - 1) 0 in
     let ws = stacked (l .stack) (l .depth - 1) in
-    let n = c .before .before .before .before .before .before .before .before .before .before .before .before .before .node .result in
-    let x = c .before .child-of .result in
-    let v = c .before .before .before .before .binding-in .result in
-    let b = c .before .before .before .before .before .before .before .before .barred-in .result in
-    let child = c .before .child-of .ensures in
-    let pos = some (c .before .before .before .before .before .before .before .before .before .before .before .before .before .before) in
+    let n = c .before .before .before .before .before .before .before .before .before .node .result in
+    let s = c .before .before .before .before .before .before .before .step-at .result in
+    let x = s .child in
+    let v = s .binding in
+    let good = c .before .before .before .before .before .if2 .left in
+    let step = c .before .before .before .before .before .before .before .step-at .ensures in
+    let its = step .1 good in
+    let pos = some here in
     let below = falls-top (l .stack) (l .depth) (l .i - 1) pos (l .inv .5) in
-    let long : l .depth < length (l .stack) = omega (arith, room (c .before .before .before .before .before .before .before .before .before .before .before .before .before .before), l .inv .2) in
-    let fits : boundIn w < length (l .vars) = omega (arith, few (c .before .before .before .before .before .before .before .before .before .before .before .before .before .before), l .inv .3) in
-    let least : boundIn w ≤ boundIn x = omega (arith, child .2, bound-least (n .tag) (boundIn w)) in
-    let most : boundIn x ≤ l .i = omega (arith, child .2, bound-most (n .tag) (boundIn w), low (c .before .before .before .before .before .before .before .before .before .before .before .before .before .before)) in
+    let long : l .depth < length (l .stack) = omega (arith, room here, l .inv .2) in
+    let fits : boundIn w < length (l .vars) = omega (arith, few here, l .inv .3) in
+    let least : boundIn w ≤ boundIn x = omega (arith, its .4, bound-least (n .tag) (boundIn w)) in
+    let most : boundIn x ≤ l .i = omega (arith, its .4, bound-most (n .tag) (boundIn w), low here) in
     let back : l .i + 1 - 1 ≡ l .i = omega arith in
-    let at : c .before .before .wide .result ≡ boundIn w = c .before .before .wide .ensures .0 ∙ c .before .before .before .bound-in .ensures in
+    let at : c .before .wide .result ≡ boundIn w = c .before .wide .ensures .0 ∙ c .before .before .bound-in .ensures in
     let stack : stacked (set (set (l .stack) (l .depth - 1) x) (l .depth) x) (c .depth-below .result) ≡ belowOn (n .tag) x ws =
     ap (stacked (set (set (l .stack) (l .depth - 1) x) (l .depth) x)) (c .depth-below .ensures) ∙ stacked-below (n .tag) (l .stack) (l .depth) x pos long in
-    let roles : c .before .before .before .before .before .before .or-else .result ≡ orElse (l .roles) (answerAt b (l .i)) = c .before .before .before .before .before .before .or-else .ensures ∙ ap (orElse (l .roles)) (c .before .before .before .before .before .before .before .answer-at2 .ensures) in
-    let none = sym (c .before .before .before .before .before .before .before .before .before .before .before .wrong-in .ensures) ∙ c .before .before .before .before .before .before .before .before .before .before .if2 .left in
-    let next = after-kept D (l .vars) w x v n fits (child .0) (child .1) (child .2) (c .before .before .before .before .binding-in .ensures) ws (below .1) in
+    let roles : c .before .before .before .or-else .result ≡ orElse (l .roles) (answerAt (s .barred) (l .i)) = c .before .before .before .or-else .ensures ∙ ap (orElse (l .roles)) (c .before .before .before .before .answer-at2 .ensures) in
+    let next = after-kept D (l .vars) w x v n fits (its .2) (its .3) (its .4) (its .1) ws (below .1) in
     let left = subst (λ ys. Left (a .file .now) (a .head) (l .i) (l .vars) ys (l .roles)) (stacked-top (l .stack) (l .depth) pos) (l .inv .6) in (
       omega arith,
-      omega (arith, within (c .before .before .before .before .before .before .before .before .before .before .before .before .before .before)),
+      omega (arith, within here),
       simp length-set (l .inv .2),
       simp length-set (l .inv .3),
       omega (arith, c .depth-below .ensures, depth-most (n .tag) (l .depth), l .inv .4),
       rw (back, stack) (falls-below (n .tag) x w (l .i) ws least most (below .1)),
       left-same (a .file .now) (a .head) (ap (λ j. set (l .vars) j v) at) stack roles
-          (goes-on (a .file .now) (a .head) (l .i) (l .vars) ws (set (l .vars) (boundIn w) v) (belowOn (n .tag) x ws) w b (l .roles) n (l .inv .0) (within (c .before .before .before .before .before .before .before .before .before .before .before .before .before .before))
-          (c .before .before .before .before .before .before .before .before .before .before .before .before .before .node .ensures) none (c .before .before .before .before .before .before .before .before .barred-in .ensures) next left),
+          (goes-on (a .file .now) (a .head) (l .i) (l .vars) ws (set (l .vars) (boundIn w) v) (belowOn (n .tag) x ws) w (s .barred) (l .roles) n (l .inv .0) (within here)
+          (c .before .before .before .before .before .before .before .before .before .node .ensures) (sym (step .0) ∙ good) (its .0) next left),
     )
 
--- src/judge.rt:125:1
+-- src/judge.rt:199:1
 returns-3 : tie.Need-returns-3 Inv-loop μ-loop
 returns-3 c = let a = c .before .before .before .before .before .before .before .before .args in
     let l = c .before .loop in
@@ -271,21 +253,16 @@ walk-spec =
     mul-top
     array-read-top
     node-requires
-    slice-aggregate-wrong-in
-    wrong-in-requires
+    slice-aggregate-step-at
+    step-at-requires
     answer-at-requires
     returns-2
-    slice-aggregate-barred-in
-    barred-in-requires
     answer-at-requires-2
     or-else-requires
-    slice-aggregate-binding-in
-    binding-in-requires
     bound-in-requires
     wide-requires
     mul-vars
     array-write-vars
-    child-of-requires
     sub-stack
     mul-stack
     array-write-stack

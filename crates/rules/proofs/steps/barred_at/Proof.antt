@@ -75,7 +75,7 @@ returns c = let a = c .before .before .before .before .before .before .before .b
     let D = schemaOf (a .file .now) (a .head) in
     let ctx : Context = record { user = a .user; mask = a .mask; vars = varsOf (a .vars .now) (a .bound) } in
     c .unless .ensures ∙ ap (λ p. cond p 0 13) (c .before .is-able .ensures)
-    ∙ barred-receive D ctx (a .it) (c .before .before .before .kind-of .result) (c .before .before .grant-of .result) (c .before .before .before .before .match .keys1) (c .before .before .before .kind-of .ensures) (c .before .before .grant-of .ensures)
+    ∙ barred-receive D ctx (a .it) (c .before .before .before .kind-of .result) (c .before .before .grant-of .result) (c .before .before .before .before .match .keys1) (c .before .before .before .kind-of .ensures) (c .before .before .grant-of .ensures ∙ c .before .before .before .before .before .before .before .before .before .pre .3 (c .before .before .before .kind-of .result))
 
 -- src/steps.rt:90:1
 returns-2 : tie.Need-returns-2
@@ -83,7 +83,7 @@ returns-2 c = let a = c .before .before .before .before .before .before .before 
     let D = schemaOf (a .file .now) (a .head) in
     let ctx : Context = record { user = a .user; mask = a .mask; vars = varsOf (a .vars .now) (a .bound) } in
     c .unless2 .ensures ∙ ap (λ p. cond p 0 13) (c .before .is-able2 .ensures)
-    ∙ barred-send D ctx (a .it) (c .before .before .before .kind-of2 .result) (c .before .before .grant-of2 .result) (c .before .before .before .before .match .keys2) (c .before .before .before .kind-of2 .ensures) (c .before .before .grant-of2 .ensures)
+    ∙ barred-send D ctx (a .it) (c .before .before .before .kind-of2 .result) (c .before .before .grant-of2 .result) (c .before .before .before .before .match .keys2) (c .before .before .before .kind-of2 .ensures) (c .before .before .grant-of2 .ensures ∙ c .before .before .before .before .before .before .before .before .before .pre .2 (c .before .before .before .kind-of2 .result))
 
 -- src/steps.rt:90:1
 returns-3 : tie.Need-returns-3
