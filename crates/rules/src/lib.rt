@@ -1,8 +1,8 @@
 // The rules of the check: grants, operands, the rules at one node, and the pass over the nodes that finds 9 to 13.
 pub mod grants;
 pub mod judge;
-pub mod names;
-pub mod steps;
+mod names;
+mod steps;
 
 use format::Verdict;
 
