@@ -14,10 +14,11 @@ use Rattle.format.specs.declared.HeadAnswer.the-variants.{Fine, Refused}
 use Rattle.format.proofs.HeadLaws.{headed, head-number}
 use Rattle.reading.proofs.LongLaws.{Stands, stands-judged}
 use Rattle.reading.specs.Reading.{after, bodyAnswer, reading}
-use Rattle.rules.specs.Checking.{namesAnswer, rolesAnswer}
-use Rattle.rules.specs.Kept.{judgement}
+use Rattle.rules.specs.Checking.{namesAnswer, rolesAnswer, judgement}
 use Rattle.rules.specs.declared.Judged.{Judged}
-use Rattle.checking.specs.Check.{readingNames, checking, judgedBody}
+use Rattle.checking.specs.Check.{readingNames, checking, judgedBody, surveyed}
+use Rattle.rules.specs.Candidates.{candidatesIn}
+use lib.Seq.{sets}
 
 -- three answers in order: the last counts only where the first two refuse nothing
 in-order : (v n r : Verdict) → orElse v (orElse n r) ≡ orElse (orElse v n) (cond (eqb (orElse v n .number) 0) r fine)
@@ -61,6 +62,12 @@ module _ (f : List ℕ) where
     pub body-passes : bodyAnswer f h .number ≡ 0 → judgedBody f h ≡ judgement f h
     body-passes q = rw (eq-eqb (bodyAnswer f h .number) 0 q)
 
+    pub table-stays : (old : List ℕ) → (bodyAnswer f h .number ≡ 0 → ⊥) → surveyed f h old ≡ old
+    table-stays old l = rw (ne-eqb (bodyAnswer f h .number) 0 l)
+
+    pub table-filled : (old : List ℕ) → bodyAnswer f h .number ≡ 0 → surveyed f h old ≡ sets old 1 (candidatesIn f h)
+    table-filled old q = rw (eq-eqb (bodyAnswer f h .number) 0 q)
+
 -- what a caller keeps of a long input has the check's answer on the whole
 pub stands-check : (kept input : List ℕ) → Stands kept input → checking kept ≡ checking input
-stands-check = stands-judged checking check-refused
+stands-check = stands-judged (λ n. refused n 0) checking check-refused

@@ -6,13 +6,22 @@ use format::answers::or_else;
 use format::header::read_head;
 use rules::Judged;
 ghost use mathlib.Core.Path.{_≡_};
+ghost use mathlib.Core.Bool.{cond};
+ghost use lib.Dec.{eqb};
+ghost use lib.ListN.{length};
+ghost use lib.Seq.{sets};
+ghost use Rattle.format.specs.Answers.{orElse};
 ghost use Rattle.format.specs.Header.{Laid};
-ghost use Rattle.checking.specs.Check.{readingNames, checking, judgedBody};
+ghost use Rattle.reading.specs.Reading.{bodyAnswer};
+ghost use Rattle.rules.specs.Checking.{namesAnswer};
+ghost use Rattle.rules.specs.Candidates.{candidatesIn};
+ghost use Rattle.checking.specs.Check.{readingNames, checking, judgedBody, surveyed};
 
-// What follows the head: 6 to 10 in `names`; 11 to 13 in `roles`, where nothing of 6 to 10 is refused.
-fn judge_body(file: &[u8], head: Head) -> Judged
-    requires { ⌜ Laid head ⌝ }
-    ensures { λ r. ⌜ r ≡ judgedBody (now (file .entry)) head ⌝ }
+// What follows the head: 6 to 10 in `names`; 11 to 13 in `roles`, where nothing of 6 to 10 is refused. Where 6 to 8 refuse nothing, each node's
+// candidates are stored in the table from index 1 on, as far as 9 and 10 refuse nothing.
+fn judge_body(file: &[u8], head: Head, table: &mut [u16]) -> Judged
+    requires { ⌜ Laid head × (length (now table) ≡ 1025) ⌝ }
+    ensures { λ r. ⌜ (r ≡ judgedBody (now (file .entry)) head) × (now (table .exit) ≡ surveyed (now (file .entry)) head (now (table .entry))) ⌝ }
 {
     let first = reading::body(file, head);
     if first.number != 0 {
@@ -24,7 +33,16 @@ fn judge_body(file: &[u8], head: Head) -> Judged
             },
         };
     }
-    rules::judge::judge(file, head)
+    rules::judge::judge(file, head, table)
+}
+
+// What placing needs of the pass: the first of 6 to 10, and where there is none each node's candidates in the table.
+pub fn survey(file: &[u8], head: Head, roles: &mut [u16]) -> Verdict
+    requires { ⌜ Laid head × (length (now roles) ≡ 1025) ⌝ }
+    ensures { λ r. ⌜ (r ≡ orElse (bodyAnswer (now (file .entry)) head) (namesAnswer (now (file .entry)) head))
+        × (now (roles .exit) ≡ cond (eqb (bodyAnswer (now (file .entry)) head .number) 0) (sets (now (roles .entry)) 1 (candidatesIn (now (file .entry)) head)) (now (roles .entry))) ⌝ }
+{
+    judge_body(file, head, roles).names
 }
 
 // The first of the refusals 1 to 10.
@@ -34,7 +52,10 @@ pub fn read_names(file: &[u8]) -> Verdict
     let answer = read_head(file);
     match answer {
         HeadAnswer::Refused(number) => Verdict { number, place: 0 },
-        HeadAnswer::Fine(head) => judge_body(file, head).names,
+        HeadAnswer::Fine(head) => {
+            let mut roles = [0u16; 1025];
+            survey(file, head, &mut roles)
+        }
     }
 }
 
@@ -46,7 +67,8 @@ pub fn check(file: &[u8]) -> Verdict
     match answer {
         HeadAnswer::Refused(number) => Verdict { number, place: 0 },
         HeadAnswer::Fine(head) => {
-            let judged = judge_body(file, head);
+            let mut roles = [0u16; 1025];
+            let judged = judge_body(file, head, &mut roles);
             or_else(judged.names, judged.roles)
         }
     }

@@ -3,6 +3,7 @@ use Prim.Native.Nat.{ℕ, _+_, _*_, _-_, _/_, _%_, _≤_}
 use mathlib.Core.List.{List, [], _∷_, _++_, map}
 use lib.ListN.{length, getD}
 unfoldable pub use Rattle.format.specs.Words.{bytesOf}
+unfoldable pub use Rattle.format.specs.Sections.{nodeWords}
 use Rattle.masks.specs.Mask.{NamesOnly, Within}
 use Rattle.format.specs.declared.Role.{Role}
 use Rattle.format.specs.declared.Channel.{Channel}
@@ -61,10 +62,6 @@ channelWords (c ∷ cs) = c .owner ∷ c .kind .0 ∷ channelWords cs
 unfoldable pub sessionWords : ℕ → List Routine → List ℕ
 sessionWords at [] = []
 sessionWords at (s ∷ ss) = s .user ∷ s .mask ∷ at ∷ sessionWords (past at (s .tree)) ss
-
-unfoldable pub nodeWords : List Node → List ℕ
-nodeWords [] = []
-nodeWords (n ∷ ns) = n .tag ∷ n .f1 ∷ n .f2 ∷ nodeWords ns
 
 -- the version, the six counts, and the offsets of the six sections, back to back
 unfoldable pub headWords : ℕ → ℕ → ℕ → ℕ → ℕ → ℕ → List ℕ

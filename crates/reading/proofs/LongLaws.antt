@@ -104,12 +104,12 @@ stands-on kept input piece s = go (leb (length input) 6876) refl
         }
 
 -- It has the answer of the whole input, whoever judges, if the judge begins by the head.
-module _ (judge : List ℕ → Verdict) (by-head : (f : List ℕ) (n : ℕ) → headOf f ≡ Refused n → judge f ≡ refused n 0) where
+module _ {A : Type 0} (refusal : ℕ → A) (judge : List ℕ → A) (by-head : (f : List ℕ) (n : ℕ) → headOf f ≡ Refused n → judge f ≡ refusal n) where
   pub long-alike : (f g : List ℕ) → 6875 ≤ length f → 6875 ≤ length g → length f % 2 ≡ length g % 2 → take 26 f ≡ take 26 g → judge f ≡ judge g
   long-alike f g f-long g-long parity start =
       let heads : headAt f ≡ headAt g = sym (head-start f) ∙ ap headAt start ∙ head-start g in
       by-head f (longNumber (length f % 2) (headAt f)) (long-head f f-long)
-      ∙ ap₂ (λ odd h. refused (longNumber odd h) 0) parity heads
+      ∙ ap₂ (λ odd h. refusal (longNumber odd h)) parity heads
       ∙ sym (by-head g (longNumber (length g % 2) (headAt g)) (long-head g g-long))
 
   pub stands-judged : (kept input : List ℕ) → Stands kept input → judge kept ≡ judge input
@@ -126,7 +126,7 @@ unfolding reading
 refused-head f n e = ap (after f) e
 
 pub stands-read : (kept input : List ℕ) → Stands kept input → reading kept ≡ reading input
-stands-read = stands-judged reading refused-head
+stands-read = stands-judged (λ n. refused n 0) reading refused-head
 
 -- so the first 6,875 or 6,876 bytes of a long input have its answer
 pub enough-read : (f : List ℕ) → reading (take (enough (length f)) f) ≡ reading f

@@ -1,22 +1,22 @@
--- What the pass over the nodes keeps: tables of grants, the variables bound on the path, and the contexts that wait, each as numbers in an array.
+-- What the pass over the nodes keeps: tables of grants and of names, and the contexts that wait, each as numbers in an array.
 use Prim.Native.Nat.{ℕ, zero, suc, _+_, _*_, _-_, _/_, _%_, _≤_, _<_}
 use mathlib.Core.Path.{_≡_}
-use mathlib.Core.Bool.{Bool, true, false, cond, _&&_, _||_}
+use mathlib.Core.Bool.{Bool, true, false, cond, not, _&&_}
 use mathlib.Core.List.{List, [], _∷_, map}
+use lib.Bits.{bitAnd}
 use lib.Dec.{eqb, leb, ltb}
-use lib.ListN.{getD, take}
+use lib.ListN.{getD, take, drop}
 use Rattle.masks.specs.Mask.{has, with, without}
 use Rattle.format.specs.Answers.{fine, refused}
 use Rattle.format.specs.declared.Verdict.{Verdict}
-use Rattle.format.specs.declared.Head.{Head}
 use Rattle.format.specs.declared.Node.{Node}
 use Rattle.rules.specs.declared.Way.{Way}
-use Rattle.rules.specs.declared.Judged.{Judged}
+use Rattle.rules.specs.declared.Way.the-variants.{Sends, Receives}
+use Rattle.rules.specs.declared.Point.{Point}
 use Rattle.rules.specs.declared.Step.{Step}
 use Rattle.rules.specs.Schema.{Schema, permittingTo, permitting}
-use Rattle.rules.specs.Names.{Bound, unbound, within, kindOf}
-use Rattle.rules.specs.Rules.{Context, wrong, barred}
-use Rattle.rules.specs.Checking.{namesAnswer, rolesAnswer}
+use Rattle.rules.specs.Names.{Bound, within}
+use Rattle.rules.specs.Rules.{Context}
 
 -- those of the roles 1 to r that permit a step on the kinds k, k + 1, .. (n of them), a mask each
 unfoldable pub grantsTo : Schema → Way → ℕ → ℕ → ℕ → List ℕ
@@ -39,69 +39,129 @@ Beyond D w r = (k : ℕ) → 32 < k → permittingTo D w (record { 0 = k }) r �
 abbrev pub Granting : Schema → Way → List ℕ → Type 0
 Granting D w l = (k : ℕ) → getD l k 0 ≡ permitting D w k
 
--- a variable as one number: its kind in the low word, and 1 in the high one where new bound it
-abbrev pub variable : ℕ → Bound
-variable v = record { sort = v % 65536; fresh = eqb (v / 65536) 1 }
+-- what an operand names, as one number: its kind in the low word, and above it 0 where it names nothing, 1 where nobody may receive on it, and
+-- else 2 and the user who may
+abbrev pub kindIn : ℕ → ℕ
+kindIn e = e % 65536
 
--- the variables bound on a path are the first so many of the array
-unfoldable pub varsOf : List ℕ → ℕ → List Bound
-varsOf vs b = map variable (take b vs)
+abbrev pub ownerIn : ℕ → ℕ
+ownerIn e = e / 65536
 
--- an operand that names something, where so many variables are bound
-abbrev pub namedBy : Head → ℕ → ℕ → Bool
-namedBy h b x = within (h .count .users) x || ((ltb 256 x && leb x (256 + h .count .channels)) || (ltb 511 x && ltb x (512 + b)))
+abbrev pub entry : ℕ → ℕ → ℕ
+entry k o = k + 65536 * o
 
--- a context as one number: its user, its mask, and how many variables it has
-abbrev pub userIn : ℕ → ℕ
-userIn w = w % 65536
+-- the table of names: below 512 the users 1 to u and the channels 1 to c
+abbrev pub isMade : ℕ → ℕ → Bool
+isMade c x = ltb 256 x && leb x (256 + c)
 
-abbrev pub maskIn : ℕ → ℕ
-maskIn w = w / 65536 % 65536
+abbrev pub kindTo : Schema → ℕ → ℕ → ℕ
+kindTo D c x = cond (isMade c x) (D .kind (x - 256)) 0
 
-abbrev pub boundIn : ℕ → ℕ
-boundIn w = w / 4294967296 % 65536
+abbrev pub ownerTo : Schema → ℕ → ℕ → ℕ → ℕ
+ownerTo D u c x = cond (within u x) 1 (cond (isMade c x) (D .owner (x - 256) + 2) 0)
 
-abbrev pub packing : ℕ → ℕ → ℕ → ℕ
-packing u m b = u + (65536 * m + 4294967296 * b)
+abbrev pub Named : Schema → ℕ → ℕ → List ℕ → Type 0
+Named D u c t = (x : ℕ) → x < 512 → (kindIn (getD t x 0) ≡ kindTo D c x) × (ownerIn (getD t x 0) ≡ ownerTo D u c x)
 
-abbrev pub contextOf : List ℕ → ℕ → Context
-contextOf vs w = record { user = userIn w; mask = maskIn w; vars = varsOf vs (boundIn w) }
+-- and from 512 on the variables bound on a path, in a session of the user u
+abbrev pub variable : ℕ → ℕ → Bound
+variable u e = record { sort = kindIn e; fresh = eqb (ownerIn e) (u + 2) }
+
+unfoldable pub varsOf : ℕ → List ℕ → ℕ → List Bound
+varsOf u t b = map (variable u) (take b (drop 512 t))
+
+-- what an operand names, where b variables are bound
+abbrev pub look : List ℕ → ℕ → ℕ → ℕ
+look t b x = cond (ltb x (512 + b)) (getD t x 0) 0
+
+abbrev pub contextOf : List ℕ → Point → Context
+contextOf t p = record { user = p .user; mask = p .mask; vars = varsOf (p .user) t (p .bound) }
+
+-- a context as one number
+abbrev pub packing : Point → ℕ
+packing p = p .user + (65536 * p .assigned + (4294967296 * p .mask + 281474976710656 * p .bound))
+
+abbrev pub unpacking : ℕ → Point
+unpacking w = record { user = w % 65536; assigned = w / 65536 % 65536; mask = w / 4294967296 % 65536; bound = w / 281474976710656 }
 
 -- a stack in an array: the last of the elements in use is its top
 unfoldable pub stacked : List ℕ → ℕ → List ℕ
 stacked a zero = []
 stacked a (suc d) = getD a d 0 ∷ stacked a d
 
--- of the contexts on a stack none has more variables than the one above it, and the top has b at most
-abbrev pub Falls : ℕ → List ℕ → Type 0
-Falls b [] = Unit {0}
-Falls b (w ∷ ws) = (boundIn w ≤ b) × Falls (boundIn w) ws
+abbrev pub waiting : List ℕ → ℕ → List Point
+waiting a d = map unpacking (stacked a d)
 
--- what a node makes of the mask, of the number of variables, and of how many contexts wait
-abbrev pub maskBelow : ℕ → ℕ → ℕ → ℕ
-maskBelow tag x m = cond (eqb tag 7) (with m x) (cond (eqb tag 8) (without m x) m)
+-- of the contexts that wait none has more variables than the one above it, the top has b at most, and each has its user's roles
+abbrev pub Waits : Schema → ℕ → List Point → Type 0
+Waits D b [] = Unit {0}
+Waits D b (p ∷ ps) = (p .bound ≤ b) × (p .assigned ≡ D .assigned (p .user)) × Waits D (p .bound) ps
 
-abbrev pub boundBelow : ℕ → ℕ → ℕ
-boundBelow tag b = cond (eqb tag 3 || eqb tag 5) (b + 1) b
+-- 9 before 10
+abbrev pub graded : Bool → Bool → ℕ
+graded names kinds = cond names (cond kinds 0 10) 9
 
-abbrev pub depthBelow : ℕ → ℕ → ℕ
-depthBelow tag d = cond (eqb tag 0) (d - 1) (cond (eqb tag 1) (d + 1) d)
+abbrev pub something : ℕ → Bool
+something e = not (eqb (ownerIn e) 0)
 
--- the variable that new, or receive, binds; others bind none
-abbrev pub bindingBy : ℕ → ℕ → ℕ → Bound
-bindingBy tag x carried = cond (eqb tag 3) (record { sort = x; fresh = true }) (cond (eqb tag 5) (record { sort = carried; fresh = false }) unbound)
+-- what a node comes to: the child has the same context, one variable more, or another active set
+abbrev pub staying : Point → ℕ → ℕ → ℕ → Step
+staying p w b r = record { wrong = w; barred = b; roles = r; binding = 0; child = p }
 
--- what a node comes to in the context w: where its names are not refused, also its roles' refusal and what it leaves to its child
-abbrev pub Stepped : Schema → List ℕ → ℕ → Node → Step → Type 0
-Stepped D vs w n s = (s .wrong ≡ wrong D (contextOf vs w) n)
-    × (s .wrong ≡ 0
-    → (s .barred ≡ barred D (contextOf vs w) n) × (variable (s .binding) ≡ bindingBy (n .tag) (n .f1) (D .carries (kindOf D (varsOf vs (boundIn w)) (n .f1))))
-    × (userIn (s .child) ≡ userIn w) × (maskIn (s .child) ≡ maskBelow (n .tag) (n .f1) (maskIn w)) × (boundIn (s .child) ≡ boundBelow (n .tag) (boundIn w)))
+abbrev pub binding : Point → ℕ → ℕ → ℕ → ℕ → Step
+binding p w b r v = record {
+  wrong = w;
+  barred = b;
+  roles = r;
+  binding = v;
+  child = record { user = p .user; assigned = p .assigned; mask = p .mask; bound = p .bound + 1 };
+}
+
+abbrev pub turning : Point → ℕ → ℕ → Step
+turning p b m = record {
+  wrong = 0;
+  barred = b;
+  roles = p .assigned;
+  binding = 0;
+  child = record { user = p .user; assigned = p .assigned; mask = m; bound = p .bound };
+}
+
+-- the same tag by tag, from what the operands name
+abbrev pub newStep : ℕ → Point → ℕ → Step
+newStep kinds p x = binding p (graded (within kinds x) true) 0 (p .assigned) (entry x (p .user + 2))
+
+abbrev pub compareStep : Point → ℕ → ℕ → Step
+compareStep p d e = staying p (graded (something d && something e) (eqb (kindIn d) (kindIn e))) 0 (p .assigned)
+
+abbrev pub receiveStep : Schema → Point → ℕ → Step
+receiveStep D p d =
+    binding p (graded (something d) (eqb (ownerIn d) (p .user + 2))) (cond (not (eqb (bitAnd (p .mask) (permitting D Receives (kindIn d))) 0)) 0 13)
+    (bitAnd (p .assigned) (permitting D Receives (kindIn d)))
+    (entry (D .carries (kindIn d)) 1)
+
+abbrev pub sendStep : Schema → Point → ℕ → ℕ → Step
+sendStep D p d e =
+    staying p (graded (something d && something e) (ltb 0 (kindIn d) && eqb (kindIn e) (D .carries (kindIn d))))
+    (cond (not (eqb (bitAnd (p .mask) (permitting D Sends (kindIn d))) 0)) 0 13)
+    (bitAnd (p .assigned) (permitting D Sends (kindIn d)))
+
+abbrev pub onStep : ℕ → Point → ℕ → Step
+onStep roles p x = cond (within roles x) (turning p (cond (has (p .assigned) x) 0 11) (with (p .mask) x)) (staying p 9 0 0)
+
+abbrev pub offStep : ℕ → Point → ℕ → Step
+offStep roles p x = cond (within roles x) (turning p (cond (has (p .mask) x) 0 12) (without (p .mask) x)) (staying p 9 0 0)
+
+-- a node that is no end and no fork
+unfoldable pub stepOf : Schema → List ℕ → Point → Node → Step
+stepOf D t p n =
+    cond (eqb (n .tag) 2) (staying p 0 0 (p .assigned))
+    (cond (eqb (n .tag) 3) (newStep (D .kinds) p (n .f1))
+    (cond (eqb (n .tag) 4) (compareStep p (look t (p .bound) (n .f1)) (look t (p .bound) (n .f2)))
+    (cond (eqb (n .tag) 5) (receiveStep D p (look t (p .bound) (n .f1)))
+    (cond (eqb (n .tag) 6) (sendStep D p (look t (p .bound) (n .f1)) (look t (p .bound) (n .f2)))
+    (cond (eqb (n .tag) 7) (onStep (D .roles) p (n .f1))
+    (cond (eqb (n .tag) 8) (offStep (D .roles) p (n .f1)) (staying p (graded (within (D .roles) (n .f1)) true) 0 (p .assigned))))))))
 
 -- a node's refusal as an answer; 0 refuses nothing
 abbrev pub answerAt : ℕ → ℕ → Verdict
 answerAt n i = cond (eqb n 0) fine (refused n i)
-
--- 9 to 13 in one answer: 11 to 13 count only where 9 and 10 refuse nothing
-abbrev pub judgement : List ℕ → Head → Judged
-judgement f h = record { names = namesAnswer f h; roles = cond (eqb (namesAnswer f h .number) 0) (rolesAnswer f h) fine }

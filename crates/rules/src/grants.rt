@@ -13,8 +13,8 @@ ghost use mathlib.Core.Path.{_≡_};
 ghost use mathlib.Core.Bool.{cond};
 ghost use Prim.Native.Nat.{_≤_};
 ghost use lib.ListN.{length, getD, replicate};
-ghost use Rattle.masks.specs.Mask.{with};
-ghost use Rattle.rules.specs.Schema.{granted, schemaOf, permits, permittingTo, permitting};
+ghost use Rattle.masks.specs.Mask.{has, with};
+ghost use Rattle.rules.specs.Schema.{granted, schemaOf, permits};
 ghost use Rattle.rules.specs.Kept.{grantsFrom, addRole, Beyond};
 ghost use Rattle.rules.specs.declared.Way.the-variants.{Sends, Receives};
 
@@ -27,14 +27,21 @@ fn granted_by(way: Way, it: Role) -> u32
     }
 }
 
-// The one lookup of a grant: whether a user's role permits sending, or receiving, on a channel's kind.
+// The one decision by a grant: whether a role, as its record says, permits sending, or receiving, on a channel's kind.
+fn role_permits(it: Role, way: Way, kind: ChannelKind) -> bool
+    ensures { λ r. ⌜ r ≡ has (granted way it) (kind .0) ⌝ }
+{
+    has_kind(granted_by(way, it), kind)
+}
+
+// The one lookup of a grant, by a user's role and a channel's kind. There is no role 0.
 pub fn permits(file: &[u8], head: Head, way: Way, role: UserRole, kind: ChannelKind) -> bool
     ensures { λ r. ⌜ r ≡ permits (schemaOf (now (file .entry)) head) way role kind ⌝ }
 {
     if role.0 == 0 {
         return false;
     }
-    has_kind(granted_by(way, sections::role(file, head, role.0)), kind)
+    role_permits(sections::role(file, head, role.0), way, kind)
 }
 
 fn with_if(mask: u16, role: UserRole, yes: bool) -> u16
@@ -47,30 +54,16 @@ fn with_if(mask: u16, role: UserRole, yes: bool) -> u16
     mask
 }
 
-// The roles that permit it, as a mask.
-pub fn permitting(file: &[u8], head: Head, way: Way, kind: ChannelKind) -> u16
-    requires { ⌜ head .count .roles ≤ 16 ⌝ }
-    ensures { λ r. ⌜ r ≡ permittingTo (schemaOf (now (file .entry)) head) way kind (head .count .roles) ⌝ }
-{
-    let mut mask: u16 = 0;
-    let mut n: u16 = 0;
-    while n < head.count.roles {
-        let role = UserRole(n + 1);
-        mask = with_if(mask, role, permits(file, head, way, role, kind));
-        n += 1;
-    }
-    mask
-}
-
-// One role more in the masks for the kinds 0, 1, .., where the role has the kind.
-fn add_role(table: &mut [u16], role: UserRole, kinds: u32)
+// One role more in the masks for the kinds 0, 1, .., where the role's record permits it.
+fn add_role(table: &mut [u16], role: UserRole, it: Role, way: Way)
     requires { ⌜ (role .0 ≤ 16) × (length (now table) ≤ 33) ⌝ }
-    ensures { λ r. ⌜ now (table .exit) ≡ addRole kinds (role .0) 0 (now (table .entry)) ⌝ }
+    ensures { λ r. ⌜ now (table .exit) ≡ addRole (granted way it) (role .0) 0 (now (table .entry)) ⌝ }
 {
     let mut k = table.len();
     while 0 < k {
         k -= 1;
-        table[k] = with_if(table[k], role, has_kind(kinds, ChannelKind(narrow(k))));
+        let kind = ChannelKind(narrow(k));
+        table[k] = with_if(table[k], role, role_permits(it, way, kind));
     }
 }
 
@@ -85,8 +78,8 @@ pub fn fill_grants(file: &[u8], head: Head, sends: &mut [u16], receives: &mut [u
     while n < head.count.roles {
         n += 1;
         let it = sections::role(file, head, n);
-        add_role(sends, UserRole(n), it.sends);
-        add_role(receives, UserRole(n), it.receives);
+        add_role(sends, UserRole(n), it, Way::Sends);
+        add_role(receives, UserRole(n), it, Way::Receives);
     }
 }
 

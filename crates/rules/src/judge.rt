@@ -1,15 +1,12 @@
-// The pass over the nodes, which finds 9 to 13.
+// The pass over the nodes, which finds 9 to 13 and each node's candidates.
 use super::Judged;
-use super::Step;
+use super::Point;
 use super::grants::fill_grants;
-use super::steps::barred_at;
-use super::steps::binding_at;
-use super::steps::bound_below;
-use super::steps::depth_below;
-use super::steps::mask_below;
-use super::steps::wrong_at;
+use super::names::assigned_to;
+use super::names::name_channels;
+use super::names::name_users;
+use super::steps::step_at;
 use format::Head;
-use format::Node;
 use format::Verdict;
 use format::answers::or_else;
 use format::sections::node;
@@ -20,134 +17,51 @@ ghost use mathlib.Core.Path.{_≡_};
 ghost use mathlib.Core.List.{[], map};
 ghost use Prim.Native.Nat.{_≤_, _<_};
 ghost use lib.ListN.{length, replicate};
+ghost use lib.Seq.{sets};
 ghost use Rattle.format.specs.Header.{Laid};
 ghost use Rattle.rules.specs.Schema.{schemaOf};
-ghost use Rattle.rules.specs.Names.{kindOf};
-ghost use Rattle.rules.specs.Rules.{wrong, barred};
-ghost use Rattle.rules.specs.Checking.{openings};
-ghost use Rattle.rules.specs.Kept.{Granting, variable, varsOf, userIn, maskIn, boundIn, packing, contextOf, stacked, Falls, maskBelow, boundBelow, bindingBy, Stepped, answerAt, judgement};
+ghost use Rattle.rules.specs.Checking.{openings, judgement};
+ghost use Rattle.rules.specs.Candidates.{candidatesIn};
+ghost use Rattle.rules.specs.Kept.{Granting, Named, packing, unpacking, contextOf, waiting, Waits, answerAt};
 ghost use Rattle.rules.specs.declared.Way.the-variants.{Sends, Receives};
 
-// A context as one number: its user, its mask, and how many variables it has.
-fn packed(user: u16, mask: u16, bound: u16) -> u64
-    ensures { λ r. ⌜ r ≡ packing user mask bound ⌝ }
+// A context as one number, and read back.
+fn packed(it: Point) -> u64
+    ensures { λ r. ⌜ (r ≡ packing it) × (unpacking r ≡ it) ⌝ }
 {
-    (user as u64) + (65536 * (mask as u64) + 4294967296 * (bound as u64))
+    (it.user as u64)
+        + (65536 * (it.assigned as u64)
+            + (4294967296 * (it.mask as u64) + 281474976710656 * (it.bound as u64)))
 }
 
-fn user_in(w: u64) -> u16
-    ensures { λ r. ⌜ r ≡ userIn w ⌝ }
+fn unpacked(w: u64) -> Point
+    ensures { λ r. ⌜ r ≡ unpacking w ⌝ }
 {
-    (w % 65536) as u16
-}
-
-fn mask_in(w: u64) -> u16
-    ensures { λ r. ⌜ r ≡ maskIn w ⌝ }
-{
-    (w / 65536 % 65536) as u16
-}
-
-fn bound_in(w: u64) -> u16
-    ensures { λ r. ⌜ r ≡ boundIn w ⌝ }
-{
-    (w / 4294967296 % 65536) as u16
-}
-
-// The context that a node leaves to each child, but for the variable that it binds.
-fn child_of(top: u64, it: Node) -> u64
-    requires { ⌜ (boundIn top < 65535) × (it .tag ≡ 7 → it .f1 ≤ 16) ⌝ }
-    ensures { λ r. ⌜ (userIn r ≡ userIn top) × (maskIn r ≡ maskBelow (it .tag) (it .f1) (maskIn top)) × (boundIn r ≡ boundBelow (it .tag) (boundIn top)) ⌝ }
-{
-    packed(
-        user_in(top),
-        mask_below(it.tag, it.f1, mask_in(top)),
-        bound_below(it.tag, bound_in(top)),
-    )
-}
-
-// The rules at a node in a context that is kept so, with its variables: the refusal for names, the refusal for roles, what it binds.
-fn wrong_in(file: &[u8], head: Head, vars: &[u32], top: u64, it: Node) -> u16
-    requires { ⌜ boundIn top ≤ length (now vars) ⌝ }
-    ensures { λ r. ⌜ r ≡ wrong (schemaOf (now (file .entry)) head) (contextOf (now (vars .entry)) top) it ⌝ }
-{
-    wrong_at(file, head, vars, bound_in(top), user_in(top), it)
-}
-
-fn barred_in(
-    file: &[u8],
-    head: Head,
-    sends: &[u16],
-    receives: &[u16],
-    vars: &[u32],
-    top: u64,
-    it: Node,
-) -> u16
-    requires { ⌜ (head .count .roles ≤ 16) × (boundIn top ≤ length (now vars)) × Granting (schemaOf (now file) head) Sends (now sends) × Granting (schemaOf (now file) head) Receives (now receives) ⌝ }
-    ensures { λ r. ⌜ r ≡ barred (schemaOf (now (file .entry)) head) (contextOf (now (vars .entry)) top) it ⌝ }
-{
-    let bound = bound_in(top);
-    barred_at(
-        file,
-        head,
-        sends,
-        receives,
-        vars,
-        bound,
-        user_in(top),
-        mask_in(top),
-        it,
-    )
-}
-
-fn binding_in(file: &[u8], head: Head, vars: &[u32], top: u64, it: Node) -> u32
-    requires { ⌜ boundIn top ≤ length (now vars) ⌝ }
-    ensures { λ r. ⌜ variable r ≡ bindingBy (it .tag) (it .f1)
-        (schemaOf (now (file .entry)) head .carries (kindOf (schemaOf (now (file .entry)) head) (varsOf (now (vars .entry)) (boundIn top)) (it .f1))) ⌝ }
-{
-    binding_at(file, head, vars, bound_in(top), it)
-}
-
-// All of it in one.
-fn step_at(
-    file: &[u8],
-    head: Head,
-    sends: &[u16],
-    receives: &[u16],
-    vars: &[u32],
-    top: u64,
-    it: Node,
-) -> Step
-    requires { ⌜ (head .count .roles ≤ 16) × (boundIn top < 65535) × (boundIn top ≤ length (now vars)) × Granting (schemaOf (now file) head) Sends (now sends) × Granting (schemaOf (now file) head) Receives (now receives) ⌝ }
-    ensures { λ r. ⌜ Stepped (schemaOf (now (file .entry)) head) (now (vars .entry)) top it r ⌝ }
-{
-    let wrong = wrong_in(file, head, vars, top, it);
-    if wrong != 0 {
-        return Step {
-            wrong,
-            barred: 0,
-            binding: 0,
-            child: 0,
-        };
-    }
-    Step {
-        wrong: 0,
-        barred: barred_in(file, head, sends, receives, vars, top, it),
-        binding: binding_in(file, head, vars, top, it),
-        child: child_of(top, it),
+    Point {
+        user: (w % 65536) as u16,
+        assigned: (w / 65536 % 65536) as u16,
+        mask: (w / 4294967296 % 65536) as u16,
+        bound: (w / 281474976710656) as u16,
     }
 }
 
 // The sessions' contexts on the stack, session 1 on top, and how many they are.
 fn open_sessions(file: &[u8], head: Head, stack: &mut [u64]) -> usize
     requires { ⌜ (head .count .sessions ≤ 32) × (length (now stack) ≡ 1057) ⌝ }
-    ensures { λ r. ⌜ (r ≡ head .count .sessions) × (length (now (stack .exit)) ≡ 1057) × Falls 0 (stacked (now (stack .exit)) r)
-        × (map (contextOf []) (stacked (now (stack .exit)) r) ≡ openings (now (file .entry)) head) ⌝ }
+    ensures { λ r. ⌜ (r ≡ head .count .sessions) × (length (now (stack .exit)) ≡ 1057) × Waits (schemaOf (now (file .entry)) head) 0 (waiting (now (stack .exit)) r)
+        × (map (contextOf []) (waiting (now (stack .exit)) r) ≡ openings (now (file .entry)) head) ⌝ }
 {
     let sessions = wide(head.count.sessions);
     let mut depth: usize = 0;
     while depth < sessions {
         let it = session(file, head, narrow(sessions - depth));
-        stack[depth] = packed(it.user, it.mask, 0);
+        let assigned = assigned_to(file, head, it.user);
+        stack[depth] = packed(Point {
+            user: it.user,
+            assigned,
+            mask: it.mask,
+            bound: 0,
+        });
         depth += 1;
     }
     depth
@@ -166,11 +80,19 @@ fn answer_at(number: u16, i: u16) -> Verdict
     Verdict { number, place: i }
 }
 
-// The nodes in order, each in the context on top of the stack. The variables on the path to a node are the first of `vars`: a branch writes
-// only past those of its fork. There is room for as many as there are nodes, so that nothing is asked of the trees.
-fn walk(file: &[u8], head: Head, sends: &[u16], receives: &[u16]) -> Judged
-    requires { ⌜ Laid head × Granting (schemaOf (now file) head) Sends (now sends) × Granting (schemaOf (now file) head) Receives (now receives) ⌝ }
-    ensures { λ r. ⌜ r ≡ judgement (now (file .entry)) head ⌝ }
+// The nodes in order, each in its context; those of the nodes that wait are on the stack. The variables on the path to a node stand in the table of
+// names from 512 on: a branch writes only past those of its fork. There is room for as many as there are nodes, so that nothing is asked of the trees.
+fn walk(
+    file: &[u8],
+    head: Head,
+    sends: &[u16],
+    receives: &[u16],
+    names: &mut [u64],
+    roles: &mut [u16],
+) -> Judged
+    requires { ⌜ Laid head × Granting (schemaOf (now file) head) Sends (now sends) × Granting (schemaOf (now file) head) Receives (now receives)
+        × (length (now names) ≡ 1537) × Named (schemaOf (now file) head) (head .count .users) (head .count .channels) (now names) × (length (now roles) ≡ 1025) ⌝ }
+    ensures { λ r. ⌜ (r ≡ judgement (now (file .entry)) head) × (now (roles .exit) ≡ sets (now (roles .entry)) 1 (candidatesIn (now (file .entry)) head)) ⌝ }
 {
     let fine = Verdict {
         number: 0,
@@ -178,48 +100,87 @@ fn walk(file: &[u8], head: Head, sends: &[u16], receives: &[u16]) -> Judged
     };
     let mut stack = [0u64; 1057];
     let mut depth = open_sessions(file, head, &mut stack);
-    let mut vars = [0u32; 1025];
-    let mut roles = fine;
+    if depth == 0 {
+        return Judged {
+            names: fine,
+            roles: fine,
+        };
+    }
+    depth -= 1;
+    let mut here = unpacked(stack[depth]);
+    let mut first = fine;
     let nodes = head.count.nodes;
     let mut i: u16 = 1;
     while i <= nodes {
-        if depth == 0 {
-            return Judged { names: fine, roles };
-        }
-        let top = stack[depth - 1];
         let it = node(file, head, i);
-        let step = step_at(file, head, sends, receives, &vars, top, it);
-        if step.wrong != 0 {
-            return Judged {
-                names: answer_at(step.wrong, i),
-                roles: fine,
-            };
-        }
-        roles = or_else(roles, answer_at(step.barred, i));
-        vars[wide(bound_in(top))] = step.binding;
-        stack[depth - 1] = step.child;
-        stack[depth] = step.child;
-        depth = depth_below(it.tag, depth);
+        let tag = it.tag;
+        let at = i;
         i += 1;
+        match tag {
+            0 => {
+                roles[wide(at)] = here.assigned;
+                if depth == 0 {
+                    return Judged {
+                        names: fine,
+                        roles: first,
+                    };
+                }
+                depth -= 1;
+                here = unpacked(stack[depth]);
+            }
+            1 => {
+                roles[wide(at)] = here.assigned;
+                stack[depth] = packed(here);
+                depth += 1;
+            }
+            _ => {
+                let step = step_at(file, head, sends, receives, names, here, it);
+                if step.wrong != 0 {
+                    return Judged {
+                        names: answer_at(step.wrong, at),
+                        roles: fine,
+                    };
+                }
+                first = or_else(first, answer_at(step.barred, at));
+                roles[wide(at)] = step.roles;
+                names[512 + wide(here.bound)] = step.binding;
+                here = step.child;
+            }
+        }
     }
-    Judged { names: fine, roles }
+    Judged {
+        names: fine,
+        roles: first,
+    }
 }
 
-// The same, with two tables of grants lent to work in.
-fn judge_by(file: &[u8], head: Head, sends: &mut [u16], receives: &mut [u16]) -> Judged
-    requires { ⌜ Laid head × (length (now sends) ≡ 33) × (length (now receives) ≡ 33) × (now sends ≡ replicate (length (now sends)) 0) × (now receives ≡ replicate (length (now receives)) 0) ⌝ }
-    ensures { λ r. ⌜ r ≡ judgement (now (file .entry)) head ⌝ }
+// The same, with tables of grants and of names lent to work in.
+fn judge_by(
+    file: &[u8],
+    head: Head,
+    sends: &mut [u16],
+    receives: &mut [u16],
+    names: &mut [u64],
+    roles: &mut [u16],
+) -> Judged
+    requires { ⌜ Laid head × (length (now sends) ≡ 33) × (length (now receives) ≡ 33) × (length (now names) ≡ 1537) × (length (now roles) ≡ 1025)
+        × (now sends ≡ replicate (length (now sends)) 0) × (now receives ≡ replicate (length (now receives)) 0) × (now names ≡ replicate (length (now names)) 0) ⌝ }
+    ensures { λ r. ⌜ (r ≡ judgement (now (file .entry)) head) × (now (roles .exit) ≡ sets (now (roles .entry)) 1 (candidatesIn (now (file .entry)) head)) ⌝ }
 {
     fill_grants(file, head, sends, receives);
-    walk(file, head, sends, receives)
+    name_users(file, head, names);
+    name_channels(file, head, names);
+    walk(file, head, sends, receives, names, roles)
 }
 
-// 9 and 10, and where these refuse nothing 11 to 13, each at its lowest node.
-pub fn judge(file: &[u8], head: Head) -> Judged
-    requires { ⌜ Laid head ⌝ }
-    ensures { λ r. ⌜ r ≡ judgement (now (file .entry)) head ⌝ }
+// 9 and 10, and where these refuse nothing 11 to 13, each at its lowest node. As far as 9 and 10 refuse nothing, each node's candidates are stored:
+// the roles of the session's user that it may be given by placing.
+pub fn judge(file: &[u8], head: Head, roles: &mut [u16]) -> Judged
+    requires { ⌜ Laid head × (length (now roles) ≡ 1025) ⌝ }
+    ensures { λ r. ⌜ (r ≡ judgement (now (file .entry)) head) × (now (roles .exit) ≡ sets (now (roles .entry)) 1 (candidatesIn (now (file .entry)) head)) ⌝ }
 {
     let mut sends = [0u16; 33];
     let mut receives = [0u16; 33];
-    judge_by(file, head, &mut sends, &mut receives)
+    let mut names = [0u64; 1537];
+    judge_by(file, head, &mut sends, &mut receives, &mut names, roles)
 }

@@ -17,11 +17,21 @@ pub struct Judged {
     pub roles: Verdict,
 }
 
-// What a node comes to: its refusals for names and for roles, 0 where there is none, and the variable and the context that it leaves to its child,
-// as they are kept.
+// A context as the pass keeps it: the session's user, the roles assigned to the user, the active set, and how many variables are bound. What these
+// are stands in the table of names.
+pub struct Point {
+    pub user: u16,
+    pub assigned: u16,
+    pub mask: u16,
+    pub bound: u16,
+}
+
+// What a node comes to: its refusals for names and for roles, 0 where there is none, the roles that it may be given by placing, and the variable
+// and the context that it leaves to its child.
 pub struct Step {
     pub wrong: u16,
     pub barred: u16,
-    pub binding: u32,
-    pub child: u64,
+    pub roles: u16,
+    pub binding: u64,
+    pub child: Point,
 }

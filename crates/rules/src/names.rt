@@ -1,17 +1,17 @@
-// Operands: what they name, and of which kind it is.
+// Operands: the table of what they name, and what the file's tables say of it.
 use format::Head;
 use format::sections::carries;
 use format::sections::channel;
 use format::sections::user_roles;
 use format::words::wide;
 ghost use mathlib.Core.Path.{_≡_};
-ghost use mathlib.Core.Bool.{_&&_};
-ghost use Prim.Native.Nat.{_+_, _-_, _/_, _%_, _≤_};
-ghost use lib.Dec.{eqb, leb, ltb};
-ghost use lib.ListN.{length, getD};
+ghost use mathlib.Core.Bool.{not};
+ghost use Prim.Native.Nat.{_+_, _≤_};
+ghost use lib.Dec.{eqb};
+ghost use lib.ListN.{length, replicate};
 ghost use Rattle.rules.specs.Schema.{schemaOf};
-ghost use Rattle.rules.specs.Names.{unbound, within, isChannel, kindOf, mine};
-ghost use Rattle.rules.specs.Kept.{variable, varsOf, namedBy};
+ghost use Rattle.rules.specs.Names.{within};
+ghost use Rattle.rules.specs.Kept.{kindIn, ownerIn, entry, look, Named};
 
 // An item of 1 to n.
 pub fn is_within(n: u16, x: u16) -> bool
@@ -20,91 +20,74 @@ pub fn is_within(n: u16, x: u16) -> bool
     (0 < x) & (x <= n)
 }
 
-fn is_channel(channels: u16, x: u16) -> bool
-    ensures { λ r. ⌜ r ≡ (ltb 256 x && leb x (256 + channels)) ⌝ }
+// What is named, as one number: its kind, and who may receive on it.
+pub fn entry(kind: u16, owner: u32) -> u64
+    ensures { λ r. ⌜ r ≡ entry kind owner ⌝ }
 {
-    (256 < x) & ((x as usize) <= 256 + (channels as usize))
+    (kind as u64) + 65536 * (owner as u64)
 }
 
-fn is_variable(bound: u16, x: u16) -> bool
-    ensures { λ r. ⌜ r ≡ (ltb 511 x && ltb x (512 + bound)) ⌝ }
+pub fn owned_by(user: u16) -> u32
+    ensures { λ r. ⌜ r ≡ user + 2 ⌝ }
 {
-    (511 < x) & ((x as usize) < 512 + (bound as usize))
+    (user as u32) + 2
 }
 
-// Whether an operand names something, where so many variables are bound.
-pub fn is_named(head: Head, bound: u16, x: u16) -> bool
-    ensures { λ r. ⌜ r ≡ namedBy head bound x ⌝ }
+pub fn kind_in(e: u64) -> u16
+    ensures { λ r. ⌜ r ≡ kindIn e ⌝ }
 {
-    is_within(head.count.users, x) | (is_channel(head.count.channels, x) | is_variable(bound, x))
+    (e % 65536) as u16
 }
 
-// Where a variable is kept.
-fn index_of(x: u16) -> usize
-    ensures { λ r. ⌜ r ≡ x - 512 ⌝ }
+// Something is named at all.
+pub fn is_named(e: u64) -> bool
+    ensures { λ r. ⌜ r ≡ not (eqb (ownerIn e) 0) ⌝ }
 {
-    if x < 512 {
-        return 0;
-    }
-    (x as usize) - 512
+    e / 65536 != 0
 }
 
-fn sort_in(v: u32) -> u16
-    ensures { λ r. ⌜ r ≡ v % 65536 ⌝ }
+// A channel that the user owns, or a variable that new bound.
+pub fn is_mine(e: u64, user: u16) -> bool
+    ensures { λ r. ⌜ r ≡ eqb (ownerIn e) (user + 2) ⌝ }
 {
-    (v % 65536) as u16
+    e / 65536 == (user as u64) + 2
 }
 
-fn fresh_in(v: u32) -> bool
-    ensures { λ r. ⌜ r ≡ eqb (v / 65536) 1 ⌝ }
+// What an operand names, where so many variables are bound.
+pub fn look(names: &[u64], bound: u16, x: u16) -> u64
+    requires { ⌜ 512 + bound ≤ length (now names) ⌝ }
+    ensures { λ r. ⌜ r ≡ look (now (names .entry)) bound x ⌝ }
 {
-    v / 65536 == 1
-}
-
-// The variable that an operand names, as it is kept.
-fn variable_at(vars: &[u32], bound: u16, x: u16) -> u32
-    requires { ⌜ bound ≤ length (now vars) ⌝ }
-    ensures { λ r. ⌜ variable r ≡ getD (varsOf (now (vars .entry)) bound) (x - 512) unbound ⌝ }
-{
-    let k = index_of(x);
-    if k < wide(bound) {
-        return vars[k];
+    let k = wide(x);
+    if k < 512 + wide(bound) {
+        return names[k];
     }
     0
 }
 
-// The kind of what is named, 0 for a plain value.
-pub fn kind_of(file: &[u8], head: Head, vars: &[u32], bound: u16, x: u16) -> u16
-    requires { ⌜ bound ≤ length (now vars) ⌝ }
-    ensures { λ r. ⌜ r ≡ kindOf (schemaOf (now (file .entry)) head) (varsOf (now (vars .entry)) bound) x ⌝ }
+// The users as operands: plain values.
+pub fn name_users(file: &[u8], head: Head, names: &mut [u64])
+    requires { ⌜ (head .count .users ≤ 32) × (length (now names) ≡ 1537) × (now names ≡ replicate (length (now names)) 0) ⌝ }
+    ensures { λ r. ⌜ (length (now (names .exit)) ≡ 1537) × Named (schemaOf (now (file .entry)) head) (head .count .users) 0 (now (names .exit)) ⌝ }
 {
-    if is_within(head.count.users, x) {
-        return 0;
+    let mut n: u16 = 0;
+    while n < head.count.users {
+        n += 1;
+        names[wide(n)] = entry(0, 1);
     }
-    if is_channel(head.count.channels, x) {
-        let it = channel(file, head, x - 256);
-        return it.kind.0;
-    }
-    sort_in(variable_at(vars, bound, x))
 }
 
-// A channel that the user owns.
-fn is_owned(file: &[u8], head: Head, user: u16, x: u16) -> bool
-    ensures { λ r. ⌜ r ≡ (isChannel (schemaOf (now (file .entry)) head) x && eqb (schemaOf (now (file .entry)) head .owner (x - 256)) user) ⌝ }
+// The channels as operands, after the users.
+pub fn name_channels(file: &[u8], head: Head, names: &mut [u64])
+    requires { ⌜ (head .count .users ≤ 32) × (head .count .channels ≤ 64) × (length (now names) ≡ 1537) × Named (schemaOf (now file) head) (head .count .users) 0 (now names) ⌝ }
+    ensures { λ r. ⌜ (length (now (names .exit)) ≡ 1537) × Named (schemaOf (now (file .entry)) head) (head .count .users) (head .count .channels) (now (names .exit)) ⌝ }
 {
-    if !is_channel(head.count.channels, x) {
-        return false;
+    let mut n: u16 = 0;
+    while n < head.count.channels {
+        n += 1;
+        let it = channel(file, head, n);
+        names[256 + wide(n)] = entry(it.kind.0, owned_by(it.owner));
     }
-    let it = channel(file, head, x - 256);
-    it.owner == user
-}
-
-// A channel that the user owns, or a variable that new bound.
-pub fn is_mine(file: &[u8], head: Head, vars: &[u32], bound: u16, user: u16, x: u16) -> bool
-    requires { ⌜ bound ≤ length (now vars) ⌝ }
-    ensures { λ r. ⌜ r ≡ mine (schemaOf (now (file .entry)) head) user (varsOf (now (vars .entry)) bound) x ⌝ }
-{
-    is_owned(file, head, user, x) | (is_variable(bound, x) & fresh_in(variable_at(vars, bound, x)))
 }
 
 // What the channels of a kind carry: of none, a plain value.

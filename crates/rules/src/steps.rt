@@ -1,33 +1,34 @@
-// The rules at one node: its refusal for names, its refusal for roles, and what it leaves to its child.
+// The rules at one node, in its context: its refusal for names, its refusal for roles, its candidates, and what it leaves to its child.
+use super::Point;
+use super::Step;
 use super::grants::grant_of;
-use super::names::assigned_to;
 use super::names::carried_by;
+use super::names::entry;
 use super::names::is_mine;
 use super::names::is_named;
 use super::names::is_within;
-use super::names::kind_of;
+use super::names::kind_in;
+use super::names::look;
+use super::names::owned_by;
 use format::Head;
 use format::Node;
-use format::words::paired;
 use masks::UserRole;
 use masks::has_role;
 use masks::with_role;
 use masks::without_role;
 ghost use mathlib.Core.Path.{_≡_};
 ghost use mathlib.Core.Bool.{cond, not};
-ghost use Prim.Native.Nat.{_≤_, _<_};
+ghost use Prim.Native.Nat.{_+_, _≤_, _<_};
 ghost use lib.Bits.{bitAnd};
 ghost use lib.Dec.{eqb};
 ghost use lib.ListN.{length};
 ghost use Rattle.rules.specs.Schema.{schemaOf};
-ghost use Rattle.rules.specs.Names.{kindOf};
-ghost use Rattle.rules.specs.Rules.{namesFit, kindsFit, barred};
-ghost use Rattle.rules.specs.Kept.{Granting, variable, varsOf, maskBelow, boundBelow, bindingBy, depthBelow};
+ghost use Rattle.rules.specs.Kept.{Granting, kindIn, look, graded, staying, binding, turning, newStep, receiveStep, sendStep, onStep, offStep, stepOf};
 ghost use Rattle.rules.specs.declared.Way.the-variants.{Sends, Receives};
 
 // 9 before 10.
 fn graded(names: bool, kinds: bool) -> u16
-    ensures { λ r. ⌜ r ≡ cond names (cond kinds 0 10) 9 ⌝ }
+    ensures { λ r. ⌜ r ≡ graded names kinds ⌝ }
 {
     if !names {
         return 9;
@@ -36,36 +37,6 @@ fn graded(names: bool, kinds: bool) -> u16
         return 10;
     }
     0
-}
-
-// The refusal of a node for its names, 0 where there is none.
-pub fn wrong_at(file: &[u8], head: Head, vars: &[u32], bound: u16, user: u16, it: Node) -> u16
-    requires { ⌜ bound ≤ length (now vars) ⌝ }
-    ensures { λ r. ⌜ r ≡ cond (namesFit (schemaOf (now (file .entry)) head) (varsOf (now (vars .entry)) bound) it)
-        (cond (kindsFit (schemaOf (now (file .entry)) head) user (varsOf (now (vars .entry)) bound) it) 0 10) 9 ⌝ }
-{
-    let tag = it.tag;
-    match tag {
-        0 | 1 | 2 => 0,
-        3 => graded(is_within(head.count.kinds, it.f1), true),
-        4 => graded(
-            is_named(head, bound, it.f1) & is_named(head, bound, it.f2),
-            kind_of(file, head, vars, bound, it.f1) == kind_of(file, head, vars, bound, it.f2),
-        ),
-        5 => graded(
-            is_named(head, bound, it.f1),
-            is_mine(file, head, vars, bound, user, it.f1),
-        ),
-        6 => {
-            let kind = kind_of(file, head, vars, bound, it.f1);
-            graded(
-                is_named(head, bound, it.f1) & is_named(head, bound, it.f2),
-                (0 < kind)
-                    & (kind_of(file, head, vars, bound, it.f2) == carried_by(file, head, kind)),
-            )
-        }
-        _ => graded(is_within(head.count.roles, it.f1), true),
-    }
 }
 
 // One active role permits it.
@@ -84,85 +55,167 @@ fn unless(fits: bool, number: u16) -> u16
     number
 }
 
-// The refusal of a node for its roles, 0 where there is none. The tables have the roles that permit sending, and receiving, on each kind.
-pub fn barred_at(
+// The child has the same context.
+fn staying(here: Point, wrong: u16, barred: u16, roles: u16) -> Step
+    ensures { λ r. ⌜ r ≡ staying here wrong barred roles ⌝ }
+{
+    Step {
+        wrong,
+        barred,
+        roles,
+        binding: 0,
+        child: here,
+    }
+}
+
+// The child has one variable more.
+fn binding(here: Point, wrong: u16, barred: u16, roles: u16, variable: u64) -> Step
+    requires { ⌜ here .bound < 65535 ⌝ }
+    ensures { λ r. ⌜ r ≡ binding here wrong barred roles variable ⌝ }
+{
+    Step {
+        wrong,
+        barred,
+        roles,
+        binding: variable,
+        child: Point {
+            user: here.user,
+            assigned: here.assigned,
+            mask: here.mask,
+            bound: here.bound + 1,
+        },
+    }
+}
+
+// The child has another active set.
+fn turning(here: Point, barred: u16, mask: u16) -> Step
+    ensures { λ r. ⌜ r ≡ turning here barred mask ⌝ }
+{
+    Step {
+        wrong: 0,
+        barred,
+        roles: here.assigned,
+        binding: 0,
+        child: Point {
+            user: here.user,
+            assigned: here.assigned,
+            mask,
+            bound: here.bound,
+        },
+    }
+}
+
+fn new_at(head: Head, here: Point, kind: u16) -> Step
+    requires { ⌜ here .bound < 65535 ⌝ }
+    ensures { λ r. ⌜ r ≡ newStep (head .count .kinds) here kind ⌝ }
+{
+    binding(
+        here,
+        graded(is_within(head.count.kinds, kind), true),
+        0,
+        here.assigned,
+        entry(kind, owned_by(here.user)),
+    )
+}
+
+fn receive_at(file: &[u8], head: Head, receives: &[u16], here: Point, on: u64) -> Step
+    requires { ⌜ (here .bound < 65535) × Granting (schemaOf (now file) head) Receives (now receives) ⌝ }
+    ensures { λ r. ⌜ (r ≡ receiveStep (schemaOf (now (file .entry)) head) here on) × (schemaOf (now (file .entry)) head .carries (kindIn on) < 65536) ⌝ }
+{
+    let kind = kind_in(on);
+    let grant = grant_of(receives, kind);
+    binding(
+        here,
+        graded(is_named(on), is_mine(on, here.user)),
+        unless(is_able(here.mask, grant), 13),
+        here.assigned & grant,
+        entry(carried_by(file, head, kind), 1),
+    )
+}
+
+fn send_at(file: &[u8], head: Head, sends: &[u16], here: Point, on: u64, value: u64) -> Step
+    requires { ⌜ Granting (schemaOf (now file) head) Sends (now sends) ⌝ }
+    ensures { λ r. ⌜ r ≡ sendStep (schemaOf (now (file .entry)) head) here on value ⌝ }
+{
+    let kind = kind_in(on);
+    let grant = grant_of(sends, kind);
+    staying(
+        here,
+        graded(
+            is_named(on) & is_named(value),
+            (0 < kind) & (kind_in(value) == carried_by(file, head, kind)),
+        ),
+        unless(is_able(here.mask, grant), 13),
+        here.assigned & grant,
+    )
+}
+
+fn on_at(head: Head, here: Point, role: u16) -> Step
+    requires { ⌜ head .count .roles ≤ 16 ⌝ }
+    ensures { λ r. ⌜ r ≡ onStep (head .count .roles) here role ⌝ }
+{
+    if !is_within(head.count.roles, role) {
+        return staying(here, 9, 0, 0);
+    }
+    turning(
+        here,
+        unless(has_role(here.assigned, UserRole(role)), 11),
+        with_role(here.mask, UserRole(role)),
+    )
+}
+
+fn off_at(head: Head, here: Point, role: u16) -> Step
+    ensures { λ r. ⌜ r ≡ offStep (head .count .roles) here role ⌝ }
+{
+    if !is_within(head.count.roles, role) {
+        return staying(here, 9, 0, 0);
+    }
+    turning(
+        here,
+        unless(has_role(here.mask, UserRole(role)), 12),
+        without_role(here.mask, UserRole(role)),
+    )
+}
+
+// A node that is no end and no fork.
+pub fn step_at(
     file: &[u8],
     head: Head,
     sends: &[u16],
     receives: &[u16],
-    vars: &[u32],
-    bound: u16,
-    user: u16,
-    mask: u16,
+    names: &[u64],
+    here: Point,
     it: Node,
-) -> u16
-    requires { ⌜ (head .count .roles ≤ 16) × (bound ≤ length (now vars)) × Granting (schemaOf (now file) head) Sends (now sends) × Granting (schemaOf (now file) head) Receives (now receives) ⌝ }
-    ensures { λ r. ⌜ r ≡ barred (schemaOf (now (file .entry)) head) (record { user = user; mask = mask; vars = varsOf (now (vars .entry)) bound }) it ⌝ }
+) -> Step
+    requires { ⌜ (head .count .roles ≤ 16) × (here .bound < 65535) × (512 + here .bound ≤ length (now names)) × Granting (schemaOf (now file) head) Sends (now sends) × Granting (schemaOf (now file) head) Receives (now receives) ⌝ }
+    ensures { λ r. ⌜ (r ≡ stepOf (schemaOf (now (file .entry)) head) (now (names .entry)) here it)
+        × (it .tag ≡ 5 → schemaOf (now (file .entry)) head .carries (kindIn (look (now (names .entry)) (here .bound) (it .f1))) < 65536) ⌝ }
 {
     let tag = it.tag;
     match tag {
-        5 => {
-            let kind = kind_of(file, head, vars, bound, it.f1);
-            unless(is_able(mask, grant_of(receives, kind)), 13)
+        2 => staying(here, 0, 0, here.assigned),
+        3 => new_at(head, here, it.f1),
+        4 => {
+            let one = look(names, here.bound, it.f1);
+            let other = look(names, here.bound, it.f2);
+            let wrong = graded(
+                is_named(one) & is_named(other),
+                kind_in(one) == kind_in(other),
+            );
+            staying(here, wrong, 0, here.assigned)
         }
+        5 => receive_at(file, head, receives, here, look(names, here.bound, it.f1)),
         6 => {
-            let kind = kind_of(file, head, vars, bound, it.f1);
-            unless(is_able(mask, grant_of(sends, kind)), 13)
+            let on = look(names, here.bound, it.f1);
+            send_at(file, head, sends, here, on, look(names, here.bound, it.f2))
         }
-        7 => unless(has_role(assigned_to(file, head, user), UserRole(it.f1)), 11),
-        8 => unless(has_role(mask, UserRole(it.f1)), 12),
-        _ => 0,
-    }
-}
-
-// The active set below a node.
-pub fn mask_below(tag: u16, f1: u16, mask: u16) -> u16
-    requires { ⌜ (tag ≡ 7 → f1 ≤ 16) ⌝ }
-    ensures { λ r. ⌜ r ≡ maskBelow tag f1 mask ⌝ }
-{
-    match tag {
-        7 => with_role(mask, UserRole(f1)),
-        8 => without_role(mask, UserRole(f1)),
-        _ => mask,
-    }
-}
-
-// How many variables are bound below a node.
-pub fn bound_below(tag: u16, bound: u16) -> u16
-    requires { ⌜ bound < 65535 ⌝ }
-    ensures { λ r. ⌜ r ≡ boundBelow tag bound ⌝ }
-{
-    if (tag == 3) | (tag == 5) {
-        return bound + 1;
-    }
-    bound
-}
-
-// The variable that a node binds, as it is kept.
-pub fn binding_at(file: &[u8], head: Head, vars: &[u32], bound: u16, it: Node) -> u32
-    requires { ⌜ bound ≤ length (now vars) ⌝ }
-    ensures { λ r. ⌜ variable r ≡ bindingBy (it .tag) (it .f1)
-        (schemaOf (now (file .entry)) head .carries (kindOf (schemaOf (now (file .entry)) head) (varsOf (now (vars .entry)) bound) (it .f1))) ⌝ }
-{
-    let tag = it.tag;
-    match tag {
-        3 => paired(it.f1, 1),
-        5 => paired(
-            carried_by(file, head, kind_of(file, head, vars, bound, it.f1)),
+        7 => on_at(head, here, it.f1),
+        8 => off_at(head, here, it.f1),
+        _ => staying(
+            here,
+            graded(is_within(head.count.roles, it.f1), true),
             0,
+            here.assigned,
         ),
-        _ => 0,
-    }
-}
-
-// How many contexts wait after a node: an end has no child, a fork two.
-pub fn depth_below(tag: u16, depth: usize) -> usize
-    requires { ⌜ (0 < depth) × (depth < 4000) ⌝ }
-    ensures { λ r. ⌜ r ≡ depthBelow tag depth ⌝ }
-{
-    match tag {
-        0 => depth - 1,
-        1 => depth + 1,
-        _ => depth,
     }
 }

@@ -2,13 +2,12 @@
 use Prim.Native.Nat.{ℕ, zero, suc, _+_, _*_, _-_, _/_, _%_, _≤_, _<_}
 use mathlib.Core.Path.{_≡_, refl, sym, ap, ap₂, _∙_}
 use mathlib.Core.Bool.{Bool, true, false, cond, not, _&&_, _||_, and-eq-true-iff}
-use mathlib.Core.Logic.{_⊎_, inl, inr}
 use mathlib.Core.List.{List, [], _∷_, map}
 use native.Mathlib.Omega.{arith}
 use native.Mathlib.Numerals.{add-one}
 use lib.ListN.{length, getD, set}
 use lib.Dec.{eqb, leb, ltb}
-use borrow.Author.Tests.{leb-true, eqb-true, eqb-false, eq-eqb, ne-eqb, leb-false, lt-leb, lt-ltb}
+use borrow.Author.Tests.{leb-true, eqb-true, eqb-false, eq-eqb, ne-eqb, leb-false, lt-ltb, not-true}
 use Rattle.format.specs.Words.{wordAt}
 use Rattle.format.specs.Answers.{fine, refused}
 use Rattle.format.specs.Sections.{nodeAt, nodesFrom}
@@ -226,33 +225,18 @@ module _ (f : List ℕ) (p n i : ℕ) (pos : 1 ≤ i) (h : i ≤ n) (node : Node
   pub on-fork : (b : ℕ) (st : List Waiting) → node .tag ≡ 1 → node .f2 ≡ 0 → Next b (waiting (node .f1) b ∷ st) → Here b st
   on-fork b st t v a = sym (turned b st) ∙ rw (t, v) a
 
-  pub on-repeat : (b : ℕ) (st : List Waiting) → node .tag ≡ 2 → node .f1 ≡ 0 → node .f2 ≡ 0 → Next b st → Here b st
-  on-repeat b st t u v a = sym (turned b st) ∙ rw (t, u, v) a
+  -- a node with one child
+  pub on-other : (b : ℕ) (st : List Waiting) → (node .tag ≡ 0 → ⊥) → (node .tag ≡ 1 → ⊥)
+      → ((leb (node .tag) 8 && unusedFit node) && not (binds (node .tag) && leb 8 b)) ≡ true → Next (boundBelow (node .tag) b) st → Here b st
+  on-other b st z o fits a =
+      let p = and-eq-true-iff (leb (node .tag) 8 && unusedFit node) (not (binds (node .tag) && leb 8 b)) .0 fits in
+      sym (turned b st) ∙ rw (p .0, p .1, ne-eqb (node .tag) 0 z, ne-eqb (node .tag) 1 o) a
 
-  pub on-binder : (b : ℕ) (st : List Waiting) → (node .tag ≡ 3) ⊎ (node .tag ≡ 5) → node .f2 ≡ 0 → b < 8 → Next (b + 1) st → Here b st
-  on-binder b st (inl t) v few a = sym (turned b st) ∙ rw (t, v, lt-leb 8 b few) a
-  on-binder b st (inr t) v few a = sym (turned b st) ∙ rw (t, v, lt-leb 8 b few) a
-
-  pub on-operands : (b : ℕ) (st : List Waiting) → (node .tag ≡ 4) ⊎ (node .tag ≡ 6) → Next b st → Here b st
-  on-operands b st (inl t) a = sym (turned b st) ∙ rw t a
-  on-operands b st (inr t) a = sym (turned b st) ∙ rw t a
-
-  pub on-switch : (b : ℕ) (st : List Waiting) → (node .tag ≡ 7) ⊎ (node .tag ≡ 8) → node .f2 ≡ 0 → Next b st → Here b st
-  on-switch b st (inl t) v a = sym (turned b st) ∙ rw (t, v) a
-  on-switch b st (inr t) v a = sym (turned b st) ∙ rw (t, v) a
-
--- a tag of 8 at most that is none of 0 to 6
-pub switch-tag : (t : ℕ) → (t ≡ 0 → ⊥) → (t ≡ 1 → ⊥) → (t ≡ 2 → ⊥) → ((t ≡ 3) ⊎ (t ≡ 5) → ⊥) → ((t ≡ 4) ⊎ (t ≡ 6) → ⊥) → t ≤ 8 → (t ≡ 7) ⊎ (t ≡ 8)
-switch-tag zero a b c d e le = absurd (a refl)
-switch-tag (suc zero) a b c d e le = absurd (b refl)
-switch-tag (suc (suc zero)) a b c d e le = absurd (c refl)
-switch-tag (suc (suc (suc zero))) a b c d e le = absurd (d (inl refl))
-switch-tag (suc (suc (suc (suc zero)))) a b c d e le = absurd (e (inl refl))
-switch-tag (suc (suc (suc (suc (suc zero))))) a b c d e le = absurd (d (inr refl))
-switch-tag (suc (suc (suc (suc (suc (suc zero)))))) a b c d e le = absurd (e (inr refl))
-switch-tag (suc (suc (suc (suc (suc (suc (suc zero))))))) a b c d e le = inl refl
-switch-tag (suc (suc (suc (suc (suc (suc (suc (suc zero)))))))) a b c d e le = inr refl
-switch-tag (suc (suc (suc (suc (suc (suc (suc (suc (suc t))))))))) a b c d e le = let no : ⊥ = omega arith in absurd no
+  -- and where it binds, there is room
+  pub has-room : (b : ℕ) → ((leb (node .tag) 8 && unusedFit node) && not (binds (node .tag) && leb 8 b)) ≡ true → binds (node .tag) ≡ true → b < 8
+  has-room b fits one =
+      let p = and-eq-true-iff (leb (node .tag) 8 && unusedFit node) (not (binds (node .tag) && leb 8 b)) .0 fits in
+      leb-false 8 b (not-true (leb 8 b) (rw one at (p .1)))
 
 -- past the last node nothing may wait
 pub on-last : (f : List ℕ) (p n i b : ℕ) → n < i → accepts i (nodesFrom f p (n + 1 - i)) b [] ≡ true

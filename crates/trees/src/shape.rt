@@ -38,7 +38,7 @@ fn root_fits(i: u16, d: Due) -> bool
 }
 
 // Tags 3 and 5 bind a variable.
-fn binds_one(tag: u16) -> bool
+pub fn binds_one(tag: u16) -> bool
     ensures { λ r. ⌜ r ≡ binds tag ⌝ }
 {
     (tag == 3) | (tag == 5)
@@ -57,7 +57,7 @@ fn used_by(tag: u16) -> u16
     1
 }
 
-fn unused_fit(n: Node) -> bool
+pub fn unused_fit(n: Node) -> bool
     ensures { λ r. ⌜ r ≡ unusedFit n ⌝ }
 {
     let k = used_by(n.tag);
@@ -82,7 +82,7 @@ fn node_fits(i: u16, n: Node, d: Due, e: u16) -> bool
 }
 
 // The variables bound below a node.
-fn bound_below(tag: u16, b: u16) -> u16
+pub fn bound_below(tag: u16, b: u16) -> u16
     requires { ⌜ (binds tag ≡ true → b < 8) ⌝ }
     ensures { λ r. ⌜ r ≡ boundBelow tag b ⌝ }
 {

@@ -1,15 +1,20 @@
 // A quicker look for 8: one pass in order, which can tell that nothing is refused, and no more than that.
+use super::shape::binds_one;
+use super::shape::bound_below;
+use super::shape::unused_fit;
 use format::Head;
+use format::Node;
 use format::sections::node;
 use format::sections::session;
 use format::words::narrow;
 use format::words::paired;
 use format::words::wide;
 ghost use mathlib.Core.Path.{_≡_};
-ghost use mathlib.Core.Bool.{true};
+ghost use mathlib.Core.Bool.{true, not, _&&_};
 ghost use Prim.Native.Nat.{_/_, _%_, _≤_};
+ghost use lib.Dec.{leb};
 ghost use Rattle.format.specs.Answers.{fine};
-ghost use Rattle.trees.specs.Shape.{shapeAnswer};
+ghost use Rattle.trees.specs.Shape.{binds, unusedFit, shapeAnswer};
 
 // The number that names a tree that waits, and the variables bound above it, as one number on the stack.
 fn named(w: u32) -> u16
@@ -22,6 +27,13 @@ fn bound_above(w: u32) -> u16
     ensures { λ r. ⌜ r ≡ w / 65536 ⌝ }
 {
     (w / 65536) as u16
+}
+
+// Whether a node with one child fits, where so many variables are bound above it. No branch goes by the tag: it would be guessed wrong too often.
+fn goes_on(n: Node, bound: u16) -> bool
+    ensures { λ r. ⌜ r ≡ ((leb (n .tag) 8 && unusedFit n) && not (binds (n .tag) && leb 8 bound)) ⌝ }
+{
+    (n.tag <= 8) & unused_fit(n) & !(binds_one(n.tag) & (8 <= bound))
 }
 
 // True only where 8 refuses nothing. The stack has the trees that wait, each with the number that names it, and below them all the number
@@ -71,25 +83,11 @@ pub fn sound_shape(file: &[u8], head: Head) -> bool
                 stack[depth] = paired(it.f1, bound);
                 depth += 1;
             }
-            2 => {
-                if !((it.f1 == 0) & (it.f2 == 0)) {
-                    return false;
-                }
-            }
-            3 | 5 => {
-                if !((it.f2 == 0) & (bound < 8)) {
-                    return false;
-                }
-                bound += 1;
-            }
-            4 | 6 => {}
-            7 | 8 => {
-                if it.f2 != 0 {
-                    return false;
-                }
-            }
             _ => {
-                return false;
+                if !goes_on(it, bound) {
+                    return false;
+                }
+                bound = bound_below(tag, bound);
             }
         }
     }

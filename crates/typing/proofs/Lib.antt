@@ -19,5 +19,3 @@ pub mod NameFaults
 pub mod RoleFaults
 pub mod Soonests
 pub mod CheckFirst
--- the starred cases
-pub mod StarredCases

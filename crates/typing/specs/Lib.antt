@@ -2,4 +2,3 @@ pub mod Tables
 pub mod Typing
 pub mod Kinding
 pub mod Faults
-pub mod Cases

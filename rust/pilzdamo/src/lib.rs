@@ -1,8 +1,8 @@
 //! Safe calls to the engine, which is proved to do what the paper says.
 //!
-//! [`read`] judges the format of a clinic file: refusals 1 to 8, its form, its
-//! records and its trees. [`check`] judges the names, kinds and roles as well,
-//! 9 to 13; a file that it lets pass has none of the thirteen.
+//! [`read`] judges a clinic file by refusals 1 to 10: its form, its records, its
+//! trees, its names and kinds. [`check`] judges the roles as well, 11 to 13; a
+//! file that it lets pass has none of the thirteen.
 //!
 //! ```
 //! // Session 1 sends on channel 1 and on channel 2, with no role active.
@@ -23,6 +23,9 @@
 //! file[2 * 30] = 2;
 //! assert!(pilzdamo::check(&file).is_clean());
 //! ```
+//!
+//! [`place`] takes a file in which no role is ever on, and puts in the on and
+//! off nodes that it needs to pass, with the fewest on nodes there can be.
 
 use std::fmt;
 
@@ -61,12 +64,60 @@ impl fmt::Display for Verdict {
     }
 }
 
+/// What [`place`] answers: a refusal's number and place, or the length of the
+/// placed file and its on steps. The two that don't apply are 0.
+#[repr(C)]
+#[derive(Clone, Copy, Debug, PartialEq, Eq, Hash)]
+pub struct Placed {
+    /// The refusal's number, 0 if there is none.
+    pub number: u16,
+    /// Where it stands: a word, a session or a node, as its number says.
+    pub place: u16,
+    /// How many bytes of the output hold the placed file.
+    pub length: u16,
+    /// How many nodes of it put a role on.
+    pub on_steps: u16,
+}
+
+impl Placed {
+    /// Whether the output holds a placed file.
+    ///
+    /// ```
+    /// assert!(!pilzdamo::place(&[], &mut [0; pilzdamo::ROOM]).is_placed());
+    /// ```
+    pub fn is_placed(self) -> bool {
+        self.number == 0
+    }
+}
+
+/// `placed in L bytes, on steps: S`, or `refused N P` with number and place.
+///
+/// ```
+/// let mut out = [0; pilzdamo::ROOM];
+/// assert_eq!(pilzdamo::place(&[], &mut out).to_string(), "refused 1 0");
+/// ```
+impl fmt::Display for Placed {
+    fn fmt(&self, out: &mut fmt::Formatter<'_>) -> fmt::Result {
+        if self.is_placed() {
+            let Placed {
+                length, on_steps, ..
+            } = self;
+            return write!(out, "placed in {length} bytes, on steps: {on_steps}");
+        }
+        write!(out, "refused {} {}", self.number, self.place)
+    }
+}
+
+/// The bytes that [`place`] wants of its output: those of the largest file.
+pub const ROOM: usize = 6_874;
+
 extern "C" {
     fn pilzdamo_read(file: *const u8, len: usize) -> Verdict;
     fn pilzdamo_check(file: *const u8, len: usize) -> Verdict;
+    fn pilzdamo_place(file: *const u8, len: usize, out: *mut u8, out_len: usize) -> Placed;
 }
 
-/// Judges a clinic file by refusals 1 to 8.
+/// Judges a clinic file by refusals 1 to 10.
 ///
 /// Any bytes will do, of any length. Nothing is written and nothing is kept.
 ///
@@ -87,11 +138,48 @@ pub fn read(file: &[u8]) -> Verdict {
 /// Any bytes will do, of any length. Nothing is written and nothing is kept.
 ///
 /// ```
-/// // What is refused by 1 to 8 is refused alike.
+/// // What is refused by 1 to 10 is refused alike.
 /// assert_eq!(pilzdamo::check(&[9; 26]), pilzdamo::read(&[9; 26]));
 /// ```
 #[inline]
 pub fn check(file: &[u8]) -> Verdict {
     // SAFETY: as in `read`.
     unsafe { pilzdamo_check(file.as_ptr(), file.len()) }
+}
+
+/// Places the roles of a clinic file: by refusal 17, by 1 to 10, and then by
+/// 14 to 16. If none refuses it, the placed file stands at the start of `out`.
+///
+/// Any bytes will do, of any length. `out` must have [`ROOM`] bytes or more,
+/// whatever the file. Where the answer is a refusal nothing of `out` is
+/// written, and otherwise nothing past the answer's length.
+///
+/// ```
+/// // Role 1 may send on kind 1, role 2 on kinds 1 and 2; user 1 has both. The
+/// // session sends on a channel of kind 1 and on one of kind 2.
+/// let words = [
+///     1, 2, 2, 2, 2, 1, 3, 13, 15, 23, 25, 29, 32, // version, counts, offsets
+///     3, 0, // users
+///     1, 0, 0, 0, 3, 0, 0, 0, // roles
+///     0, 0, // kinds
+///     2, 1, 2, 2, // channels
+///     1, 0, 1, // session
+///     6, 257, 2, 6, 258, 2, 0, 0, 0u16, // nodes
+/// ];
+/// let file: Vec<u8> = words.into_iter().flat_map(u16::to_le_bytes).collect();
+/// let mut out = [0; pilzdamo::ROOM];
+/// let placed = pilzdamo::place(&file, &mut out);
+/// assert_eq!(placed.to_string(), "placed in 94 bytes, on steps: 1");
+///
+/// // Role 2 is on from before the first send to behind the second.
+/// let nodes: [u16; 15] = [7, 2, 0, 6, 257, 2, 6, 258, 2, 8, 2, 0, 0, 0, 0];
+/// assert_eq!(out[64..94], nodes.map(u16::to_le_bytes).concat());
+/// assert!(pilzdamo::check(&out[..94]).is_clean());
+/// ```
+#[inline]
+pub fn place(file: &[u8], out: &mut [u8]) -> Placed {
+    // SAFETY: the engine only reads the `len` bytes from `file` on, and only
+    // reads and writes the `out_len` bytes from `out` on, during the call. The
+    // slices vouch for them, and that no byte is in both.
+    unsafe { pilzdamo_place(file.as_ptr(), file.len(), out.as_mut_ptr(), out.len()) }
 }

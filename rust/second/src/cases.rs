@@ -2,7 +2,10 @@
 //! implementations.
 
 mod checking;
+mod placing;
 mod reading;
+
+pub use placing::{Due, PlaceCase};
 
 use crate::draft::Draft;
 
@@ -64,6 +67,20 @@ pub fn cases() -> Vec<Case> {
         reading::trees(),
         checking::names(),
         checking::roles(),
+    ]
+    .into_iter()
+    .flatten()
+    .collect()
+}
+
+/// All of placing.
+pub fn place_cases() -> Vec<PlaceCase> {
+    [
+        placing::starred(),
+        placing::chains(),
+        placing::forks(),
+        placing::refusals(),
+        placing::sizes(),
     ]
     .into_iter()
     .flatten()

@@ -57,6 +57,13 @@ pub enum Cause {
     OffNotActive { second: bool },
     SendNotAllowed { second: bool },
     ReceiveNotAllowed { second: bool },
+    StartPresent,
+    OnPresent,
+    OffPresent,
+    NoRoleSends { second: bool },
+    NoRoleReceives { second: bool },
+    ResultTooLarge,
+    OutputTooShort,
 }
 
 /// The fields that a tag leaves unused, tag by tag.
@@ -107,10 +114,26 @@ impl Cause {
             OnNotAssigned { .. } => 11,
             OffNotActive { .. } => 12,
             SendNotAllowed { .. } | ReceiveNotAllowed { .. } => 13,
+            StartPresent | OnPresent | OffPresent => 14,
+            NoRoleSends { .. } | NoRoleReceives { .. } => 15,
+            ResultTooLarge => 16,
+            OutputTooShort => 17,
         }
     }
 
-    /// Every cause, in the order of the numbers.
+    /// The causes that placing alone has, in the order of the numbers.
+    pub fn of_placing() -> Vec<Cause> {
+        use Cause::*;
+        let mut all = vec![StartPresent, OnPresent, OffPresent];
+        for second in [false, true] {
+            all.extend([NoRoleSends { second }, NoRoleReceives { second }]);
+        }
+        all.extend([ResultTooLarge, OutputTooShort]);
+        all.sort();
+        all
+    }
+
+    /// Every cause of the check, in the order of the numbers.
     pub fn all() -> Vec<Cause> {
         use Cause::*;
         let mut all = vec![Short, Odd, Version];

@@ -1,7 +1,7 @@
 //! A file in the making: the six sections as lists of words. The header
 //! follows from them.
 
-use crate::file::{Section, HEADER};
+use crate::file::{word, File, Section, HEADER};
 
 /// The sections of a file that is yet to be written out.
 #[derive(Clone, Debug, Default)]
@@ -15,6 +15,19 @@ pub struct Draft {
 }
 
 impl Draft {
+    /// The sections of a file that meets refusals 1 to 5 clean.
+    pub fn of(file: &[u8]) -> Draft {
+        let file = File::open(file).expect("a file with its sections");
+        Draft {
+            users: records(file.users),
+            roles: records(file.roles),
+            kinds: records(file.kinds),
+            channels: records(file.channels),
+            sessions: records(file.sessions),
+            nodes: records(file.nodes),
+        }
+    }
+
     /// The file, with the counts and offsets that these sections have.
     pub fn bytes(&self) -> Vec<u8> {
         let sections = [
@@ -41,6 +54,12 @@ impl Draft {
         words.extend_from_slice(&sections.concat());
         to_bytes(&words)
     }
+}
+
+/// Records of `N` bytes as records of `W` words.
+fn records<const N: usize, const W: usize>(bytes: &[[u8; N]]) -> Vec<[u16; W]> {
+    let record = |record| std::array::from_fn(|i| word(record, i));
+    bytes.iter().map(record).collect()
 }
 
 /// Words as bytes, low byte first.

@@ -24,25 +24,41 @@ struct Point {
 }
 
 /// What the names at a node mean, and whose roles are asked for.
-struct Context<'a> {
+pub struct Context<'a> {
     file: &'a File<'a>,
     user: u16,
-    assigned: u16,
+    pub assigned: u16,
     variables: [Variable; VARIABLES as usize],
     point: Point,
     /// Whether the node stands in a fork's second branch.
-    second: bool,
+    pub second: bool,
 }
 
-/// Judges 9 and 10, and with `ROLES` 11 to 13, on a file that 1 to 8 leave
-/// clean. A 9 or 10 anywhere comes before every 11 to 13.
-pub fn judge<const ROLES: bool>(file: &File) -> Result<(), Refusal> {
+/// Judges 9 and 10 on a file that 1 to 8 leave clean.
+pub fn judge(file: &File) -> Result<(), Refusal> {
+    each_act(file, |_, _, _| {})
+}
+
+/// Judges 9 to 13 on a file that 1 to 8 leave clean. A 9 or 10 anywhere comes
+/// before every 11 to 13.
+pub fn judge_with_roles(file: &File) -> Result<(), Refusal> {
+    let mut first_of_roles = Ok(());
+    each_act(file, |context, place, act| {
+        if first_of_roles.is_ok() {
+            first_of_roles = context.act(act).map_err(|cause| Refusal { cause, place });
+        }
+    })?;
+    first_of_roles
+}
+
+/// Judges 9 and 10 on a file that 1 to 8 leave clean, and shows each act with
+/// the place of its node.
+pub fn each_act(file: &File, mut show: impl FnMut(&mut Context, u16, Act)) -> Result<(), Refusal> {
     let mut context = Context::new(file);
     let mut sessions = file.sessions.iter();
     let mut at_root = true;
     let mut waiting = [Point::default(); MOST_FORKS];
     let mut open = 0;
-    let mut first_of_roles = Ok(());
     for (place, node) in numbered(file.nodes) {
         if at_root {
             context.enter(sessions.next().expect("a session for each root"));
@@ -61,15 +77,14 @@ pub fn judge<const ROLES: bool>(file: &File) -> Result<(), Refusal> {
                 open += 1;
             }
             _ => {
-                let refuse = |cause| Refusal { cause, place };
-                let act = context.judge(tag, f1, f2).map_err(refuse)?;
-                if ROLES && first_of_roles.is_ok() {
-                    first_of_roles = context.act(act).map_err(refuse);
+                let judged = context.judge(tag, f1, f2);
+                if let Some(act) = judged.map_err(|cause| Refusal { cause, place })? {
+                    show(&mut context, place, act);
                 }
             }
         }
     }
-    first_of_roles
+    Ok(())
 }
 
 impl<'a> Context<'a> {
@@ -178,11 +193,9 @@ impl<'a> Context<'a> {
     }
 
     /// Rules 5 and 6.
-    fn act(&mut self, act: Option<Act>) -> Result<(), Cause> {
-        if let Some(act) = act {
-            let active = self.point.active;
-            self.point.active = roles::step(self.file, self.assigned, active, act, self.second)?;
-        }
+    fn act(&mut self, act: Act) -> Result<(), Cause> {
+        let active = self.point.active;
+        self.point.active = roles::step(self.file, self.assigned, active, act, self.second)?;
         Ok(())
     }
 }

@@ -1,6 +1,6 @@
-use crate::cases::{cases, BOOKING};
+use crate::cases::{cases, place_cases, Due, BOOKING};
 use crate::draft::to_bytes;
-use crate::{cause, check, read, read_names, Cause, Verdict};
+use crate::{cause, cause_in_placing, check, place, read, read_names, Cause, Verdict};
 
 fn verdict((number, place): (u16, u16)) -> Verdict {
     Verdict { number, place }
@@ -19,6 +19,21 @@ fn named_cases() {
 }
 
 #[test]
+fn named_cases_of_placing() {
+    for case in place_cases() {
+        case.demand("second", place);
+        let told = cause_in_placing(&case.file, case.room).map(|refusal| refusal.verdict());
+        match case.due {
+            Due::Refused(number, place) => assert_eq!(told, Some(Verdict { number, place })),
+            Due::Placed(file, _) => {
+                assert_eq!(told, None);
+                assert_eq!(check(&file), Verdict::CLEAN, "{}", case.name);
+            }
+        }
+    }
+}
+
+#[test]
 fn the_booking_is_built_as_the_paper_writes_it() {
     let file = to_bytes(&BOOKING);
     assert_eq!(file.len(), 82);
@@ -29,7 +44,8 @@ fn the_booking_is_built_as_the_paper_writes_it() {
 
 #[test]
 fn causes_are_listed_once_and_by_number() {
-    let all = Cause::all();
+    let all = [Cause::all(), Cause::of_placing()].concat();
     assert!(all.windows(2).all(|two| two[0] < two[1]));
     assert!(all.is_sorted_by_key(|cause| cause.number()));
+    assert_eq!(all.last().map(|cause| cause.number()), Some(17));
 }

@@ -5,7 +5,7 @@ use std::fmt::Display;
 /// A refusal's number and place, whoever gave it.
 pub type Answer = (u16, u16);
 
-/// The engine, refusals 1 to 8.
+/// The engine, refusals 1 to 10.
 pub fn engine_read(file: &[u8]) -> Answer {
     engine(pilzdamo::read(file))
 }
@@ -15,9 +15,9 @@ pub fn engine_check(file: &[u8]) -> Answer {
     engine(pilzdamo::check(file))
 }
 
-/// The second implementation, refusals 1 to 8.
+/// The second implementation, refusals 1 to 10.
 pub fn second_read(file: &[u8]) -> Answer {
-    second(second::read(file))
+    second(second::read_names(file))
 }
 
 /// The second implementation, refusals 1 to 13.
@@ -33,7 +33,7 @@ fn second(verdict: second::Verdict) -> Answer {
     (verdict.number, verdict.place)
 }
 
-/// What both answer by 1 to 13, once they have agreed by 1 to 8. Panics where
+/// What both answer by 1 to 13, once they have agreed by 1 to 10. Panics where
 /// they differ, with the file.
 pub fn agreed(file: &[u8], origin: impl Display) -> Answer {
     let same = |question, ours: Answer, theirs: Answer| {

@@ -2,7 +2,7 @@
 
 use crate::aim;
 use crate::change;
-use crate::grow::{grow, Bent};
+use crate::grow::{grow, Bent, Heed};
 use crate::rng::Rng;
 use crate::schema::{schema, Size};
 use crate::wild::Wild;
@@ -71,28 +71,20 @@ pub fn largest(seed: u64) -> Vec<u8> {
 
 /// A file of 40 nodes that passes the check.
 pub fn typical(seed: u64) -> Vec<u8> {
-    let size = Size {
-        users: 6,
-        roles: 4,
-        kinds: 6,
-        channels: 8,
-        sessions: 4,
-        nodes: 40,
-    };
-    usual(seed, size)
+    usual(seed, Size::TYPICAL)
 }
 
 fn usual(seed: u64, size: Size) -> Vec<u8> {
     let rng = &mut Rng::new(seed, 0);
     let mut draft = schema(rng, size);
-    grow(rng, &mut draft, size.nodes, Bent::USUAL, None);
+    grow(rng, &mut draft, size.nodes, Bent::USUAL, Heed::Active, None);
     draft.bytes()
 }
 
 fn sound(rng: &mut Rng, size: Size, wild: Option<Wild>) -> Draft {
     let mut draft = schema(rng, size);
     let bent = Bent::any(rng);
-    grow(rng, &mut draft, size.nodes, bent, wild);
+    grow(rng, &mut draft, size.nodes, bent, Heed::Active, wild);
     draft
 }
 

@@ -33,6 +33,12 @@ impl Bent {
         rest: 1,
     };
 
+    /// No forks.
+    pub const CHAIN: Bent = Bent {
+        fork_once_in: usize::MAX,
+        ..Bent::USUAL
+    };
+
     /// Any at all, from chains to forks alone.
     pub fn any(rng: &mut Rng) -> Bent {
         Bent {
@@ -53,6 +59,21 @@ impl Bent {
     }
 }
 
+/// What a send or receive pays heed to.
+#[derive(Clone, Copy, PartialEq)]
+pub enum Heed {
+    /// The active set: on for a role that permits it comes first.
+    Active,
+    /// The roles assigned: one of them permits it, and none is ever on.
+    Assigned,
+    /// No role at all.
+    Nothing,
+}
+
+/// The masks of a role's record: word 0 or 2 on.
+const SENDS: usize = 0;
+const RECEIVES: usize = 2;
+
 /// Something that an operand can name.
 #[derive(Clone, Copy)]
 pub struct Name {
@@ -72,6 +93,7 @@ pub struct Grower<'a> {
     pub rng: &'a mut Rng,
     pub draft: &'a mut Draft,
     bent: Bent,
+    heed: Heed,
     /// The wild node is the first with one child from this number on.
     wild: &'a mut Option<(usize, Wild)>,
     /// Users and channels, as this session's user sees them.
@@ -80,7 +102,14 @@ pub struct Grower<'a> {
 }
 
 /// Gives each session a tree, of `nodes` nodes together; at least one each.
-pub fn grow(rng: &mut Rng, draft: &mut Draft, nodes: u16, bent: Bent, wild: Option<Wild>) {
+pub fn grow(
+    rng: &mut Rng,
+    draft: &mut Draft,
+    nodes: u16,
+    bent: Bent,
+    heed: Heed,
+    wild: Option<Wild>,
+) {
     let count = draft.sessions.len();
     let mut sizes = vec![1; count];
     for _ in count..nodes.into() {
@@ -98,6 +127,7 @@ pub fn grow(rng: &mut Rng, draft: &mut Draft, nodes: u16, bent: Bent, wild: Opti
             rng,
             draft,
             bent,
+            heed,
             wild: &mut wild,
         };
         let variables = Vec::new();
@@ -150,6 +180,7 @@ impl Grower<'_> {
             Some((_, Wild::Names)) => self.misnamed(point),
             Some((_, Wild::Kinds)) => self.mistaken(point),
             Some((_, Wild::Roles)) => self.reckless(point),
+            Some((_, Wild::Permission)) => self.unpermitted(point),
         };
         node.unwrap_or([2, 0, 0])
     }
@@ -158,10 +189,10 @@ impl Grower<'_> {
         match *self.rng.of(&[2, 3, 3, 4, 4, 5, 5, 5, 6, 6, 6, 6, 7, 8]) {
             3 => self.new_channel(point),
             4 => self.compare(point),
-            5 => self.receive(point, true),
-            6 => self.send(point, true),
-            7 => self.on(point, self.assigned),
-            8 => self.off(point, point.active),
+            5 => self.receive(point, self.heed),
+            7 if self.heed == Heed::Active => self.on(point, self.assigned),
+            8 if self.heed == Heed::Active => self.off(point, point.active),
+            6..=8 => self.send(point, self.heed),
             _ => None,
         }
     }
@@ -182,28 +213,36 @@ impl Grower<'_> {
         Some([4, one.operand, other.operand])
     }
 
-    /// With `heed`, on for a role that permits the receive comes first.
-    pub fn receive(&mut self, point: &mut Point, heed: bool) -> Option<[u16; 3]> {
+    pub fn receive(&mut self, point: &mut Point, heed: Heed) -> Option<[u16; 3]> {
         if point.variables.len() == VARIABLES {
             return None;
         }
-        let channel = self.name(point, |name| name.receivable)?;
-        if heed && !self.permits(point.active, channel.kind, 2) {
-            return self.on_for(point, channel.kind, 2);
+        let kinds = self.kinds(heed, RECEIVES);
+        let channel = self.name(point, |name| name.receivable && name.is_in(kinds))?;
+        if heed == Heed::Active && !self.permits(point.active, channel.kind, RECEIVES) {
+            return self.on_for(point, channel.kind, RECEIVES);
         }
         point.bind(self.carried_by(channel.kind), false);
         Some([5, channel.operand, 0])
     }
 
-    /// With `heed`, on for a role that permits the send comes first.
-    pub fn send(&mut self, point: &mut Point, heed: bool) -> Option<[u16; 3]> {
-        let channel = self.name(point, |name| name.kind > 0)?;
+    pub fn send(&mut self, point: &mut Point, heed: Heed) -> Option<[u16; 3]> {
+        let kinds = self.kinds(heed, SENDS);
+        let channel = self.name(point, |name| name.is_in(kinds))?;
         let carried = self.carried_by(channel.kind);
         let value = self.name(point, |name| name.kind == carried)?;
-        if heed && !self.permits(point.active, channel.kind, 0) {
-            return self.on_for(point, channel.kind, 0);
+        if heed == Heed::Active && !self.permits(point.active, channel.kind, SENDS) {
+            return self.on_for(point, channel.kind, SENDS);
         }
         Some([6, channel.operand, value.operand])
+    }
+
+    /// The kinds that come into question for a send or receive.
+    fn kinds(&self, heed: Heed, grant: usize) -> u32 {
+        let may = |kind| heed != Heed::Assigned || self.permits(self.assigned, kind, grant);
+        (1..=self.draft.kinds.len() as u16)
+            .filter(|&kind| may(kind))
+            .fold(0, |mask, kind| mask | 1 << (kind - 1))
     }
 
     fn carried_by(&self, kind: u16) -> u16 {
@@ -237,8 +276,7 @@ impl Grower<'_> {
         Some(found as u16 + 1)
     }
 
-    /// Whether a role in the mask has the kind in its grant, which starts at
-    /// word 0 (sends) or 2 (receives) of its record.
+    /// Whether a role in the mask has the kind in its grant.
     fn permits(&self, mask: u16, kind: u16, grant: usize) -> bool {
         let (word, bit) = (grant + usize::from(kind - 1) / 16, (kind - 1) % 16);
         let granted = |role: &[u16; 4]| role[word] & 1 << bit != 0;
@@ -257,6 +295,13 @@ impl Grower<'_> {
                 let at = self.rng.find(list, &will_do)?;
                 Some(list[at])
             })
+    }
+}
+
+impl Name {
+    /// Whether it is a channel of one of the kinds.
+    fn is_in(&self, kinds: u32) -> bool {
+        self.kind > 0 && kinds >> (self.kind - 1) & 1 != 0
     }
 }
 

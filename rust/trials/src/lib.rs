@@ -5,18 +5,26 @@
 
 mod aim;
 mod answers;
+mod bare;
 mod change;
 mod deal;
 mod grow;
+mod placing;
+pub mod rivals;
 mod rng;
 mod schema;
+pub mod states;
 mod tally;
+mod trees;
 mod wild;
 
 pub use answers::{agreed, engine_check, engine_read, second_check, second_read, Answer};
+pub use bare::{deal_bare, full_bare, largest_bare, overfull_bare, small_bare, typical_bare};
 pub use deal::{deal, largest, typical};
+pub use placing::{agreed_placing, compare_placing, engine_place, PlaceTally};
 pub use rng::Rng;
 pub use tally::{compare, Tally};
+pub use trees::Trees;
 
 /// The seed of the tests, unless `PILZDAMO_SEED` names another.
 pub fn seed() -> u64 {

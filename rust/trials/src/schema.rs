@@ -26,6 +26,16 @@ impl Size {
         nodes: Section::Nodes.most(),
     };
 
+    /// A routine or four, 40 nodes.
+    pub const TYPICAL: Size = Size {
+        users: 6,
+        roles: 4,
+        kinds: 6,
+        channels: 8,
+        sessions: 4,
+        nodes: 40,
+    };
+
     /// Mostly small, sometimes as large as can be.
     pub fn any(rng: &mut Rng) -> Size {
         match rng.below(64) {

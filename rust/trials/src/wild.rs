@@ -1,6 +1,6 @@
 //! Nodes that are wrong in one respect.
 
-use crate::grow::{Grower, Name, Point, VARIABLES};
+use crate::grow::{Grower, Heed, Name, Point, VARIABLES};
 
 /// What the wild node pays no heed to.
 #[derive(Clone, Copy)]
@@ -11,16 +11,26 @@ pub enum Wild {
     Kinds,
     /// The active set.
     Roles,
+    /// Who may send or receive.
+    Permission,
 }
 
 impl Grower<'_> {
     /// A node that pays no heed to the active set.
     pub fn reckless(&mut self, point: &mut Point) -> Option<[u16; 3]> {
         match self.rng.from(5, 8) {
-            5 => self.receive(point, false),
-            6 => self.send(point, false),
+            5 => self.receive(point, Heed::Nothing),
+            6 => self.send(point, Heed::Nothing),
             7 => self.on(point, u16::MAX),
             _ => self.off(point, u16::MAX),
+        }
+    }
+
+    /// A send or receive that pays no heed to who may.
+    pub fn unpermitted(&mut self, point: &mut Point) -> Option<[u16; 3]> {
+        match self.rng.below(2) {
+            0 => self.receive(point, Heed::Nothing),
+            _ => self.send(point, Heed::Nothing),
         }
     }
 

@@ -3,7 +3,7 @@ use Rattle.format.specs.Answers.{fine}
 use Rattle.format.specs.declared.Verdict.{Verdict}
 use Rattle.rules.specs.declared.Judged.{Judged}
 use Rattle.reading.specs.Reading.{bodyAnswer}
-use Rattle.checking.proofs.CheckLaws.{body-refuses, body-passes}
+use Rattle.checking.proofs.CheckLaws.{body-refuses, body-passes, table-stays, table-filled}
 use borrow.Author.Needs.{needs}
 use Rattle.checking.proofs.judge_body.Statement.{statement}
 use Rattle.checking.proofs.judge_body.Tie as tie
@@ -15,30 +15,31 @@ use Rattle.rules.proofs.judge.judge.Reads as judge-reads
 abbrev judged : Verdict → Verdict → Judged
 judged n r = record { names = n; roles = r }
 
--- src/lib.rt:17:9
+-- src/lib.rt:26:9
 body-requires : tie.Need-body-requires
 body-requires c κs = search needs
 
--- src/lib.rt:19:9
+-- src/lib.rt:28:9
 returns : tie.Need-returns
 returns c =
-    let a = c .before .before .before .before .args in
-    let v = c .before .before .body .result in
-    let loud : bodyAnswer (a .file .now) (a .head) .number ≡ 0 → ⊥ =
-    λ e. c .if1 .taken (ap (λ (x : Verdict). x .number) (c .before .before .body .ensures) ∙ e) in
-    ap (λ (x : Verdict). judged x fine) (c .before .before .body .ensures) ∙ sym (body-refuses (a .file .now) (a .head) loud)
+    let a = c .before .before .before .before .before .args in
+    let loud : bodyAnswer (a .file .now) (a .head) .number ≡ 0 → ⊥ = λ e. c .if1 .taken (ap (λ (x : Verdict). x .number) (c .before .before .body .ensures) ∙ e) in
+    (ap (λ (x : Verdict). judged x fine) (c .before .before .body .ensures) ∙ sym (body-refuses (a .file .now) (a .head) loud), sym (table-stays (a .file .now) (a .head) (a .table .now) loud))
 
--- src/lib.rt:21:5
+-- src/lib.rt:36:5
 judge-requires : tie.Need-judge-requires
 judge-requires c κs = search needs
 
--- src/lib.rt:13:1
+-- src/lib.rt:22:1
+same-length : tie.Need-same-length
+same-length c = search needs
+
+-- src/lib.rt:22:1
 returns-2 : tie.Need-returns-2
 returns-2 c =
-    let a = c .before .before .before .before .before .args in
-    let quiet : bodyAnswer (a .file .now) (a .head) .number ≡ 0 =
-    sym (ap (λ (x : Verdict). x .number) (c .before .before .before .body .ensures)) ∙ c .before .if1 .left in
-    c .judge .ensures ∙ sym (body-passes (a .file .now) (a .head) quiet)
+    let a = c .before .before .before .before .before .before .before .before .before .args in
+    let quiet : bodyAnswer (a .file .now) (a .head) .number ≡ 0 = sym (ap (λ (x : Verdict). x .number) (c .before .before .before .before .before .before .body .ensures)) ∙ c .before .before .before .before .if1 .left in
+    (c .before .before .judge .ensures .0 ∙ sym (body-passes (a .file .now) (a .head) quiet), c .before .before .judge .ensures .1 ∙ sym (table-filled (a .file .now) (a .head) (a .table .now) quiet))
 
 pub judge-body-spec : {M : Type 1} → statement M
-judge-body-spec = tie.close (tie.spec body-requires returns judge-requires returns-2)
+judge-body-spec = tie.close (tie.spec body-requires returns judge-requires same-length returns-2)

@@ -1,12 +1,14 @@
-//! Times reading and checking, the engine against the second implementation.
+//! Times reading, checking and placing, the engine against the second
+//! implementation.
 
+use second::ROOM;
 use std::hint::black_box;
 use std::time::Instant;
 
 const SAMPLES: usize = 1_001;
 
 /// Nanoseconds for one call, from a batch of calls.
-fn sample(calls: u32, call: impl Fn()) -> f64 {
+fn sample(calls: u32, call: &mut impl FnMut()) -> f64 {
     let start = Instant::now();
     for _ in 0..calls {
         call();
@@ -29,14 +31,36 @@ fn row<V, W>(
     second: impl Fn(&[u8]) -> W,
 ) {
     assert_eq!(trials::agreed(file, name), (0, 0));
+    let engine = || {
+        black_box(engine(black_box(file)));
+    };
+    let second = || {
+        black_box(second(black_box(file)));
+    };
+    time(name, file, calls, engine, second);
+}
+
+/// Times the placing of a file, with what both answer.
+fn place_row(size: &str, file: &[u8], calls: u32, number: u16) {
+    let name = format!("place {size}");
+    let (placed, _) = trials::agreed_placing(file, &[0; ROOM], &name);
+    assert_eq!(placed.number, number);
+    let (mut out, mut of_second) = ([0; ROOM], [0; ROOM]);
+    let engine = || {
+        black_box(pilzdamo::place(black_box(file), black_box(&mut out)));
+    };
+    let second = || {
+        black_box(second::place(black_box(file), black_box(&mut of_second)));
+    };
+    time(&name, file, calls, engine, second);
+}
+
+/// Times two calls in turns.
+fn time(name: &str, file: &[u8], calls: u32, mut engine: impl FnMut(), mut second: impl FnMut()) {
     let (mut of_engine, mut of_second) = (Vec::new(), Vec::new());
     for _ in 0..SAMPLES {
-        of_engine.push(sample(calls, || {
-            black_box(engine(black_box(file)));
-        }));
-        of_second.push(sample(calls, || {
-            black_box(second(black_box(file)));
-        }));
+        of_engine.push(sample(calls, &mut engine));
+        of_second.push(sample(calls, &mut second));
     }
     let ((best, median), (best_second, median_second)) = (summary(of_engine), summary(of_second));
     println!(
@@ -51,8 +75,13 @@ fn row<V, W>(
 fn main() {
     let seed = trials::seed();
     println!("Nanoseconds a call; {SAMPLES} samples each, in turns.");
-    println!("Read: refusals 1 to 8. Check: 1 to 13. Largest: 1,024 nodes. Typical: 40 nodes.");
-    println!("There is no output, so no buffers are cleared before a call.");
+    println!("Read: refusals 1 to 10. Check: 1 to 13. Largest: 1,024 nodes. Typical: 40 nodes.");
+    println!(
+        "Place, all with 16 roles but the typical one (40 nodes): the largest that is placed with"
+    );
+    println!("an on step is a chain of 1,022 nodes, placed in 1,024; full has 32 sessions with forks and is");
+    println!("placed in 1,024 nodes; overfull has 1,024 nodes and is refused with 16.");
+    println!("No buffers are cleared before a call.");
     println!();
     println!(
         "{:<14} {:>6} {:>12} {:>12} {:>12} {:>12} {:>10} {:>12}",
@@ -70,7 +99,11 @@ fn main() {
         ("typical", trials::typical(seed), 300),
     ] {
         let name = |question: &str| format!("{question} {size}");
-        row(&name("read"), &file, calls, pilzdamo::read, second::read);
+        row(&name("read"), &file, calls, pilzdamo::read, second::read_names);
         row(&name("check"), &file, calls, pilzdamo::check, second::check);
     }
+    place_row("largest", &trials::largest_bare(seed), 50, 0);
+    place_row("full", &trials::full_bare(seed), 50, 0);
+    place_row("overfull", &trials::overfull_bare(seed), 50, 16);
+    place_row("typical", &trials::typical_bare(seed), 300, 0);
 }

@@ -6,6 +6,7 @@ use Prim.Native.Nat.{_≤_, _-_}
 use native.Mathlib.Omega.{arith}
 use lib.ListN.{length, getD, take, drop, length-set}
 use Rattle.masks.specs.Mask.{has, with}
+use Rattle.rules.specs.Schema.{granted}
 use Rattle.rules.specs.Kept.{addRole}
 use Rattle.rules.proofs.GrantLaws.{add-none, add-more}
 use Rattle.rules.proofs.grants.add_role.Statement.{statement}
@@ -13,25 +14,29 @@ use Rattle.rules.proofs.grants.add_role.Tie as tie
 use Rattle.rules.proofs.grants.add_role.Reads as reads
 use Rattle.rules.proofs.grants.add_role.Lts as lts
 use Rattle.format.proofs.words.narrow.Reads as narrow-reads
-use Rattle.masks.proofs.has_kind.Reads as has-kind-reads
+use Rattle.rules.proofs.grants.role_permits.Reads as role-permits-reads
 use Rattle.rules.proofs.grants.with_if.Reads as with-if-reads
 
 abbrev Inv-loop : tie.InvT-loop
-Inv-loop table₀ role kinds k₀ table k =
+Inv-loop table₀ role it way k₀ table k =
     (k ≤ length table₀) × (length table ≡ length table₀) × (take k table ≡ take k table₀)
-    × (drop k table ≡ addRole kinds (role .0) k (drop k table₀))
+    × (drop k table ≡ addRole (granted way it) (role .0) k (drop k table₀))
 
 abbrev μ-loop : tie.MeasureT-loop
-μ-loop table₀ role kinds k₀ table k = k
+μ-loop table₀ role it way k₀ table k = k
 
 -- src/grants.rt:71:5
 loop-holds : tie.Need-loop-holds Inv-loop μ-loop
 loop-holds c = let a = c .before .args in
-    (omega arith, refl, refl, add-none (a .kinds) (a .role .0) (a .table .now) (length (a .table .now)) refl)
+    (omega arith, refl, refl, add-none (granted (a .way) (a .it)) (a .role .0) (a .table .now) (length (a .table .now)) refl)
 
 -- src/grants.rt:72:9
 sub-k : tie.Need-sub-k Inv-loop μ-loop
 sub-k c = search needs
+
+-- src/grants.rt:73:72
+narrow-requires : tie.Need-narrow-requires Inv-loop μ-loop
+narrow-requires c κs = search needs
 
 -- src/grants.rt:73:28
 mul-with-if : tie.Need-mul-with-if Inv-loop μ-loop
@@ -41,13 +46,9 @@ mul-with-if c = search needs
 slice-read-with-if : tie.Need-slice-read-with-if Inv-loop μ-loop
 slice-read-with-if c = search needs
 
--- src/grants.rt:73:72
-narrow-requires : tie.Need-narrow-requires Inv-loop μ-loop
-narrow-requires c κs = search needs
-
 -- src/grants.rt:73:44
-has-kind-requires : tie.Need-has-kind-requires Inv-loop μ-loop
-has-kind-requires c κs = search needs
+role-permits-requires : tie.Need-role-permits-requires Inv-loop μ-loop
+role-permits-requires c κs = search needs
 
 -- src/grants.rt:73:20
 with-if-requires : tie.Need-with-if-requires Inv-loop μ-loop
@@ -70,10 +71,10 @@ loop-again : tie.Need-loop-again Inv-loop μ-loop
 loop-again c =
     let a = c .before .before .before .before .before .before .before .args in
     let l = c .before .before .before .before .before .loop in
-    let can : c .before .has-kind .result ≡ has (a .kinds) (l .k - 1) = c .before .has-kind .ensures ∙ ap (has (a .kinds)) (c .before .before .narrow .ensures) in
+    let can : c .before .role-permits .result ≡ has (granted (a .way) (a .it)) (l .k - 1) = c .before .role-permits .ensures ∙ ap (has (granted (a .way) (a .it))) (c .before .before .before .narrow .ensures) in
     let old = getD (l .table) (l .k - 1) 0 in
     let its = c .with-if .ensures ∙ ap (λ b. cond b (with old (a .role .0)) old) can in
-    let more = add-more (a .kinds) (a .role .0) (a .table .now) (l .table) (l .k) (c .with-if .result) (omega arith) (omega arith) (l .inv .1) its (l .inv .2) (l .inv .3) in
+    let more = add-more (granted (a .way) (a .it)) (a .role .0) (a .table .now) (l .table) (l .k) (c .with-if .result) (omega arith) (omega arith) (l .inv .1) its (l .inv .2) (l .inv .3) in
     (omega arith, simp length-set (omega arith), more .0, more .1)
 
 -- src/grants.rt:66:1
@@ -95,10 +96,10 @@ add-role-spec =
     μ-loop
     loop-holds
     sub-k
+    narrow-requires
     mul-with-if
     slice-read-with-if
-    narrow-requires
-    has-kind-requires
+    role-permits-requires
     with-if-requires
     mul-table
     slice-write-table

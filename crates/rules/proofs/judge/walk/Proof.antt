@@ -1,29 +1,23 @@
--- The invariant: i is the node due, the contexts on the stack have fewer and fewer variables from its top down, and what is left from here gives
--- what the whole gives.
+-- The invariant: i is the node due, `here` is its context, the contexts on the stack have fewer and fewer variables from its top down, and what is
+-- left from here gives what the whole gives.
 use Prim.Native.Nat.{_+_, _-_, _≤_, _<_}
 use mathlib.Core.Path.{_≡_, refl, sym, ap, subst, _∙_}
-use mathlib.Core.List.{[]}
+use mathlib.Core.List.{List, [], _∷_, map}
 use native.Mathlib.Omega.{arith}
 use borrow.Author.Needs.{needs}
-use lib.ListN.{length, getD, set, length-set}
+use lib.ListN.{length, set, length-set}
 use Rattle.format.specs.Answers.{fine, orElse}
 use Rattle.format.specs.declared.Verdict.{Verdict}
+use Rattle.rules.specs.declared.Point.{Point}
+use Rattle.rules.specs.declared.Step.{Step}
 use Rattle.rules.specs.Schema.{schemaOf}
-use Rattle.rules.specs.Kept.{contextOf, boundIn, answerAt, stacked, Falls}
-use Rattle.rules.proofs.StackLaws.{
-  stacked-top,
-  stacked-none,
-  stacked-below,
-  depth-most,
-  falls-top,
-  falls-below,
-  bound-least,
-  bound-most,
-  contexts-bare,
-  belowOn,
-}
-use Rattle.rules.proofs.ChildLaws.{after-kept}
-use Rattle.rules.proofs.PassLaws.{Left, left-same, begins, goes-on, refuses, runs-out, ends}
+use Rattle.rules.specs.Rules.{Context}
+use Rattle.rules.specs.Checking.{openings}
+use Rattle.rules.specs.Kept.{Named, contextOf, waiting, Waits, answerAt}
+use Rattle.rules.proofs.NameLaws.{Held, held-less, named-kept}
+use Rattle.rules.proofs.StepLaws.{Right, step-right}
+use Rattle.rules.proofs.StackLaws.{waiting-top, waiting-none, waiting-push, waits-more, contexts-kept, contexts-bare}
+use Rattle.rules.proofs.PassLaws.{Left, begins, goes-on, after-step, refuses, runs-out, ends, ends-tree, forks}
 use Rattle.rules.proofs.judge.walk.Statement.{statement}
 use Rattle.rules.proofs.judge.walk.Tie as tie
 use Rattle.rules.proofs.judge.walk.Reads as reads
@@ -32,212 +26,365 @@ use Rattle.format.proofs.answers.or_else.Reads as or-else-reads
 use Rattle.format.proofs.sections.node.Reads as node-reads
 use Rattle.format.proofs.words.wide.Reads as wide-reads
 use Rattle.rules.proofs.judge.answer_at.Reads as answer-at-reads
-use Rattle.rules.proofs.judge.bound_in.Reads as bound-in-reads
 use Rattle.rules.proofs.judge.open_sessions.Reads as open-sessions-reads
-use Rattle.rules.proofs.judge.step_at.Reads as step-at-reads
-use Rattle.rules.proofs.steps.depth_below.Reads as depth-below-reads
+use Rattle.rules.proofs.judge.packed.Reads as packed-reads
+use Rattle.rules.proofs.judge.unpacked.Reads as unpacked-reads
+use Rattle.rules.proofs.steps.step_at.Reads as step-at-reads
 
 abbrev Inv-loop : tie.InvT-loop
-Inv-loop file head sends receives fine stack₀ depth₀ vars₀ roles₀ nodes i₀ stack depth vars roles i =
-    (1 ≤ i) × (i ≤ nodes + 1) × (length stack ≡ 1057) × (length vars ≡ 1025) × (depth ≤ 31 + i)
-    × Falls (i - 1) (stacked stack depth) × Left file head i vars (stacked stack depth) roles
+Inv-loop file head sends receives names₀ roles₀ fine stack₀ depth₀ here₀ first₀ nodes i₀ names roles stack depth here first i =
+    (1 ≤ i) × (i ≤ nodes + 1) × (length stack ≡ 1057) × (length names ≡ 1537) × (length roles ≡ 1025) × (depth ≤ 30 + i) × (here .bound < i)
+    × (here .assigned ≡ schemaOf file head .assigned (here .user)) × Named (schemaOf file head) (head .count .users) (head .count .channels) names
+    × Held names (here .bound) × Waits (schemaOf file head) (here .bound) (waiting stack depth)
+    × Left file head roles₀ i (contextOf names here ∷ map (contextOf names) (waiting stack depth)) first roles
 
 abbrev μ-loop : tie.MeasureT-loop
-μ-loop file head sends receives fine stack₀ depth₀ vars₀ roles₀ nodes i₀ stack depth vars roles i =
+μ-loop file head sends receives names₀ roles₀ fine stack₀ depth₀ here₀ first₀ nodes i₀ names roles stack depth here first i =
     nodes + 1 - i
 
--- what is known of the numbers at a node
-module _ (c : tie.Else1 Inv-loop μ-loop) where
-  some : 0 < c .before .before .loop .depth
-  some = omega (arith, c .if1 .left)
+-- what the step tells of the node
+right-at : (c : tie.After-step-at Inv-loop μ-loop) → Right (schemaOf (c .before .before .before .before .before .before .before .before .before .before .before .before .before .before .before .before .args .file .now) (c .before .before .before .before .before .before .before .before .before .before .before .before .before .before .before .before .args .head)) (c .before .before .before .before .before .loop .names) (c .before .before .before .before .before .loop .here) (c .before .before .before .node .result) (c .step-at .result)
+right-at c =
+    let a = c .before .before .before .before .before .before .before .before .before .before .before .before .before .before .before .before .args in
+    let pre = c .before .before .before .before .before .before .before .before .before .before .before .before .before .before .before .before .pre in
+    let l = c .before .before .before .before .before .loop in
+    let n = c .before .before .before .node .result in
+    let D = schemaOf (a .file .now) (a .head) in
+    let few : l .here .bound < 1024 = omega (arith, l .inv .6, c .before .before .before .before .loop-test .taken, pre .0 .nodes) in
+    subst (λ (s : Step). Right D (l .names) (l .here) n s) (sym (c .step-at .ensures .0))
+    (step-right D (l .names) (l .here) n (pre .0 .users) (pre .0 .channels) (l .inv .8) (omega (arith, few, l .inv .3)) (l .inv .9) (l .inv .7) (c .before .before .match .rest .0 .1) (c .before .before .match .rest .1) (omega arith) (c .step-at .ensures .1))
 
-  within : c .before .before .loop .i ≤ c .before .before .before .before .before .before .before .before .before .args .head .count .nodes
-  within = c .before .loop-test .taken
-
-  room : c .before .before .loop .depth < 1057
-  room = omega (arith, c .before .before .loop .inv .4, within, c .before .before .before .before .before .before .before .before .before .pre .0 .nodes)
-
-  low : boundIn (getD (c .before .before .loop .stack) (c .before .before .loop .depth - 1) 0) < c .before .before .loop .i
-  low = let l = c .before .before .loop in omega (arith, falls-top (l .stack) (l .depth) (l .i - 1) some (l .inv .5) .0, l .inv .0)
-
-  few : boundIn (getD (c .before .before .loop .stack) (c .before .before .loop .depth - 1) 0) < 1024
-  few = omega (arith, low, within, c .before .before .before .before .before .before .before .before .before .pre .0 .nodes)
-
--- src/judge.rt:208:47
+-- src/judge.rt:102:47
 slice-aggregate-open-sessions : tie.Need-slice-aggregate-open-sessions Inv-loop μ-loop
 slice-aggregate-open-sessions c = search needs
 
--- src/judge.rt:208:9
+-- src/judge.rt:102:9
 open-sessions-requires : tie.Need-open-sessions-requires Inv-loop μ-loop
 open-sessions-requires c κs = search needs
 
--- src/judge.rt:213:5
+-- src/judge.rt:104:9
+returns : tie.Need-returns Inv-loop μ-loop
+returns c =
+    let a = c .before .before .before .before .before .before .before .before .before .args in
+    let os = c .before .before .open-sessions .ensures in
+    let stack = c .before .before .open-sessions .last .1 .1 .0 in
+    let none : [] ≡ openings (a .file .now) (a .head) = ap (map (contextOf [])) (sym (ap (waiting stack) (c .if1 .taken) ∙ waiting-none stack)) ∙ os .3 in
+    runs-out (a .file .now) (a .head) (a .roles .now) 1 fine (a .roles .now) (begins (a .file .now) (a .head) (a .roles .now) [] none)
+
+-- src/judge.rt:109:5
+sub-depth : tie.Need-sub-depth Inv-loop μ-loop
+sub-depth c = search needs
+
+-- src/judge.rt:110:29
+mul-unpacked : tie.Need-mul-unpacked Inv-loop μ-loop
+mul-unpacked c = search needs
+
+-- src/judge.rt:110:29
+array-read-unpacked : tie.Need-array-read-unpacked Inv-loop μ-loop
+array-read-unpacked c = search needs
+
+-- src/judge.rt:110:9
+unpacked-requires : tie.Need-unpacked-requires Inv-loop μ-loop
+unpacked-requires c κs = search needs
+
+-- src/judge.rt:114:5
 loop-holds : tie.Need-loop-holds Inv-loop μ-loop
-loop-holds c = let a = c .before .before .before .before .before .before .args in
-    let os = c .before .open-sessions .ensures in
-    let ws = stacked (c .before .open-sessions .last .1 .1 .0) (c .before .open-sessions .result) in (
+loop-holds c =
+    let a = c .before .before .before .before .before .before .before .before .before .before .args in
+    let pre = c .before .before .before .before .before .before .before .before .before .before .pre in
+    let os = c .before .before .before .open-sessions .ensures in
+    let stack = c .before .before .before .open-sessions .last .1 .1 .0 in
+    let r = c .before .before .before .open-sessions .result in
+    let p = c .unpacked .result in
+    let D = schemaOf (a .file .now) (a .head) in
+    let pos : 0 < r = omega arith in
+    let top : waiting stack r ≡ p ∷ waiting stack (r - 1) = waiting-top stack r pos ∙ ap (λ (q : Point). q ∷ waiting stack (r - 1)) (sym (c .unpacked .ensures)) in
+    let w : Waits D 0 (p ∷ waiting stack (r - 1)) = subst (λ (ps : List Point). Waits D 0 ps) top (os .2) in
+    let st : contextOf (a .names .now) p ∷ map (contextOf (a .names .now)) (waiting stack (r - 1)) ≡ openings (a .file .now) (a .head) =
+    ap (map (contextOf (a .names .now))) (sym top) ∙ contexts-bare D (a .names .now) (waiting stack r) (os .2) ∙ os .3 in (
       omega arith,
       omega arith,
       os .1,
-      refl,
-      omega (arith, os .0, c .before .before .before .before .before .before .pre .0 .sessions),
-      os .2,
-      begins (a .file .now) (a .head) _ ws (contexts-bare _ ws (os .2) ∙ os .3),
+      pre .3,
+      pre .5,
+      omega (arith, os .0, pre .0 .sessions),
+      omega (arith, w .0),
+      w .1,
+      pre .4,
+      (λ j low high. let no : ⊥ = omega (arith, low, high, w .0) in absurd no),
+      w .2,
+      begins (a .file .now) (a .head) (a .roles .now) _ st,
     )
 
--- src/judge.rt:215:13
-returns : tie.Need-returns Inv-loop μ-loop
-returns c = let a = c .before .before .before .before .before .before .before .before .before .args in
-    let l = c .before .before .loop in
-    let none : stacked (l .stack) (l .depth) ≡ [] = ap (stacked (l .stack)) (c .if1 .taken) ∙ stacked-none (l .stack) in
-    runs-out (a .file .now) (a .head) (l .i) (l .vars) (l .roles) (subst (λ ws. Left (a .file .now) (a .head) (l .i) (l .vars) ws (l .roles)) none (l .inv .6))
-
--- src/judge.rt:217:25
-sub-top : tie.Need-sub-top Inv-loop μ-loop
-sub-top c = search needs
-
--- src/judge.rt:217:19
-mul-top : tie.Need-mul-top Inv-loop μ-loop
-mul-top c = search needs
-
--- src/judge.rt:217:19
-array-read-top : tie.Need-array-read-top Inv-loop μ-loop
-array-read-top c = search needs
-
--- src/judge.rt:218:13
+-- src/judge.rt:115:13
 node-requires : tie.Need-node-requires Inv-loop μ-loop
 node-requires c κs = search needs
 
--- src/judge.rt:219:57
-slice-aggregate-step-at : tie.Need-slice-aggregate-step-at Inv-loop μ-loop
-slice-aggregate-step-at c = search needs
+-- src/judge.rt:118:9
+add-i : tie.Need-add-i Inv-loop μ-loop
+add-i c = search needs
 
--- src/judge.rt:219:13
-step-at-requires : tie.Need-step-at-requires Inv-loop μ-loop
-step-at-requires c κs =
-    let p = c .before .before .before .before .before .before .before .before .before .before .before .pre in (
-      p .0 .roles,
-      omega (arith, few (c .before .before)),
-      omega (arith, few (c .before .before), c .before .before .before .before .loop .inv .3),
-      p .1,
-      p .2,
-    )
-
--- src/judge.rt:222:24
-answer-at-requires : tie.Need-answer-at-requires Inv-loop μ-loop
-answer-at-requires c κs = search needs
-
--- src/judge.rt:221:13
-returns-2 : tie.Need-returns-2 Inv-loop μ-loop
-returns-2 c =
-    let a = c .before .before .before .before .before .before .before .before .before .before .before .before .before .before .before .args in
-    let l = c .before .before .before .before .before .before .before .before .loop in
-    let left = subst (λ ws. Left (a .file .now) (a .head) (l .i) (l .vars) ws (l .roles)) (stacked-top (l .stack) (l .depth) (some (c .before .before .before .before .before .before))) (l .inv .6) in
-    ap (λ (x : Verdict). record { names = x; roles = fine }) (c .answer-at .ensures)
-    ∙ refuses (a .file .now) (a .head) (l .i) (l .vars) (stacked (l .stack) (l .depth - 1)) (getD (l .stack) (l .depth - 1) 0) (c .before .before .before .step-at .result .wrong) (l .roles)
-    (c .before .before .before .before .before .node .result) (l .inv .0) (within (c .before .before .before .before .before .before)) (c .before .before .before .before .before .node .ensures) (c .before .before .before .step-at .ensures .0) (c .before .if2 .taken) left
-
--- src/judge.rt:226:32
-answer-at-requires-2 : tie.Need-answer-at-requires-2 Inv-loop μ-loop
-answer-at-requires-2 c κs = search needs
-
--- src/judge.rt:226:9
-or-else-requires : tie.Need-or-else-requires Inv-loop μ-loop
-or-else-requires c κs = search needs
-
--- src/judge.rt:227:19
-bound-in-requires : tie.Need-bound-in-requires Inv-loop μ-loop
-bound-in-requires c κs = search needs
-
--- src/judge.rt:227:14
+-- src/judge.rt:121:23
 wide-requires : tie.Need-wide-requires Inv-loop μ-loop
 wide-requires c κs = search needs
 
--- src/judge.rt:227:9
-mul-vars : tie.Need-mul-vars Inv-loop μ-loop
-mul-vars c = search needs
+-- src/judge.rt:121:17
+mul-roles : tie.Need-mul-roles Inv-loop μ-loop
+mul-roles c = search needs
 
--- src/judge.rt:227:9
-array-write-vars : tie.Need-array-write-vars Inv-loop μ-loop
-array-write-vars c = omega (arith, few (c .before .before .before .before .before .before .before .before .before), c .before .bound-in .ensures, c .wide .ensures .0)
+-- src/judge.rt:121:17
+slice-write-roles : tie.Need-slice-write-roles Inv-loop μ-loop
+slice-write-roles c = search needs
 
--- src/judge.rt:228:15
-sub-stack : tie.Need-sub-stack Inv-loop μ-loop
-sub-stack c = omega (arith, some (c .before .before .before .before .before .before .before .before .before))
+-- src/judge.rt:123:21
+same-length : tie.Need-same-length Inv-loop μ-loop
+same-length c = search needs
 
--- src/judge.rt:228:9
-mul-stack : tie.Need-mul-stack Inv-loop μ-loop
-mul-stack c = omega (arith, room (c .before .before .before .before .before .before .before .before .before))
+-- src/judge.rt:123:21
+same-length-2 : tie.Need-same-length-2 Inv-loop μ-loop
+same-length-2 c = length-set (c .before .before .before .before .before .loop .roles) (c .before .wide .result) _ ∙ c .before .before .before .before .before .loop .inv .4 ∙ sym (c .before .before .before .before .before .before .before .before .before .before .before .before .before .before .before .before .pre .5)
 
--- src/judge.rt:228:9
-array-write-stack : tie.Need-array-write-stack Inv-loop μ-loop
-array-write-stack c = omega (arith, room (c .before .before .before .before .before .before .before .before .before))
+-- src/judge.rt:123:21
+returns-2 : tie.Need-returns-2 Inv-loop μ-loop
+returns-2 c =
+    let a = c .before .before .before .before .before .before .before .before .before .before .before .before .before .before .before .before .args in
+    let l = c .before .before .before .before .before .loop in
+    let n = c .before .before .before .node in
+    let st : map (contextOf (l .names)) (waiting (l .stack) (l .depth)) ≡ [] = ap (λ d. map (contextOf (l .names)) (waiting (l .stack) d)) (c .if2 .taken) ∙ ap (map (contextOf (l .names))) (waiting-none (l .stack)) in
+    let left = ends-tree (a .file .now) (a .head) (a .roles .now) (l .i) (contextOf (l .names) (l .here)) _ (l .first) (l .roles) (l .here .assigned) (n .result) (l .inv .0) (c .before .before .before .before .loop-test .taken) (n .ensures) (c .before .before .match .keys1) (l .inv .7) (l .inv .11) in
+    let over = runs-out (a .file .now) (a .head) (a .roles .now) (l .i + 1) (l .first) (set (l .roles) (l .i) (l .here .assigned)) (subst (λ (x : List Context). Left (a .file .now) (a .head) (a .roles .now) (l .i + 1) x (l .first) (set (l .roles) (l .i) (l .here .assigned))) st left) in
+    (over .0, ap (λ j. set (l .roles) j (l .here .assigned)) (c .before .wide .ensures .0) ∙ over .1)
 
--- src/judge.rt:229:9
-mul-stack-2 : tie.Need-mul-stack-2 Inv-loop μ-loop
-mul-stack-2 c = omega (arith, room (c .before .before .before .before .before .before .before .before .before))
+-- src/judge.rt:128:17
+sub-depth-2 : tie.Need-sub-depth-2 Inv-loop μ-loop
+sub-depth-2 c = search needs
 
--- src/judge.rt:229:9
-array-write-stack-2 : tie.Need-array-write-stack-2 Inv-loop μ-loop
-array-write-stack-2 c = omega (arith, room (c .before .before .before .before .before .before .before .before .before))
+-- src/judge.rt:129:33
+mul-unpacked-2 : tie.Need-mul-unpacked-2 Inv-loop μ-loop
+mul-unpacked-2 c = search needs
 
--- src/judge.rt:230:9
-depth-below-requires : tie.Need-depth-below-requires Inv-loop μ-loop
-depth-below-requires c κs = (some (c .before .before .before .before .before .before .before .before .before), omega (arith, room (c .before .before .before .before .before .before .before .before .before)))
+-- src/judge.rt:129:33
+array-read-unpacked-2 : tie.Need-array-read-unpacked-2 Inv-loop μ-loop
+array-read-unpacked-2 c = search needs
 
--- src/judge.rt:231:9
-add-i : tie.Need-add-i Inv-loop μ-loop
-add-i c = omega (arith, within (c .before .before .before .before .before .before .before .before .before .before), c .before .before .before .before .before .before .before .before .before .before .before .before .before .before .before .before .before .before .before .pre .0 .nodes)
+-- src/judge.rt:129:17
+unpacked-requires-2 : tie.Need-unpacked-requires-2 Inv-loop μ-loop
+unpacked-requires-2 c κs = search needs
 
--- src/judge.rt:213:5
+-- src/judge.rt:114:5
 loop-less : tie.Need-loop-less Inv-loop μ-loop
-loop-less c = omega (arith, within (c .before .before .before .before .before .before .before .before .before .before))
+loop-less c = search needs
 
--- src/judge.rt:213:5
+-- src/judge.rt:114:5
 loop-again : tie.Need-loop-again Inv-loop μ-loop
 loop-again c =
-    let a = c .before .before .before .before .before .before .before .before .before .before .before .before .before .before .before .before .before .before .before .args in
-    let l = c .before .before .before .before .before .before .before .before .before .before .before .before .loop in
-    let here = c .before .before .before .before .before .before .before .before .before .before in
+    let a = c .before .before .before .before .before .before .before .before .before .before .before .before .before .before .before .before .before .args in
+    let l = c .before .before .before .before .before .before .loop in
+    let n = c .before .before .before .before .node in
     let D = schemaOf (a .file .now) (a .head) in
-    let w = getD (l .stack) (l .depth - 1) 0 in
-    let ws = stacked (l .stack) (l .depth - 1) in
-    let n = c .before .before .before .before .before .before .before .before .before .node .result in
-    let s = c .before .before .before .before .before .before .before .step-at .result in
-    let x = s .child in
-    let v = s .binding in
-    let good = c .before .before .before .before .before .if2 .left in
-    let step = c .before .before .before .before .before .before .before .step-at .ensures in
-    let its = step .1 good in
-    let pos = some here in
-    let below = falls-top (l .stack) (l .depth) (l .i - 1) pos (l .inv .5) in
-    let long : l .depth < length (l .stack) = omega (arith, room here, l .inv .2) in
-    let fits : boundIn w < length (l .vars) = omega (arith, few here, l .inv .3) in
-    let least : boundIn w ≤ boundIn x = omega (arith, its .4, bound-least (n .tag) (boundIn w)) in
-    let most : boundIn x ≤ l .i = omega (arith, its .4, bound-most (n .tag) (boundIn w), low here) in
-    let back : l .i + 1 - 1 ≡ l .i = omega arith in
-    let at : c .before .wide .result ≡ boundIn w = c .before .wide .ensures .0 ∙ c .before .before .bound-in .ensures in
-    let stack : stacked (set (set (l .stack) (l .depth - 1) x) (l .depth) x) (c .depth-below .result) ≡ belowOn (n .tag) x ws =
-    ap (stacked (set (set (l .stack) (l .depth - 1) x) (l .depth) x)) (c .depth-below .ensures) ∙ stacked-below (n .tag) (l .stack) (l .depth) x pos long in
-    let roles : c .before .before .before .or-else .result ≡ orElse (l .roles) (answerAt (s .barred) (l .i)) = c .before .before .before .or-else .ensures ∙ ap (orElse (l .roles)) (c .before .before .before .before .answer-at2 .ensures) in
-    let next = after-kept D (l .vars) w x v n fits (its .2) (its .3) (its .4) (its .1) ws (below .1) in
-    let left = subst (λ ys. Left (a .file .now) (a .head) (l .i) (l .vars) ys (l .roles)) (stacked-top (l .stack) (l .depth) pos) (l .inv .6) in (
+    let p = c .unpacked2 .result in
+    let pos : 0 < l .depth = omega arith in
+    let top : waiting (l .stack) (l .depth) ≡ p ∷ waiting (l .stack) (l .depth - 1) =
+    waiting-top (l .stack) (l .depth) pos ∙ ap (λ (q : Point). q ∷ waiting (l .stack) (l .depth - 1)) (sym (c .unpacked2 .ensures)) in
+    let w : Waits D (l .here .bound) (p ∷ waiting (l .stack) (l .depth - 1)) = subst (λ (ps : List Point). Waits D (l .here .bound) ps) top (l .inv .10) in
+    let left = ends-tree (a .file .now) (a .head) (a .roles .now) (l .i) (contextOf (l .names) (l .here)) _ (l .first) (l .roles) (l .here .assigned) (n .result) (l .inv .0) (c .before .before .before .before .before .loop-test .taken) (n .ensures) (c .before .before .before .match .keys1) (l .inv .7) (l .inv .11) in
+    let at : c .before .before .wide .result ≡ l .i = c .before .before .wide .ensures .0 in (
       omega arith,
-      omega (arith, within here),
-      simp length-set (l .inv .2),
-      simp length-set (l .inv .3),
-      omega (arith, c .depth-below .ensures, depth-most (n .tag) (l .depth), l .inv .4),
-      rw (back, stack) (falls-below (n .tag) x w (l .i) ws least most (below .1)),
-      left-same (a .file .now) (a .head) (ap (λ j. set (l .vars) j v) at) stack roles
-          (goes-on (a .file .now) (a .head) (l .i) (l .vars) ws (set (l .vars) (boundIn w) v) (belowOn (n .tag) x ws) w (s .barred) (l .roles) n (l .inv .0) (within here)
-          (c .before .before .before .before .before .before .before .before .before .node .ensures) (sym (step .0) ∙ good) (its .0) next left),
+      omega arith,
+      l .inv .2,
+      l .inv .3,
+      simp length-set (l .inv .4),
+      omega (arith, l .inv .5),
+      omega (arith, w .0, l .inv .6),
+      w .1,
+      l .inv .8,
+      held-less (l .names) (l .here .bound) (p .bound) (w .0) (l .inv .9),
+      w .2,
+      subst (λ j. Left (a .file .now) (a .head) (a .roles .now) (l .i + 1) (contextOf (l .names) p ∷ map (contextOf (l .names)) (waiting (l .stack) (l .depth - 1))) (l .first) (set (l .roles) j (l .here .assigned))) (sym at)
+          (subst (λ (ps : List Point). Left (a .file .now) (a .head) (a .roles .now) (l .i + 1) (map (contextOf (l .names)) ps) (l .first) (set (l .roles) (l .i) (l .here .assigned))) top left),
     )
 
--- src/judge.rt:199:1
+-- src/judge.rt:132:23
+wide-requires-2 : tie.Need-wide-requires-2 Inv-loop μ-loop
+wide-requires-2 c κs = search needs
+
+-- src/judge.rt:132:17
+mul-roles-2 : tie.Need-mul-roles-2 Inv-loop μ-loop
+mul-roles-2 c = search needs
+
+-- src/judge.rt:132:17
+slice-write-roles-2 : tie.Need-slice-write-roles-2 Inv-loop μ-loop
+slice-write-roles-2 c = search needs
+
+-- src/judge.rt:133:32
+packed-requires : tie.Need-packed-requires Inv-loop μ-loop
+packed-requires c κs = search needs
+
+-- src/judge.rt:133:17
+mul-stack : tie.Need-mul-stack Inv-loop μ-loop
+mul-stack c = search needs
+
+-- src/judge.rt:133:17
+array-write-stack : tie.Need-array-write-stack Inv-loop μ-loop
+array-write-stack c = search needs
+
+-- src/judge.rt:134:17
+add-depth : tie.Need-add-depth Inv-loop μ-loop
+add-depth c = search needs
+
+-- src/judge.rt:114:5
+loop-less-2 : tie.Need-loop-less-2 Inv-loop μ-loop
+loop-less-2 c = search needs
+
+-- src/judge.rt:114:5
+loop-again-2 : tie.Need-loop-again-2 Inv-loop μ-loop
+loop-again-2 c =
+    let a = c .before .before .before .before .before .before .before .before .before .before .before .before .before .before .before .before .args in
+    let l = c .before .before .before .before .before .loop in
+    let n = c .before .before .before .node in
+    let D = schemaOf (a .file .now) (a .head) in
+    let room : l .depth < length (l .stack) = omega (arith, l .inv .5, l .inv .2, c .before .before .before .before .loop-test .taken, c .before .before .before .before .before .before .before .before .before .before .before .before .before .before .before .before .pre .0 .nodes) in
+    let push : waiting (set (l .stack) (l .depth) (c .packed .result)) (l .depth + 1) ≡ l .here ∷ waiting (l .stack) (l .depth) =
+    waiting-push (l .stack) (l .depth) (c .packed .result) (l .here) room (c .packed .ensures .1) in
+    let left = forks (a .file .now) (a .head) (a .roles .now) (l .i) (contextOf (l .names) (l .here)) (map (contextOf (l .names)) (waiting (l .stack) (l .depth))) (l .first) (l .roles) (l .here .assigned) (n .result) (l .inv .0) (c .before .before .before .before .loop-test .taken) (n .ensures) (c .before .before .match .keys2) (l .inv .7) (l .inv .11) in
+    let at : c .before .wide2 .result ≡ l .i = c .before .wide2 .ensures .0 in
+    let same : l .here .bound ≤ l .here .bound = omega arith in (
+      omega arith,
+      omega arith,
+      simp length-set (l .inv .2),
+      l .inv .3,
+      simp length-set (l .inv .4),
+      omega (arith, l .inv .5),
+      omega (arith, l .inv .6),
+      l .inv .7,
+      l .inv .8,
+      l .inv .9,
+      subst (λ (ps : List Point). Waits D (l .here .bound) ps) (sym push) (same, l .inv .7, l .inv .10),
+      subst (λ j. Left (a .file .now) (a .head) (a .roles .now) (l .i + 1) (contextOf (l .names) (l .here) ∷ map (contextOf (l .names)) (waiting (set (l .stack) (l .depth) (c .packed .result)) (l .depth + 1))) (l .first) (set (l .roles) j (l .here .assigned))) (sym at)
+          (subst (λ (ps : List Point). Left (a .file .now) (a .head) (a .roles .now) (l .i + 1) (contextOf (l .names) (l .here) ∷ map (contextOf (l .names)) ps) (l .first) (set (l .roles) (l .i) (l .here .assigned))) (sym push) left),
+    )
+
+-- src/judge.rt:137:21
+step-at-requires : tie.Need-step-at-requires Inv-loop μ-loop
+step-at-requires c κs =
+    let pre = c .before .before .before .before .before .before .before .before .before .before .before .before .before .before .before .pre in
+    let l = c .before .before .before .before .loop in
+    let few : l .here .bound < 1024 = omega (arith, l .inv .6, c .before .before .before .loop-test .taken, pre .0 .nodes) in
+    (pre .0 .roles, omega (arith, few), omega (arith, few, l .inv .3), pre .1, pre .2)
+
+-- src/judge.rt:140:32
+answer-at-requires : tie.Need-answer-at-requires Inv-loop μ-loop
+answer-at-requires c κs = search needs
+
+-- src/judge.rt:139:21
+same-length-3 : tie.Need-same-length-3 Inv-loop μ-loop
+same-length-3 c = c .before .before .before .before .before .before .before .before .loop .inv .3 ∙ sym (c .before .before .before .before .before .before .before .before .before .before .before .before .before .before .before .before .before .before .before .pre .3)
+
+-- src/judge.rt:139:21
+same-length-4 : tie.Need-same-length-4 Inv-loop μ-loop
+same-length-4 c = c .before .before .before .before .before .before .before .before .loop .inv .4 ∙ sym (c .before .before .before .before .before .before .before .before .before .before .before .before .before .before .before .before .before .before .before .pre .5)
+
+-- src/judge.rt:139:21
 returns-3 : tie.Need-returns-3 Inv-loop μ-loop
-returns-3 c = let a = c .before .before .before .before .before .before .before .before .args in
+returns-3 c =
+    let a = c .before .before .before .before .before .before .before .before .before .before .before .before .before .before .before .before .before .before .before .args in
+    let l = c .before .before .before .before .before .before .before .before .loop in
+    let n = c .before .before .before .before .before .before .node in
+    let s = c .before .before .before .step-at .result in
+    let right = right-at (c .before .before .before) in
+    let over = refuses (a .file .now) (a .head) (a .roles .now) (l .i) (contextOf (l .names) (l .here)) _ (l .first) (l .roles) (s .wrong) (n .result) (l .inv .0) (c .before .before .before .before .before .before .before .loop-test .taken) (n .ensures) (right .wrong) (c .before .if3 .taken) (l .inv .11) in
+    (ap (λ (x : Verdict). record { names = x; roles = fine }) (c .answer-at .ensures) ∙ over .0, over .1)
+
+-- src/judge.rt:144:40
+answer-at-requires-2 : tie.Need-answer-at-requires-2 Inv-loop μ-loop
+answer-at-requires-2 c κs = search needs
+
+-- src/judge.rt:144:17
+or-else-requires : tie.Need-or-else-requires Inv-loop μ-loop
+or-else-requires c κs = search needs
+
+-- src/judge.rt:145:23
+wide-requires-3 : tie.Need-wide-requires-3 Inv-loop μ-loop
+wide-requires-3 c κs = search needs
+
+-- src/judge.rt:145:17
+mul-roles-3 : tie.Need-mul-roles-3 Inv-loop μ-loop
+mul-roles-3 c = search needs
+
+-- src/judge.rt:145:17
+slice-write-roles-3 : tie.Need-slice-write-roles-3 Inv-loop μ-loop
+slice-write-roles-3 c = omega (arith, c .wide3 .ensures .0, c .before .before .before .before .before .before .before .before .before .before .loop .inv .4, c .before .before .before .before .before .before .before .before .before .loop-test .taken, c .before .before .before .before .before .before .before .before .before .before .before .before .before .before .before .before .before .before .before .before .before .pre .0 .nodes)
+
+-- src/judge.rt:146:29
+wide-requires-4 : tie.Need-wide-requires-4 Inv-loop μ-loop
+wide-requires-4 c κs = search needs
+
+-- src/judge.rt:146:23
+add-names : tie.Need-add-names Inv-loop μ-loop
+add-names c = search needs
+
+-- src/judge.rt:146:17
+mul-names : tie.Need-mul-names Inv-loop μ-loop
+mul-names c = search needs
+
+-- src/judge.rt:146:17
+slice-write-names : tie.Need-slice-write-names Inv-loop μ-loop
+slice-write-names c = omega (arith, c .wide4 .ensures .0, c .before .before .before .before .before .before .before .before .before .before .before .loop .inv .3, c .before .before .before .before .before .before .before .before .before .before .before .loop .inv .6, c .before .before .before .before .before .before .before .before .before .before .loop-test .taken, c .before .before .before .before .before .before .before .before .before .before .before .before .before .before .before .before .before .before .before .before .before .before .pre .0 .nodes)
+
+-- src/judge.rt:114:5
+loop-less-3 : tie.Need-loop-less-3 Inv-loop μ-loop
+loop-less-3 c = search needs
+
+-- src/judge.rt:114:5
+loop-again-3 : tie.Need-loop-again-3 Inv-loop μ-loop
+loop-again-3 c =
+    let a = c .before .before .before .before .before .before .before .before .before .before .before .before .before .before .before .before .before .before .before .before .before .before .before .args in
+    let l = c .before .before .before .before .before .before .before .before .before .before .before .before .loop in
+    let n = c .before .before .before .before .before .before .before .before .before .before .node in
+    let D = schemaOf (a .file .now) (a .head) in
+    let s = c .before .before .before .before .before .before .before .step-at .result in
+    let right = right-at (c .before .before .before .before .before .before .before) in
+    let good = c .before .before .before .before .before .if3 .left in
+    let goes = right .goes good in
+    let few : l .here .bound < 1024 = omega (arith, l .inv .6, c .before .before .before .before .before .before .before .before .before .before .before .loop-test .taken, c .before .before .before .before .before .before .before .before .before .before .before .before .before .before .before .before .before .before .before .before .before .before .before .pre .0 .nodes) in
+    let t = set (l .names) (512 + l .here .bound) (s .binding) in
+    let at : c .before .before .wide3 .result ≡ l .i = c .before .before .wide3 .ensures .0 in
+    let to : 512 + c .before .wide4 .result ≡ 512 + l .here .bound = ap (λ k. 512 + k) (c .before .wide4 .ensures .0) in
+    let same : l .here .bound ≤ l .here .bound = omega arith in
+    let rest = contexts-kept D (l .names) (l .here .bound) (s .binding) (l .here .bound) (waiting (l .stack) (l .depth)) same (l .inv .10) in
+    let next = after-step D (contextOf (l .names) (l .here)) (n .result) (map (contextOf (l .names)) (waiting (l .stack) (l .depth))) (c .before .before .before .before .before .before .before .before .before .match .rest .0 .1) (c .before .before .before .before .before .before .before .before .before .match .rest .1) (goes .child) rest in
+    let first : c .before .before .before .or-else .result ≡ orElse (l .first) (answerAt (s .barred) (l .i)) = c .before .before .before .or-else .ensures ∙ ap (orElse (l .first)) (c .before .before .before .before .answer-at2 .ensures) in
+    let left = goes-on (a .file .now) (a .head) (a .roles .now) (l .i) (contextOf (l .names) (l .here)) (map (contextOf (l .names)) (waiting (l .stack) (l .depth))) _ (l .first) (l .roles) (s .barred) (s .roles) (n .result) (l .inv .0) (c .before .before .before .before .before .before .before .before .before .before .before .loop-test .taken) (n .ensures)
+    (sym (right .wrong) ∙ good) (goes .barred) (goes .roles) next (l .inv .11) in
+    rw (to) (
+      omega arith,
+      omega arith,
+      l .inv .2,
+      length-set (l .names) (512 + l .here .bound) _ ∙ l .inv .3,
+      length-set (l .roles) (c .before .before .wide3 .result) _ ∙ l .inv .4,
+      omega (arith, l .inv .5),
+      omega (arith, l .inv .6, goes .most),
+      goes .assigned ∙ l .inv .7 ∙ ap (D .assigned) (sym (goes .user)),
+      named-kept D (a .head .count .users) (a .head .count .channels) (l .names) (l .here .bound) (s .binding) (l .inv .8),
+      goes .held,
+      waits-more D (l .here .bound) (s .child .bound) (waiting (l .stack) (l .depth)) (goes .least) (l .inv .10),
+      rw (at, first) left,
+    )
+
+-- src/judge.rt:85:1
+same-length-5 : tie.Need-same-length-5 Inv-loop μ-loop
+same-length-5 c = search needs
+
+-- src/judge.rt:85:1
+same-length-6 : tie.Need-same-length-6 Inv-loop μ-loop
+same-length-6 c = search needs
+
+-- src/judge.rt:85:1
+returns-4 : tie.Need-returns-4 Inv-loop μ-loop
+returns-4 c =
+    let a = c .before .before .before .before .before .before .before .before .before .before .before .before .args in
     let l = c .before .loop in
-    ends (a .file .now) (a .head) (l .i) (l .vars) (stacked (l .stack) (l .depth)) (l .roles) (c .loop-test .left) (l .inv .6)
+    ends (a .file .now) (a .head) (a .roles .now) (l .i) _ (l .first) (l .roles) (c .loop-test .left) (l .inv .11)
 
 pub walk-spec : {M : Type 1} → statement M
 walk-spec =
@@ -247,29 +394,51 @@ walk-spec =
     μ-loop
     slice-aggregate-open-sessions
     open-sessions-requires
-    loop-holds
     returns
-    sub-top
-    mul-top
-    array-read-top
+    sub-depth
+    mul-unpacked
+    array-read-unpacked
+    unpacked-requires
+    loop-holds
     node-requires
-    slice-aggregate-step-at
-    step-at-requires
-    answer-at-requires
-    returns-2
-    answer-at-requires-2
-    or-else-requires
-    bound-in-requires
-    wide-requires
-    mul-vars
-    array-write-vars
-    sub-stack
-    mul-stack
-    array-write-stack
-    mul-stack-2
-    array-write-stack-2
-    depth-below-requires
     add-i
+    wide-requires
+    mul-roles
+    slice-write-roles
+    same-length
+    same-length-2
+    returns-2
+    sub-depth-2
+    mul-unpacked-2
+    array-read-unpacked-2
+    unpacked-requires-2
     loop-less
     loop-again
-    returns-3)
+    wide-requires-2
+    mul-roles-2
+    slice-write-roles-2
+    packed-requires
+    mul-stack
+    array-write-stack
+    add-depth
+    loop-less-2
+    loop-again-2
+    step-at-requires
+    answer-at-requires
+    same-length-3
+    same-length-4
+    returns-3
+    answer-at-requires-2
+    or-else-requires
+    wide-requires-3
+    mul-roles-3
+    slice-write-roles-3
+    wide-requires-4
+    add-names
+    mul-names
+    slice-write-names
+    loop-less-3
+    loop-again-3
+    same-length-5
+    same-length-6
+    returns-4)

@@ -14,7 +14,7 @@ use Rattle.format.specs.Sections.{nodesFrom}
 use Rattle.format.specs.declared.Session.{Session}
 use Rattle.trees.specs.Shape.{shapeAnswer}
 use Rattle.trees.proofs.ShapeLaws.{pile, length-nodes}
-use Rattle.trees.proofs.SoundLaws.{Waiting, waiting, unpack, unpacked, held, held-push, held-top, accepts, waitsFrom, waits-push, starts, on-end, on-fork, on-repeat, on-binder, on-operands, on-switch, on-last, switch-tag}
+use Rattle.trees.proofs.SoundLaws.{Waiting, waiting, unpack, unpacked, held, held-push, held-top, accepts, waitsFrom, waits-push, starts, on-end, on-fork, on-other, has-room, on-last}
 use Rattle.trees.proofs.sound.sound_shape.Statement.{statement}
 use Rattle.trees.proofs.sound.sound_shape.Tie as tie
 use Rattle.trees.proofs.sound.sound_shape.Reads as reads
@@ -25,6 +25,8 @@ use Rattle.format.proofs.words.narrow.Reads as narrow-reads
 use Rattle.format.proofs.words.paired.Reads as paired-reads
 use Rattle.format.proofs.words.wide.Reads as wide-reads
 use Rattle.trees.proofs.sound.bound_above.Reads as bound-above-reads
+use Rattle.trees.proofs.shape.bound_below.Reads as bound-below-reads
+use Rattle.trees.proofs.sound.goes_on.Reads as goes-on-reads
 use Rattle.trees.proofs.sound.named.Reads as named-reads
 
 abbrev Inv-loop : tie.InvT-loop
@@ -267,8 +269,21 @@ loop2-again-2 c =
     )
 
 -- src/sound.rt:76:21
+goes-on-requires : tie.Need-goes-on-requires Inv-loop μ-loop Inv-loop2 μ-loop2
+goes-on-requires c κs = search needs
+
+-- src/sound.rt:81:21
 returns-6 : tie.Need-returns-6 Inv-loop μ-loop Inv-loop2 μ-loop2
 returns-6 c = λ e. absurd (false≢true e)
+
+-- src/sound.rt:83:17
+bound-below-requires : tie.Need-bound-below-requires Inv-loop μ-loop Inv-loop2 μ-loop2
+bound-below-requires c κs =
+    let a = c .before .before .before .before .before .before .before .before .before .before .before .before .before .args in
+    let l = c .before .before .before .before .before .loop2 in
+    let node = c .before .before .before .node .result in
+    has-room (a .file .now) (a .head .at .nodes) (a .head .count .nodes) (l .i) (omega arith) (omega arith) node (c .before .before .before .node .ensures) (l .bound)
+    (sym (c .before .goes-on .ensures) ∙ not-false (c .before .goes-on .result) (c .if6 .left))
 
 -- src/sound.rt:48:5
 loop2-less-3 : tie.Need-loop2-less-3 Inv-loop μ-loop Inv-loop2 μ-loop2
@@ -280,91 +295,19 @@ loop2-again-3 c =
     let a = c .before .before .before .before .before .before .before .before .before .before .before .before .before .before .args in
     let l = c .before .before .before .before .before .before .loop2 in
     let node = c .before .before .before .before .node .result in
-    let law = on-repeat (a .file .now) (a .head .at .nodes) (a .head .count .nodes) (l .i) (omega arith) (omega arith) node (c .before .before .before .before .node .ensures) in
-    let zeros = both (eqb (node .f1) 0) (eqb (node .f2) 0) (c .if6 .left) in (
+    let m = c .before .before .before .match .rest in
+    let law = on-other (a .file .now) (a .head .at .nodes) (a .head .count .nodes) (l .i) (omega arith) (omega arith) node (c .before .before .before .before .node .ensures) in (
       omega arith,
       omega arith,
       l .inv .2,
       omega arith,
-      λ h. l .inv .4 (law (l .bound) (held (l .stack) (l .depth)) (c .before .before .before .match .keys3) (eqb-true _ _ (zeros .0)) (eqb-true _ _ (zeros .1)) h),
+      λ h. l .inv .4 (law (l .bound) (held (l .stack) (l .depth)) (m .0 .1) (m .1)
+          (sym (c .before .before .goes-on .ensures) ∙ not-false (c .before .before .goes-on .result) (c .before .if6 .left)) (rw (c .bound-below .ensures) at h)),
     )
-
--- src/sound.rt:81:21
-returns-7 : tie.Need-returns-7 Inv-loop μ-loop Inv-loop2 μ-loop2
-returns-7 c = λ e. absurd (false≢true e)
-
--- src/sound.rt:83:17
-add-bound : tie.Need-add-bound Inv-loop μ-loop Inv-loop2 μ-loop2
-add-bound c =
-    let passed = both (eqb (c .before .before .before .node .result .f2) 0) (ltb (c .before .before .before .before .before .loop2 .bound) 8) (c .if7 .left) in
-    omega (arith, ltb-true (c .before .before .before .before .before .loop2 .bound) 8 (passed .1))
-
--- src/sound.rt:48:5
-loop2-less-4 : tie.Need-loop2-less-4 Inv-loop μ-loop Inv-loop2 μ-loop2
-loop2-less-4 c = omega arith
-
--- src/sound.rt:48:5
-loop2-again-4 : tie.Need-loop2-again-4 Inv-loop μ-loop Inv-loop2 μ-loop2
-loop2-again-4 c =
-    let a = c .before .before .before .before .before .before .before .before .before .before .before .before .before .args in
-    let l = c .before .before .before .before .before .loop2 in
-    let node = c .before .before .before .node .result in
-    let law = on-binder (a .file .now) (a .head .at .nodes) (a .head .count .nodes) (l .i) (omega arith) (omega arith) node (c .before .before .before .node .ensures) in
-    let passed = both (eqb (node .f2) 0) (ltb (l .bound) 8) (c .if7 .left) in (
-      omega arith,
-      omega arith,
-      l .inv .2,
-      omega arith,
-      λ h. l .inv .4 (law (l .bound) (held (l .stack) (l .depth)) (c .before .before .match .keys4) (eqb-true _ _ (passed .0)) (ltb-true _ _ (passed .1)) h),
-    )
-
--- src/sound.rt:48:5
-loop2-less-5 : tie.Need-loop2-less-5 Inv-loop μ-loop Inv-loop2 μ-loop2
-loop2-less-5 c = omega arith
-
--- src/sound.rt:48:5
-loop2-again-5 : tie.Need-loop2-again-5 Inv-loop μ-loop Inv-loop2 μ-loop2
-loop2-again-5 c =
-    let a = c .before .before .before .before .before .before .before .before .before .before .before .args in
-    let l = c .before .before .before .loop2 in
-    let node = c .before .node .result in
-    let law = on-operands (a .file .now) (a .head .at .nodes) (a .head .count .nodes) (l .i) (omega arith) (omega arith) node (c .before .node .ensures) in (
-      omega arith,
-      omega arith,
-      l .inv .2,
-      omega arith,
-      λ h. l .inv .4 (law (l .bound) (held (l .stack) (l .depth)) (c .match .keys5) h),
-    )
-
--- src/sound.rt:88:21
-returns-8 : tie.Need-returns-8 Inv-loop μ-loop Inv-loop2 μ-loop2
-returns-8 c = λ e. absurd (false≢true e)
-
--- src/sound.rt:48:5
-loop2-less-6 : tie.Need-loop2-less-6 Inv-loop μ-loop Inv-loop2 μ-loop2
-loop2-less-6 c = omega arith
-
--- src/sound.rt:48:5
-loop2-again-6 : tie.Need-loop2-again-6 Inv-loop μ-loop Inv-loop2 μ-loop2
-loop2-again-6 c =
-    let a = c .before .before .before .before .before .before .before .before .before .before .before .before .before .before .args in
-    let l = c .before .before .before .before .before .before .loop2 in
-    let node = c .before .before .before .before .node .result in
-    let law = on-switch (a .file .now) (a .head .at .nodes) (a .head .count .nodes) (l .i) (omega arith) (omega arith) node (c .before .before .before .before .node .ensures) in (
-      omega arith,
-      omega arith,
-      l .inv .2,
-      omega arith,
-      λ h. l .inv .4 (law (l .bound) (held (l .stack) (l .depth)) (switch-tag (node .tag) (c .before .before .before .match .rest .0 .0 .0 .0 .1) (c .before .before .before .match .rest .0 .0 .0 .1) (c .before .before .before .match .rest .0 .0 .1) (c .before .before .before .match .rest .0 .1) (c .before .before .before .match .rest .1) (omega arith)) (c .if9 .left) h),
-    )
-
--- src/sound.rt:92:17
-returns-9 : tie.Need-returns-9 Inv-loop μ-loop Inv-loop2 μ-loop2
-returns-9 c = λ e. absurd (false≢true e)
 
 -- src/sound.rt:29:1
-returns-10 : tie.Need-returns-10 Inv-loop μ-loop Inv-loop2 μ-loop2
-returns-10 c =
+returns-7 : tie.Need-returns-7 Inv-loop μ-loop Inv-loop2 μ-loop2
+returns-7 c =
     λ e. let a = c .before .before .before .before .before .before .before .before .before .args in
     let l = c .before .loop2 in
     l .inv .4 (rw (eqb-true (l .depth) 0 e) (on-last (a .file .now) (a .head .at .nodes + 3 * (l .i - 1)) (a .head .count .nodes) (l .i) (l .bound) (omega arith)))
@@ -415,17 +358,9 @@ sound-shape-spec =
     add-depth-2
     loop2-less-2
     loop2-again-2
+    goes-on-requires
     returns-6
+    bound-below-requires
     loop2-less-3
     loop2-again-3
-    returns-7
-    add-bound
-    loop2-less-4
-    loop2-again-4
-    loop2-less-5
-    loop2-again-5
-    returns-8
-    loop2-less-6
-    loop2-again-6
-    returns-9
-    returns-10)
+    returns-7)

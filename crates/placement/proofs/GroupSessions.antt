@@ -1,0 +1,95 @@
+-- Sessions one after the other: the nodes, the roots, the number of nodes and the on steps of what is placed.
+use Prim.Native.Nat.{ℕ, zero, suc, _+_}
+use mathlib.Core.Path.{_≡_, refl, ap, ap₂, _∙_}
+use mathlib.Core.List.{List, [], _∷_}
+use native.Mathlib.Omega.{arith}
+use lib.ListN.{length, getD}
+use Rattle.format.specs.Words.{wordAt}
+use Rattle.format.specs.declared.Session.{Session}
+use Rattle.rules.specs.Schema.{Schema}
+use Rattle.states.specs.declared.Turn.{Turn}
+use Rattle.groups.specs.Groups.{sizesOf, onsOf, startsOf, groupsFrom, sessionsFrom}
+use Rattle.clinic.specs.Lists.{All}
+use Rattle.clinic.specs.Tree.{Tree, past, write, flatten}
+use Rattle.clinic.specs.File.{Routine, sessionWords}
+use Rattle.clinic.proofs.TreeEnds.{past-length}
+use Rattle.clinic.proofs.Rows.{rowsFrom}
+use Rattle.clinic.proofs.Tables.{sessionAt}
+use Rattle.clinic.proofs.FileTables.{treesOf, seats}
+use Rattle.placement.specs.Placement.{onStepsOf, grafted}
+use Rattle.placement.specs.Placed.{insert, taking, placedTree, placedTrees, AllStates, insertAll, takingAll}
+use Rattle.placement.proofs.SwitchFree.{Free}
+use Rattle.placement.proofs.Preorder.{walkedAll}
+use Rattle.placement.proofs.GroupTrees.{Begun, tree-sizes, tree-ons, tree-begins, tree-past, tree-groups}
+
+-- the trees placed are those with the states taken
+pub placed-inserted : (D : Schema) (ss : List Routine) → placedTrees D ss ≡ insertAll D ss (takingAll D ss)
+unfolding placedTrees placedTree insertAll
+placed-inserted D [] = refl
+placed-inserted D (s ∷ ss) = ap {B = List Tree} (λ l. insert D (s .user) 0 [] (s .tree) (taking D (s .user) (s .tree)) ∷ l) (placed-inserted D ss)
+
+-- the sessions' words with new roots
+unfoldable pub rooted : List ℕ → List Session → List ℕ
+rooted starts [] = []
+rooted starts (s ∷ ss) = s .user ∷ s .mask ∷ getD starts (s .root) 0 ∷ rooted starts ss
+
+pub sessions-rooted : (starts f : List ℕ) (p k : ℕ) → sessionsFrom starts f p k ≡ rooted starts (rowsFrom (sessionAt f) 3 p k)
+unfolding sessionsFrom rooted rowsFrom
+sessions-rooted starts f p zero = refl
+sessions-rooted starts f p (suc k) =
+    ap {B = List ℕ} (λ l. wordAt f p ∷ wordAt f (p + 1) ∷ getD starts (wordAt f (p + 2)) 0 ∷ l) (sessions-rooted starts f (p + 3) k)
+
+-- by old number the groups' numbers are those of the first turn on
+pub begun-all : (ts : List Turn) → Begun (startsOf ts) 1 1 ts
+begun-all ts k = let e : 1 + k ≡ suc k = omega arith in ap (λ (i : ℕ). getD (startsOf ts) i 0) e
+
+module _ (D : Schema) where
+  -- the sessions with the trees that the states give
+  abbrev pub withStates : (ss : List Routine) → AllStates D ss → List Routine
+  withStates ss a = grafted ss (insertAll D ss a)
+
+  pub length-states : (ss : List Routine) (a : AllStates D ss) → length (withStates ss a) ≡ length ss
+  unfolding grafted insertAll
+  length-states [] a = refl
+  length-states (s ∷ ss) a = ap suc (length-states ss (a .1))
+
+  pub all-sizes : (to : ℕ) (ss : List Routine) (a : AllStates D ss) → sizesOf (walkedAll D ss a) ≡ length (flatten to (treesOf (withStates ss a)))
+  unfolding walkedAll insertAll grafted flatten sizesOf
+  all-sizes to [] a = refl
+  all-sizes to (s ∷ ss) a =
+      let t′ : Tree = insert D (s .user) 0 [] (s .tree) (a .0) in
+      let ts : List Turn = walkedAll D ss (a .1) in
+      omega (
+        arith,
+        tree-sizes D (s .user) to 0 [] (s .tree) (a .0) ts,
+        all-sizes (past to t′) ss (a .1),
+        past-length to t′ (flatten (past to t′) (treesOf (withStates ss (a .1)))),
+      )
+
+  pub all-ons : (ss : List Routine) (a : AllStates D ss) → onsOf (walkedAll D ss a) ≡ onStepsOf (insertAll D ss a)
+  unfolding walkedAll insertAll onStepsOf onsOf
+  all-ons [] a = refl
+  all-ons (s ∷ ss) a = omega (arith, tree-ons D (s .user) 0 [] (s .tree) (a .0) (walkedAll D ss (a .1)), all-ons ss (a .1))
+
+  module _ (starts : List ℕ) where
+    pub all-groups : (at to : ℕ) (ss : List Routine) (a : AllStates D ss) → All (λ s. Free (s .tree)) ss → Begun starts at to (walkedAll D ss a)
+        → groupsFrom starts (flatten at (treesOf ss)) (walkedAll D ss a) ≡ flatten to (treesOf (withStates ss a))
+    unfolding walkedAll insertAll grafted flatten groupsFrom
+    all-groups at to [] a f h = refl
+    all-groups at to (s ∷ ss) a f h =
+        let t′ : Tree = insert D (s .user) 0 [] (s .tree) (a .0) in
+        let ts : List Turn = walkedAll D ss (a .1) in
+        let next : Begun starts (past at (s .tree)) (past to t′) ts = tree-past D (s .user) starts at to 0 [] (s .tree) (a .0) ts (f .0) h in
+        tree-groups D (s .user) starts at to 0 [] (s .tree) (a .0) (flatten (past at (s .tree)) (treesOf ss)) ts (f .0) h
+        ∙ ap (write to t′) (all-groups (past at (s .tree)) (past to t′) ss (a .1) (f .1) next)
+
+    pub all-roots : (at to : ℕ) (ss : List Routine) (a : AllStates D ss) → All (λ s. Free (s .tree)) ss → Begun starts at to (walkedAll D ss a)
+        → rooted starts (seats at ss) ≡ sessionWords to (withStates ss a)
+    unfolding walkedAll insertAll grafted rooted seats sessionWords
+    all-roots at to [] a f h = refl
+    all-roots at to (s ∷ ss) a f h =
+        let t′ : Tree = insert D (s .user) 0 [] (s .tree) (a .0) in
+        let ts : List Turn = walkedAll D ss (a .1) in
+        let next : Begun starts (past at (s .tree)) (past to t′) ts = tree-past D (s .user) starts at to 0 [] (s .tree) (a .0) ts (f .0) h in
+        let here : getD starts at 0 ≡ to = tree-begins D (s .user) starts at to 0 [] (s .tree) (a .0) ts h in
+        ap₂ {C = List ℕ} (λ (r : ℕ) (l : List ℕ). s .user ∷ s .mask ∷ r ∷ l) here (all-roots (past at (s .tree)) (past to t′) ss (a .1) (f .1) next)

@@ -1,0 +1,38 @@
+-- masks of one role, costs, and rules 5 and 6 by states
+pub mod HeldRole
+pub mod StepCosts
+pub mod StateRules
+-- states give a placement, and a placement gives states
+pub mod InsertGood
+pub mod Rivals
+-- one session
+pub mod SoundSessions
+pub mod SessionPlaced
+-- the whole file
+pub mod FilePlaced
+-- What placing reads from a file's bytes: trees without on and off, their nodes with the roles that they may be given (labels-read)
+pub mod SwitchFree
+pub mod Preorder
+pub mod SameLabels
+pub mod ReadLabels
+-- The states taken from the rows are the choice's (all-turns)
+pub mod TreeRows
+-- The groups of nodes are the trees with off and on put in (all-groups, all-roots), and the words written are the placed file's (words-placed)
+pub mod TurnedNodes
+pub mod GroupTrees
+pub mod GroupSessions
+pub mod PlacedWords
+-- 14 and 15, and that the placed file is well formed
+pub mod BareAnswers
+pub mod ServedLabels
+pub mod FormedTrees
+pub mod OnNodes
+-- The bytes written, their length, the on steps and the states (placed-bytes, placed-length, placed-ons, placed-states)
+pub mod BytesPlaced
+-- Placing's answer by stages, the places of 14 and 15, and when the answer is which: what a placed file is (placed-well), and when 14, 15, 16
+-- or none refuses (fourteen-masks, fourteen-node, fifteen-exactly, fifteen-place, sixteen-exactly, placed-exactly)
+pub mod AnswerStages
+pub mod RefusedPlaces
+pub mod PlacingExact
+-- the starred cases
+pub mod StarredCases

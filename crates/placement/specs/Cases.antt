@@ -1,0 +1,83 @@
+-- The paper's starred cases. Braces hold the roles that permit a step.
+use Prim.Native.Nat.{ℕ, _*_}
+use mathlib.Core.Path.{_≡_}
+use mathlib.Core.List.{List, [], _∷_, _++_, map}
+use lib.ListN.{length}
+use Rattle.format.specs.Words.{bytesOf}
+use Rattle.format.specs.Answers.{fine, refused}
+use Rattle.format.specs.Header.{headAt}
+use Rattle.format.specs.declared.Verdict.{Verdict}
+use Rattle.checking.specs.Check.{checking}
+use Rattle.states.specs.declared.Turn.{Turn}
+use Rattle.placing.specs.Placing.{turnsFor, noPlace, placing, placedBytes}
+use Rattle.placing.specs.declared.Placed.{Placed}
+
+-- a file's words, and what is said of it
+pub data Case : Type 0 where
+  -- the check's answer
+  checks : List ℕ → Verdict → Case
+  -- the words of the placed file and its on steps
+  places : List ℕ → List ℕ → ℕ → Case
+  -- the states taken
+  takes : List ℕ → List ℕ → Case
+  -- placing's refusal
+  refuses : List ℕ → ℕ → ℕ → Case
+
+abbrev pub Shown : Case → Type 0
+Shown (checks ws v) = checking (bytesOf ws) ≡ v
+Shown (places ws xs n) =
+    (placing (bytesOf ws) 6874 ≡ record { number = 0; place = 0; length = 2 * length xs; «on_steps» = n }) × (placedBytes (bytesOf ws) ≡ bytesOf xs)
+Shown (takes ws ss) = map (λ (t : Turn). t .to) (turnsFor (bytesOf ws) (headAt (bytesOf ws))) ≡ ss
+Shown (refuses ws n p) = placing (bytesOf ws) 6874 ≡ noPlace n p
+
+-- the booking's tables (two users, two roles, two kinds, two channels of user 2), with the grants of the two roles, and one session of user 1
+abbrev file : List ℕ → ℕ → List ℕ → List ℕ
+file grants nodes words =
+    1 ∷ 2 ∷ 2 ∷ 2 ∷ 2 ∷ 1 ∷ nodes ∷ 13 ∷ 15 ∷ 23 ∷ 25 ∷ 29 ∷ 32 ∷ 3 ∷ 0 ∷ grants ++ 0 ∷ 0 ∷ 2 ∷ 1 ∷ 2 ∷ 2 ∷ 1 ∷ 0 ∷ 1 ∷ words
+
+-- the booking's grants: role 1 may send on kind 1, role 2 on both; and one role for each kind
+abbrev both : List ℕ
+both = 1 ∷ 0 ∷ 0 ∷ 0 ∷ 3 ∷ 0 ∷ 0 ∷ 0 ∷ []
+
+abbrev apart : List ℕ
+apart = 1 ∷ 0 ∷ 0 ∷ 0 ∷ 2 ∷ 0 ∷ 0 ∷ 0 ∷ []
+
+-- one user without a role, one kind, a channel of the user, and two nodes
+abbrev unroled : List ℕ → List ℕ
+unroled words = 1 ∷ 1 ∷ 0 ∷ 1 ∷ 1 ∷ 1 ∷ 2 ∷ 13 ∷ 14 ∷ 14 ∷ 15 ∷ 17 ∷ 20 ∷ 0 ∷ 0 ∷ 1 ∷ 1 ∷ 1 ∷ 0 ∷ 1 ∷ words
+
+abbrev booking : List ℕ
+booking = file both 3 (6 ∷ 257 ∷ 2 ∷ 6 ∷ 258 ∷ 2 ∷ 0 ∷ 0 ∷ 0 ∷ [])
+
+abbrev placed : List ℕ
+placed = file both 5 (7 ∷ 2 ∷ 0 ∷ 6 ∷ 257 ∷ 2 ∷ 6 ∷ 258 ∷ 2 ∷ 8 ∷ 2 ∷ 0 ∷ 0 ∷ 0 ∷ 0 ∷ [])
+
+abbrev pub cases : List Case
+cases =
+    -- the booking, and as placed
+    places booking placed 1
+    ∷ checks booking (refused 13 1)
+    ∷ checks placed fine
+    -- fork of two {2} sends
+    ∷ places (file apart 5 (1 ∷ 4 ∷ 0 ∷ 6 ∷ 258 ∷ 2 ∷ 0 ∷ 0 ∷ 0 ∷ 6 ∷ 258 ∷ 2 ∷ 0 ∷ 0 ∷ 0 ∷ []))
+    (file apart 8 (7 ∷ 2 ∷ 0 ∷ 1 ∷ 6 ∷ 0 ∷ 6 ∷ 258 ∷ 2 ∷ 8 ∷ 2 ∷ 0 ∷ 0 ∷ 0 ∷ 0 ∷ 6 ∷ 258 ∷ 2 ∷ 8 ∷ 2 ∷ 0 ∷ 0 ∷ 0 ∷ 0 ∷ [])) 1
+    -- {1}, {2}, {1}
+    ∷ places (file apart 4 (6 ∷ 257 ∷ 2 ∷ 6 ∷ 258 ∷ 2 ∷ 6 ∷ 257 ∷ 2 ∷ 0 ∷ 0 ∷ 0 ∷ []))
+    (file apart 10 (7 ∷ 1 ∷ 0 ∷ 6 ∷ 257 ∷ 2 ∷ 8 ∷ 1 ∷ 0 ∷ 7 ∷ 2 ∷ 0 ∷ 6 ∷ 258 ∷ 2 ∷ 8 ∷ 2 ∷ 0 ∷ 7 ∷ 1 ∷ 0 ∷ 6 ∷ 257 ∷ 2 ∷ 8 ∷ 1 ∷ 0 ∷ 0 ∷ 0 ∷ 0 ∷ [])) 3
+    -- {1, 2} alone
+    ∷ takes (file both 2 (6 ∷ 257 ∷ 2 ∷ 0 ∷ 0 ∷ 0 ∷ [])) (1 ∷ 0 ∷ [])
+    -- {1}, compare, {1}
+    ∷ takes (file apart 4 (6 ∷ 257 ∷ 2 ∷ 4 ∷ 1 ∷ 2 ∷ 6 ∷ 257 ∷ 2 ∷ 0 ∷ 0 ∷ 0 ∷ [])) (1 ∷ 1 ∷ 1 ∷ 0 ∷ [])
+    -- {1}, compare, {2}
+    ∷ takes (file apart 4 (6 ∷ 257 ∷ 2 ∷ 4 ∷ 1 ∷ 2 ∷ 6 ∷ 258 ∷ 2 ∷ 0 ∷ 0 ∷ 0 ∷ [])) (1 ∷ 0 ∷ 2 ∷ 0 ∷ [])
+    -- no roles, new then end: the same file
+    ∷ places (unroled (3 ∷ 1 ∷ 0 ∷ 0 ∷ 0 ∷ 0 ∷ [])) (unroled (3 ∷ 1 ∷ 0 ∷ 0 ∷ 0 ∷ 0 ∷ [])) 0
+    -- send, no role
+    ∷ refuses (unroled (6 ∷ 257 ∷ 1 ∷ 0 ∷ 0 ∷ 0 ∷ [])) 15 1
+    -- off from mask 0
+    ∷ checks (file apart 2 (8 ∷ 1 ∷ 0 ∷ 0 ∷ 0 ∷ 0 ∷ [])) (refused 12 1)
+    -- on 1, on 1, off 1, {1}
+    ∷ checks (file apart 5 (7 ∷ 1 ∷ 0 ∷ 7 ∷ 1 ∷ 0 ∷ 8 ∷ 1 ∷ 0 ∷ 6 ∷ 257 ∷ 2 ∷ 0 ∷ 0 ∷ 0 ∷ [])) (refused 13 4)
+    -- on 1, fork, off 1 in one branch, {1} in the other
+    ∷ checks (file apart 6 (7 ∷ 1 ∷ 0 ∷ 1 ∷ 5 ∷ 0 ∷ 8 ∷ 1 ∷ 0 ∷ 0 ∷ 0 ∷ 0 ∷ 6 ∷ 257 ∷ 2 ∷ 0 ∷ 0 ∷ 0 ∷ [])) fine
+    ∷ []

@@ -1,0 +1,5 @@
+pub mod Placement
+pub mod Placed
+pub mod Counts
+pub mod Promised
+pub mod Cases

@@ -1,0 +1,79 @@
+-- Where 1 to 10 refuse nothing, every node has its candidates.
+use Prim.Native.Nat.{ℕ, zero, suc, _+_}
+use mathlib.Core.Path.{_≡_, refl, sym, ap, _∙_}
+use mathlib.Core.List.{List, [], _∷_, _++_}
+use mathlib.Core.Bool.{Bool, true, false, cond}
+use native.Mathlib.Omega.{arith}
+use lib.Dec.{eqb}
+use lib.ListN.{length}
+use borrow.Author.Tests.{eqb-false}
+use Rattle.format.specs.Answers.{orElse}
+use Rattle.format.specs.Sections.{nodesFrom}
+use Rattle.format.specs.declared.Verdict.{Verdict}
+use Rattle.format.specs.declared.Head.{Head}
+use Rattle.format.specs.declared.Node.{Node}
+use Rattle.format.proofs.AnswerLaws.{Quiet, both-quiet}
+use Rattle.tables.specs.Records.{recordsAnswer}
+use Rattle.trees.specs.Ends.{top, following}
+use Rattle.trees.specs.Shape.{nodeFits, onward, shapeFrom, rootsFrom, shapeAnswer}
+use Rattle.trees.specs.declared.Due.{Due}
+use Rattle.reading.specs.Reading.{bodyAnswer}
+use Rattle.rules.specs.Schema.{Schema, schemaOf}
+use Rattle.rules.specs.Rules.{Context, wrong, after}
+use Rattle.rules.specs.Checking.{firstBy, openingsFrom, openings, nodesIn, namesAnswer}
+use Rattle.rules.specs.Candidates.{candidates, candidatesFrom, candidatesIn}
+use Rattle.states.specs.States.{labelled}
+
+-- as many contexts wait as trees are due
+same-wait : (D : Schema) (c : Context) (d : Due) (n : Node) (st : List Context) (ds : List Due) → length st ≡ length ds
+    → length (after D c n st) ≡ length (onward n d ds)
+same-wait D c d n st ds e = go (eqb (n .tag) 0) refl (eqb (n .tag) 1) refl
+  where
+    go : (x : Bool) → eqb (n .tag) 0 ≡ x → (y : Bool) → eqb (n .tag) 1 ≡ y → length (after D c n st) ≡ length (onward n d ds)
+    go true p y q = rw p e
+    go false p true q = rw (p, q) (ap (λ k. suc (suc k)) e)
+    go false p false q = rw (p, q) (ap suc e)
+
+listed-from : (D : Schema) (i j : ℕ) (ns : List Node) (st : List Context) (ds : List Due) → length st ≡ length ds
+    → Quiet (shapeFrom i ns ds) → Quiet (firstBy (wrong D) D j ns st) → length (candidatesFrom D ns st) ≡ length ns
+unfolding candidatesFrom shapeFrom firstBy
+listed-from D i j [] st ds e s w = refl
+listed-from D i j (n ∷ ns) [] [] e s w = let no-way : ⊥ = omega (arith, s) in absurd no-way
+listed-from D i j (n ∷ ns) [] (d ∷ ds) e s w = let no-way : ⊥ = omega (arith, e) in absurd no-way
+listed-from D i j (n ∷ ns) (c ∷ st) [] e s w = let no-way : ⊥ = omega (arith, s) in absurd no-way
+listed-from D i j (n ∷ ns) (c ∷ st) (d ∷ ds) e s w =
+    go (listed-from D (suc i) (suc j) ns (after D c n st) (onward n d ds) (same-wait D c d n st ds (omega (arith, e))))
+    (nodeFits i n d (top (following (suc i) ns))) refl (eqb (wrong D c n) 0) refl
+  where
+    go : (Quiet (shapeFrom (suc i) ns (onward n d ds)) → Quiet (firstBy (wrong D) D (suc j) ns (after D c n st))
+        → length (candidatesFrom D ns (after D c n st)) ≡ length ns)
+        → (x : Bool) → nodeFits i n d (top (following (suc i) ns)) ≡ x → (y : Bool) → eqb (wrong D c n) 0 ≡ y
+        → length (cond (eqb (wrong D c n) 0) (candidates D c n ∷ candidatesFrom D ns (after D c n st)) []) ≡ suc (length ns)
+    go ih true p true q = rw q (ap suc (ih (rw p at s) (rw q at w)))
+    go ih true p false q = let no-way : ⊥ = eqb-false (wrong D c n) 0 q (rw q at w) in absurd no-way
+    go ih false p y q = let bad : _≡_ {A = ℕ} 8 0 = rw p at s in let no-way : ⊥ = omega (arith, bad) in absurd no-way
+
+openings-length : (f : List ℕ) (p k : ℕ) → length (openingsFrom f p k) ≡ k
+unfolding openingsFrom
+openings-length f p zero = refl
+openings-length f p (suc k) = ap suc (openings-length f (p + 3) k)
+
+roots-length : (f : List ℕ) (p k : ℕ) → length (rootsFrom f p k) ≡ k
+unfolding rootsFrom
+roots-length f p zero = refl
+roots-length f p (suc k) = ap suc (roots-length f (p + 3) k)
+
+pub candidates-length : (f : List ℕ) (h : Head) → Quiet (bodyAnswer f h) → Quiet (namesAnswer f h) → length (candidatesIn f h) ≡ length (nodesIn f h)
+unfolding candidatesIn namesAnswer shapeAnswer
+candidates-length f h b n =
+    listed-from (schemaOf f h) 1 1 (nodesIn f h) (openings f h) (rootsFrom f (h .at .sessions) (h .count .sessions))
+    (openings-length f (h .at .sessions) (h .count .sessions) ∙ sym (roots-length f (h .at .sessions) (h .count .sessions)))
+    (both-quiet Quiet (recordsAnswer f h) (shapeAnswer f h) (λ q. q) .0 b .1) n
+
+-- what stands after the nodes' own masks plays no part
+pub labelled-more : (ns : List Node) (rs xs : List ℕ) → length rs ≡ length ns → labelled ns (rs ++ xs) ≡ labelled ns rs
+unfolding labelled
+labelled-more [] [] xs e = refl
+labelled-more [] (r ∷ rs) xs e = refl
+labelled-more (n ∷ ns) [] xs e = let no-way : ⊥ = omega (arith, e) in absurd no-way
+labelled-more (n ∷ ns) (r ∷ rs) xs e = ap (λ l. record { tag = n .tag; roles = r } ∷ l) (labelled-more ns rs xs (omega (arith, e)))

@@ -1,0 +1,4 @@
+pub mod ServedLaws
+pub mod CandidateLaws
+pub mod DecideLaws
+pub mod PlaceLaws

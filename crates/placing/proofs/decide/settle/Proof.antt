@@ -1,0 +1,130 @@
+use mathlib.Core.Path.{_≡_, sym, ap, ap₂, subst, _∙_}
+use mathlib.Core.List.{List}
+use Prim.Native.Nat.{ℕ}
+use native.Mathlib.Omega.{arith}
+use lib.ListN.{drop}
+use lib.Seq.{sets}
+use Rattle.format.specs.Answers.{fine, refused}
+use Rattle.format.specs.declared.Verdict.{Verdict}
+use Rattle.format.proofs.AnswerLaws.{Quiet}
+use Rattle.rules.specs.Checking.{nodesIn}
+use Rattle.states.specs.States.{Label, labelled, turnsOf}
+use Rattle.groups.specs.Groups.{startsFrom, turnsIn}
+use Rattle.groups.specs.declared.Sums.{Sums}
+use Rattle.placing.specs.Placing.{unservedFrom, settling, noSums, summed}
+use Rattle.placing.specs.declared.Decision.{Decision}
+use Rattle.placing.proofs.DecideLaws.{decided-loud, decided-quiet, unserved-loud, too-large, not-too-large, turns-written}
+use borrow.Author.Needs.{needs}
+use Rattle.placing.proofs.decide.settle.Statement.{statement}
+use Rattle.placing.proofs.decide.settle.Tie as tie
+use Rattle.placing.proofs.decide.settle.Reads as reads
+use Rattle.placing.proofs.decide.settle.Lts as lts
+use Rattle.placing.proofs.decide.refused.Reads as refused-reads
+use Rattle.placing.proofs.served.unserved.Reads as unserved-reads
+use Rattle.groups.proofs.starts.Reads as starts-reads
+use Rattle.states.proofs.turns.Reads as turns-reads
+
+abbrev decision : Verdict → Sums → Decision
+decision v k = record { verdict = v; sums = k }
+
+-- src/decide.rt:38:9
+unserved-requires : tie.Need-unserved-requires
+unserved-requires c κs = search needs
+
+-- src/decide.rt:40:9
+refused-requires : tie.Need-refused-requires
+refused-requires c κs = search needs
+
+-- src/decide.rt:40:9
+returns : tie.Need-returns
+returns c =
+    let a = c .before .before .before .before .before .before .before .before .args in
+    let ls : List Label = labelled (nodesIn (a .file .now) (a .head)) (drop 1 (a .roles .now)) in
+    let e = c .before .before .before .unserved .ensures in
+    let loud : Quiet (unservedFrom 1 ls) → ⊥ = λ q. c .before .if1 .taken (ap (λ (x : Verdict). x .number) e ∙ q) in
+    let s : settling ls ≡ unservedFrom 1 ls = unserved-loud ls loud in (
+      c .refused .ensures
+          ∙ ap (λ (x : Verdict). record { verdict = x; sums = noSums }) (e ∙ sym s)
+          ∙ sym (decided-loud (settling ls) (turnsOf ls) (λ q. loud (subst Quiet s q))),
+      λ z. absurd (c .before .if1 .taken (sym (ap (λ (d : Decision). d .verdict .number) (c .refused .ensures)) ∙ z)),
+    )
+
+-- src/decide.rt:42:5
+turns-requires : tie.Need-turns-requires
+turns-requires c κs = search needs
+
+-- src/decide.rt:43:9
+starts-requires : tie.Need-starts-requires
+starts-requires c κs = search needs
+
+-- src/decide.rt:45:9
+refused-requires-2 : tie.Need-refused-requires-2
+refused-requires-2 c κs = search needs
+
+-- src/decide.rt:45:9
+same-length : tie.Need-same-length
+same-length c = search needs
+
+-- src/decide.rt:45:9
+same-length-2 : tie.Need-same-length-2
+same-length-2 c = search needs
+
+-- src/decide.rt:45:9
+returns-2 : tie.Need-returns-2
+returns-2 c =
+    let a = c .before .before .before .before .before .before .before .before .before .before .before .before .before .before .before .before .before .before .before .args in
+    let ls : List Label = labelled (nodesIn (a .file .now) (a .head)) (drop 1 (a .roles .now)) in
+    let quiet : Quiet (unservedFrom 1 ls) = sym (ap (λ (x : Verdict). x .number) (c .before .before .before .before .before .before .before .before .before .before .before .before .before .before .unserved .ensures)) ∙ c .before .before .before .before .before .before .before .before .before .before .before .before .if1 .left in
+    let few = c .before .before .before .before .before .before .before .before .before .before .before .before .before .before .before .before .before .before .before .pre .0 .nodes in
+    let t : List ℕ = c .before .before .before .before .before .before .before .before .before .before .turns .last .1 .1 .1 .0 in
+    let written : turnsIn t (a .head .count .nodes) ≡ turnsOf ls =
+    turns-written (a .file .now) (a .head) (a .roles .now) (a .turns .now) t (omega (arith, few, c .before .before .before .before .before .before .before .before .before .before .before .before .before .before .before .before .before .before .before .pre .1)) (omega (arith, few, c .before .before .before .before .before .before .before .before .before .before .before .before .before .before .before .before .before .before .before .pre .2)) (c .before .before .before .before .before .before .before .before .before .before .turns .ensures) in
+    let sums : c .before .before .before .before .before .starts .result ≡ summed (turnsOf ls) = c .before .before .before .before .before .starts .ensures .0 ∙ ap summed written in
+    let s : settling ls ≡ refused 16 0 = too-large ls quiet (omega (arith, c .before .if2 .taken, ap (λ (x : Sums). x .nodes) sums)) in
+    let loud : Quiet (settling ls) → ⊥ = λ q. let no-way : ⊥ = omega (arith, sym (ap (λ (x : Verdict). x .number) s) ∙ q) in no-way in (
+      c .refused2 .ensures
+          ∙ ap (λ (x : Verdict). record { verdict = x; sums = noSums }) (sym s)
+          ∙ sym (decided-loud (settling ls) (turnsOf ls) loud),
+      λ z. let no-way : ⊥ = omega (arith, sym (ap (λ (d : Decision). d .verdict .number) (c .refused2 .ensures)) ∙ z) in absurd no-way,
+    )
+
+-- src/decide.rt:33:1
+same-length-3 : tie.Need-same-length-3
+same-length-3 c = search needs
+
+-- src/decide.rt:33:1
+same-length-4 : tie.Need-same-length-4
+same-length-4 c = search needs
+
+-- src/decide.rt:33:1
+returns-3 : tie.Need-returns-3
+returns-3 c =
+    let a = c .before .before .before .before .before .before .before .before .before .before .before .before .before .before .before .before .before .before .args in
+    let ls : List Label = labelled (nodesIn (a .file .now) (a .head)) (drop 1 (a .roles .now)) in
+    let quiet : Quiet (unservedFrom 1 ls) = sym (ap (λ (x : Verdict). x .number) (c .before .before .before .before .before .before .before .before .before .before .before .before .before .unserved .ensures)) ∙ c .before .before .before .before .before .before .before .before .before .before .before .if1 .left in
+    let few = c .before .before .before .before .before .before .before .before .before .before .before .before .before .before .before .before .before .before .pre .0 .nodes in
+    let t : List ℕ = c .before .before .before .before .before .before .before .before .before .turns .last .1 .1 .1 .0 in
+    let written : turnsIn t (a .head .count .nodes) ≡ turnsOf ls =
+    turns-written (a .file .now) (a .head) (a .roles .now) (a .turns .now) t (omega (arith, few, c .before .before .before .before .before .before .before .before .before .before .before .before .before .before .before .before .before .before .pre .1)) (omega (arith, few, c .before .before .before .before .before .before .before .before .before .before .before .before .before .before .before .before .before .before .pre .2)) (c .before .before .before .before .before .before .before .before .before .turns .ensures) in
+    let sums : c .before .before .before .before .starts .result ≡ summed (turnsOf ls) = c .before .before .before .before .starts .ensures .0 ∙ ap summed written in
+    let s : settling ls ≡ fine = not-too-large ls quiet (omega (arith, c .if2 .left, ap (λ (x : Sums). x .nodes) sums)) in (
+      ap₂ (λ v k. decision v k) (sym s) sums ∙ sym (decided-quiet (settling ls) (turnsOf ls) (ap (λ (x : Verdict). x .number) s)),
+      λ z. (c .before .before .before .before .before .before .before .before .before .turns .ensures, c .before .before .before .before .starts .ensures .1 ∙ ap (λ l. sets (a .starts .now) 1 (startsFrom 1 l)) written),
+    )
+
+pub settle-spec : {M : Type 1} → statement M
+settle-spec =
+    tie.close
+    (tie.spec
+    unserved-requires
+    refused-requires
+    returns
+    turns-requires
+    starts-requires
+    refused-requires-2
+    same-length
+    same-length-2
+    returns-2
+    same-length-3
+    same-length-4
+    returns-3)

@@ -1,0 +1,83 @@
+// Placing: the refusals 14 to 17, and the placed file.
+mod bare;
+mod decide;
+mod served;
+
+use decide::decide;
+use format::Head;
+use format::HeadAnswer;
+use format::Verdict;
+use format::header::read_head;
+use format::words::narrow;
+use format::words::wide;
+use groups::Sums;
+use groups::put_file;
+ghost use mathlib.Core.Path.{_≡_};
+ghost use Prim.Native.Nat.{_≤_};
+ghost use lib.ListN.{length};
+ghost use Rattle.format.specs.Header.{headOf};
+ghost use Rattle.format.specs.declared.HeadAnswer.the-variants.{Fine};
+ghost use Rattle.placing.specs.Placing.{noPlace, placing, placedOver};
+
+// What a caller gets: a refusal's number and place, or 0 and 0 with the length of the placed file in bytes and its on steps.
+#[repr(C)]
+pub struct Placed {
+    pub number: u16,
+    pub place: u16,
+    pub length: u16,
+    pub on_steps: u16,
+}
+
+// What is decided before anything is written.
+pub struct Decision {
+    pub verdict: Verdict,
+    pub sums: Sums,
+}
+
+fn no_place(number: u16, place: u16) -> Placed
+    ensures { λ r. ⌜ r ≡ noPlace number place ⌝ }
+{
+    Placed {
+        number,
+        place,
+        length: 0,
+        on_steps: 0,
+    }
+}
+
+// The same for a file with a head, into an output with room for the largest file.
+fn place_body(file: &[u8], head: Head, out: &mut [u8]) -> Placed
+    requires { ⌜ (headOf (now file) ≡ Fine head) × (6874 ≤ length (now out)) ⌝ }
+    ensures { λ r. ⌜ (r ≡ placing (now (file .entry)) (length (now (out .entry)))) × (now (out .exit) ≡ placedOver (now (file .entry)) (now (out .entry))) ⌝ }
+{
+    let mut turns = [0u16; 1025];
+    let mut starts = [0u16; 1025];
+    let decision = decide(file, head, &mut turns, &mut starts);
+    let verdict = decision.verdict;
+    if verdict.number != 0 {
+        return no_place(verdict.number, verdict.place);
+    }
+    let nodes = decision.sums.nodes;
+    put_file(file, head, &turns, &starts, nodes, out);
+    Placed {
+        number: 0,
+        place: 0,
+        length: narrow(2 * (wide(head.at.nodes) + 3 * wide(nodes))),
+        on_steps: decision.sums.on_steps,
+    }
+}
+
+// Places the roles of a file: 17, then 1 to 10, then 14 to 16, else the placed file. What the output has past it, or where anything is refused,
+// stays.
+pub fn place(file: &[u8], out: &mut [u8]) -> Placed
+    ensures { λ r. ⌜ (r ≡ placing (now (file .entry)) (length (now (out .entry)))) × (now (out .exit) ≡ placedOver (now (file .entry)) (now (out .entry))) ⌝ }
+{
+    if out.len() < 6874 {
+        return no_place(17, 0);
+    }
+    let answer = read_head(file);
+    match answer {
+        HeadAnswer::Refused(number) => no_place(number, 0),
+        HeadAnswer::Fine(head) => place_body(file, head, out),
+    }
+}

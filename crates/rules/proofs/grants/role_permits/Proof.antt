@@ -1,0 +1,22 @@
+use borrow.Author.Needs.{needs}
+use Rattle.rules.proofs.grants.role_permits.Statement.{statement}
+use Rattle.rules.proofs.grants.role_permits.Tie as tie
+use Rattle.rules.proofs.grants.role_permits.Reads as reads
+use Rattle.rules.proofs.grants.role_permits.Lts as lts
+use Rattle.masks.proofs.has_kind.Reads as has-kind-reads
+use Rattle.rules.proofs.grants.granted_by.Reads as granted-by-reads
+
+-- src/grants.rt:34:14
+granted-by-requires : tie.Need-granted-by-requires
+granted-by-requires c κs = search needs
+
+-- src/grants.rt:34:5
+has-kind-requires : tie.Need-has-kind-requires
+has-kind-requires c κs = search needs
+
+-- src/grants.rt:31:1
+returns : tie.Need-returns
+returns c = cc
+
+pub role-permits-spec : {M : Type 1} → statement M
+role-permits-spec = tie.close (tie.spec granted-by-requires has-kind-requires returns)

@@ -1,0 +1,61 @@
+use mathlib.Core.Path.{sym, _∙_}
+use native.Mathlib.Omega.{arith}
+use borrow.Author.Tests.{not-true, not-false}
+use Rattle.rules.proofs.NameLaws.{between}
+use borrow.Author.Needs.{needs}
+use Rattle.rules.proofs.steps.off_at.Statement.{statement}
+use Rattle.rules.proofs.steps.off_at.Tie as tie
+use Rattle.rules.proofs.steps.off_at.Reads as reads
+use Rattle.rules.proofs.steps.off_at.Lts as lts
+use Rattle.masks.proofs.has_role.Reads as has-role-reads
+use Rattle.masks.proofs.without_role.Reads as without-role-reads
+use Rattle.rules.proofs.names.is_within.Reads as is-within-reads
+use Rattle.rules.proofs.steps.staying.Reads as staying-reads
+use Rattle.rules.proofs.steps.turning.Reads as turning-reads
+use Rattle.rules.proofs.steps.unless.Reads as unless-reads
+
+-- src/steps.rt:170:9
+is-within-requires : tie.Need-is-within-requires
+is-within-requires c κs = search needs
+
+-- src/steps.rt:171:9
+staying-requires : tie.Need-staying-requires
+staying-requires c κs = search needs
+
+-- src/steps.rt:171:9
+returns : tie.Need-returns
+returns c = c .staying .ensures ∙ rw (← c .before .before .is-within .ensures, not-true (c .before .before .is-within .result) (c .before .if1 .taken))
+
+-- src/steps.rt:175:16
+has-role-requires : tie.Need-has-role-requires
+has-role-requires c κs = search needs
+
+-- src/steps.rt:175:9
+unless-requires : tie.Need-unless-requires
+unless-requires c κs = search needs
+
+-- src/steps.rt:176:9
+without-role-requires : tie.Need-without-role-requires
+without-role-requires c κs = search needs
+
+-- src/steps.rt:173:5
+turning-requires : tie.Need-turning-requires
+turning-requires c κs = search needs
+
+-- src/steps.rt:167:1
+returns-2 : tie.Need-returns-2
+returns-2 c =
+    c .turning .ensures ∙ rw (c .before .without-role .ensures, c .before .before .unless .ensures, c .before .before .before .has-role .ensures, ← c .before .before .before .before .before .is-within .ensures, not-false (c .before .before .before .before .before .is-within .result) (c .before .before .before .before .if1 .left))
+
+pub off-at-spec : {M : Type 1} → statement M
+off-at-spec =
+    tie.close
+    (tie.spec
+    is-within-requires
+    staying-requires
+    returns
+    has-role-requires
+    unless-requires
+    without-role-requires
+    turning-requires
+    returns-2)

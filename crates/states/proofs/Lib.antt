@@ -1,0 +1,5 @@
+pub mod KeptLaws
+pub mod FillLaws
+pub mod RowLaws
+pub mod PassLaws
+pub mod TurnLaws

@@ -1,0 +1,33 @@
+// The state of each node: the costs of the trees from the right, the states from the left.
+mod costs;
+mod pass;
+
+use format::Head;
+use format::words::wide;
+use pass::decide;
+use pass::follow;
+ghost use mathlib.Core.Path.{_≡_};
+ghost use mathlib.Core.List.{map};
+ghost use Prim.Native.Nat.{_≤_};
+ghost use lib.ListN.{length, drop};
+ghost use lib.Seq.{sets};
+ghost use Rattle.format.specs.Sections.{nodesFrom};
+ghost use Rattle.states.specs.States.{labelled, turnsOf, packed};
+
+// What becomes of a node: the state of its parent, 0 above a root, and its own. 0 is no role.
+pub struct Turn {
+    pub from: u16,
+    pub to: u16,
+}
+
+// The turn of each node, at its number.
+pub fn turns(file: &[u8], head: Head, roles: &[u16], turns: &mut [u16])
+    requires { ⌜ (head .count .nodes ≤ 1024) × (length (now roles) ≡ 1025) × (length (now turns) ≡ 1025) ⌝ }
+    ensures { λ r. ⌜ now (turns .exit) ≡ sets (now (turns .entry)) 1 (map packed (turnsOf (labelled (nodesFrom (now (file .entry)) (head .at .nodes) (head .count .nodes)) (drop 1 (now (roles .entry)))))) ⌝ }
+{
+    let at = wide(head.at.nodes);
+    let n = wide(head.count.nodes);
+    let mut kept = [0u32; 1024];
+    decide(file, at, n, roles, &mut kept);
+    follow(file, at, n, &kept, turns);
+}

@@ -1,0 +1,179 @@
+//! Placing: refusals 14 to 17, and the placed file.
+
+mod needs;
+mod states;
+
+use crate::cause::{Cause, Refusal};
+use crate::draft::set_word;
+use crate::file::{three, word, File, Section};
+use crate::Placed;
+use needs::Needs;
+use states::{Choice, Waiting};
+
+/// The bytes that the output must have, whatever is written there.
+pub const ROOM: usize = 6_874;
+
+const MOST_NODES: usize = Section::Nodes.most() as usize;
+
+/// A tree of 1,024 nodes has at most so many ends.
+const MOST_ENDS: usize = MOST_NODES / 2;
+
+const END: u16 = 0;
+const FORK: u16 = 1;
+const ON: u16 = 7;
+const OFF: u16 = 8;
+
+/// Bytes of a node, and of a session.
+const BYTES: usize = 6;
+
+/// Refusal 17.
+pub fn judge_room(room: usize) -> Result<(), Refusal> {
+    if room < ROOM {
+        return refuse(Cause::OutputTooShort, 0);
+    }
+    Ok(())
+}
+
+fn refuse<T>(cause: Cause, place: u16) -> Result<T, Refusal> {
+    Err(Refusal { cause, place })
+}
+
+/// What is put in before a node: off for one role, then on for another, each
+/// of them 0 where it is left out. `start` is the number of the first of
+/// these, or of the node itself.
+#[derive(Clone, Copy, Default)]
+struct Before {
+    off: u16,
+    on: u16,
+    start: u16,
+}
+
+/// What is put in before all the nodes.
+pub struct Plan {
+    before: [Before; MOST_NODES],
+    nodes: u16,
+    on_steps: u16,
+}
+
+impl Plan {
+    pub fn new() -> Plan {
+        Plan {
+            before: [Before::default(); MOST_NODES],
+            nodes: 0,
+            on_steps: 0,
+        }
+    }
+
+    /// Judges 9 and 10, then 14 to 16, on a file that 1 to 8 leave clean.
+    pub fn draw_up(&mut self, file: &File) -> Result<(), Refusal> {
+        let needs = Needs::of(file)?;
+        let choices = choose(file, &needs);
+        self.take_states(file, &choices);
+        if self.nodes > Section::Nodes.most() {
+            return refuse(Cause::ResultTooLarge, 0);
+        }
+        Ok(())
+    }
+
+    /// Goes through the nodes from the left: each takes its state by its
+    /// parent's, and its start by what stands before it.
+    fn take_states(&mut self, file: &File, choices: &[Choice; MOST_NODES]) {
+        let mut forks = [0; MOST_ENDS];
+        let mut open = 0;
+        let (mut parent, mut last, mut on_steps) = (0, 0, 0);
+        let rows = self.before.iter_mut().zip(choices);
+        for ((before, choice), node) in rows.zip(file.nodes) {
+            let own = choice.below(parent);
+            let (off, on) = if own == parent { (0, 0) } else { (parent, own) };
+            let start = last + 1;
+            *before = Before { off, on, start };
+            last = start + u16::from(off != 0) + u16::from(on != 0);
+            on_steps += u16::from(on != 0);
+            parent = own;
+            match word(node, 0) {
+                FORK => {
+                    forks[open] = own;
+                    open += 1;
+                }
+                END if open == 0 => parent = 0,
+                END => {
+                    open -= 1;
+                    parent = forks[open];
+                }
+                _ => {}
+            }
+        }
+        self.nodes = last;
+        self.on_steps = on_steps;
+    }
+
+    /// The new number for what named the node of this number.
+    fn start_of(&self, number: u16) -> u16 {
+        self.before[usize::from(number) - 1].start
+    }
+
+    /// Writes the placed file, given the file as bytes and as read.
+    pub fn write(&self, bytes: &[u8], file: &File, out: &mut [u8]) -> Placed {
+        let head = bytes.len() - BYTES * file.nodes.len();
+        let length = head + BYTES * usize::from(self.nodes);
+        let (start, nodes) = out[..length].split_at_mut(head);
+        start.copy_from_slice(&bytes[..head]);
+        set_word(start, 1 + Section::Nodes as usize, self.nodes);
+        self.write_roots(&mut start[head - BYTES * file.sessions.len()..]);
+        self.write_nodes(file, nodes.as_chunks_mut().0);
+        Placed::written(length as u16, self.on_steps)
+    }
+
+    fn write_roots(&self, sessions: &mut [u8]) {
+        for session in sessions.as_chunks_mut::<BYTES>().0 {
+            let root = self.start_of(word(session, 2));
+            set_word(session, 2, root);
+        }
+    }
+
+    fn write_nodes(&self, file: &File, out: &mut [[u8; BYTES]]) {
+        let mut slots = out.iter_mut();
+        let mut put = |node| *slots.next().expect("room for every node") = node;
+        for (before, node) in self.before.iter().zip(file.nodes) {
+            if before.off != 0 {
+                put(node_of(OFF, before.off));
+            }
+            if before.on != 0 {
+                put(node_of(ON, before.on));
+            }
+            let mut node = *node;
+            if let [FORK, second, _] = three(&node) {
+                set_word(&mut node, 1, self.start_of(second));
+            }
+            put(node);
+        }
+    }
+}
+
+/// A node that puts a role on or off.
+fn node_of(tag: u16, role: u16) -> [u8; BYTES] {
+    let mut node = [0; BYTES];
+    set_word(&mut node, 0, tag);
+    set_word(&mut node, 1, role);
+    node
+}
+
+/// Every node's choice, tree by tree from the right.
+fn choose(file: &File, needs: &Needs) -> [Choice; MOST_NODES] {
+    let mut choices = [Choice::default(); MOST_NODES];
+    let mut waiting = Waiting::new();
+    let mut end = file.nodes.len();
+    for session in file.sessions.iter().rev() {
+        let [user, _, root] = three(session);
+        let tree = usize::from(root) - 1..end;
+        end = tree.start;
+        states::choose(
+            &file.nodes[tree.clone()],
+            word(&file.users[usize::from(user) - 1], 0),
+            &needs.roles[tree.clone()],
+            &mut waiting,
+            &mut choices[tree],
+        );
+    }
+    choices
+}

@@ -1,0 +1,96 @@
+//! The roles that will do at each send and receive: refusals 14 and 15.
+
+use super::{refuse, MOST_NODES};
+use crate::cause::{Cause, Refusal};
+use crate::file::{word, File, Section};
+use crate::names::{self, Context};
+use crate::roles::Act;
+use crate::schema::grants;
+
+const MOST_KINDS: usize = Section::Kinds.most() as usize;
+
+/// For each kind the masks of the roles that may send and receive on it.
+struct Permitted {
+    to_send: [u16; MOST_KINDS],
+    to_receive: [u16; MOST_KINDS],
+}
+
+impl Permitted {
+    fn of(file: &File) -> Permitted {
+        let mut permitted = Permitted {
+            to_send: [0; MOST_KINDS],
+            to_receive: [0; MOST_KINDS],
+        };
+        for (role, record) in file.roles.iter().enumerate() {
+            let (sends, receives) = grants(record);
+            add(&mut permitted.to_send, sends, role);
+            add(&mut permitted.to_receive, receives, role);
+        }
+        permitted
+    }
+}
+
+/// Adds a role to the masks of the kinds that it is granted.
+fn add(masks: &mut [u16; MOST_KINDS], grant: u32, role: usize) {
+    for (kind, mask) in masks.iter_mut().enumerate() {
+        *mask |= ((grant >> kind & 1) as u16) << role;
+    }
+}
+
+/// What the nodes ask for.
+pub struct Needs {
+    /// For each send and receive the roles of its user that permit it; 0 for
+    /// the other nodes.
+    pub roles: [u16; MOST_NODES],
+    /// The first 14 and the first 15 among the nodes.
+    changes: Result<(), Refusal>,
+    unmet: Result<(), Refusal>,
+}
+
+impl Needs {
+    /// Judges 9 and 10, then 14 and 15, on a file that 1 to 8 leave clean.
+    pub fn of(file: &File) -> Result<Needs, Refusal> {
+        let permitted = Permitted::of(file);
+        let mut needs = Needs {
+            roles: [0; MOST_NODES],
+            changes: Ok(()),
+            unmet: Ok(()),
+        };
+        names::each_act(file, |context, place, act| {
+            needs.note(&permitted, context, place, act);
+        })?;
+        if file.sessions.iter().any(|session| word(session, 1) != 0) {
+            return refuse(Cause::StartPresent, 0);
+        }
+        needs.changes?;
+        needs.unmet?;
+        Ok(needs)
+    }
+
+    fn note(&mut self, permitted: &Permitted, context: &Context, place: u16, act: Act) {
+        let second = context.second;
+        let (roles, cause) = match act {
+            Act::On { .. } => return self.note_change(Cause::OnPresent, place),
+            Act::Off { .. } => return self.note_change(Cause::OffPresent, place),
+            Act::Send { kind } => (
+                permitted.to_send[usize::from(kind) - 1],
+                Cause::NoRoleSends { second },
+            ),
+            Act::Receive { kind } => (
+                permitted.to_receive[usize::from(kind) - 1],
+                Cause::NoRoleReceives { second },
+            ),
+        };
+        let roles = roles & context.assigned;
+        if roles == 0 && self.unmet.is_ok() {
+            self.unmet = refuse(cause, place);
+        }
+        self.roles[usize::from(place) - 1] = roles;
+    }
+
+    fn note_change(&mut self, cause: Cause, place: u16) {
+        if self.changes.is_ok() {
+            self.changes = refuse(cause, place);
+        }
+    }
+}

@@ -1,0 +1,233 @@
+//! Files to be placed: mostly sound, with no role active from the start and
+//! none put on or off.
+
+use crate::aim::insert;
+use crate::change;
+use crate::deal::deal;
+use crate::grow::{grow, Bent, Heed};
+use crate::rng::Rng;
+use crate::schema::{schema, Size};
+use crate::wild::Wild;
+use second::draft::Draft;
+use second::{Section, ROOM};
+
+/// How many families of files take turns.
+const FAMILIES: u64 = 24;
+
+const MOST_NODES: u16 = Section::Nodes.most();
+
+/// File `index` under `seed`, and an output with what it holds beforehand.
+pub fn deal_bare(seed: u64, index: u64) -> (Vec<u8>, Vec<u8>) {
+    let rng = &mut Rng::new(!seed, index);
+    let file = match index % FAMILIES {
+        0..=9 => any(rng, None).bytes(),
+        10..=11 => any(rng, Some(Wild::Roles)).bytes(),
+        12..=13 => any(rng, Some(Wild::Permission)).bytes(),
+        14 => any(rng, Some(Wild::Names)).bytes(),
+        15 => any(rng, Some(Wild::Kinds)).bytes(),
+        16 => full(rng).bytes(),
+        17 => long(rng).bytes(),
+        18 => started(rng).bytes(),
+        19 => {
+            let size = Size::lean(rng);
+            sound(rng, size, None).bytes()
+        }
+        20 => {
+            let mut file = any(rng, None).bytes();
+            change::one_word(rng, &mut file);
+            file
+        }
+        21 => {
+            let mut file = any(rng, None).bytes();
+            change::any_bytes(rng, &mut file);
+            file
+        }
+        _ => deal(seed, index),
+    };
+    let room = room(rng);
+    (file, filled(rng, room))
+}
+
+/// The length of an output: mostly long enough, and then mostly just so.
+fn room(rng: &mut Rng) -> usize {
+    match rng.below(600) {
+        0 => 0,
+        1..=6 => ROOM - 1,
+        7..=12 => rng.below(ROOM),
+        13 => *rng.of(&[65_536, 65_537, 65_536 + ROOM, 100_000]),
+        14..=100 => ROOM + 1 + rng.below(300),
+        101..=130 => ROOM + 1 + rng.below(8_000),
+        _ => ROOM,
+    }
+}
+
+/// Random bytes.
+fn filled(rng: &mut Rng, length: usize) -> Vec<u8> {
+    let mut bytes = vec![0; length];
+    for chunk in bytes.chunks_mut(8) {
+        chunk.copy_from_slice(&rng.number().to_le_bytes()[..chunk.len()]);
+    }
+    bytes
+}
+
+/// A file with at most so many nodes and few roles, whose sends and receives
+/// may lack one.
+pub fn small_bare(rng: &mut Rng, nodes: u16) -> Draft {
+    let size = Size {
+        users: rng.from(1, 2),
+        roles: *rng.of(&[0, 1, 2, 3, 3, 4, 4]),
+        kinds: rng.from(1, 5),
+        channels: rng.from(2, 7),
+        sessions: rng.from(1, 2),
+        nodes: rng.from(2, nodes).max(rng.from(2, nodes)),
+    };
+    let wild = rng.once_in(3).then_some(Wild::Permission);
+    sound(rng, size, wild)
+}
+
+/// The largest file that is placed with an on step: one tree of 1,022 nodes
+/// that needs one of its 16 roles, so that the result has 1,024.
+pub fn largest_bare(seed: u64) -> Vec<u8> {
+    let rng = &mut Rng::new(seed, 0);
+    let size = Size {
+        sessions: 1,
+        nodes: MOST_NODES - 2,
+        ..Size::FULL
+    };
+    let mut draft = schema(rng, size);
+    draft.users.fill([u16::MAX]);
+    draft.roles[rng.below(16)] = [u16::MAX; 4];
+    draft.sessions[0][1] = 0;
+    let (bent, heed) = (Bent::CHAIN, Heed::Assigned);
+    grow(rng, &mut draft, size.nodes, bent, heed, None);
+    draft.bytes()
+}
+
+/// A file of 32 sessions and 16 roles with forks, whose result has exactly
+/// 1,024 nodes.
+pub fn full_bare(seed: u64) -> Vec<u8> {
+    let placed = (1..=MOST_NODES).rev().find_map(|nodes| {
+        let rng = &mut Rng::new(seed, nodes.into());
+        let mut draft = usual(
+            rng,
+            Size {
+                nodes,
+                ..Size::FULL
+            },
+        );
+        pad(rng, &mut draft, MOST_NODES).then_some(draft)
+    });
+    placed.expect("few nodes are placed").bytes()
+}
+
+/// A file of 1,024 nodes and 16 roles, whose result has more.
+pub fn overfull_bare(seed: u64) -> Vec<u8> {
+    usual(&mut Rng::new(seed, 0), Size::FULL).bytes()
+}
+
+/// A file of 40 nodes.
+pub fn typical_bare(seed: u64) -> Vec<u8> {
+    usual(&mut Rng::new(seed, 0), Size::TYPICAL).bytes()
+}
+
+fn usual(rng: &mut Rng, size: Size) -> Draft {
+    grown(rng, size, Bent::USUAL, None)
+}
+
+fn any(rng: &mut Rng, wild: Option<Wild>) -> Draft {
+    let size = Size::any(rng);
+    sound(rng, size, wild)
+}
+
+fn sound(rng: &mut Rng, size: Size, wild: Option<Wild>) -> Draft {
+    let bent = Bent::any(rng);
+    grown(rng, size, bent, wild)
+}
+
+fn grown(rng: &mut Rng, size: Size, bent: Bent, wild: Option<Wild>) -> Draft {
+    let mut draft = schema(rng, size);
+    for [_, start, _] in &mut draft.sessions {
+        *start = 0;
+    }
+    if rng.once_in(2) {
+        grant_few(rng, &mut draft);
+    }
+    grow(rng, &mut draft, size.nodes, bent, Heed::Assigned, wild);
+    draft
+}
+
+/// Lets one to three roles send on each kind, and as many receive; most users
+/// have all roles.
+fn grant_few(rng: &mut Rng, draft: &mut Draft) {
+    let roles = draft.roles.len();
+    if roles == 0 {
+        return;
+    }
+    draft.roles.fill([0; 4]);
+    for kind in 0..draft.kinds.len() {
+        for grant in [0, 2] {
+            for _ in 0..*rng.of(&[1, 1, 2, 2, 3]) {
+                draft.roles[rng.below(roles)][grant + kind / 16] |= 1 << (kind % 16);
+            }
+        }
+    }
+    for [mask] in &mut draft.users {
+        if !rng.once_in(4) {
+            *mask = ((1u32 << roles) - 1) as u16;
+        }
+    }
+}
+
+/// A file with at least one starting mask, if a session's user has a role.
+fn started(rng: &mut Rng) -> Draft {
+    let wild = rng.once_in(2).then_some(Wild::Roles);
+    let mut draft = any(rng, wild);
+    for _ in 0..=rng.below(2) {
+        let at = rng.index(draft.sessions.len());
+        let [user, start, _] = &mut draft.sessions[at];
+        let [assigned] = draft.users[usize::from(*user) - 1];
+        *start = *rng.of(&[assigned, assigned & assigned.wrapping_neg()]);
+    }
+    draft
+}
+
+/// Many nodes, so that the result is often too large.
+fn long(rng: &mut Rng) -> Draft {
+    let size = Size {
+        nodes: rng.from(300, MOST_NODES),
+        ..Size::middle(rng)
+    };
+    sound(rng, size, None)
+}
+
+/// A file whose result has 1,024 nodes, or one or two more or less.
+fn full(rng: &mut Rng) -> Draft {
+    let middle = Size::middle(rng);
+    let size = Size {
+        nodes: rng.from(32, 500),
+        ..*rng.of(&[middle, middle, middle, Size::FULL])
+    };
+    let mut draft = sound(rng, size, None);
+    let nodes = rng.from(MOST_NODES - 2, MOST_NODES + 2);
+    pad(rng, &mut draft, nodes);
+    draft
+}
+
+/// Puts idle nodes in front of an end, so that the result has this many nodes;
+/// false if it has more already. In front of an end they have no role, so the
+/// result grows by each of them.
+fn pad(rng: &mut Rng, draft: &mut Draft, nodes: u16) -> bool {
+    let mut out = [0; ROOM];
+    let placed = second::place(&draft.bytes(), &mut out);
+    if placed.number != 0 {
+        return false;
+    }
+    let now = Draft::of(&out[..placed.length.into()]).nodes.len();
+    let Some(missing) = usize::from(nodes).checked_sub(now) else {
+        return false;
+    };
+    let end = rng.find(&draft.nodes, |node| node[0] == 0);
+    let idle = *rng.of(&[[2, 0, 0], [4, 1, 1]]);
+    insert(draft, end.expect("a tree has an end"), &vec![idle; missing]);
+    true
+}
