@@ -1,12 +1,12 @@
 -- Grants: a lookup, a mask of roles, and the table of these masks.
 use Prim.Native.Nat.{ℕ, zero, suc, _+_, _-_, _^_, _≤_, _<_}
 use mathlib.Core.Path.{_≡_, refl, sym, ap, _∙_}
-use mathlib.Core.Bool.{Bool, true, false, cond}
+use mathlib.Core.Bool.{Bool, true, false, cond, not, _&&_}
 use mathlib.Core.List.{List, [], _∷_}
 use native.Mathlib.Omega.{arith}
 use native.Mathlib.Numerals.{add-one}
 use lib.ListN.{length, getD, take, drop, set, replicate, drop-of-length-le, List·getD-eq-default}
-use lib.Dec.{ltb}
+use lib.Dec.{eqb, ltb}
 use lib.Seq.{set-split, drop-at, length-take-le, getD-take, take-take, take-set-le}
 use borrow.Author.Tests.{eq-eqb, ne-eqb, ltb-true, ltb-false}
 use Rattle.masks.specs.Mask.{has, with}
@@ -16,7 +16,7 @@ use Rattle.masks.specs.declared.ChannelKind.{ChannelKind}
 use Rattle.format.specs.Sections.{roleOf}
 use Rattle.format.specs.declared.Head.{Head}
 use Rattle.rules.specs.declared.Way.{Way}
-use Rattle.rules.specs.Schema.{Schema, schemaOf, granted, permits, permittingTo, permitting}
+use Rattle.rules.specs.Schema.{Schema, ofItem, schemaOf, granted, permits, permittingTo, permitting}
 use Rattle.rules.specs.Kept.{grantsTo, grantsFrom, addRole, Beyond, Granting}
 
 pub no-role : (f : List ℕ) (h : Head) (w : Way) (r : UserRole) (k : ChannelKind) → r .0 ≡ 0 → permits (schemaOf f h) w r k ≡ false
@@ -120,3 +120,14 @@ granting D w l e long past k = go (ltb k 33) refl
 -- a table that was filled has the length that it had
 pub grants-filled : (D : Schema) (w : Way) (l : List ℕ) (n : ℕ) → l ≡ grantsFrom D w 0 n → l ≡ grantsFrom D w 0 (length l)
 grants-filled D w l n e = e ∙ ap (grantsFrom D w 0) (sym (ap length e ∙ grants-length D w (D .roles) 0 n))
+
+-- there is no role 0, so it has no kind
+pub item-has : (n g k : ℕ) → (not (eqb n 0) && has g k) ≡ has (ofItem n g) k
+item-has n g k = go (eqb n 0)
+  where
+    go : (b : Bool) → (not b && has g k) ≡ has (cond b 0 g) k
+    go true = sym (has-none k)
+    go false = refl
+
+pub item-some : (n g : ℕ) → 1 ≤ n → ofItem n g ≡ g
+item-some n g h = rw (ne-eqb n 0 (λ z. let no-way : ⊥ = omega (arith, h, z) in no-way))

@@ -14,7 +14,7 @@ ghost use mathlib.Core.Bool.{cond};
 ghost use Prim.Native.Nat.{_≤_};
 ghost use lib.ListN.{length, getD, replicate};
 ghost use Rattle.masks.specs.Mask.{has, with};
-ghost use Rattle.rules.specs.Schema.{granted, schemaOf, permits};
+ghost use Rattle.rules.specs.Schema.{granted, ofItem, schemaOf, permits};
 ghost use Rattle.rules.specs.Kept.{grantsFrom, addRole, Beyond};
 ghost use Rattle.rules.specs.declared.Way.the-variants.{Sends, Receives};
 
@@ -27,21 +27,22 @@ fn granted_by(way: Way, it: Role) -> u32
     }
 }
 
-// The one decision by a grant: whether a role, as its record says, permits sending, or receiving, on a channel's kind.
-fn role_permits(it: Role, way: Way, kind: ChannelKind) -> bool
-    ensures { λ r. ⌜ r ≡ has (granted way it) (kind .0) ⌝ }
+// The one lookup of a grant, by a user's role, whose record is at hand, and a channel's kind: whether the role permits sending, or receiving, on it.
+// There is no role 0.
+fn role_permits(it: Role, way: Way, role: UserRole, kind: ChannelKind) -> bool
+    ensures { λ r. ⌜ r ≡ has (ofItem (role .0) (granted way it)) (kind .0) ⌝ }
 {
-    has_kind(granted_by(way, it), kind)
+    (role.0 != 0) & has_kind(granted_by(way, it), kind)
 }
 
-// The one lookup of a grant, by a user's role and a channel's kind. There is no role 0.
+// The same by the file.
 pub fn permits(file: &[u8], head: Head, way: Way, role: UserRole, kind: ChannelKind) -> bool
     ensures { λ r. ⌜ r ≡ permits (schemaOf (now (file .entry)) head) way role kind ⌝ }
 {
     if role.0 == 0 {
         return false;
     }
-    role_permits(sections::role(file, head, role.0), way, kind)
+    role_permits(sections::role(file, head, role.0), way, role, kind)
 }
 
 fn with_if(mask: u16, role: UserRole, yes: bool) -> u16
@@ -56,14 +57,14 @@ fn with_if(mask: u16, role: UserRole, yes: bool) -> u16
 
 // One role more in the masks for the kinds 0, 1, .., where the role's record permits it.
 fn add_role(table: &mut [u16], role: UserRole, it: Role, way: Way)
-    requires { ⌜ (role .0 ≤ 16) × (length (now table) ≤ 33) ⌝ }
+    requires { ⌜ (1 ≤ role .0) × (role .0 ≤ 16) × (length (now table) ≤ 33) ⌝ }
     ensures { λ r. ⌜ now (table .exit) ≡ addRole (granted way it) (role .0) 0 (now (table .entry)) ⌝ }
 {
     let mut k = table.len();
     while 0 < k {
         k -= 1;
         let kind = ChannelKind(narrow(k));
-        table[k] = with_if(table[k], role, role_permits(it, way, kind));
+        table[k] = with_if(table[k], role, role_permits(it, way, role, kind));
     }
 }
 

@@ -1,5 +1,7 @@
-use Rattle.rules.specs.Schema.{granted}
-use Rattle.rules.proofs.GrantLaws.{no-role, some-role}
+use Rattle.masks.specs.Mask.{has}
+use Rattle.format.specs.declared.Role.{Role}
+use Rattle.rules.specs.Schema.{granted, ofItem, permits}
+use Rattle.rules.proofs.GrantLaws.{no-role}
 use native.Mathlib.Omega.{arith}
 use mathlib.Core.Path.{sym, ap, _∙_}
 use borrow.Author.Needs.{needs}
@@ -24,10 +26,10 @@ role-permits-requires c κs = search needs
 
 -- src/grants.rt:30:1
 returns-2 : tie.Need-returns-2
+unfolding permits
 returns-2 c =
     let a = c .before .before .before .before .before .args in
-    c .role-permits .ensures
-    ∙ some-role (a .file .now) (a .head) (a .way) (a .role) (a .kind) (granted (a .way) (c .before .role .result)) (omega arith) (ap (granted (a .way)) (c .before .role .ensures))
+    c .role-permits .ensures ∙ ap (λ (x : Role). has (ofItem (a .role .0) (granted (a .way) x)) (a .kind .0)) (c .before .role .ensures)
 
 pub permits-spec : {M : Type 1} → statement M
 permits-spec =

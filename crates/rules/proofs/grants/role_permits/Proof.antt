@@ -1,3 +1,9 @@
+use mathlib.Core.Path.{ap, _∙_}
+use mathlib.Core.Bool.{not, _&&_}
+use lib.Dec.{eqb}
+use Rattle.masks.specs.Mask.{has}
+use Rattle.rules.specs.Schema.{granted}
+use Rattle.rules.proofs.GrantLaws.{item-has}
 use borrow.Author.Needs.{needs}
 use Rattle.rules.proofs.grants.role_permits.Statement.{statement}
 use Rattle.rules.proofs.grants.role_permits.Tie as tie
@@ -16,7 +22,9 @@ has-kind-requires c κs = search needs
 
 -- src/grants.rt:31:1
 returns : tie.Need-returns
-returns c = cc
+returns c =
+    let a = c .before .before .before .args in
+    ap (λ b. not (eqb (a .role .0) 0) && b) (c .has-kind .ensures ∙ ap (λ g. has g (a .kind .0)) (c .before .granted-by .ensures)) ∙ item-has (a .role .0) (granted (a .way) (a .it)) (a .kind .0)
 
 pub role-permits-spec : {M : Type 1} → statement M
 role-permits-spec = tie.close (tie.spec granted-by-requires has-kind-requires returns)
