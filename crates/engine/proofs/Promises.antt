@@ -1,15 +1,17 @@
 -- What the engine promises, each promise under a sentence of the paper (01) or of the demands; nothing else stands here.
 -- What a caller gets is in the contracts of the exported functions (src/lib.rt): of any bytes handed over `pilzdamo_read` answers `readingNames`, the refusals 1 to 10,
--- `pilzdamo_check` `checking`, the refusals 1 to 13, and `pilzdamo_place` `placing`, with `placedOver` in the output.
-use Prim.Native.Nat.{ℕ, _≤_, _<_}
+-- `pilzdamo_check` `checking`, the refusals 1 to 13, `pilzdamo_place` `placing`, with `placedOver` in the output, `pilzdamo_run`
+-- `running`, with `runOver` in the output, and `pilzdamo_ready` `ready`.
+use Prim.Native.Nat.{ℕ, _*_, _%_, _≤_, _<_}
 use mathlib.Core.Path.{_≡_}
-use mathlib.Core.Logic.{_↔_, _≢_}
+use mathlib.Core.Logic.{_↔_, _≢_, _⊎_}
+use mathlib.Core.Bool.{true}
 use mathlib.Core.List.{List, [], _++_}
-use lib.ListN.{length, drop}
+use lib.ListN.{length, take, drop}
 use Rattle.format.specs.Answers.{fine, refused}
 use Rattle.reading.specs.Reading.{reading}
 use Rattle.clinic.specs.Lists.{All}
-use Rattle.clinic.specs.File.{File, WellFormed, encode}
+use Rattle.clinic.specs.File.{InCount, File, WellFormed, encode}
 use Rattle.clinic.specs.Refusals.{Refusable, First}
 use Rattle.checking.specs.Check.{readingNames, checking}
 use Rattle.typing.specs.Typing.{Obeys}
@@ -23,6 +25,14 @@ use Rattle.placement.specs.Placement.{onSteps}
 use Rattle.placement.specs.Placed.{labels, placedTree, Throughout}
 use Rattle.placement.specs.Promised.{WellPlaced, Clean, SomeMask, IsSwitch, Unserved, Lowest, Unrefused, NoPlacement, PlacedWith}
 use Rattle.placement.specs.Cases.{Shown, cases}
+use Rattle.format.specs.declared.Node.{Node}
+use Rattle.rules.specs.Rules.{Context}
+use Rattle.running.specs.Threads.{firstFree}
+use Rattle.running.specs.Choice.{Clinic, State, threadAt, choice, halts, goes}
+use Rattle.running.specs.Run.{run, ranOf, listed, running, readyPair}
+use Rattle.runs.specs.Steps.{StandsAt, Steps, Chain}
+use Rattle.runs.specs.Conditions.{Condition, FirstRefusal}
+use Rattle.runs.specs.Keeps.{Reaches, Kept}
 use Rattle.reading.proofs.LongLaws.{Stands}
 use Rattle.checking.proofs.CheckLaws.{stands-check}
 use Rattle.typing.proofs.CheckExact.{check-exact, names-exact}
@@ -31,6 +41,10 @@ use Rattle.placing.proofs.PlaceLaws.{stands-placed}
 use Rattle.placement.proofs.FilePlaced.{one-role}
 use Rattle.placement.proofs.PlacingExact.{placed-well, placed-exactly, fourteen-masks, fifteen-exactly, fifteen-place, sixteen-exactly, seventeen-exactly, ten-exactly, out-kept, out-written}
 use Rattle.placement.proofs.StarredCases.{starred}
+use Rattle.runs.proofs.Agree.{agree, one-result, refused-first, done-free}
+use Rattle.runs.proofs.RunChain.{Refuses, run-chain, run-stopped, run-whole}
+use Rattle.runs.proofs.ReadyPair.{ready-done, ready-lowest, ready-none}
+use Rattle.runs.proofs.RunSafe.{run-kept, next-free, run-safe, placed-safe, placed-seventeen, placed-unbarred}
 use Rattle.clinic.proofs.Exact.{sound, complete, single}
 use Rattle.clinic.proofs.EncodedBytes.{encode-bytes}
 use Rattle.clinic.proofs.FirstRefusal.{first-refusal}
@@ -115,6 +129,71 @@ nothing-written = out-kept
 -- A session all of whose sends and receives one role of its user permits has at most one on step.
 pub one-role-once : (D : Schema) (u r : ℕ) (t : Tree) → r ≤ 16 → Throughout r (labels D u [] t) → onSteps (placedTree D u t) ≤ 1
 one-role-once = one-role
+
+-- Running. "a run does, choice by choice, exactly the calculus steps listed there": a choice gives the state s′ exactly where the relation of steps has it, and no other; it is refused with the
+-- first number in the order 18, 11, 12, 13, 19, 20 whose condition holds; and where none holds it is done.
+pub choice-is-a-step : (C : Clinic) (s : State) (i p : ℕ) (s′ : State) → (choice C s i p ≡ goes s′) ↔ Steps C s i p s′
+choice-is-a-step = agree
+
+pub one-step : (C : Clinic) (s : State) (i p : ℕ) (s′ s″ : State) → Steps C s i p s′ → Steps C s i p s″ → s′ ≡ s″
+one-step = one-result
+
+pub refused-in-order : (C : Clinic) (s : State) (i p n : ℕ) → (choice C s i p ≡ halts n) ↔ FirstRefusal C s i p n
+refused-in-order = refused-first
+
+pub done-otherwise : (C : Clinic) (s : State) (i p : ℕ) → ((s′ : State) × (choice C s i p ≡ goes s′)) ↔ ((n : ℕ) → Condition C s i p n → ⊥)
+done-otherwise = done-free
+
+-- "The run stops at the first refused choice": the choices done are steps in order from the start, the next is refused with the number answered, and without one all are done.
+pub run-is-steps : (C : Clinic) (ws : List ℕ) (s : State) → Chain C s (take (2 * run C s ws .count) ws) (run C s ws .state)
+run-is-steps = run-chain
+
+pub run-stops : (C : Clinic) (ws : List ℕ) (s : State) → run C s ws .refusal ≢ 0 → Refuses C ws (run C s ws)
+run-stops = run-stopped
+
+pub run-ends : (C : Clinic) (ws : List ℕ) (s : State) → run C s ws .refusal ≡ 0 → length ws % 2 ≡ 0 → 2 * run C s ws .count ≡ length ws
+run-ends = run-whole
+
+-- In every state of a run of a file that 1 to 10 let through each thread's node is in count, its user that of its session, its mask the active set of rule 5 at that node and within the
+-- user's roles, each variable of rule 1's kind there, and 0 where none is bound; the variable that a binder takes, the first 0 of the eight, is the next on the path.
+pub states-of-runs : (f : List ℕ) → readingNames f ≡ fine → (ws : List ℕ) → Kept f (ranOf f ws .state)
+states-of-runs = run-kept
+
+pub next-variable : (f : List ℕ) {s : State} → Kept f s → (i : ℕ) → InCount (length (s .threads)) i → (c : Context) → Reaches f (threadAt s i) c
+    → firstFree (threadAt s i .vars) ≡ length (c .vars)
+next-variable = next-free
+
+-- "for every list of choices, whatever threads and partners they name and refused ones included, the run of a placed file through that list, from the file's own start, is not stopped for a role
+-- that isn't the user's, isn't held, or doesn't permit the step": of the bytes that placing wrote and any words whatever.
+pub never-for-a-role : (f : List ℕ) → All (λ b. b < 256) f → (room : ℕ) → placing f room .number ≡ 0 → (ws : List ℕ)
+    → (ranOf (placedBytes f) ws .refusal ≢ 11) × (ranOf (placedBytes f) ws .refusal ≢ 12) × (ranOf (placedBytes f) ws .refusal ≢ 13)
+never-for-a-role = placed-unbarred
+
+-- With an output of at least 1,800 bytes and an even list of at most 65,535 choices the answer is 0, 18, 19 or 20; else 17.
+pub placed-run-answers : (f : List ℕ) → All (λ b. b < 256) f → (room : ℕ) → placing f room .number ≡ 0 → (ws : List ℕ) (room′ : ℕ) → 1800 ≤ room′ → listed (length ws) ≡ true
+    → (running (placedBytes f) ws room′ .number ≡ 0)
+    ⊎ ((running (placedBytes f) ws room′ .number ≡ 18) ⊎ ((running (placedBytes f) ws room′ .number ≡ 19) ⊎ (running (placedBytes f) ws room′ .number ≡ 20)))
+placed-run-answers = placed-safe
+
+pub placed-run-seventeen : (f : List ℕ) → All (λ b. b < 256) f → (room : ℕ) → placing f room .number ≡ 0 → (ws : List ℕ) (room′ : ℕ)
+    → (room′ < 1800) ⊎ ((length ws % 2 ≡ 1) ⊎ (131070 < length ws)) → running (placedBytes f) ws room′ ≡ refused 17 0
+placed-run-seventeen = placed-seventeen
+
+-- The same of any file that passes the check.
+pub checked-never-for-a-role : (f : List ℕ) → checking f ≡ fine → (ws : List ℕ) → (ranOf f ws .refusal ≢ 11) × (ranOf f ws .refusal ≢ 12) × (ranOf f ws .refusal ≢ 13)
+checked-never-for-a-role = run-safe
+
+-- "The ready pair of a state is the lowest sender, then the lowest receiver that can meet it without refusal; a sender without one is passed over; 0, 0 exactly if no pair exists."
+pub ready-is-done : (C : Clinic) (s : State) (i p : ℕ) → readyPair C s ≡ (i, p) → i ≢ 0 → (s′ : State) × Steps C s i p s′ × (n : Node) × StandsAt C s i n × (n .tag ≡ 6)
+ready-is-done = ready-done
+
+pub ready-is-lowest : (C : Clinic) (s : State) (i p : ℕ) → readyPair C s ≡ (i, p) → i ≢ 0
+    → ((j q : ℕ) (n : Node) → j < i → StandsAt C s j n → n .tag ≡ 6 → (m : ℕ) × (choice C s j q ≡ halts m)) × ((q : ℕ) → q < p → (m : ℕ) × (choice C s i q ≡ halts m))
+ready-is-lowest = ready-lowest
+
+pub no-pair-exactly : (C : Clinic) (s : State)
+    → (readyPair C s ≡ (0, 0)) ↔ ((j q : ℕ) (n : Node) → StandsAt C s j n → n .tag ≡ 6 → (m : ℕ) × (choice C s j q ≡ halts m))
+no-pair-exactly = ready-none
 
 -- "Starred cases belong to the proved set .. shown on the definitions through one theorem about their list."
 pub starred-cases : All Shown cases

@@ -2,10 +2,12 @@
 // pointer and a length there.
 use format::Verdict;
 use placing::Placed;
+use running::Ready;
 ghost use mathlib.Core.Path.{_≡_};
 ghost use lib.ListN.{length};
 ghost use Rattle.checking.specs.Check.{readingNames, checking};
 ghost use Rattle.placing.specs.Placing.{placing, placedOver};
+ghost use Rattle.running.specs.Run.{running, runOver, ready};
 
 // Reads a clinic file, of any bytes and any length: the first of the refusals 1 to 10, or 0 and 0 where there is none.
 #[no_mangle]
@@ -30,4 +32,22 @@ pub extern "C" fn pilzdamo_place(file: &[u8], out: &mut [u8]) -> Placed
     ensures { λ r. ⌜ (r ≡ placing (now (file .entry)) (length (now (out .entry)))) × (now (out .exit) ≡ placedOver (now (file .entry)) (now (out .entry))) ⌝ }
 {
     placing::place(file, out)
+}
+
+// Runs a clinic file through a list of choices, two words each: thread, partner. The first of 17 and 1 to 10; or the refusal that halted the run, with
+// the choice's number as place, or 0 and 0, and then the last state at the start of the output. Every other byte of the output stays.
+#[no_mangle]
+pub extern "C" fn pilzdamo_run(file: &[u8], choices: &[u16], out: &mut [u8]) -> Verdict
+    ensures { λ r. ⌜ (r ≡ running (now (file .entry)) (now (choices .entry)) (length (now (out .entry))))
+        × (now (out .exit) ≡ runOver (now (file .entry)) (now (choices .entry)) (now (out .entry))) ⌝ }
+{
+    running::run(file, choices, out)
+}
+
+// The ready pair of the state after the list of choices, or the refusal that stopped it with 0 and 0.
+#[no_mangle]
+pub extern "C" fn pilzdamo_ready(file: &[u8], choices: &[u16]) -> Ready
+    ensures { λ r. ⌜ r ≡ ready (now (file .entry)) (now (choices .entry)) ⌝ }
+{
+    running::ready_after(file, choices)
 }

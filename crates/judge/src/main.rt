@@ -2,7 +2,7 @@
 // Where the input cannot be read, it says so on standard error and writes nothing else.
 fn main() {
     let mut buffer = [0u8; 16384];
-    let input = streams::read_input(&mut buffer);
+    let input = streams::read_input(0, &mut buffer);
     if input.failed {
         io::write_all(2, b"judge: standard input cannot be read\n");
         return;

@@ -4,7 +4,7 @@ use format::words::wide;
 
 fn main() {
     let mut buffer = [0u8; 16384];
-    let input = streams::read_input(&mut buffer);
+    let input = streams::read_input(0, &mut buffer);
     if input.failed {
         io::write_all(2, b"place: standard input cannot be read\n");
         return;

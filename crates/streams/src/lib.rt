@@ -4,32 +4,32 @@ ghost use mathlib.Core.Path.{_≡_};
 ghost use lib.ListN.{length};
 ghost use Rattle.io.specs.Counts.{Counts};
 
-// Standard input, once read to its end: how many bytes at the start of the buffer stand for it, and whether a read failed.
+// An input, once read to its end: how many bytes at the start of the buffer stand for it, and whether a read failed.
 pub struct Input {
     pub kept: usize,
     pub failed: bool,
 }
 
-// One read into the buffer behind what is kept; the answer is that of `libc::read`.
-fn read_behind(buffer: &mut [u8], kept: usize) -> isize
+// One read of a descriptor into the buffer behind what is kept; the answer is that of `libc::read`.
+pub fn read_behind(descriptor: i32, buffer: &mut [u8], kept: usize) -> isize
     requires { ⌜ kept ≤ length (now buffer) ⌝ }
 {
-    libc::read(0, &mut buffer[kept..])
+    libc::read(descriptor, &mut buffer[kept..])
 }
 
-// Reads standard input to its end, of whatever length. Each piece is read behind what is kept, and of both enough is kept; of an input
+// Reads a descriptor to its end, of whatever length. Each piece is read behind what is kept, and of both enough is kept; of an input
 // longer than any file the start stays, and what comes is read over the rest of the buffer again and again. That what is kept has the
-// answer of the whole input is `stands-on` of reading/proofs/LongLaws, with `stands-check` of checking/proofs/CheckLaws and `stands-placed` of
-// placing/proofs/PlaceLaws.
+// answer of the whole input is `stands-on` of reading/proofs/LongLaws, with `stands-check` of checking/proofs/CheckLaws, `stands-placed` of
+// placing/proofs/PlaceLaws, and `stands-run` and `stands-over` of running/proofs/StandLaws.
 // A loop has to end, so the turns count down, from a number that no run uses up.
-pub fn read_input(buffer: &mut [u8]) -> Input
+pub fn read_input(descriptor: i32, buffer: &mut [u8]) -> Input
     requires { ⌜ length (now buffer) ≡ 16384 ⌝ }
     ensures { λ r. ⌜ Counts (r .kept) (now (buffer .exit)) ⌝ }
 {
     let mut kept = 0;
     let mut turns = u64::MAX;
     while turns > 0 {
-        let got = read_behind(buffer, kept);
+        let got = read_behind(descriptor, buffer, kept);
         if got <= 0 {
             return Input {
                 kept,

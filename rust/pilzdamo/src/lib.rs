@@ -26,6 +26,10 @@
 //!
 //! [`place`] takes a file in which no role is ever on, and puts in the on and
 //! off nodes that it needs to pass, with the fewest on nodes there can be.
+//!
+//! [`run`] carries out a list of choices, step by step, from the file's own
+//! start, and writes the state that they lead to. [`ready`] says which two
+//! threads can meet in that state.
 
 use std::fmt;
 
@@ -35,7 +39,8 @@ use std::fmt;
 pub struct Verdict {
     /// The refusal's number, 0 if there is none.
     pub number: u16,
-    /// Where it stands: a word, a session or a node, as its number says.
+    /// Where it stands: a word, a session, a node or a choice, as its number and
+    /// the call say.
     pub place: u16,
 }
 
@@ -111,10 +116,69 @@ impl fmt::Display for Placed {
 /// The bytes that [`place`] wants of its output: those of the largest file.
 pub const ROOM: usize = 6_874;
 
+/// What [`ready`] answers: a refusal's number and place, or the two threads
+/// that can meet. What doesn't apply is 0.
+#[repr(C)]
+#[derive(Clone, Copy, Debug, PartialEq, Eq, Hash)]
+pub struct Ready {
+    /// The refusal's number, 0 if there is none.
+    pub number: u16,
+    /// Where it stands: a word, a session, a node or a choice, as its number
+    /// says.
+    pub place: u16,
+    /// The sender's number in the list of threads, 0 if no pair can meet.
+    pub sender: u16,
+    /// The receiver's, 0 if no pair can meet.
+    pub receiver: u16,
+}
+
+impl Ready {
+    /// Sender and receiver, if there is such a pair.
+    ///
+    /// ```
+    /// assert_eq!(pilzdamo::ready(&[], &[]).pair(), None);
+    /// ```
+    pub fn pair(self) -> Option<(u16, u16)> {
+        (self.sender != 0).then_some((self.sender, self.receiver))
+    }
+}
+
+/// `thread S can send to thread R`, `no pair can meet`, or `refused N P` with
+/// number and place.
+///
+/// ```
+/// assert_eq!(pilzdamo::ready(&[], &[]).to_string(), "refused 1 0");
+/// ```
+impl fmt::Display for Ready {
+    fn fmt(&self, out: &mut fmt::Formatter<'_>) -> fmt::Result {
+        if self.number != 0 {
+            return write!(out, "refused {} {}", self.number, self.place);
+        }
+        match self.pair() {
+            Some((sender, receiver)) => {
+                write!(out, "thread {sender} can send to thread {receiver}")
+            }
+            None => out.write_str("no pair can meet"),
+        }
+    }
+}
+
+/// The bytes that [`run`] wants of its output: those of the largest state.
+pub const RUN_ROOM: usize = 1_800;
+
 extern "C" {
     fn pilzdamo_read(file: *const u8, len: usize) -> Verdict;
     fn pilzdamo_check(file: *const u8, len: usize) -> Verdict;
     fn pilzdamo_place(file: *const u8, len: usize, out: *mut u8, out_len: usize) -> Placed;
+    fn pilzdamo_run(
+        file: *const u8,
+        len: usize,
+        choices: *const u16,
+        words: usize,
+        out: *mut u8,
+        out_len: usize,
+    ) -> Verdict;
+    fn pilzdamo_ready(file: *const u8, len: usize, choices: *const u16, words: usize) -> Ready;
 }
 
 /// Judges a clinic file by refusals 1 to 10.
@@ -182,4 +246,90 @@ pub fn place(file: &[u8], out: &mut [u8]) -> Placed {
     // reads and writes the `out_len` bytes from `out` on, during the call. The
     // slices vouch for them, and that no byte is in both.
     unsafe { pilzdamo_place(file.as_ptr(), file.len(), out.as_mut_ptr(), out.len()) }
+}
+
+/// Runs a clinic file through a list of choices, two words each: a thread and
+/// its partner, 0 where it steps alone. Refusal 17 comes first, then 1 to 10,
+/// and then the choices up to the first that is refused.
+///
+/// Any bytes and any words will do, of any length. `out` must have [`RUN_ROOM`]
+/// bytes or more. A refusal before the choices leaves it as it was. Otherwise
+/// the state after the last choice that was done stands at its start, also
+/// where a choice is refused; the answer's place is then that choice's number,
+/// from 1. Nothing past the state is written.
+///
+/// The state has these words, low byte first: choices done, the refusal or 0,
+/// the number of threads, that of the channels made; for each of those its owner
+/// and kind; for each thread its user, node, mask of active roles, the number of
+/// these, and its eight variables.
+///
+/// ```
+/// // Role 1 may send on kind 1, role 2 may receive; user 1 has role 1, user 2
+/// // has role 2 and channel 1. Each has a session, in which its role is active.
+/// let words = [
+///     1, 2, 2, 1, 1, 2, 4, 13, 15, 23, 24, 26, 32, // version, counts, offsets
+///     1, 2, // users
+///     1, 0, 0, 0, 0, 0, 1, 0, // roles
+///     0, // kinds
+///     2, 1, // channels
+///     1, 1, 1, 2, 2, 3, // sessions
+///     6, 257, 1, 0, 0, 0, 5, 257, 0, 0, 0, 0u16, // nodes
+/// ];
+/// let file: Vec<u8> = words.into_iter().flat_map(u16::to_le_bytes).collect();
+/// let mut out = [0; pilzdamo::RUN_ROOM];
+///
+/// // Thread 1 sends to thread 2 and ends. The other is then thread 1.
+/// assert!(pilzdamo::run(&file, &[1, 2, 1, 0], &mut out).is_clean());
+/// let state: [u16; 16] = [2, 0, 1, 0, 2, 4, 2, 1, 1, 0, 0, 0, 0, 0, 0, 0];
+/// assert_eq!(out[..32], state.map(u16::to_le_bytes).concat());
+///
+/// // There is no thread 3: the run halts at its second choice.
+/// let verdict = pilzdamo::run(&file, &[1, 2, 3, 0], &mut out);
+/// assert_eq!(verdict.to_string(), "refused 18 2");
+/// assert_eq!(out[..8], [1, 0, 18, 0, 2, 0, 0, 0]);
+/// ```
+#[inline]
+pub fn run(file: &[u8], choices: &[u16], out: &mut [u8]) -> Verdict {
+    // SAFETY: the engine only reads the `len` bytes from `file` on and the
+    // `words` words from `choices` on, and only reads and writes the `out_len`
+    // bytes from `out` on, during the call. The slices vouch for them, and that
+    // nothing of `out` is in the other two.
+    unsafe {
+        pilzdamo_run(
+            file.as_ptr(),
+            file.len(),
+            choices.as_ptr(),
+            choices.len(),
+            out.as_mut_ptr(),
+            out.len(),
+        )
+    }
+}
+
+/// The ready pair of the state to which a list of choices leads, by the
+/// refusals of [`run`]: the lowest sender, then the lowest receiver that can
+/// meet it.
+///
+/// Any bytes and any words will do, of any length. As there is no output, 17
+/// comes for the list alone: an odd number of words, or over 65,535 choices.
+/// Nothing is written and nothing is kept.
+///
+/// ```
+/// # let words = [
+/// #     1, 2, 2, 1, 1, 2, 4, 13, 15, 23, 24, 26, 32, 1, 2, 1, 0, 0, 0, 0, 0, 1, 0, 0, 2, 1,
+/// #     1, 1, 1, 2, 2, 3, 6, 257, 1, 0, 0, 0, 5, 257, 0, 0, 0, 0u16,
+/// # ];
+/// # let file: Vec<u8> = words.into_iter().flat_map(u16::to_le_bytes).collect();
+/// // The file of `run`'s example.
+/// let ready = |choices: &[u16]| pilzdamo::ready(&file, choices);
+/// assert_eq!(ready(&[]).pair(), Some((1, 2)));
+/// assert_eq!(ready(&[1, 2]).to_string(), "no pair can meet");
+/// assert_eq!(ready(&[1, 2, 3, 0]).to_string(), "refused 18 2");
+/// ```
+#[inline]
+pub fn ready(file: &[u8], choices: &[u16]) -> Ready {
+    // SAFETY: the engine only reads the `len` bytes from `file` on and the
+    // `words` words from `choices` on, during the call; the slices vouch for
+    // them.
+    unsafe { pilzdamo_ready(file.as_ptr(), file.len(), choices.as_ptr(), choices.len()) }
 }

@@ -4,8 +4,10 @@
 mod checking;
 mod placing;
 mod reading;
+mod running;
 
 pub use placing::{Due, PlaceCase};
+pub use running::{booking, placed_booking, RunCase};
 
 use crate::draft::Draft;
 
@@ -85,4 +87,9 @@ pub fn place_cases() -> Vec<PlaceCase> {
     .into_iter()
     .flatten()
     .collect()
+}
+
+/// All of runs.
+pub fn run_cases() -> Vec<RunCase> {
+    running::cases()
 }

@@ -1,6 +1,7 @@
-//! Why a file is refused. The number follows from the cause.
+//! Why a file or a call is refused. The number follows from the cause.
 
 use crate::file::Section;
+use crate::running::Halt;
 use crate::Verdict;
 
 /// One way to be refused. `second` says that the node stands in a fork's
@@ -64,6 +65,9 @@ pub enum Cause {
     NoRoleReceives { second: bool },
     ResultTooLarge,
     OutputTooShort,
+    OddChoices,
+    TooManyChoices,
+    Choice(Halt),
 }
 
 /// The fields that a tag leaves unused, tag by tag.
@@ -117,7 +121,8 @@ impl Cause {
             StartPresent | OnPresent | OffPresent => 14,
             NoRoleSends { .. } | NoRoleReceives { .. } => 15,
             ResultTooLarge => 16,
-            OutputTooShort => 17,
+            OutputTooShort | OddChoices | TooManyChoices => 17,
+            Choice(halt) => halt.number(),
         }
     }
 
@@ -130,6 +135,15 @@ impl Cause {
         }
         all.extend([ResultTooLarge, OutputTooShort]);
         all.sort();
+        all
+    }
+
+    /// The causes that a run has besides those of the file: its caller's, and
+    /// then those of a choice, in the order of the numbers.
+    pub fn of_running() -> Vec<Cause> {
+        use Cause::*;
+        let mut all = vec![OutputTooShort, OddChoices, TooManyChoices];
+        all.extend(Halt::all().into_iter().map(Choice));
         all
     }
 

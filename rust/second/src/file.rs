@@ -48,6 +48,7 @@ impl Section {
 }
 
 /// A file that meets refusals 1 to 5 clean.
+#[derive(Clone)]
 pub struct File<'a> {
     pub users: &'a [[u8; 2]],
     pub roles: &'a [[u8; 8]],

@@ -2,8 +2,8 @@
 //!
 //! It is written from the paper alone and shares nothing with the engine, so
 //! that the two can be compared. The timed functions, [`read`],
-//! [`read_names`], [`check`] and [`place`], go over the file a few times, in
-//! place, and allocate nothing.
+//! [`read_names`], [`check`], [`place`], [`run`] and [`ready`], go over the
+//! file a few times, in place, and allocate nothing.
 
 #![forbid(unsafe_code)]
 
@@ -14,12 +14,14 @@ mod file;
 mod names;
 mod placing;
 mod roles;
+mod running;
 mod schema;
 mod tree;
 
 pub use cause::{Cause, Refusal};
 pub use file::Section;
 pub use placing::ROOM;
+pub use running::{Halt, Made, Run, Thread, RUN_ROOM};
 
 use file::File;
 use placing::Plan;
@@ -78,6 +80,38 @@ impl Placed {
     }
 }
 
+/// What is ready after a list of choices. Refused, it has a sender and
+/// receiver of 0; where no pair can meet, all four are 0.
+#[derive(Clone, Copy, Debug, PartialEq, Eq)]
+pub struct Ready {
+    pub number: u16,
+    pub place: u16,
+    pub sender: u16,
+    pub receiver: u16,
+}
+
+impl Ready {
+    /// The answer where the list, or the file, is refused.
+    pub const fn refused(number: u16, place: u16) -> Ready {
+        Ready {
+            number,
+            place,
+            sender: 0,
+            receiver: 0,
+        }
+    }
+
+    /// The answer where these two can meet; 0 and 0 for none.
+    pub const fn pair(sender: u16, receiver: u16) -> Ready {
+        Ready {
+            number: 0,
+            place: 0,
+            sender,
+            receiver,
+        }
+    }
+}
+
 /// Refusals 1 to 8.
 pub fn read(file: &[u8]) -> Verdict {
     Verdict::of(judge_reading(file))
@@ -104,6 +138,51 @@ pub fn place(file: &[u8], out: &mut [u8]) -> Placed {
             Placed::refused(number, place)
         }
     }
+}
+
+/// Refusal 17, 1 to 10, and then the choices, each a thread and its partner,
+/// up to the first that is refused. The state after the last one done is
+/// written at the start of `out`, unless the refusal comes before the choices.
+pub fn run(file: &[u8], choices: &[u16], out: &mut [u8]) -> Verdict {
+    let judged = running::judge_room(out.len()).and_then(|()| judge_running(file, choices));
+    let mut run = match judged {
+        Ok(run) => run,
+        Err(refusal) => return refusal.verdict(),
+    };
+    let verdict = Verdict::of(run.go_through(choices));
+    let done = match verdict {
+        Verdict::CLEAN => (choices.len() / 2) as u16,
+        halted => halted.place - 1,
+    };
+    run.write(done, verdict.number, out);
+    verdict
+}
+
+/// The ready pair of the state after the choices. It has no output, so that
+/// 17 is for the list alone.
+pub fn ready(file: &[u8], choices: &[u16]) -> Ready {
+    match judge_choices(file, choices) {
+        Ok(run) => {
+            let (sender, receiver) = run.ready();
+            Ready::pair(sender, receiver)
+        }
+        Err(refusal) => {
+            let Verdict { number, place } = refusal.verdict();
+            Ready::refused(number, place)
+        }
+    }
+}
+
+/// The start of a run, if 1 to 10 leave the file clean.
+pub fn start(file: &[u8]) -> Result<Run<'_>, Refusal> {
+    judge_running(file, &[])
+}
+
+/// Why [`run`] refuses or halts where the output has this many bytes, if it
+/// does.
+pub fn cause_in_run(file: &[u8], choices: &[u16], room: usize) -> Option<Refusal> {
+    let judged = running::judge_room(room);
+    judged.and_then(|()| judge_choices(file, choices)).err()
 }
 
 /// Why [`place`] refuses the file where the output has this many bytes, if it
@@ -134,6 +213,19 @@ fn judge_placing<'a>(file: &'a [u8], room: usize, plan: &mut Plan) -> Result<Fil
     let file = judge_reading(file)?;
     plan.draw_up(&file)?;
     Ok(file)
+}
+
+fn judge_running<'a>(file: &'a [u8], choices: &[u16]) -> Result<Run<'a>, Refusal> {
+    running::judge_list(choices.len())?;
+    let file = judge_reading(file)?;
+    names::judge(&file)?;
+    Ok(Run::start(file))
+}
+
+fn judge_choices<'a>(file: &'a [u8], choices: &[u16]) -> Result<Run<'a>, Refusal> {
+    let mut run = judge_running(file, choices)?;
+    run.go_through(choices)?;
+    Ok(run)
 }
 
 #[cfg(test)]

@@ -1,8 +1,10 @@
 //! The active set and what it permits: refusals 11 to 13.
 
 use crate::cause::Cause;
-use crate::file::File;
+use crate::file::{File, Section};
 use crate::schema::grants;
+
+const MOST_KINDS: usize = Section::Kinds.most() as usize;
 
 /// What a node does that asks for a role.
 pub enum Act {
@@ -30,7 +32,7 @@ pub fn step(file: &File, assigned: u16, active: u16, act: Act, second: bool) -> 
 }
 
 /// Whether an item is in a mask.
-fn has(mask: u32, item: u16) -> bool {
+pub fn has(mask: u32, item: u16) -> bool {
     mask >> (item - 1) & 1 != 0
 }
 
@@ -43,4 +45,33 @@ fn permits(file: &File, mut active: u16, will_do: impl Fn((u32, u32)) -> bool) -
         active &= active - 1;
     }
     false
+}
+
+/// For each kind the masks of the roles that may send and receive on it.
+#[derive(Clone)]
+pub struct Permitted {
+    pub to_send: [u16; MOST_KINDS],
+    pub to_receive: [u16; MOST_KINDS],
+}
+
+impl Permitted {
+    pub fn of(file: &File) -> Permitted {
+        let mut permitted = Permitted {
+            to_send: [0; MOST_KINDS],
+            to_receive: [0; MOST_KINDS],
+        };
+        for (role, record) in file.roles.iter().enumerate() {
+            let (sends, receives) = grants(record);
+            add(&mut permitted.to_send, sends, role);
+            add(&mut permitted.to_receive, receives, role);
+        }
+        permitted
+    }
+}
+
+/// Adds a role to the masks of the kinds that it is granted.
+fn add(masks: &mut [u16; MOST_KINDS], grant: u32, role: usize) {
+    for (kind, mask) in masks.iter_mut().enumerate() {
+        *mask |= ((grant >> kind & 1) as u16) << role;
+    }
 }

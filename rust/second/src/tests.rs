@@ -1,6 +1,8 @@
-use crate::cases::{cases, place_cases, Due, BOOKING};
+use crate::cases::{booking, cases, place_cases, placed_booking, run_cases, Due, BOOKING};
 use crate::draft::to_bytes;
-use crate::{cause, cause_in_placing, check, place, read, read_names, Cause, Verdict};
+use crate::{cause, cause_in_placing, cause_in_run, check, place, read, read_names, ready, run};
+use crate::{Cause, Placed, Verdict, ROOM};
+use std::collections::BTreeSet;
 
 fn verdict((number, place): (u16, u16)) -> Verdict {
     Verdict { number, place }
@@ -34,6 +36,31 @@ fn named_cases_of_placing() {
 }
 
 #[test]
+fn named_cases_of_running() {
+    let mut causes = BTreeSet::new();
+    for case in run_cases() {
+        case.demand("second", run);
+        case.demand_ready("second", ready);
+        let refusal = cause_in_run(&case.file, &case.choices, case.room);
+        let told = refusal.map_or(Verdict::CLEAN, |refusal| refusal.verdict());
+        assert_eq!((told.number, told.place), case.answer, "{}", case.name);
+        causes.extend(refusal.map(|refusal| refusal.cause));
+    }
+    for cause in Cause::of_running() {
+        assert!(causes.contains(&cause), "no case of {cause:?}");
+    }
+}
+
+#[test]
+fn the_booking_of_the_runs_is_placed() {
+    let mut out = [0; ROOM];
+    let due = placed_booking().bytes();
+    let placed = place(&booking().bytes(), &mut out);
+    assert_eq!(placed, Placed::written(due.len() as u16, 3));
+    assert_eq!(out[..due.len()], due);
+}
+
+#[test]
 fn the_booking_is_built_as_the_paper_writes_it() {
     let file = to_bytes(&BOOKING);
     assert_eq!(file.len(), 82);
@@ -48,4 +75,9 @@ fn causes_are_listed_once_and_by_number() {
     assert!(all.windows(2).all(|two| two[0] < two[1]));
     assert!(all.is_sorted_by_key(|cause| cause.number()));
     assert_eq!(all.last().map(|cause| cause.number()), Some(17));
+    let of_running = Cause::of_running();
+    assert!(of_running.windows(2).all(|two| two[0] < two[1]));
+    let at_choices = of_running.split_at(3).1;
+    assert!(at_choices.is_sorted_by_key(|cause| cause.number()));
+    assert_eq!(at_choices.last().map(|cause| cause.number()), Some(20));
 }

@@ -4,6 +4,7 @@
 use crate::aim::insert;
 use crate::change;
 use crate::deal::deal;
+use crate::desk::{lively_size, open_up, put_in_talk};
 use crate::grow::{grow, Bent, Heed};
 use crate::rng::Rng;
 use crate::schema::{schema, Size};
@@ -62,7 +63,7 @@ fn room(rng: &mut Rng) -> usize {
 }
 
 /// Random bytes.
-fn filled(rng: &mut Rng, length: usize) -> Vec<u8> {
+pub fn filled(rng: &mut Rng, length: usize) -> Vec<u8> {
     let mut bytes = vec![0; length];
     for chunk in bytes.chunks_mut(8) {
         chunk.copy_from_slice(&rng.number().to_le_bytes()[..chunk.len()]);
@@ -83,6 +84,22 @@ pub fn small_bare(rng: &mut Rng, nodes: u16) -> Draft {
     };
     let wild = rng.once_in(3).then_some(Wild::Permission);
     sound(rng, size, wild)
+}
+
+/// A file with several sessions that meet once it is placed.
+pub fn lively_bare(rng: &mut Rng) -> Draft {
+    let size = lively_size(rng);
+    let mut draft = schema(rng, size);
+    for [_, start, _] in &mut draft.sessions {
+        *start = 0;
+    }
+    open_up(rng, &mut draft);
+    let bent = Bent::any(rng);
+    grow(rng, &mut draft, size.nodes, bent, Heed::Assigned, None);
+    for _ in 0..rng.below(4) {
+        put_in_talk(rng, &mut draft, Heed::Assigned);
+    }
+    draft
 }
 
 /// The largest file that is placed with an on step: one tree of 1,022 nodes
@@ -158,7 +175,7 @@ fn grown(rng: &mut Rng, size: Size, bent: Bent, wild: Option<Wild>) -> Draft {
 
 /// Lets one to three roles send on each kind, and as many receive; most users
 /// have all roles.
-fn grant_few(rng: &mut Rng, draft: &mut Draft) {
+pub fn grant_few(rng: &mut Rng, draft: &mut Draft) {
     let roles = draft.roles.len();
     if roles == 0 {
         return;

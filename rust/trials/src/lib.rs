@@ -8,10 +8,13 @@ mod answers;
 mod bare;
 mod change;
 mod deal;
+mod desk;
 mod grow;
 mod placing;
 pub mod rivals;
 mod rng;
+mod running;
+mod schedule;
 mod schema;
 pub mod states;
 mod tally;
@@ -23,6 +26,9 @@ pub use bare::{deal_bare, full_bare, largest_bare, overfull_bare, small_bare, ty
 pub use deal::{deal, largest, typical};
 pub use placing::{agreed_placing, compare_placing, engine_place, PlaceTally};
 pub use rng::Rng;
+pub use running::{agreed_run, compare_running, deal_run, deal_state, run_placed, sends_in};
+pub use running::{engine_ready, engine_run, Dealt, PlacedRuns, RunTally};
+pub use schedule::{busy, crowded, MOST_CHOICES};
 pub use tally::{compare, Tally};
 pub use trees::Trees;
 

@@ -8,10 +8,10 @@ use Rattle.streams.proofs.read_input.Statement.{statement}
 use Rattle.streams.proofs.read_input.Tie as tie
 
 abbrev Inv-loop : tie.InvT-loop
-Inv-loop buffer₀ kept₀ turns₀ buffer kept turns = (kept ≤ 6876) × (length buffer ≡ 16384)
+Inv-loop descriptor₀ buffer₀ kept₀ turns₀ buffer kept turns = (kept ≤ 6876) × (length buffer ≡ 16384)
 
 abbrev μ-loop : tie.MeasureT-loop
-μ-loop buffer₀ kept₀ turns₀ buffer kept turns = turns
+μ-loop descriptor₀ buffer₀ kept₀ turns₀ buffer kept turns = turns
 
 loop-holds : tie.Need-loop-holds Inv-loop μ-loop
 loop-holds c = omega arith

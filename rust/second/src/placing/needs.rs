@@ -2,40 +2,9 @@
 
 use super::{refuse, MOST_NODES};
 use crate::cause::{Cause, Refusal};
-use crate::file::{word, File, Section};
+use crate::file::{word, File};
 use crate::names::{self, Context};
-use crate::roles::Act;
-use crate::schema::grants;
-
-const MOST_KINDS: usize = Section::Kinds.most() as usize;
-
-/// For each kind the masks of the roles that may send and receive on it.
-struct Permitted {
-    to_send: [u16; MOST_KINDS],
-    to_receive: [u16; MOST_KINDS],
-}
-
-impl Permitted {
-    fn of(file: &File) -> Permitted {
-        let mut permitted = Permitted {
-            to_send: [0; MOST_KINDS],
-            to_receive: [0; MOST_KINDS],
-        };
-        for (role, record) in file.roles.iter().enumerate() {
-            let (sends, receives) = grants(record);
-            add(&mut permitted.to_send, sends, role);
-            add(&mut permitted.to_receive, receives, role);
-        }
-        permitted
-    }
-}
-
-/// Adds a role to the masks of the kinds that it is granted.
-fn add(masks: &mut [u16; MOST_KINDS], grant: u32, role: usize) {
-    for (kind, mask) in masks.iter_mut().enumerate() {
-        *mask |= ((grant >> kind & 1) as u16) << role;
-    }
-}
+use crate::roles::{Act, Permitted};
 
 /// What the nodes ask for.
 pub struct Needs {

@@ -1,7 +1,8 @@
-//! Times reading, checking and placing, the engine against the second
+//! Times reading, checking, placing and running, the engine against the second
 //! implementation.
 
-use second::ROOM;
+use second::cases::run_cases;
+use second::{Ready, Verdict, ROOM, RUN_ROOM};
 use std::hint::black_box;
 use std::time::Instant;
 
@@ -55,6 +56,49 @@ fn place_row(size: &str, file: &[u8], calls: u32, number: u16) {
     time(&name, file, calls, engine, second);
 }
 
+/// Times a run that goes to the end of its list.
+fn run_row(size: &str, file: &[u8], choices: &[u16], calls: u32) {
+    let name = format!("run {size}");
+    let dealt = trials::Dealt {
+        file: file.to_vec(),
+        choices: choices.to_vec(),
+        before: vec![0; RUN_ROOM],
+    };
+    let (verdict, _) = trials::agreed_run(&dealt, &name);
+    assert_eq!(verdict, Verdict::CLEAN);
+    let (mut out, mut of_second) = ([0; RUN_ROOM], [0; RUN_ROOM]);
+    let engine = || {
+        let (file, choices) = (black_box(file), black_box(choices));
+        black_box(pilzdamo::run(file, choices, black_box(&mut out)));
+    };
+    let second = || {
+        let (file, choices) = (black_box(file), black_box(choices));
+        black_box(second::run(file, choices, black_box(&mut of_second)));
+    };
+    time(&name, file, calls, engine, second);
+}
+
+/// Times the search for a ready pair where there is none.
+fn ready_row(size: &str, file: &[u8], choices: &[u16], calls: u32) {
+    assert_eq!(trials::engine_ready(file, choices), Ready::pair(0, 0));
+    assert_eq!(second::ready(file, choices), Ready::pair(0, 0));
+    let engine = || {
+        black_box(pilzdamo::ready(black_box(file), black_box(choices)));
+    };
+    let second = || {
+        black_box(second::ready(black_box(file), black_box(choices)));
+    };
+    time(&format!("ready {size}"), file, calls, engine, second);
+}
+
+/// The booking of two desks, placed, and the choices that take it to its end.
+fn short_run() -> (Vec<u8>, Vec<u16>) {
+    let mut cases = run_cases().into_iter();
+    let case = cases.find(|case| case.name == "the booking to its end");
+    let case = case.expect("a case of that name");
+    (case.file, case.choices)
+}
+
 /// Times two calls in turns.
 fn time(name: &str, file: &[u8], calls: u32, mut engine: impl FnMut(), mut second: impl FnMut()) {
     let (mut of_engine, mut of_second) = (Vec::new(), Vec::new());
@@ -74,6 +118,7 @@ fn time(name: &str, file: &[u8], calls: u32, mut engine: impl FnMut(), mut secon
 
 fn main() {
     let seed = trials::seed();
+    let (busy, short, crowded) = (trials::busy(seed), short_run(), trials::crowded());
     println!("Nanoseconds a call; {SAMPLES} samples each, in turns.");
     println!("Read: refusals 1 to 10. Check: 1 to 13. Largest: 1,024 nodes. Typical: 40 nodes.");
     println!(
@@ -81,6 +126,12 @@ fn main() {
     );
     println!("an on step is a chain of 1,022 nodes, placed in 1,024; full has 32 sessions with forks and is");
     println!("placed in 1,024 nodes; overfull has 1,024 nodes and is refused with 16.");
+    println!(
+        "Run: busy has 65,535 choices, {} of them sends; short has {}, the booking of two desks.",
+        trials::sends_in(&busy.0, &busy.1),
+        short.1.len() / 2
+    );
+    println!("Ready, crowded: 32 choices, then 64 threads of which no two can meet.");
     println!("No buffers are cleared before a call.");
     println!();
     println!(
@@ -106,4 +157,7 @@ fn main() {
     place_row("full", &trials::full_bare(seed), 50, 0);
     place_row("overfull", &trials::overfull_bare(seed), 50, 16);
     place_row("typical", &trials::typical_bare(seed), 300, 0);
+    run_row("busy", &busy.0, &busy.1, 1);
+    run_row("short", &short.0, &short.1, 300);
+    ready_row("crowded", &crowded.0, &crowded.1, 100);
 }

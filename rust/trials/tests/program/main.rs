@@ -1,5 +1,7 @@
-//! The built programs: a file on standard input, an answer on standard output.
+//! The built programs: a file on standard input, or files by their names, and an
+//! answer on standard output.
 
 mod judge;
 mod place;
 mod run;
+mod runs;

@@ -1,6 +1,7 @@
 //! Running a program of `target/bin`.
 
 use second::draft::Draft;
+use std::ffi::OsStr;
 use std::fs::File;
 use std::io::Write;
 use std::path::Path;
@@ -38,6 +39,12 @@ impl Program {
         }
         drop(pipe);
         running.wait_with_output().expect("it ends")
+    }
+
+    /// Runs it with these arguments and no input.
+    pub fn run_with(&self, arguments: &[&OsStr]) -> Output {
+        let mut command = self.with(Stdio::null());
+        command.args(arguments).output().expect("it ends")
     }
 
     /// Asserts what it writes: on the input at once, in small pieces, and in

@@ -1,0 +1,137 @@
+-- Runs and ready pairs of whole files: how many choices a run does, and what each way through the entry points answers.
+use Prim.Native.Nat.{ℕ, suc, _+_, _*_, _%_, _≤_, _<_}
+use mathlib.Core.Path.{_≡_, refl, sym, ap, ap₂, _∙_}
+use mathlib.Core.Bool.{Bool, true, false, cond, not, _&&_, and-eq-true-iff}
+use mathlib.Core.List.{List, [], _∷_}
+use native.Mathlib.Omega.{arith}
+use lib.Dec.{eqb, leb}
+use lib.ListN.{length}
+use lib.Seq.{sets}
+use borrow.Author.Tests.{eq-eqb, ne-eqb, leb-true, not-true, not-false}
+use Rattle.format.specs.Words.{bytesOf}
+use Rattle.format.specs.Answers.{fine, refused}
+use Rattle.format.specs.Header.{headAt, headOf}
+use Rattle.format.specs.declared.Head.{Head}
+use Rattle.format.specs.declared.Verdict.{Verdict}
+use Rattle.format.specs.declared.HeadAnswer.the-variants.{Fine, Refused}
+use Rattle.format.proofs.HeadLaws.{headed, head-number}
+use Rattle.checking.specs.Check.{readingNames}
+use Rattle.checking.proofs.CheckLaws.{names-refused}
+use Rattle.running.specs.declared.Ready.{Ready}
+use Rattle.running.specs.declared.Counted.{Counted}
+use Rattle.running.specs.declared.Two.{Two}
+use Rattle.running.specs.Choice.{Clinic, clinicOf, State, Chosen, halts, goes, choice}
+use Rattle.running.specs.Run.{start, Ran, follow, run, ranWords, listed, stopped, running, runOver, readyPair, readyOf, ready}
+
+-- two words a choice, and a refused one is not done
+abbrev Counts : Ran → ℕ → Type 0
+Counts r words = (2 * r .count ≤ words) × ((r .refusal ≡ 0 → ⊥) → 2 * r .count < words)
+
+pub run-counts : (C : Clinic) (s : State) (ws : List ℕ) → Counts (run C s ws) (length ws)
+unfolding run
+run-counts C s [] = (omega arith, λ n. absurd (n refl))
+run-counts C s (i ∷ []) = (omega arith, λ n. absurd (n refl))
+run-counts C s (i ∷ p ∷ ws) = go (choice C s i p) (λ s′. run-counts C s′ ws)
+  where
+    go : (c : Chosen) → ((s′ : State) → Counts (run C s′ ws) (length ws)) → Counts (follow s c (λ s′. run C s′ ws)) (suc (suc (length ws)))
+    go (halts n) later = (omega arith, λ x. omega arith)
+    go (goes s′) later = let (a, b) = later s′ in (omega (arith, a), λ x. omega (arith, b x))
+
+-- what code counts of a run
+abbrev countedOf : Ran → Counted
+countedOf r = record { count = r .count; refusal = r .refusal }
+
+-- the choice's number is a word
+pub place-word : (C : Clinic) (s : State) (ws : List ℕ) (k : Counted) → k ≡ countedOf (run C s ws) → length ws ≤ 131070 → (k .refusal ≡ 0 → ⊥) → k .count < 65535
+place-word C s ws k e h n =
+    let count : k .count ≡ run C s ws .count = ap (λ (x : Counted). x .count) e in
+    let refusal : k .refusal ≡ run C s ws .refusal = ap (λ (x : Counted). x .refusal) e in
+    omega (arith, h, count, run-counts C s ws .1 (λ z. n (refusal ∙ z)))
+
+-- a run's answer and its output, from what code counts of it and the state that it is left with
+module _ (r : Ran) (k : Counted) (e : k ≡ countedOf r) where
+  pub stopped-by : (v : Verdict) → v ≡ cond (eqb (k .refusal) 0) fine (refused (k .refusal) (k .count + 1)) → v ≡ stopped r
+  stopped-by v q = q ∙ ap (λ (x : Counted). cond (eqb (x .refusal) 0) fine (refused (x .refusal) (x .count + 1))) e
+
+  pub put-by : (s : State) (l m : List ℕ) → s ≡ r .state → m ≡ sets l 0 (bytesOf (ranWords (record { count = k .count; refusal = k .refusal; state = s })))
+      → m ≡ sets l 0 (bytesOf (ranWords r))
+  put-by s l m es q = q ∙ ap₂ (λ (x : Counted) (y : State). sets l 0 (bytesOf (ranWords (record { count = x .count; refusal = x .refusal; state = y })))) e es
+
+-- a refusal in place of a pair
+abbrev noPair : Verdict → Ready
+noPair v = record { number = v .number; place = v .place; sender = 0; receiver = 0 }
+
+-- a run's pair, or the refusal that stopped it
+module _ (r : Ran) (v : Verdict) (e : v ≡ stopped r) where
+  pub pair-stopped : (q : ℕ × ℕ) (y : Ready) → (v .number ≡ 0 → ⊥) → y ≡ noPair v → y ≡ readyOf (stopped r) q
+  pair-stopped q y n ey =
+      let loud : noPair v ≡ readyOf v q = rw (ne-eqb (v .number) 0 n) in
+      ey ∙ loud ∙ ap (λ (x : Verdict). readyOf x q) e
+
+  pub pair-found : (C : Clinic) (s : State) (p : Two) → v .number ≡ 0 → s ≡ r .state → p ≡ record { sender = readyPair C s .0; receiver = readyPair C s .1 }
+      → _≡_ {A = Ready} (record { number = 0; place = 0; sender = p .sender; receiver = p .receiver }) (readyOf (stopped r) (readyPair C (r .state)))
+  pair-found C s p n es ep =
+      let quiet : _≡_ {A = Ready} (record { number = 0; place = 0; sender = readyPair C s .0; receiver = readyPair C s .1 }) (readyOf v (readyPair C s)) =
+      rw (eq-eqb (v .number) 0 n) in
+      ap (λ (x : Two). record { number = 0; place = 0; sender = x .sender; receiver = x .receiver }) ep
+      ∙ quiet
+      ∙ ap₂ (λ (x : Verdict) (y : State). readyOf x (readyPair C y)) e es
+
+-- 17, as code tests it
+pub listed-word : (words : ℕ) → listed words ≡ true → words ≤ 131070
+listed-word words e = leb-true words 131070 (and-eq-true-iff (eqb (words % 2) 0) (leb words 131070) .0 e .1)
+
+pub fits-listed : (words room : ℕ) → listed words && leb 1800 room ≡ true → (words ≤ 131070) × (1800 ≤ room)
+fits-listed words room e = let (a, b) = and-eq-true-iff (listed words) (leb 1800 room) .0 e in (listed-word words a, leb-true 1800 room b)
+
+pub test-fails : (t u v : Bool) → t ≡ u → not (t && v) ≡ true → u && v ≡ false
+test-fails t u v e h = ap (λ (x : Bool). x && v) (sym e) ∙ not-true (t && v) h
+
+pub test-holds : (t u v : Bool) → t ≡ u → not (t && v) ≡ false → u && v ≡ true
+test-holds t u v e h = ap (λ (x : Bool). x && v) (sym e) ∙ not-false (t && v) h
+
+module _ (f : List ℕ) (v : Verdict) (e : v ≡ readingNames f) where
+  names-number : readingNames f .number ≡ v .number
+  names-number = ap (λ (x : Verdict). x .number) (sym e)
+
+  quiet : v .number ≡ 0 → eqb (readingNames f .number) 0 ≡ true
+  quiet q = eq-eqb (readingNames f .number) 0 (names-number ∙ q)
+
+  loud : (v .number ≡ 0 → ⊥) → eqb (readingNames f .number) 0 ≡ false
+  loud n = ne-eqb (readingNames f .number) 0 (λ q. n (sym names-number ∙ q))
+
+  -- a file that 1 to 10 leave clean has a head
+  pub no-head : (n : ℕ) → v .number ≡ 0 → headOf f ≡ Refused n → ⊥
+  no-head n q h =
+      let same : readingNames f .number ≡ n = ap (λ (x : Verdict). x .number) (names-refused f n h) in
+      omega (arith, q, same, names-number, head-number f n h)
+
+  module _ (ws out : List ℕ) (fits : listed (length ws) && leb 1800 (length out) ≡ true) where
+    pub run-refused : (v .number ≡ 0 → ⊥) → (v ≡ running f ws (length out)) × (out ≡ runOver f ws out)
+    unfolding running runOver
+    run-refused n = (e ∙ rw (fits, loud n), rw (fits, loud n))
+
+    pub run-done : (h : Head) (y : Verdict) (out′ : List ℕ) → v .number ≡ 0 → headOf f ≡ Fine h → y ≡ stopped (run (clinicOf f h) (start f h) ws)
+        → out′ ≡ sets out 0 (bytesOf (ranWords (run (clinicOf f h) (start f h) ws))) → (y ≡ running f ws (length out)) × (out′ ≡ runOver f ws out)
+    unfolding running runOver
+    run-done h y out′ q k ey eo = let same : h ≡ headAt f = headed f h k .1 in (ey ∙ rw (fits, quiet q, same), eo ∙ rw (fits, quiet q, same))
+
+  module _ (ws : List ℕ) (fits : listed (length ws) ≡ true) where
+    pub ready-refused : (y : Ready) → (v .number ≡ 0 → ⊥) → y ≡ noPair v → y ≡ ready f ws
+    unfolding ready
+    ready-refused y n ey =
+        let whole : noPair (readingNames f) ≡ ready f ws = rw (fits, loud n) (rw (loud n)) in
+        ey ∙ ap noPair e ∙ whole
+
+    pub ready-done : (h : Head) (y : Ready) → v .number ≡ 0 → headOf f ≡ Fine h
+        → y ≡ readyOf (stopped (run (clinicOf f h) (start f h) ws)) (readyPair (clinicOf f h) (run (clinicOf f h) (start f h) ws .state)) → y ≡ ready f ws
+    unfolding ready
+    ready-done h y q k ey = let same : h ≡ headAt f = headed f h k .1 in ey ∙ rw (fits, quiet q, same)
+
+pub run-unfit : (f ws out : List ℕ) → listed (length ws) && leb 1800 (length out) ≡ false → (refused 17 0 ≡ running f ws (length out)) × (out ≡ runOver f ws out)
+unfolding running runOver
+run-unfit f ws out e = (rw e, rw e)
+
+pub ready-unfit : (f ws : List ℕ) (y : Ready) → listed (length ws) ≡ false → y ≡ noPair (refused 17 0) → y ≡ ready f ws
+unfolding ready
+ready-unfit f ws y e ey = ey ∙ rw e

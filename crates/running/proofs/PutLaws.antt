@@ -1,0 +1,167 @@
+-- Runs of stores of words, and the words of made channels and of threads as a loop puts them.
+use Prim.Native.Nat.{ℕ, zero, suc, _+_, _*_, _-_, _≤_, _<_}
+use mathlib.Core.Path.{_≡_, refl, sym, ap, _∙_}
+use mathlib.Core.List.{List, [], _∷_, _++_, map}
+use native.Mathlib.Omega.{arith}
+use lib.ListN.{length, getD, set, length-append, length-map}
+use lib.Seq.{sets}
+use Rattle.masks.specs.Mask.{held}
+use Rattle.format.specs.Words.{bytesOf}
+use Rattle.running.specs.declared.Thread.{Thread}
+use Rattle.running.specs.declared.Made.{Made}
+use Rattle.running.specs.Run.{madeWords, threadWords, ranWords}
+use Rattle.running.specs.Kept.{threadIn, threadsIn, madeIn, stateIn}
+
+-- one run of stores after another
+sets-join : (l : List ℕ) (i : ℕ) (vs ws : List ℕ) → sets (sets l i vs) (i + length vs) ws ≡ sets l i (vs ++ ws)
+sets-join l i [] ws = let z : i + 0 ≡ i = omega arith in rw z
+sets-join l i (v ∷ vs) ws = let z : i + suc (length vs) ≡ suc i + length vs = omega arith in rw z (sets-join (set l i v) (suc i) vs ws)
+
+bytes-append : (vs ws : List ℕ) → bytesOf (vs ++ ws) ≡ bytesOf vs ++ bytesOf ws
+unfolding bytesOf
+bytes-append [] ws = refl
+bytes-append (v ∷ vs) ws = rw (bytes-append vs ws)
+
+bytes-length : (ws : List ℕ) → length (bytesOf ws) ≡ 2 * length ws
+unfolding bytesOf
+bytes-length [] = refl
+bytes-length (w ∷ ws) = let later : length (bytesOf ws) ≡ 2 * length ws = bytes-length ws in omega (arith, later)
+
+puts-join : (l m : List ℕ) (i j : ℕ) (vs ws : List ℕ) → m ≡ sets l (2 * i) (bytesOf vs) → j ≡ i + length vs
+    → sets m (2 * j) (bytesOf ws) ≡ sets l (2 * i) (bytesOf (vs ++ ws))
+puts-join l m i j vs ws e k =
+    let place : 2 * j ≡ 2 * i + length (bytesOf vs) = omega (arith, bytes-length vs) in
+    rw (e, place, bytes-append vs ws) (sets-join l (2 * i) (bytesOf vs) (bytesOf ws))
+
+-- the same, for what the second run leaves
+pub puts-then : (l m q : List ℕ) (i j : ℕ) (vs ws : List ℕ) → m ≡ sets l (2 * i) (bytesOf vs) → j ≡ i + length vs → q ≡ sets m (2 * j) (bytesOf ws)
+    → q ≡ sets l (2 * i) (bytesOf (vs ++ ws))
+puts-then l m q i j vs ws e k h = h ∙ puts-join l m i j vs ws e k
+
+-- a turn of a loop that puts words: those still to come, from where they go
+puts-turn : (l m whole : List ℕ) (i j : ℕ) (vs ws all : List ℕ) → m ≡ sets l (2 * i) (bytesOf vs) → j ≡ i + length vs → all ≡ vs ++ ws
+    → sets l (2 * i) (bytesOf all) ≡ whole → sets m (2 * j) (bytesOf ws) ≡ whole
+puts-turn l m whole i j vs ws all e k a h = puts-join l m i j vs ws e k ∙ ap (λ (x : List ℕ). sets l (2 * i) (bytesOf x)) (sym a) ∙ h
+
+-- none is left
+puts-end : (l whole ws : List ℕ) (i : ℕ) → ws ≡ [] → sets l i (bytesOf ws) ≡ whole → l ≡ whole
+unfolding bytesOf
+puts-end l whole ws i e inv = rw e at inv
+
+-- how many there are
+pub threads-length : (w : List ℕ) (p k : ℕ) → length (threadsIn w p k) ≡ k
+unfolding threadsIn
+threads-length w p zero = refl
+threads-length w p (suc k) = ap suc (threads-length w (p + 11) k)
+
+pub made-length : (b : List ℕ) (p k : ℕ) → length (madeIn b p k) ≡ k
+unfolding madeIn
+made-length b p zero = refl
+made-length b p (suc k) = ap suc (made-length b (p + 2) k)
+
+made-words-length : (ms : List Made) → length (madeWords ms) ≡ 2 * length ms
+unfolding madeWords
+made-words-length [] = refl
+made-words-length (m ∷ ms) = let later : length (madeWords ms) ≡ 2 * length ms = made-words-length ms in omega (arith, later)
+
+-- a made channel more
+abbrev madeAfter : List ℕ → ℕ → ℕ → List ℕ
+madeAfter b n i = madeWords (madeIn b (2 + 2 * i) (n - i))
+
+made-more : (b : List ℕ) (n i : ℕ) → i < n → madeAfter b n i ≡ (getD b (2 + 2 * i) 0 ∷ getD b (2 + 2 * i + 1) 0 ∷ []) ++ madeAfter b n (i + 1)
+unfolding madeWords madeIn
+made-more b n i h =
+    let c : n - i ≡ suc (n - (i + 1)) = omega arith in
+    let z : 2 + 2 * i + 2 ≡ 2 + 2 * (i + 1) = omega arith in
+    rw (c, z)
+
+pub made-begin : (b out : List ℕ) (n : ℕ) → sets out (2 * (4 + 2 * 0)) (bytesOf (madeAfter b n 0)) ≡ sets out 8 (bytesOf (madeWords (madeIn b 2 n)))
+made-begin b out n = let c : n - 0 ≡ n = omega arith in rw c
+
+pub made-turn : (b l m whole : List ℕ) (n i : ℕ) → i < n → m ≡ sets l (2 * (2 + 2 * i + 2)) (bytesOf (getD b (2 + 2 * i) 0 ∷ getD b (2 + 2 * i + 1) 0 ∷ []))
+    → sets l (2 * (4 + 2 * i)) (bytesOf (madeAfter b n i)) ≡ whole → sets m (2 * (4 + 2 * (i + 1))) (bytesOf (madeAfter b n (i + 1))) ≡ whole
+made-turn b l m whole n i h e inv =
+    let ws : List ℕ = getD b (2 + 2 * i) 0 ∷ getD b (2 + 2 * i + 1) 0 ∷ [] in
+    let z : 2 + 2 * i + 2 ≡ 4 + 2 * i = omega arith in
+    puts-turn l m whole (4 + 2 * i) (4 + 2 * (i + 1)) ws (madeAfter b n (i + 1)) (madeAfter b n i) (e ∙ ap (λ (k : ℕ). sets l (2 * k) (bytesOf ws)) z) (omega arith)
+    (made-more b n i h) inv
+
+pub made-end : (b l whole : List ℕ) (n i p : ℕ) → n ≤ i → sets l p (bytesOf (madeAfter b n i)) ≡ whole → l ≡ whole
+unfolding madeWords madeIn
+made-end b l whole n i p h inv = let z : n - i ≡ 0 = omega arith in puts-end l whole (madeAfter b n i) p (rw z) inv
+
+-- a thread more
+abbrev threadsAfter : List ℕ → ℕ → ℕ → List ℕ
+threadsAfter w n i = threadWords (threadsIn w (11 * i) (n - i))
+
+threads-more : (w : List ℕ) (n i : ℕ) → i < n → threadsAfter w n i ≡ threadWords (threadIn w (11 * i) ∷ []) ++ threadsAfter w n (i + 1)
+unfolding threadWords threadsIn
+threads-more w n i h =
+    let c : n - i ≡ suc (n - (i + 1)) = omega arith in
+    let z : 11 * i + 11 ≡ 11 * (i + 1) = omega arith in
+    rw (c, z)
+
+pub threads-begin : (w out : List ℕ) (base n : ℕ) → sets out (2 * (base + 12 * 0)) (bytesOf (threadsAfter w n 0)) ≡ sets out (2 * base) (bytesOf (threadWords (threadsIn w 0 n)))
+threads-begin w out base n = let c : n - 0 ≡ n = omega arith in let z : base + 12 * 0 ≡ base = omega arith in rw (c, z)
+
+pub threads-turn : (w l m whole : List ℕ) (base n i : ℕ) (t : Thread) → i < n → t ≡ threadIn w (11 * i) → m ≡ sets l (2 * (base + 12 * i)) (bytesOf (threadWords (t ∷ [])))
+    → sets l (2 * (base + 12 * i)) (bytesOf (threadsAfter w n i)) ≡ whole → sets m (2 * (base + 12 * (i + 1))) (bytesOf (threadsAfter w n (i + 1))) ≡ whole
+unfolding threadWords
+threads-turn w l m whole base n i t h et e inv =
+    puts-turn l m whole (base + 12 * i) (base + 12 * (i + 1)) (threadWords (threadIn w (11 * i) ∷ [])) (threadsAfter w n (i + 1)) (threadsAfter w n i)
+    (e ∙ ap (λ (x : Thread). sets l (2 * (base + 12 * i)) (bytesOf (threadWords (x ∷ [])))) et) (omega arith) (threads-more w n i h) inv
+
+pub threads-end : (w l whole : List ℕ) (n i p : ℕ) → n ≤ i → sets l p (bytesOf (threadsAfter w n i)) ≡ whole → l ≡ whole
+unfolding threadWords threadsIn
+threads-end w l whole n i p h inv = let z : n - i ≡ 0 = omega arith in puts-end l whole (threadsAfter w n i) p (rw z) inv
+
+-- what owning an array tells is of the list of its elements' parts
+pub unmapped : {A B : Type 0} (f : A → B) (l : List A) (n : ℕ) → length (map f l) ≡ n → length l ≡ n
+unmapped f l n e = sym (length-map l f) ∙ e
+
+-- one thread: four words, then its eight variables
+eight : (l : List ℕ) → length l ≡ 8
+    → l ≡ getD l 0 0 ∷ getD l 1 0 ∷ getD l 2 0 ∷ getD l 3 0 ∷ getD l 4 0 ∷ getD l 5 0 ∷ getD l 6 0 ∷ getD l 7 0 ∷ []
+eight [] e = let none : ⊥ = omega arith in absurd none
+eight (a ∷ []) e = let none : ⊥ = omega arith in absurd none
+eight (a ∷ b ∷ []) e = let none : ⊥ = omega arith in absurd none
+eight (a ∷ b ∷ c ∷ []) e = let none : ⊥ = omega arith in absurd none
+eight (a ∷ b ∷ c ∷ d ∷ []) e = let none : ⊥ = omega arith in absurd none
+eight (a ∷ b ∷ c ∷ d ∷ f ∷ []) e = let none : ⊥ = omega arith in absurd none
+eight (a ∷ b ∷ c ∷ d ∷ f ∷ g ∷ []) e = let none : ⊥ = omega arith in absurd none
+eight (a ∷ b ∷ c ∷ d ∷ f ∷ g ∷ h ∷ []) e = let none : ⊥ = omega arith in absurd none
+eight (a ∷ b ∷ c ∷ d ∷ f ∷ g ∷ h ∷ i ∷ []) e = refl
+eight (a ∷ b ∷ c ∷ d ∷ f ∷ g ∷ h ∷ i ∷ j ∷ l) e = let none : ⊥ = omega arith in absurd none
+
+pub thread-put : (t : Thread) (l m n q : List ℕ) (at roles : ℕ) → length (t .vars) ≡ 8 → roles ≡ held 16 (t .mask)
+    → m ≡ sets l (2 * at) (bytesOf (t .user ∷ t .node ∷ t .mask ∷ roles ∷ []))
+    → n ≡ sets m (2 * (at + 4)) (bytesOf (getD (t .vars) 0 0 ∷ getD (t .vars) 1 0 ∷ getD (t .vars) 2 0 ∷ getD (t .vars) 3 0 ∷ []))
+    → q ≡ sets n (2 * (at + 8)) (bytesOf (getD (t .vars) 4 0 ∷ getD (t .vars) 5 0 ∷ getD (t .vars) 6 0 ∷ getD (t .vars) 7 0 ∷ []))
+    → q ≡ sets l (2 * at) (bytesOf (threadWords (t ∷ [])))
+unfolding threadWords
+thread-put t l m n q at roles long er em en eq =
+    let v : List ℕ = t .vars in
+    let one : List ℕ = t .user ∷ t .node ∷ t .mask ∷ roles ∷ [] in
+    let two : List ℕ = getD v 0 0 ∷ getD v 1 0 ∷ getD v 2 0 ∷ getD v 3 0 ∷ [] in
+    let three : List ℕ = getD v 4 0 ∷ getD v 5 0 ∷ getD v 6 0 ∷ getD v 7 0 ∷ [] in
+    let first : n ≡ sets l (2 * at) (bytesOf (one ++ two)) = puts-then l m n at (at + 4) one two em refl en in
+    let all : q ≡ sets l (2 * at) (bytesOf (one ++ two ++ three)) = puts-then l n q at (at + 8) (one ++ two) three first refl eq in
+    let same : one ++ two ++ three ≡ t .user ∷ t .node ∷ t .mask ∷ held 16 (t .mask) ∷ t .vars ++ [] =
+    rw er (ap (λ (x : List ℕ). t .user ∷ t .node ∷ t .mask ∷ held 16 (t .mask) ∷ x ++ []) (sym (eight v long))) in
+    all ∙ ap (λ (x : List ℕ). sets l (2 * at) (bytesOf x)) same
+
+-- the whole state
+pub state-put : (w b l l1 l2 l3 : List ℕ) (count refusal made threads : ℕ) → made ≡ getD b 1 0 → threads ≡ getD b 0 0
+    → l1 ≡ sets l 0 (bytesOf (count ∷ refusal ∷ getD b 0 0 ∷ getD b 1 0 ∷ []))
+    → l2 ≡ sets l1 8 (bytesOf (madeWords (madeIn b 2 made))) → l3 ≡ sets l2 (2 * (4 + 2 * made)) (bytesOf (threadWords (threadsIn w 0 threads)))
+    → l3 ≡ sets l 0 (bytesOf (ranWords (record { count = count; refusal = refusal; state = stateIn w b })))
+unfolding ranWords
+state-put w b l l1 l2 l3 count refusal made threads em et e1 e2 e3 =
+    let one : List ℕ = count ∷ refusal ∷ getD b 0 0 ∷ getD b 1 0 ∷ [] in
+    let two : List ℕ = madeWords (madeIn b 2 made) in
+    let three : List ℕ = threadWords (threadsIn w 0 threads) in
+    let size : length two ≡ 2 * made = made-words-length (madeIn b 2 made) ∙ ap (λ (k : ℕ). 2 * k) (made-length b 2 made) in
+    let joined : length (one ++ two) ≡ 4 + length two = length-append one two in
+    let first : l2 ≡ sets l 0 (bytesOf (one ++ two)) = puts-then l l1 l2 0 4 one two e1 refl e2 in
+    let all : l3 ≡ sets l 0 (bytesOf (one ++ two ++ three)) = puts-then l l2 l3 0 (4 + 2 * made) (one ++ two) three first (omega (arith, size, joined)) e3 in
+    all ∙ rw (threads-length w 0 (getD b 0 0), made-length b 2 (getD b 1 0), em, et)

@@ -1,0 +1,117 @@
+use native.Mathlib.Omega.{arith}
+use Prim.Native.Nat.{_+_, _*_, _-_, _≤_}
+use mathlib.Core.Path.{_≡_, refl}
+use lib.ListN.{length}
+use lib.Seq.{sets}
+use Rattle.format.specs.Words.{bytesOf}
+use Rattle.running.specs.Run.{madeWords}
+use Rattle.running.specs.Kept.{madeIn}
+use Rattle.running.proofs.PutLaws.{made-begin, made-turn, made-end}
+use borrow.Author.Needs.{needs}
+use Rattle.running.proofs.out.put_made.Statement.{statement}
+use Rattle.running.proofs.out.put_made.Tie as tie
+use Rattle.running.proofs.out.put_made.Reads as reads
+use Rattle.running.proofs.out.put_made.Lts as lts
+use Rattle.running.proofs.out.put_two.Reads as put-two-reads
+
+abbrev Inv-loop : tie.InvT-loop
+Inv-loop beside made out₀ i₀ out i =
+    (i ≤ made) × (length out ≡ length out₀)
+    × (sets out (2 * (4 + 2 * i)) (bytesOf (madeWords (madeIn beside (2 + 2 * i) (made - i)))) ≡ sets out₀ 8 (bytesOf (madeWords (madeIn beside 2 made))))
+
+abbrev μ-loop : tie.MeasureT-loop
+μ-loop beside made out₀ i₀ out i = made - i
+
+-- src/out.rt:52:5
+loop-holds : tie.Need-loop-holds Inv-loop μ-loop
+loop-holds c =
+    let a = c .before .before .args in
+    (omega arith, refl, made-begin (a .beside .now) (a .out .now) (a .made))
+
+-- src/out.rt:53:22
+mul-at : tie.Need-mul-at Inv-loop μ-loop
+mul-at c = search needs
+
+-- src/out.rt:53:18
+add-at : tie.Need-add-at Inv-loop μ-loop
+add-at c = search needs
+
+-- src/out.rt:54:22
+add-put-two : tie.Need-add-put-two Inv-loop μ-loop
+add-put-two c = search needs
+
+-- src/out.rt:54:30
+mul-put-two : tie.Need-mul-put-two Inv-loop μ-loop
+mul-put-two c = search needs
+
+-- src/out.rt:54:30
+shared-slice-read-put-two : tie.Need-shared-slice-read-put-two Inv-loop μ-loop
+shared-slice-read-put-two c = search needs
+
+-- src/out.rt:54:49
+add-put-two-2 : tie.Need-add-put-two-2 Inv-loop μ-loop
+add-put-two-2 c = search needs
+
+-- src/out.rt:54:42
+mul-put-two-2 : tie.Need-mul-put-two-2 Inv-loop μ-loop
+mul-put-two-2 c = search needs
+
+-- src/out.rt:54:42
+shared-slice-read-put-two-2 : tie.Need-shared-slice-read-put-two-2 Inv-loop μ-loop
+shared-slice-read-put-two-2 c = search needs
+
+-- src/out.rt:54:9
+put-two-requires : tie.Need-put-two-requires Inv-loop μ-loop
+put-two-requires c κs = search needs
+
+-- src/out.rt:55:9
+add-i : tie.Need-add-i Inv-loop μ-loop
+add-i c = search needs
+
+-- src/out.rt:52:5
+loop-less : tie.Need-loop-less Inv-loop μ-loop
+loop-less c = search needs
+
+-- src/out.rt:52:5
+loop-again : tie.Need-loop-again Inv-loop μ-loop
+loop-again c =
+    let a = c .before .before .before .before .before .before .before .before .before .before .args in
+    let l = c .before .before .before .before .before .before .before .loop in
+    let g = c .before .before .put-two in (
+      omega arith,
+      search needs,
+      made-turn (a .beside .now) (l .out) (g .last .0) _ (a .made) (l .i) (omega arith) (g .ensures) (l .inv .2),
+    )
+
+-- src/out.rt:47:1
+same-length : tie.Need-same-length Inv-loop μ-loop
+same-length c = search needs
+
+-- src/out.rt:47:1
+returns : tie.Need-returns Inv-loop μ-loop
+returns c =
+    let a = c .before .before .before .before .args in
+    let l = c .before .loop in
+    made-end (a .beside .now) (l .out) _ (a .made) (l .i) (2 * (4 + 2 * l .i)) (omega arith) (l .inv .2)
+
+pub put-made-spec : {M : Type 1} → statement M
+put-made-spec =
+    tie.close
+    (tie.spec
+    Inv-loop
+    μ-loop
+    loop-holds
+    mul-at
+    add-at
+    add-put-two
+    mul-put-two
+    shared-slice-read-put-two
+    add-put-two-2
+    mul-put-two-2
+    shared-slice-read-put-two-2
+    put-two-requires
+    add-i
+    loop-less
+    loop-again
+    same-length
+    returns)

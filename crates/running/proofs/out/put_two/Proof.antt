@@ -1,0 +1,38 @@
+use native.Mathlib.Omega.{arith}
+use mathlib.Core.List.{[], _∷_}
+use Prim.Native.Nat.{_+_}
+use Rattle.running.proofs.PutLaws.{puts-then}
+use borrow.Author.Needs.{needs}
+use Rattle.running.proofs.out.put_two.Statement.{statement}
+use Rattle.running.proofs.out.put_two.Tie as tie
+use Rattle.running.proofs.out.put_two.Reads as reads
+use Rattle.running.proofs.out.put_two.Lts as lts
+use Rattle.format.proofs.words.put_word.Reads as put-word-reads
+
+-- src/out.rt:22:5
+put-word-requires : tie.Need-put-word-requires
+put-word-requires c κs = search needs
+
+-- src/out.rt:23:19
+add-put-word : tie.Need-add-put-word
+add-put-word c = search needs
+
+-- src/out.rt:23:5
+put-word-requires-2 : tie.Need-put-word-requires-2
+put-word-requires-2 c κs = search needs
+
+-- src/out.rt:18:1
+same-length : tie.Need-same-length
+same-length c = search needs
+
+-- src/out.rt:18:1
+returns : tie.Need-returns
+returns c =
+    let a = c .before .before .before .before .before .before .before .before .before .args in
+    let one = c .before .before .before .before .before .before .put-word in
+    let two = c .before .before .put-word2 in
+    puts-then (a .out .now) (one .last .0) (two .last .0) (a .at) (a .at + 1) (a .first ∷ []) (a .second ∷ []) (one .ensures) (omega arith) (two .ensures)
+
+pub put-two-spec : {M : Type 1} → statement M
+put-two-spec =
+    tie.close (tie.spec put-word-requires add-put-word put-word-requires-2 same-length returns)

@@ -1,0 +1,224 @@
+// Running: one choice, lists of choices, the ready pair.
+mod act;
+mod list;
+mod out;
+mod pairs;
+mod state;
+mod threads;
+
+use checking::read_names;
+use format::Head;
+use format::HeadAnswer;
+use format::Verdict;
+use format::header::read_head;
+use list::run_list;
+use out::put_state;
+use pairs::pair_after;
+ghost use mathlib.Core.Path.{_≡_};
+ghost use mathlib.Core.Bool.{cond};
+ghost use Prim.Native.Nat.{_+_, _≤_, _<_};
+ghost use lib.Dec.{eqb};
+ghost use lib.ListN.{length};
+ghost use lib.Seq.{sets};
+ghost use Rattle.format.specs.Words.{bytesOf};
+ghost use Rattle.format.specs.Answers.{fine, refused};
+ghost use Rattle.format.specs.Header.{Laid};
+ghost use Rattle.running.specs.Choice.{clinicOf};
+ghost use Rattle.running.specs.Run.{start, run, ranWords, listed, stopped, running, runOver, readyPair, readyOf, ready};
+
+// A thread: its user, its node, its active mask, and the values of its eight variables, 0 where nothing is bound.
+#[repr(C)]
+pub struct Thread {
+    pub user: u16,
+    pub node: u16,
+    pub mask: u16,
+    pub vars: [u16; 8],
+}
+
+// A made channel.
+pub struct Made {
+    pub owner: u16,
+    pub kind: u16,
+}
+
+// The partner that a choice names: none, a thread, or no thread of the list.
+pub enum Partner {
+    Alone,
+    With(Thread),
+    Missing,
+}
+
+// Two threads after a choice.
+pub struct Pair {
+    pub first: Thread,
+    pub second: Thread,
+}
+
+// A thread after new, and the channel made.
+pub struct Making {
+    pub thread: Thread,
+    pub made: Made,
+}
+
+// What a choice comes to: refused; a thread moves on alone; it goes on and a new last thread with it; it goes on with a made channel;
+// it is removed; sender and receiver both move on.
+pub enum Outcome {
+    Refused(u16),
+    Moves(Thread),
+    Adds(Pair),
+    Makes(Making),
+    Ends,
+    Meets(Pair),
+}
+
+// What a choice comes to, but for the threads that it leaves: an enum may hold no array.
+pub enum Answer {
+    Refused(u16),
+    Moves,
+    Adds,
+    Makes(Made),
+    Ends,
+    Meets,
+}
+
+// What a choice comes to, by value: the answer and the threads that it leaves, all 0 where there is none.
+pub struct Acted {
+    pub answer: Answer,
+    pub first: Thread,
+    pub second: Thread,
+}
+
+// The ready pair, or the refusal that stopped the run.
+#[repr(C)]
+pub struct Ready {
+    pub number: u16,
+    pub place: u16,
+    pub sender: u16,
+    pub receiver: u16,
+}
+
+// How many choices were done, and the refusal of the next, 0 if none.
+pub struct Counted {
+    pub count: u16,
+    pub refusal: u16,
+}
+
+// A sender and a receiver, 0 and 0 for none.
+pub struct Two {
+    pub sender: u16,
+    pub receiver: u16,
+}
+
+// Not 17: an even number of words of choices, and at most 65,535 choices.
+fn is_listed(words: usize) -> bool
+    ensures { λ r. ⌜ r ≡ listed words ⌝ }
+{
+    (words % 2 == 0) & (words <= 131070)
+}
+
+// A run halted at a choice has the choice's number as place.
+fn stopped_at(counted: Counted) -> Verdict
+    requires { ⌜ ((counted .refusal ≡ 0 → ⊥) → counted .count < 65535) ⌝ }
+    ensures { λ r. ⌜ r ≡ cond (eqb (counted .refusal) 0) fine (refused (counted .refusal) (counted .count + 1)) ⌝ }
+{
+    if counted.refusal == 0 {
+        return Verdict {
+            number: 0,
+            place: 0,
+        };
+    }
+    Verdict {
+        number: counted.refusal,
+        place: counted.count + 1,
+    }
+}
+
+// The run of a file that 1 to 10 leave clean, and its output.
+fn run_into(file: &[u8], head: Head, choices: &[u16], out: &mut [u8]) -> Verdict
+    requires { ⌜ Laid head × (length (now choices) ≤ 131070) × (1800 ≤ length (now out)) ⌝ }
+    ensures { λ r. ⌜ (r ≡ stopped (run (clinicOf (now (file .entry)) head) (start (now (file .entry)) head) (now (choices .entry))))
+        × (now (out .exit) ≡ sets (now (out .entry)) 0 (bytesOf (ranWords (run (clinicOf (now (file .entry)) head) (start (now (file .entry)) head) (now (choices .entry)))))) ⌝ }
+{
+    let mut threads = [0u16; 704];
+    let mut beside = [0u16; 130];
+    let counted = run_list(file, head, choices, &mut threads, &mut beside);
+    put_state(&threads, &beside, counted, out);
+    stopped_at(counted)
+}
+
+// The run of a file through a list of choices, and the state that it leaves.
+pub fn run(file: &[u8], choices: &[u16], out: &mut [u8]) -> Verdict
+    ensures { λ r. ⌜ (r ≡ running (now (file .entry)) (now (choices .entry)) (length (now (out .entry))))
+        × (now (out .exit) ≡ runOver (now (file .entry)) (now (choices .entry)) (now (out .entry))) ⌝ }
+{
+    if !(is_listed(choices.len()) & (1800 <= out.len())) {
+        return Verdict {
+            number: 17,
+            place: 0,
+        };
+    }
+    let first = read_names(file);
+    if first.number != 0 {
+        return first;
+    }
+    let answer = read_head(file);
+    match answer {
+        HeadAnswer::Refused(number) => Verdict { number, place: 0 },
+        HeadAnswer::Fine(head) => run_into(file, head, choices, out),
+    }
+}
+
+// A refusal in place of a pair.
+fn no_pair(verdict: Verdict) -> Ready
+    ensures { λ r. ⌜ r ≡ record { number = verdict .number; place = verdict .place; sender = 0; receiver = 0 } ⌝ }
+{
+    Ready {
+        number: verdict.number,
+        place: verdict.place,
+        sender: 0,
+        receiver: 0,
+    }
+}
+
+// The pair of the state that the list leaves, of a file that 1 to 10 leave clean.
+fn ready_in(file: &[u8], head: Head, choices: &[u16]) -> Ready
+    requires { ⌜ Laid head × (length (now choices) ≤ 131070) ⌝ }
+    ensures { λ r. ⌜ r ≡ readyOf (stopped (run (clinicOf (now (file .entry)) head) (start (now (file .entry)) head) (now (choices .entry))))
+        (readyPair (clinicOf (now (file .entry)) head) (run (clinicOf (now (file .entry)) head) (start (now (file .entry)) head) (now (choices .entry)) .state)) ⌝ }
+{
+    let mut threads = [0u16; 704];
+    let mut beside = [0u16; 130];
+    let counted = run_list(file, head, choices, &mut threads, &mut beside);
+    let verdict = stopped_at(counted);
+    if verdict.number != 0 {
+        return no_pair(verdict);
+    }
+    let pair = pair_after(file, head, &threads, &beside);
+    Ready {
+        number: 0,
+        place: 0,
+        sender: pair.sender,
+        receiver: pair.receiver,
+    }
+}
+
+// The ready pair of the state that a list of choices leaves.
+pub fn ready_after(file: &[u8], choices: &[u16]) -> Ready
+    ensures { λ r. ⌜ r ≡ ready (now (file .entry)) (now (choices .entry)) ⌝ }
+{
+    if !is_listed(choices.len()) {
+        return no_pair(Verdict {
+            number: 17,
+            place: 0,
+        });
+    }
+    let first = read_names(file);
+    if first.number != 0 {
+        return no_pair(first);
+    }
+    let answer = read_head(file);
+    match answer {
+        HeadAnswer::Refused(number) => no_pair(Verdict { number, place: 0 }),
+        HeadAnswer::Fine(head) => ready_in(file, head, choices),
+    }
+}

@@ -1,0 +1,84 @@
+// The output of a run: choices done, the refusal, and the state.
+use super::Counted;
+use super::Thread;
+use super::state::thread_at;
+use format::words::put_word;
+use format::words::wide;
+use masks::role_count;
+ghost use mathlib.Core.Path.{_≡_};
+ghost use mathlib.Core.List.{[], _∷_};
+ghost use Prim.Native.Nat.{_+_, _*_, _≤_};
+ghost use lib.ListN.{length};
+ghost use lib.Seq.{sets};
+ghost use Rattle.format.specs.Words.{bytesOf};
+ghost use Rattle.running.specs.Run.{madeWords, threadWords, ranWords};
+ghost use Rattle.running.specs.Kept.{threadsIn, madeIn, stateIn, Sized};
+
+// Two words: a made channel's owner and kind.
+fn put_two(out: &mut [u8], at: usize, first: u16, second: u16)
+    requires { ⌜ 2 * at + 4 ≤ length (now out) ⌝ }
+    ensures { λ r. ⌜ now (out .exit) ≡ sets (now (out .entry)) (2 * at) (bytesOf (first ∷ second ∷ [])) ⌝ }
+{
+    put_word(out, at, first);
+    put_word(out, at + 1, second);
+}
+
+// Four words.
+fn put_four(out: &mut [u8], at: usize, first: u16, second: u16, third: u16, fourth: u16)
+    requires { ⌜ 2 * at + 8 ≤ length (now out) ⌝ }
+    ensures { λ r. ⌜ now (out .exit) ≡ sets (now (out .entry)) (2 * at) (bytesOf (first ∷ second ∷ third ∷ fourth ∷ [])) ⌝ }
+{
+    put_two(out, at, first, second);
+    put_two(out, at + 2, third, fourth);
+}
+
+// A thread: user, node, mask, the number of roles it holds, its eight variables.
+fn put_thread(out: &mut [u8], at: usize, it: Thread)
+    requires { ⌜ 2 * at + 24 ≤ length (now out) ⌝ }
+    ensures { λ r. ⌜ now (out .exit) ≡ sets (now (out .entry)) (2 * at) (bytesOf (threadWords (it ∷ []))) ⌝ }
+{
+    let vars = it.vars;
+    put_four(out, at, it.user, it.node, it.mask, role_count(it.mask));
+    put_four(out, at + 4, vars[0], vars[1], vars[2], vars[3]);
+    put_four(out, at + 8, vars[4], vars[5], vars[6], vars[7]);
+}
+
+// The made channels, after the first four words.
+fn put_made(beside: &[u16], made: usize, out: &mut [u8])
+    requires { ⌜ (made ≤ 64) × (length (now beside) ≡ 130) × (1800 ≤ length (now out)) ⌝ }
+    ensures { λ r. ⌜ now (out .exit) ≡ sets (now (out .entry)) 8 (bytesOf (madeWords (madeIn (now (beside .entry)) 2 made))) ⌝ }
+{
+    let mut i: usize = 0;
+    while i < made {
+        let at = 2 + 2 * i;
+        put_two(out, at + 2, beside[at], beside[at + 1]);
+        i += 1;
+    }
+}
+
+// The threads, from a place on.
+fn put_threads(threads: &[u16], count: usize, out: &mut [u8], base: usize)
+    requires { ⌜ (count ≤ 64) × (length (now threads) ≡ 704) × (2 * (base + 12 * count) ≤ length (now out)) ⌝ }
+    ensures { λ r. ⌜ now (out .exit) ≡ sets (now (out .entry)) (2 * base) (bytesOf (threadWords (threadsIn (now (threads .entry)) 0 count))) ⌝ }
+{
+    let mut i: usize = 0;
+    while i < count {
+        put_thread(out, base + 12 * i, thread_at(threads, i));
+        i += 1;
+    }
+}
+
+// Choices done, refusal, threads, made channels; then the made channels and the threads. Every other byte stays.
+pub fn put_state(threads: &[u16], beside: &[u16], counted: Counted, out: &mut [u8])
+    requires { ⌜ Sized (now threads) (now beside) × (1800 ≤ length (now out)) ⌝ }
+    ensures { λ r. ⌜ now (out .exit) ≡ sets (now (out .entry)) 0 (bytesOf (ranWords (record {
+      count = counted .count;
+      refusal = counted .refusal;
+      state = stateIn (now (threads .entry)) (now (beside .entry));
+    }))) ⌝ }
+{
+    let made = wide(beside[1]);
+    put_four(out, 0, counted.count, counted.refusal, beside[0], beside[1]);
+    put_made(beside, made, out);
+    put_threads(threads, wide(beside[0]), out, 4 + 2 * made);
+}

@@ -1,0 +1,144 @@
+// The ready pair of a state.
+use super::Answer;
+use super::Thread;
+use super::Two;
+use super::act::act;
+use super::state::thread_at;
+use format::Head;
+use format::sections::node;
+use format::words::wide;
+use rules::grants::fill_grants;
+ghost use mathlib.Core.Path.{_≡_};
+ghost use mathlib.Core.Bool.{cond, _&&_};
+ghost use Prim.Native.Nat.{_≤_, _<_};
+ghost use lib.Dec.{eqb};
+ghost use lib.ListN.{length, getD, replicate};
+ghost use Rattle.format.specs.Header.{Laid};
+ghost use Rattle.rules.specs.Schema.{schemaOf};
+ghost use Rattle.rules.specs.Names.{within};
+ghost use Rattle.rules.specs.Kept.{Granting};
+ghost use Rattle.rules.specs.declared.Way.the-variants.{Sends, Receives};
+ghost use Rattle.running.specs.declared.Partner.the-variants.{With};
+ghost use Rattle.running.specs.Threads.{noThread};
+ghost use Rattle.running.specs.Choice.{clinicOf, acting};
+ghost use Rattle.running.specs.Run.{isMeeting, readyPair};
+ghost use Rattle.running.specs.Kept.{madeIn, stateIn, Sized};
+ghost use Rattle.running.specs.Acted.{outcomeBy};
+
+// Whether two threads meet, whatever they are.
+fn is_meeting(answer: Answer) -> bool
+    ensures { λ r. ⌜ r ≡ isMeeting (outcomeBy answer noThread noThread) ⌝ }
+{
+    match answer {
+        Answer::Refused(_) => false,
+        Answer::Moves => false,
+        Answer::Adds => false,
+        Answer::Makes(_) => false,
+        Answer::Ends => false,
+        Answer::Meets => true,
+    }
+}
+
+// A sender can meet a receiver, the thread of a number, without refusal.
+fn meets(
+    file: &[u8],
+    head: Head,
+    sends: &[u16],
+    receives: &[u16],
+    beside: &[u16],
+    own: Thread,
+    partner: u16,
+    other: Thread,
+) -> bool
+    requires { ⌜ (head .count .nodes ≤ 1024) × Granting (schemaOf (now file) head) Sends (now sends) × Granting (schemaOf (now file) head) Receives (now receives) × (length (now beside) ≡ 130) × (getD (now beside) 1 0 ≤ 64) × (0 < partner) × (partner ≤ getD (now beside) 0 0) ⌝ }
+    ensures { λ r. ⌜ r ≡ isMeeting (acting (clinicOf (now (file .entry)) head) (getD (now (beside .entry)) 0 0) (madeIn (now (beside .entry)) 2 (getD (now (beside .entry)) 1 0)) own (With other)) ⌝ }
+{
+    let acted = act(file, head, sends, receives, beside, own, partner, other);
+    let answer = acted.answer;
+    is_meeting(answer)
+}
+
+// How many of the threads a thread at a node need not try: none at a send, and all at any other node.
+fn left_out(file: &[u8], head: Head, at: u16, count: u16) -> u16
+    ensures { λ r. ⌜ r ≡ cond (within (head .count .nodes) at && eqb (clinicOf (now (file .entry)) head .node at .tag) 6) 0 count ⌝ }
+{
+    if at == 0 {
+        return count;
+    }
+    if head.count.nodes < at {
+        return count;
+    }
+    let it = node(file, head, at);
+    if it.tag != 6 {
+        return count;
+    }
+    0
+}
+
+// The lowest sender, then the lowest receiver that can meet it; a sender without one is passed over.
+pub fn ready_pair(
+    file: &[u8],
+    head: Head,
+    sends: &[u16],
+    receives: &[u16],
+    threads: &[u16],
+    beside: &[u16],
+) -> Two
+    requires { ⌜ (head .count .nodes ≤ 1024) × Granting (schemaOf (now file) head) Sends (now sends) × Granting (schemaOf (now file) head) Receives (now receives) × Sized (now threads) (now beside) ⌝ }
+    ensures { λ r. ⌜ r ≡ record {
+      sender = readyPair (clinicOf (now (file .entry)) head) (stateIn (now (threads .entry)) (now (beside .entry))) .0;
+      receiver = readyPair (clinicOf (now (file .entry)) head) (stateIn (now (threads .entry)) (now (beside .entry))) .1;
+    } ⌝ }
+{
+    let count = beside[0];
+    let mut sender: u16 = 0;
+    let mut receiver: u16 = 0;
+    let mut i: u16 = 0;
+    'senders: while i < count {
+        let own = thread_at(threads, wide(i));
+        i += 1;
+        let mut j = left_out(file, head, own.node, count);
+        while j < count {
+            let other = thread_at(threads, wide(j));
+            j += 1;
+            if meets(file, head, sends, receives, beside, own, j, other) {
+                sender = i;
+                receiver = j;
+                break 'senders;
+            }
+        }
+    }
+    Two { sender, receiver }
+}
+
+// The same, with two tables of grants lent to work in.
+fn pair_by(
+    file: &[u8],
+    head: Head,
+    sends: &mut [u16],
+    receives: &mut [u16],
+    threads: &[u16],
+    beside: &[u16],
+) -> Two
+    requires { ⌜ Laid head × (length (now sends) ≡ 33) × (length (now receives) ≡ 33) × (now sends ≡ replicate (length (now sends)) 0) × (now receives ≡ replicate (length (now receives)) 0) × Sized (now threads) (now beside) ⌝ }
+    ensures { λ r. ⌜ r ≡ record {
+      sender = readyPair (clinicOf (now (file .entry)) head) (stateIn (now (threads .entry)) (now (beside .entry))) .0;
+      receiver = readyPair (clinicOf (now (file .entry)) head) (stateIn (now (threads .entry)) (now (beside .entry))) .1;
+    } ⌝ }
+{
+    fill_grants(file, head, sends, receives);
+    ready_pair(file, head, sends, receives, threads, beside)
+}
+
+// The ready pair of a state of a run.
+pub fn pair_after(file: &[u8], head: Head, threads: &[u16], beside: &[u16]) -> Two
+    requires { ⌜ Laid head × Sized (now threads) (now beside) ⌝ }
+    ensures { λ r. ⌜ r ≡ record {
+      sender = readyPair (clinicOf (now (file .entry)) head) (stateIn (now (threads .entry)) (now (beside .entry))) .0;
+      receiver = readyPair (clinicOf (now (file .entry)) head) (stateIn (now (threads .entry)) (now (beside .entry))) .1;
+    } ⌝ }
+{
+    let mut sends = [0u16; 33];
+    let mut receives = [0u16; 33];
+    pair_by(file, head, &mut sends, &mut receives, threads, beside)
+}

@@ -1,0 +1,26 @@
+-- one choice: function and relation
+pub mod ChoiceTold
+pub mod ChoiceRuled
+pub mod Agree
+-- lists of choices
+pub mod RunChain
+-- the ready pair
+pub mod ReadyFound
+pub mod ReadyPair
+-- what 1 to 10 leave of a file's nodes
+pub mod ReachedNodes
+pub mod FileNodes
+pub mod NodeSteps
+-- values and threads
+pub mod HeldValues
+pub mod ThreadLists
+pub mod ThreadSteps
+-- a choice keeps what holds in every state of a run
+pub mod OutcomesTold
+pub mod LoneSteps
+pub mod MeetingSteps
+pub mod ChoiceKeeps
+-- runs keep the rules, and a checked file's is not stopped for a role
+pub mod FileLawful
+pub mod StartKept
+pub mod RunSafe

@@ -1,0 +1,145 @@
+//! Runs by both implementations: compared, judged and counted.
+
+mod deal;
+mod placed;
+mod replay;
+mod tally;
+
+pub use deal::{deal_run, deal_state};
+pub use placed::{run_placed, PlacedRuns};
+pub use replay::sends_in;
+pub use tally::RunTally;
+
+use second::draft::word_at;
+use second::{Ready, Verdict, RUN_ROOM};
+use std::fmt::Display;
+
+/// The engine's answer, in the second implementation's form.
+pub fn engine_run(file: &[u8], choices: &[u16], out: &mut [u8]) -> Verdict {
+    let pilzdamo::Verdict { number, place } = pilzdamo::run(file, choices, out);
+    Verdict { number, place }
+}
+
+/// The engine's ready pair, in the second implementation's form.
+pub fn engine_ready(file: &[u8], choices: &[u16]) -> Ready {
+    let ready = pilzdamo::ready(file, choices);
+    Ready {
+        number: ready.number,
+        place: ready.place,
+        sender: ready.sender,
+        receiver: ready.receiver,
+    }
+}
+
+/// A file, a list of choices, and an output with what it holds beforehand.
+pub struct Dealt {
+    pub file: Vec<u8>,
+    pub choices: Vec<u16>,
+    pub before: Vec<u8>,
+}
+
+/// What both answer, and what both leave in the output. Panics where they
+/// differ, and where what they say is not as it should be.
+pub fn agreed_run(dealt: &Dealt, origin: impl Display) -> (Verdict, Vec<u8>) {
+    let Dealt {
+        file,
+        choices,
+        before,
+    } = dealt;
+    let (mut out, mut of_second) = (before.clone(), before.clone());
+    let verdict = engine_run(file, choices, &mut out);
+    let second = second::run(file, choices, &mut of_second);
+    let fail = |what: &str| -> ! {
+        let shown = &choices[..choices.len().min(2_000)];
+        panic!(
+            "{what} at {origin}: engine {verdict:?}, second {second:?}, output of {} bytes, {} \
+             words of choices {shown:?}, on {} bytes, to be had back by `xxd -r -p`:\n{}",
+            before.len(),
+            choices.len(),
+            file.len(),
+            file.iter()
+                .map(|byte| format!("{byte:02x}"))
+                .collect::<String>()
+        )
+    };
+    if verdict != second {
+        fail("run differs");
+    }
+    if let Some(at) = (0..out.len()).find(|&at| out[at] != of_second[at]) {
+        fail(&format!("output byte {at} differs"));
+    }
+    let (ready, ready_second) = (engine_ready(file, choices), second::ready(file, choices));
+    if ready != ready_second {
+        fail(&format!("ready differs, {ready:?} and {ready_second:?}"));
+    }
+    if let Err(fault) = judge(dealt, &out, verdict, ready) {
+        fail(fault);
+    }
+    (verdict, out)
+}
+
+/// Whether a run halted at a choice, and not before the first.
+fn is_halted(verdict: Verdict) -> bool {
+    matches!(verdict.number, 11..=13 | 18..=20)
+}
+
+/// Judges what is known of every answer without doing the run anew.
+fn judge(dealt: &Dealt, out: &[u8], verdict: Verdict, ready: Ready) -> Result<(), &'static str> {
+    let unless = |wrong: bool, fault| if wrong { Err(fault) } else { Ok(()) };
+    let before = &dealt.before;
+    let without_output = ready.number != verdict.number || ready.place != verdict.place;
+    let too_short = verdict.number == 17 && before.len() < RUN_ROOM;
+    unless(without_output && !too_short, "ready is refused otherwise")?;
+    let pair = ready.sender | ready.receiver;
+    unless(ready.number != 0 && pair != 0, "a refusal, and a pair")?;
+    unless(
+        (ready.sender == 0) != (ready.receiver == 0),
+        "half a ready pair",
+    )?;
+    if verdict.number != 0 && !is_halted(verdict) {
+        return unless(out != before, "something written");
+    }
+    let done = match verdict.place {
+        0 => dealt.choices.len() / 2,
+        place => usize::from(place) - 1,
+    };
+    let [said, refusal, threads, made] = [0, 1, 2, 3].map(|at| usize::from(word_at(out, at)));
+    unless(said != done, "another number of choices done")?;
+    unless(refusal != verdict.number.into(), "another refusal written")?;
+    unless(threads > 64 || made > 64, "too many threads or channels")?;
+    let length = 2 * (4 + 2 * made + 12 * threads);
+    unless(out[length..] != before[length..], "a byte past the state")?;
+    for thread in 0..threads {
+        let at = 4 + 2 * made + 12 * thread;
+        let (mask, roles) = (word_at(out, at + 2), word_at(out, at + 3));
+        let bits = (0..16).filter(|bit| mask >> bit & 1 != 0).count();
+        unless(bits != roles.into(), "another number of roles")?;
+    }
+    Ok(())
+}
+
+/// The state before the choice at which a run halted is what the list up to it
+/// leads to, but for the refusal.
+fn assert_state_before(dealt: &Dealt, verdict: Verdict, out: &[u8]) {
+    let done = usize::from(verdict.place) - 1;
+    let mut cut = dealt.before.clone();
+    let choices = &dealt.choices[..2 * done];
+    assert_eq!(engine_run(&dealt.file, choices, &mut cut), Verdict::CLEAN);
+    assert_eq!(cut[..2], out[..2], "choices done");
+    assert_eq!(cut[4..], out[4..], "the state before choice {}", done + 1);
+}
+
+/// Deals `runs` runs to both and panics at the first difference.
+pub fn compare_running(seed: u64, runs: u64) -> RunTally {
+    let mut tally = RunTally::default();
+    for index in 0..runs {
+        let dealt = deal_run(seed, index);
+        let origin = format_args!("trials::deal_run({seed}, {index})");
+        let (verdict, out) = agreed_run(&dealt, origin);
+        if is_halted(verdict) && index % 4 == 0 {
+            assert_state_before(&dealt, verdict, &out);
+        }
+        tally.count(&dealt, verdict);
+    }
+    tally
+}
