@@ -27,8 +27,8 @@ use Rattle.placement.specs.Promised.{WellPlaced, Clean, SomeMask, IsSwitch, Uns
 use Rattle.placement.specs.Cases.{Shown, cases}
 use Rattle.format.specs.declared.Node.{Node}
 use Rattle.rules.specs.Rules.{Context}
-use Rattle.running.specs.Threads.{firstFree}
-use Rattle.running.specs.Choice.{Clinic, State, threadAt, choice, halts, goes}
+use Rattle.steps.specs.Threads.{firstFree}
+use Rattle.steps.specs.Choice.{Clinic, State, threadAt, choice, halts, goes}
 use Rattle.running.specs.Run.{run, ranOf, listed, running, readyPair}
 use Rattle.runs.specs.Steps.{StandsAt, Steps, Chain}
 use Rattle.runs.specs.Conditions.{Condition, FirstRefusal}

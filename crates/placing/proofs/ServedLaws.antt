@@ -2,15 +2,18 @@
 use Prim.Native.Nat.{ℕ, suc, _+_, _*_, _-_, _≤_, _<_}
 use mathlib.Core.Path.{_≡_, refl, sym, ap, ap₂, _∙_}
 use mathlib.Core.List.{List, [], _∷_}
-use mathlib.Core.Bool.{Bool, true, false, cond, _&&_}
+use mathlib.Core.Bool.{Bool, true, false, cond, _&&_, true≢false}
 use native.Mathlib.Omega.{arith}
 use native.Mathlib.Numerals.{add-one}
 use lib.Dec.{eqb}
 use lib.ListN.{length, getD, drop}
 use lib.Seq.{drop-cons}
+use borrow.Author.Tests.{eqb-false}
 use Rattle.format.specs.Answers.{fine, refused}
 use Rattle.format.specs.Sections.{nodeAt, nodesFrom}
+use Rattle.format.proofs.AnswerLaws.{Quiet}
 use Rattle.states.specs.States.{Label, needs, labelled}
+use Rattle.states.specs.Kept.{Served}
 use Rattle.placing.specs.Placing.{unservedFrom}
 
 abbrev pub labelsLeft : List ℕ → ℕ → List ℕ → ℕ → ℕ → List Label
@@ -50,3 +53,15 @@ pub left-none : (f : List ℕ) (at : ℕ) (rs : List ℕ) (n c : ℕ) → c < n 
 unfolding unservedFrom nodesFrom labelled
 left-none f at rs n c past =
     let k : c + 1 - n ≡ 0 = omega arith in ap (λ j. unservedFrom n (labelled (nodesFrom f (at + 3 * (n - 1)) j) (drop n rs))) k
+
+-- where there is none, each node that needs a state has one
+pub all-served : (i : ℕ) (ls : List Label) → Quiet (unservedFrom i ls) → Served ls
+unfolding unservedFrom Served
+all-served i [] q = tt
+all-served i (l ∷ ls) q = go (needs (l .tag)) refl (eqb (l .roles) 0) refl (all-served (suc i) ls) q
+  where
+    go : (x : Bool) → needs (l .tag) ≡ x → (y : Bool) → eqb (l .roles) 0 ≡ y → (Quiet (unservedFrom (suc i) ls) → Served ls)
+        → Quiet (cond (x && y) (refused 15 i) (unservedFrom (suc i) ls)) → (needs (l .tag) ≡ true → l .roles ≡ 0 → ⊥) × Served ls
+    go true e true g further q = let no-way : ⊥ = omega (arith, q) in absurd no-way
+    go true e false g further q = (λ n z. eqb-false (l .roles) 0 g z, further q)
+    go false e y g further q = (λ n z. true≢false (sym n ∙ e), further q)

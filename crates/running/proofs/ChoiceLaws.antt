@@ -11,19 +11,19 @@ use Rattle.masks.specs.Mask.{has}
 use Rattle.format.specs.declared.Node.{Node}
 use Rattle.rules.specs.Names.{within}
 use Rattle.rules.specs.declared.Way.the-variants.{Sends, Receives}
-use Rattle.running.specs.declared.Thread.{Thread}
-use Rattle.running.specs.declared.Made.{Made}
-use Rattle.running.specs.declared.Partner.{Partner}
-use Rattle.running.specs.declared.Partner.the-variants.{Alone, With, Missing}
-use Rattle.running.specs.declared.Outcome.{Outcome}
-use Rattle.running.specs.declared.Outcome.the-variants.{Refused, Moves, Adds, Makes, Ends, Meets}
-use Rattle.running.specs.declared.Acted.{Acted}
-use Rattle.running.specs.declared.Answer.{Answer}
-use Rattle.running.specs.declared.Answer.the-variants as answers
-use Rattle.running.specs.Threads.{value}
-use Rattle.running.specs.Choice.{Clinic, allowed, meeting, sending, lone, aloneOnly, acting, State, Chosen, halts, goes, threadAt, partnerAt, done, choice}
-use Rattle.running.specs.Kept.{threadIn, threadsIn, madeIn, stateIn}
-use Rattle.running.specs.Acted.{partnerOf, actedOf, outcomeBy, outcomeOf}
+use Rattle.steps.specs.declared.Thread.{Thread}
+use Rattle.steps.specs.declared.Made.{Made}
+use Rattle.steps.specs.declared.Partner.{Partner}
+use Rattle.steps.specs.declared.Partner.the-variants.{Alone, With, Missing}
+use Rattle.steps.specs.declared.Outcome.{Outcome}
+use Rattle.steps.specs.declared.Outcome.the-variants.{Refused, Moves, Adds, Makes, Ends, Meets}
+use Rattle.steps.specs.declared.Acted.{Acted}
+use Rattle.steps.specs.declared.Answer.{Answer}
+use Rattle.steps.specs.declared.Answer.the-variants as answers
+use Rattle.steps.specs.Threads.{value}
+use Rattle.steps.specs.Choice.{Clinic, allowed, meeting, sending, lone, aloneOnly, acting, State, Chosen, halts, goes, threadAt, partnerAt, done, choice}
+use Rattle.steps.specs.Kept.{threadIn, threadsIn, madeIn, stateIn}
+use Rattle.steps.specs.Acted.{partnerOf, actedOf, outcomeBy, outcomeOf}
 use Rattle.running.specs.Stored.{Placed}
 use Rattle.running.proofs.TableLaws.{threads-length, thread-get}
 use Rattle.running.proofs.StateLaws.{made-length}

@@ -20,7 +20,7 @@ use Rattle.checking.proofs.CheckLaws.{names-refused}
 use Rattle.running.specs.declared.Ready.{Ready}
 use Rattle.running.specs.declared.Counted.{Counted}
 use Rattle.running.specs.declared.Two.{Two}
-use Rattle.running.specs.Choice.{Clinic, clinicOf, State, Chosen, halts, goes, choice}
+use Rattle.steps.specs.Choice.{Clinic, clinicOf, State, Chosen, halts, goes, choice}
 use Rattle.running.specs.Run.{start, Ran, follow, run, ranWords, listed, stopped, running, runOver, readyPair, readyOf, ready}
 
 -- two words a choice, and a refused one is not done

@@ -1,6 +1,3 @@
--- one choice
-pub mod ThreadLaws
-pub mod ActLaws
 -- the state in tables, and lists of choices
 pub mod TableLaws
 pub mod StateLaws

@@ -9,18 +9,18 @@ use lib.Dec.{eqb, eqb·suc-zero}
 use lib.ListN.{length, getD}
 use borrow.Author.Tests.{eq-eqb, ne-eqb, le-ltb, lt-ltb, le-leb, lt-leb}
 use Rattle.rules.specs.Names.{within}
-use Rattle.running.specs.declared.Thread.{Thread}
-use Rattle.running.specs.declared.Made.{Made}
+use Rattle.steps.specs.declared.Thread.{Thread}
+use Rattle.steps.specs.declared.Made.{Made}
 use Rattle.running.specs.declared.Two.{Two}
-use Rattle.running.specs.declared.Acted.{Acted}
-use Rattle.running.specs.declared.Outcome.{Outcome}
-use Rattle.running.specs.declared.Outcome.the-variants.{Refused, Moves, Adds, Makes, Ends, Meets}
-use Rattle.running.specs.declared.Partner.the-variants.{With}
-use Rattle.running.specs.Threads.{noThread}
-use Rattle.running.specs.Choice.{Clinic, State, sending, lone, aloneOnly, acting}
+use Rattle.steps.specs.declared.Acted.{Acted}
+use Rattle.steps.specs.declared.Outcome.{Outcome}
+use Rattle.steps.specs.declared.Outcome.the-variants.{Refused, Moves, Adds, Makes, Ends, Meets}
+use Rattle.steps.specs.declared.Partner.the-variants.{With}
+use Rattle.steps.specs.Threads.{noThread}
+use Rattle.steps.specs.Choice.{Clinic, State, sending, lone, aloneOnly, acting}
 use Rattle.running.specs.Run.{isMeeting, receiverFrom, pairFrom, readyPair}
-use Rattle.running.specs.Kept.{threadIn, threadsIn, madeIn, stateIn}
-use Rattle.running.specs.Acted.{partnerOf, actedOf, outcomeBy}
+use Rattle.steps.specs.Kept.{threadIn, threadsIn, madeIn, stateIn}
+use Rattle.steps.specs.Acted.{partnerOf, actedOf, outcomeBy}
 use Rattle.running.proofs.PutLaws.{threads-length}
 
 -- a pair by its two numbers

@@ -7,10 +7,10 @@ use lib.ListN.{length, getD, set, length-append, length-map}
 use lib.Seq.{sets}
 use Rattle.masks.specs.Mask.{held}
 use Rattle.format.specs.Words.{bytesOf}
-use Rattle.running.specs.declared.Thread.{Thread}
-use Rattle.running.specs.declared.Made.{Made}
+use Rattle.steps.specs.declared.Thread.{Thread}
+use Rattle.steps.specs.declared.Made.{Made}
 use Rattle.running.specs.Run.{madeWords, threadWords, ranWords}
-use Rattle.running.specs.Kept.{threadIn, threadsIn, madeIn, stateIn}
+use Rattle.steps.specs.Kept.{threadIn, threadsIn, madeIn, stateIn}
 
 -- one run of stores after another
 sets-join : (l : List ℕ) (i : ℕ) (vs ws : List ℕ) → sets (sets l i vs) (i + length vs) ws ≡ sets l i (vs ++ ws)

@@ -7,11 +7,11 @@ use lib.ListN.{length, getD, set, drop, length-set, length-drop}
 use lib.Seq.{drop-cons, getD-set-same, getD-set-other}
 use Rattle.format.specs.Words.{wordAt}
 use Rattle.format.specs.declared.Head.{Head}
-use Rattle.running.specs.declared.Thread.{Thread}
-use Rattle.running.specs.Threads.{zeros}
-use Rattle.running.specs.Choice.{Clinic, State, Chosen, halts, goes, choice}
+use Rattle.steps.specs.declared.Thread.{Thread}
+use Rattle.steps.specs.Threads.{zeros}
+use Rattle.steps.specs.Choice.{Clinic, State, Chosen, halts, goes, choice}
 use Rattle.running.specs.Run.{threadsFrom, start, Ran, follow, run}
-use Rattle.running.specs.Kept.{threadsIn, madeIn, stateIn, Sized, Carried}
+use Rattle.steps.specs.Kept.{threadsIn, madeIn, stateIn, Sized, Carried}
 use Rattle.running.specs.Stored.{stored, Gone}
 use Rattle.running.proofs.StateLaws.{threads-add}
 use Rattle.running.proofs.ChoiceLaws.{Told, choice-told}

@@ -8,11 +8,11 @@ use lib.Dec.{eqb}
 use lib.ListN.{length, getD, set, take, drop, length-set}
 use lib.Seq.{getD-set-same, getD-set-other, take-at, drop-at, ext-getD}
 use borrow.Author.Tests.{eqb-true, eqb-false}
-use Rattle.running.specs.declared.Thread.{Thread}
-use Rattle.running.specs.declared.Made.{Made}
-use Rattle.running.specs.Threads.{noThread}
-use Rattle.running.specs.Choice.{State, changed, removed}
-use Rattle.running.specs.Kept.{threadIn, threadsIn, madeAt, madeIn, stateIn, Sized}
+use Rattle.steps.specs.declared.Thread.{Thread}
+use Rattle.steps.specs.declared.Made.{Made}
+use Rattle.steps.specs.Threads.{noThread}
+use Rattle.steps.specs.Choice.{State, changed, removed}
+use Rattle.steps.specs.Kept.{threadIn, threadsIn, madeAt, madeIn, stateIn, Sized}
 use Rattle.running.specs.Stored.{stored}
 use Rattle.running.proofs.TableLaws.{down, down-below, down-above, thread-same, stored-same, stored-other, stored-length, threads-length, thread-get, threads-same, threads-split}
 

@@ -2,14 +2,14 @@
 use Prim.Native.Nat.{ℕ}
 use mathlib.Core.Path.{_≡_, refl, sym, ap, subst, _∙_}
 use mathlib.Core.List.{[], _∷_, _++_}
-use Rattle.running.specs.declared.Thread.{Thread}
-use Rattle.running.specs.declared.Made.{Made}
-use Rattle.running.specs.declared.Acted.{Acted}
-use Rattle.running.specs.declared.Answer.{Answer}
-use Rattle.running.specs.declared.Answer.the-variants as answers
-use Rattle.running.specs.Choice.{State, changed, added, minted, removed, done}
-use Rattle.running.specs.Kept.{Carried}
-use Rattle.running.specs.Acted.{outcomeBy}
+use Rattle.steps.specs.declared.Thread.{Thread}
+use Rattle.steps.specs.declared.Made.{Made}
+use Rattle.steps.specs.declared.Acted.{Acted}
+use Rattle.steps.specs.declared.Answer.{Answer}
+use Rattle.steps.specs.declared.Answer.the-variants as answers
+use Rattle.steps.specs.Choice.{State, changed, added, minted, removed, done}
+use Rattle.steps.specs.Kept.{Carried}
+use Rattle.steps.specs.Acted.{outcomeBy}
 
 -- a thread stored, then a thread or a made channel more
 pub then-added : (s s1 s2 : State) (i : ℕ) (t u : Thread) → s1 ≡ changed s i t → s2 ≡ record { threads = s1 .threads ++ (u ∷ []); made = s1 .made } → s2 ≡ added s i t u

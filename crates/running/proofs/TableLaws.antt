@@ -5,9 +5,9 @@ use mathlib.Core.List.{List, [], _∷_, _++_}
 use native.Mathlib.Omega.{arith}
 use lib.ListN.{length, getD, set, take, drop, length-set, length-append, length-drop, List·getD-append, drop-of-length-le}
 use lib.Seq.{sets, sets-eq, paste, paste-suc, drop-paste, getD-drop, getD-take, getD-set-other, getD-append-add, length-take-le, drop-cons}
-use Rattle.running.specs.declared.Thread.{Thread}
-use Rattle.running.specs.Threads.{noThread}
-use Rattle.running.specs.Kept.{threadIn, threadsIn}
+use Rattle.steps.specs.declared.Thread.{Thread}
+use Rattle.steps.specs.Threads.{noThread}
+use Rattle.steps.specs.Kept.{threadIn, threadsIn}
 use Rattle.running.specs.Stored.{stored}
 
 module _ {A : Type 0} where

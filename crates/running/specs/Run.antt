@@ -12,14 +12,14 @@ use Rattle.format.specs.Header.{headAt}
 use Rattle.format.specs.declared.Verdict.{Verdict}
 use Rattle.format.specs.declared.Head.{Head}
 use Rattle.checking.specs.Check.{readingNames}
-use Rattle.running.specs.declared.Thread.{Thread}
-use Rattle.running.specs.declared.Made.{Made}
-use Rattle.running.specs.declared.Partner.the-variants.{With}
-use Rattle.running.specs.declared.Outcome.{Outcome}
-use Rattle.running.specs.declared.Outcome.the-variants.{Refused, Moves, Adds, Makes, Ends, Meets}
+use Rattle.steps.specs.declared.Thread.{Thread}
+use Rattle.steps.specs.declared.Made.{Made}
+use Rattle.steps.specs.declared.Partner.the-variants.{With}
+use Rattle.steps.specs.declared.Outcome.{Outcome}
+use Rattle.steps.specs.declared.Outcome.the-variants.{Refused, Moves, Adds, Makes, Ends, Meets}
 use Rattle.running.specs.declared.Ready.{Ready}
-use Rattle.running.specs.Threads.{zeros, noThread}
-use Rattle.running.specs.Choice.{Clinic, clinicOf, acting, State, Chosen, halts, goes, choice}
+use Rattle.steps.specs.Threads.{zeros, noThread}
+use Rattle.steps.specs.Choice.{Clinic, clinicOf, acting, State, Chosen, halts, goes, choice}
 
 -- one thread for each session, in order, at its root, with the session's mask, nothing bound and no channel made
 unfoldable pub threadsFrom : List ℕ → ℕ → ℕ → List Thread

@@ -3,12 +3,12 @@ use Prim.Native.Nat.{ℕ, _+_, _≤_, _<_}
 use mathlib.Core.Path.{_≡_}
 use mathlib.Core.List.{List}
 use lib.ListN.{getD, set}
-use Rattle.running.specs.declared.Thread.{Thread}
+use Rattle.steps.specs.declared.Thread.{Thread}
 use Rattle.running.specs.declared.Counted.{Counted}
-use Rattle.running.specs.declared.Answer.{Answer}
-use Rattle.running.specs.declared.Answer.the-variants as answers
+use Rattle.steps.specs.declared.Answer.{Answer}
+use Rattle.steps.specs.declared.Answer.the-variants as answers
 use Rattle.running.specs.Run.{Ran}
-use Rattle.running.specs.Kept.{stateIn, Sized}
+use Rattle.steps.specs.Kept.{stateIn, Sized}
 
 -- a thread as eleven words from p on
 abbrev pub stored : List ℕ → ℕ → Thread → List ℕ

@@ -1,9 +1,5 @@
 // A list of choices, each carried out in the tables that keep the state.
-use super::Acted;
-use super::Answer;
 use super::Counted;
-use super::Thread;
-use super::act::act;
 use super::state::add_thread;
 use super::state::put_made;
 use super::state::put_thread;
@@ -15,6 +11,10 @@ use format::sections::session;
 use format::words::narrow;
 use format::words::wide;
 use rules::grants::fill_grants;
+use steps::Acted;
+use steps::Answer;
+use steps::Thread;
+use steps::act::act;
 ghost use mathlib.Core.Path.{_≡_};
 ghost use mathlib.Core.Bool.{cond};
 ghost use Prim.Native.Nat.{_+_, _*_, _-_, _≤_, _<_};
@@ -24,11 +24,11 @@ ghost use Rattle.rules.specs.Schema.{schemaOf};
 ghost use Rattle.rules.specs.Names.{within};
 ghost use Rattle.rules.specs.Kept.{Granting};
 ghost use Rattle.rules.specs.declared.Way.the-variants.{Sends, Receives};
-ghost use Rattle.running.specs.Choice.{clinicOf, done, choice};
-ghost use Rattle.running.specs.Threads.{zeros};
+ghost use Rattle.steps.specs.Choice.{clinicOf, done, choice};
+ghost use Rattle.steps.specs.Threads.{zeros};
 ghost use Rattle.running.specs.Run.{start, run};
-ghost use Rattle.running.specs.Kept.{threadIn, stateIn, Sized, Carried};
-ghost use Rattle.running.specs.Acted.{outcomeOf};
+ghost use Rattle.steps.specs.Kept.{threadIn, stateIn, Sized, Carried};
+ghost use Rattle.steps.specs.Acted.{outcomeOf};
 ghost use Rattle.running.specs.Stored.{Placed, Gone};
 
 // What a choice of thread i with partner p comes to is stored in place. A refused one stores nothing.

@@ -1,10 +1,10 @@
 // The output of a run: choices done, the refusal, and the state.
 use super::Counted;
-use super::Thread;
 use super::state::thread_at;
 use format::words::put_word;
 use format::words::wide;
 use masks::role_count;
+use steps::Thread;
 ghost use mathlib.Core.Path.{_≡_};
 ghost use mathlib.Core.List.{[], _∷_};
 ghost use Prim.Native.Nat.{_+_, _*_, _≤_};
@@ -12,7 +12,7 @@ ghost use lib.ListN.{length};
 ghost use lib.Seq.{sets};
 ghost use Rattle.format.specs.Words.{bytesOf};
 ghost use Rattle.running.specs.Run.{madeWords, threadWords, ranWords};
-ghost use Rattle.running.specs.Kept.{threadsIn, madeIn, stateIn, Sized};
+ghost use Rattle.steps.specs.Kept.{threadsIn, madeIn, stateIn, Sized};
 
 // Two words: a made channel's owner and kind.
 fn put_two(out: &mut [u8], at: usize, first: u16, second: u16)

@@ -1,13 +1,13 @@
 // The ready pair of a state.
-use super::Answer;
-use super::Thread;
 use super::Two;
-use super::act::act;
 use super::state::thread_at;
 use format::Head;
 use format::sections::node;
 use format::words::wide;
 use rules::grants::fill_grants;
+use steps::Answer;
+use steps::Thread;
+use steps::act::act;
 ghost use mathlib.Core.Path.{_≡_};
 ghost use mathlib.Core.Bool.{cond, _&&_};
 ghost use Prim.Native.Nat.{_≤_, _<_};
@@ -18,12 +18,12 @@ ghost use Rattle.rules.specs.Schema.{schemaOf};
 ghost use Rattle.rules.specs.Names.{within};
 ghost use Rattle.rules.specs.Kept.{Granting};
 ghost use Rattle.rules.specs.declared.Way.the-variants.{Sends, Receives};
-ghost use Rattle.running.specs.declared.Partner.the-variants.{With};
-ghost use Rattle.running.specs.Threads.{noThread};
-ghost use Rattle.running.specs.Choice.{clinicOf, acting};
+ghost use Rattle.steps.specs.declared.Partner.the-variants.{With};
+ghost use Rattle.steps.specs.Threads.{noThread};
+ghost use Rattle.steps.specs.Choice.{clinicOf, acting};
 ghost use Rattle.running.specs.Run.{isMeeting, readyPair};
-ghost use Rattle.running.specs.Kept.{madeIn, stateIn, Sized};
-ghost use Rattle.running.specs.Acted.{outcomeBy};
+ghost use Rattle.steps.specs.Kept.{madeIn, stateIn, Sized};
+ghost use Rattle.steps.specs.Acted.{outcomeBy};
 
 // Whether two threads meet, whatever they are.
 fn is_meeting(answer: Answer) -> bool

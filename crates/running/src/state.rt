@@ -1,14 +1,14 @@
 // The state of a run, kept in two tables: eleven words for each thread; the number of threads, the number of made channels, and owner and kind of each.
-use super::Made;
-use super::Thread;
 use format::words::wide;
+use steps::Made;
+use steps::Thread;
 ghost use mathlib.Core.Path.{_≡_};
 ghost use Prim.Native.Nat.{_+_, _*_, _-_, _≤_, _<_};
 ghost use lib.ListN.{length, getD, set, drop};
 ghost use lib.Seq.{paste};
 ghost use mathlib.Core.List.{[], _∷_, _++_};
-ghost use Rattle.running.specs.Choice.{removed};
-ghost use Rattle.running.specs.Kept.{threadIn, stateIn, Sized};
+ghost use Rattle.steps.specs.Choice.{removed};
+ghost use Rattle.steps.specs.Kept.{threadIn, stateIn, Sized};
 ghost use Rattle.running.specs.Stored.{stored};
 
 // The thread of an index, from 0 on.

@@ -7,7 +7,7 @@ use native.Mathlib.Nat.{le-antisymm}
 use native.Mathlib.Omega.{arith}
 use lib.Dec.{eqb}
 use borrow.Author.Tests.{eqb-true}
-use Rattle.running.specs.Choice.{Clinic, State, Chosen, halts, goes, choice}
+use Rattle.steps.specs.Choice.{Clinic, State, Chosen, halts, goes, choice}
 use Rattle.runs.specs.Steps.{Steps}
 use Rattle.runs.specs.Conditions.{
   Condition,

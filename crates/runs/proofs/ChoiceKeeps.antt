@@ -10,14 +10,14 @@ use borrow.Author.Tests.{eqb-true, eqb-false, leb-true}
 use Rattle.tables.proofs.RecordLaws.{inCount-iff}
 use Rattle.rules.specs.Names.{within}
 use Rattle.rules.specs.Rules.{Context}
-use Rattle.running.specs.declared.Thread.{Thread}
-use Rattle.running.specs.declared.Made.{Made}
-use Rattle.running.specs.declared.Partner.{Partner}
-use Rattle.running.specs.declared.Partner.the-variants.{Alone, With, Missing}
-use Rattle.running.specs.declared.Outcome.{Outcome}
-use Rattle.running.specs.declared.Outcome.the-variants.{Refused, Moves, Adds, Makes, Ends, Meets}
-use Rattle.running.specs.Threads.{noThread}
-use Rattle.running.specs.Choice.{Clinic, lone, aloneOnly, acting, State, Chosen, halts, goes, threadAt, partnerAt, changed, done, choice}
+use Rattle.steps.specs.declared.Thread.{Thread}
+use Rattle.steps.specs.declared.Made.{Made}
+use Rattle.steps.specs.declared.Partner.{Partner}
+use Rattle.steps.specs.declared.Partner.the-variants.{Alone, With, Missing}
+use Rattle.steps.specs.declared.Outcome.{Outcome}
+use Rattle.steps.specs.declared.Outcome.the-variants.{Refused, Moves, Adds, Makes, Ends, Meets}
+use Rattle.steps.specs.Threads.{noThread}
+use Rattle.steps.specs.Choice.{Clinic, lone, aloneOnly, acting, State, Chosen, halts, goes, threadAt, partnerAt, changed, done, choice}
 use Rattle.clinic.specs.Lists.{All}
 use Rattle.clinic.specs.File.{InCount}
 use Rattle.clinic.proofs.AllLaws.{all-map, all-get}

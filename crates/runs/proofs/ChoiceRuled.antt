@@ -13,13 +13,13 @@ use Rattle.tables.proofs.RecordLaws.{inCount-iff}
 use Rattle.rules.specs.declared.Way.{Way}
 use Rattle.rules.specs.declared.Way.the-variants.{Sends, Receives}
 use Rattle.rules.specs.Names.{within}
-use Rattle.running.specs.declared.Thread.{Thread}
-use Rattle.running.specs.declared.Partner.{Partner}
-use Rattle.running.specs.declared.Partner.the-variants.{Alone, With, Missing}
-use Rattle.running.specs.declared.Outcome.{Outcome}
-use Rattle.running.specs.declared.Outcome.the-variants.{Refused, Meets}
-use Rattle.running.specs.Threads.{value, onward, bound}
-use Rattle.running.specs.Choice.{Clinic, State, halts, goes, threadAt, partnerAt, kindHeld, allowed, meeting, sending, lone, aloneOnly, acting, done, choice}
+use Rattle.steps.specs.declared.Thread.{Thread}
+use Rattle.steps.specs.declared.Partner.{Partner}
+use Rattle.steps.specs.declared.Partner.the-variants.{Alone, With, Missing}
+use Rattle.steps.specs.declared.Outcome.{Outcome}
+use Rattle.steps.specs.declared.Outcome.the-variants.{Refused, Meets}
+use Rattle.steps.specs.Threads.{value, onward, bound}
+use Rattle.steps.specs.Choice.{Clinic, State, halts, goes, threadAt, partnerAt, kindHeld, allowed, meeting, sending, lone, aloneOnly, acting, done, choice}
 use Rattle.clinic.specs.File.{InCount}
 use Rattle.typing.proofs.NameFaults.{fails-iff}
 use Rattle.typing.proofs.PermittedRoles.{able-iff}

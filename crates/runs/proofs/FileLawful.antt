@@ -10,7 +10,7 @@ use Rattle.format.specs.declared.Node.{Node}
 use Rattle.checking.specs.Check.{readingNames, checking}
 use Rattle.rules.specs.Schema.{schemaOf}
 use Rattle.rules.specs.Rules.{Context, wrong, barred, childOf}
-use Rattle.running.specs.Choice.{Clinic, clinicOf, State}
+use Rattle.steps.specs.Choice.{Clinic, clinicOf, State}
 use Rattle.clinic.specs.Refusals.{nth, OneChild}
 use Rattle.rules.specs.Checking.{nodesIn}
 use Rattle.runs.specs.Keeps.{Kept}

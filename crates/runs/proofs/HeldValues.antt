@@ -8,10 +8,10 @@ use lib.Seq.{getD-append-seam}
 use borrow.Author.Tests.{lt-ltb, le-ltb, eq-eqb, ne-eqb}
 use Rattle.rules.specs.Schema.{Schema}
 use Rattle.rules.specs.Names.{Bound, unbound}
-use Rattle.running.specs.declared.Thread.{Thread}
-use Rattle.running.specs.declared.Made.{Made}
-use Rattle.running.specs.Threads.{noMade, value, firstFree}
-use Rattle.running.specs.Choice.{kindHeld}
+use Rattle.steps.specs.declared.Thread.{Thread}
+use Rattle.steps.specs.declared.Made.{Made}
+use Rattle.steps.specs.Threads.{noMade, value, firstFree}
+use Rattle.steps.specs.Choice.{kindHeld}
 use Rattle.typing.specs.Typing.{HasKind, a-user, a-channel, a-variable}
 use Rattle.runs.specs.Keeps.{HasValue, a-user as user-value, a-channel as channel-value, a-made, Held}
 

@@ -13,12 +13,12 @@ use Rattle.masks.proofs.Bounds.{within-iff, within-with, within-without}
 use Rattle.format.specs.declared.Node.{Node}
 use Rattle.rules.specs.Schema.{Schema}
 use Rattle.rules.specs.Rules.{Context, bind, activate, childOf}
-use Rattle.running.specs.declared.Thread.{Thread}
-use Rattle.running.specs.declared.Made.{Made}
-use Rattle.running.specs.declared.Outcome.{Outcome}
-use Rattle.running.specs.declared.Outcome.the-variants.{Refused, Moves, Adds, Makes}
-use Rattle.running.specs.Threads.{value, movedTo, onward, masked, bound}
-use Rattle.running.specs.Choice.{Clinic, lone}
+use Rattle.steps.specs.declared.Thread.{Thread}
+use Rattle.steps.specs.declared.Made.{Made}
+use Rattle.steps.specs.declared.Outcome.{Outcome}
+use Rattle.steps.specs.declared.Outcome.the-variants.{Refused, Moves, Adds, Makes}
+use Rattle.steps.specs.Threads.{value, movedTo, onward, masked, bound}
+use Rattle.steps.specs.Choice.{Clinic, lone}
 use Rattle.clinic.specs.Refusals.{OneChild}
 use Rattle.runs.specs.Keeps.{Fits}
 use Rattle.runs.proofs.HeldValues.{value-made}

@@ -13,14 +13,14 @@ use Rattle.rules.specs.declared.Way.the-variants.{Sends, Receives}
 use Rattle.rules.specs.Schema.{Schema}
 use Rattle.rules.specs.Names.{within, kindOf}
 use Rattle.rules.specs.Rules.{Context, able, bind, activate}
-use Rattle.running.specs.declared.Thread.{Thread}
-use Rattle.running.specs.declared.Made.{Made}
-use Rattle.running.specs.declared.Partner.{Partner}
-use Rattle.running.specs.declared.Partner.the-variants.{Alone, With, Missing}
-use Rattle.running.specs.declared.Outcome.{Outcome}
-use Rattle.running.specs.declared.Outcome.the-variants.{Refused, Meets}
-use Rattle.running.specs.Threads.{value, onward, bound}
-use Rattle.running.specs.Choice.{Clinic, kindHeld, allowed, meeting, sending}
+use Rattle.steps.specs.declared.Thread.{Thread}
+use Rattle.steps.specs.declared.Made.{Made}
+use Rattle.steps.specs.declared.Partner.{Partner}
+use Rattle.steps.specs.declared.Partner.the-variants.{Alone, With, Missing}
+use Rattle.steps.specs.declared.Outcome.{Outcome}
+use Rattle.steps.specs.declared.Outcome.the-variants.{Refused, Meets}
+use Rattle.steps.specs.Threads.{value, onward, bound}
+use Rattle.steps.specs.Choice.{Clinic, kindHeld, allowed, meeting, sending}
 use Rattle.clinic.specs.Refusals.{OneChild}
 use Rattle.typing.specs.Typing.{HasKind}
 use Rattle.runs.specs.Keeps.{HasValue, Fits}

@@ -5,13 +5,13 @@ use mathlib.Core.Bool.{Bool, true, false, cond}
 use mathlib.Core.List.{List, [], _∷_, _++_}
 use lib.ListN.{length}
 use Rattle.rules.specs.Rules.{Context, barred, activate}
-use Rattle.running.specs.declared.Thread.{Thread}
-use Rattle.running.specs.declared.Made.{Made}
-use Rattle.running.specs.declared.Pair.{Pair}
-use Rattle.running.specs.declared.Making.{Making}
-use Rattle.running.specs.declared.Outcome.{Outcome}
-use Rattle.running.specs.declared.Outcome.the-variants.{Refused, Moves, Adds, Makes, Ends, Meets}
-use Rattle.running.specs.Choice.{Clinic}
+use Rattle.steps.specs.declared.Thread.{Thread}
+use Rattle.steps.specs.declared.Made.{Made}
+use Rattle.steps.specs.declared.Pair.{Pair}
+use Rattle.steps.specs.declared.Making.{Making}
+use Rattle.steps.specs.declared.Outcome.{Outcome}
+use Rattle.steps.specs.declared.Outcome.the-variants.{Refused, Moves, Adds, Makes, Ends, Meets}
+use Rattle.steps.specs.Choice.{Clinic}
 use Rattle.runs.specs.Keeps.{Formed}
 use Rattle.runs.proofs.ThreadSteps.{Good}
 

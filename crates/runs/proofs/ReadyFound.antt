@@ -9,10 +9,10 @@ use native.Mathlib.Nat.{le-of-suc-le-suc, not-suc-le-zero}
 use lib.Dec.{eqb}
 use lib.ListN.{length, getD}
 use borrow.Author.Tests.{eqb-true, eqb-false}
-use Rattle.running.specs.declared.Thread.{Thread}
-use Rattle.running.specs.declared.Partner.the-variants.{With}
-use Rattle.running.specs.Threads.{noThread}
-use Rattle.running.specs.Choice.{Clinic, State, threadAt, acting}
+use Rattle.steps.specs.declared.Thread.{Thread}
+use Rattle.steps.specs.declared.Partner.the-variants.{With}
+use Rattle.steps.specs.Threads.{noThread}
+use Rattle.steps.specs.Choice.{Clinic, State, threadAt, acting}
 use Rattle.running.specs.Run.{isMeeting, receiverFrom, pairFrom, readyPair}
 use Rattle.clinic.specs.File.{InCount}
 

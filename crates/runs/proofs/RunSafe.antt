@@ -16,8 +16,8 @@ use Rattle.checking.specs.Check.{readingNames, checking}
 use Rattle.rules.specs.Schema.{schemaOf}
 use Rattle.rules.specs.Rules.{Context, activate, barred}
 use Rattle.rules.specs.Checking.{openings, nodesIn}
-use Rattle.running.specs.Threads.{noThread, firstFree}
-use Rattle.running.specs.Choice.{Clinic, clinicOf, State, Chosen, halts, goes, threadAt, choice}
+use Rattle.steps.specs.Threads.{noThread, firstFree}
+use Rattle.steps.specs.Choice.{Clinic, clinicOf, State, Chosen, halts, goes, threadAt, choice}
 use Rattle.running.specs.Run.{start, Ran, follow, run, listed, ranOf, stopped, running}
 use Rattle.placing.specs.Placing.{placing, placedBytes}
 use Rattle.clinic.specs.Lists.{All}

@@ -21,8 +21,8 @@ use Rattle.checking.specs.Check.{readingNames}
 use Rattle.rules.specs.Schema.{Schema, schemaOf}
 use Rattle.rules.specs.Rules.{Context}
 use Rattle.rules.specs.Checking.{openingsFrom, openings}
-use Rattle.running.specs.declared.Thread.{Thread}
-use Rattle.running.specs.Threads.{zeros}
+use Rattle.steps.specs.declared.Thread.{Thread}
+use Rattle.steps.specs.Threads.{zeros}
 use Rattle.running.specs.Run.{threadsFrom, start}
 use Rattle.clinic.specs.Lists.{All}
 use Rattle.clinic.specs.File.{InCount}

@@ -10,10 +10,10 @@ use lib.ListN.{length, set, length-set}
 use Rattle.masks.specs.Mask.{with, without, Within}
 use Rattle.rules.specs.Schema.{Schema}
 use Rattle.rules.specs.Rules.{Context, wrong, bind, activate, childOf}
-use Rattle.running.specs.declared.Thread.{Thread}
-use Rattle.running.specs.declared.Made.{Made}
-use Rattle.running.specs.Threads.{value, firstFree, movedTo, onward, masked, bound}
-use Rattle.running.specs.Choice.{Clinic, kindHeld}
+use Rattle.steps.specs.declared.Thread.{Thread}
+use Rattle.steps.specs.declared.Made.{Made}
+use Rattle.steps.specs.Threads.{value, firstFree, movedTo, onward, masked, bound}
+use Rattle.steps.specs.Choice.{Clinic, kindHeld}
 use Rattle.clinic.specs.Refusals.{OneChild}
 use Rattle.typing.specs.Typing.{HasKind}
 use Rattle.typing.proofs.OperandKinds.{Ranged}

@@ -8,8 +8,8 @@ use lib.ListN.{length}
 use Rattle.masks.specs.Mask.{has}
 use Rattle.format.specs.declared.Node.{Node}
 use Rattle.rules.specs.declared.Way.the-variants.{Sends, Receives}
-use Rattle.running.specs.Threads.{value}
-use Rattle.running.specs.Choice.{Clinic, State, threadAt}
+use Rattle.steps.specs.Threads.{value}
+use Rattle.steps.specs.Choice.{Clinic, State, threadAt}
 use Rattle.clinic.specs.File.{InCount}
 use Rattle.runs.specs.Steps.{StandsAt, Able}
 

@@ -9,10 +9,10 @@ use Rattle.rules.specs.Schema.{Schema, schemaOf}
 use Rattle.rules.specs.Names.{Bound}
 use Rattle.rules.specs.Rules.{Context}
 use Rattle.rules.specs.Checking.{openings, nodesIn}
-use Rattle.running.specs.declared.Thread.{Thread}
-use Rattle.running.specs.declared.Made.{Made}
-use Rattle.running.specs.Threads.{noMade}
-use Rattle.running.specs.Choice.{State}
+use Rattle.steps.specs.declared.Thread.{Thread}
+use Rattle.steps.specs.declared.Made.{Made}
+use Rattle.steps.specs.Threads.{noMade}
+use Rattle.steps.specs.Choice.{State}
 use Rattle.clinic.specs.Lists.{All}
 use Rattle.clinic.specs.File.{InCount}
 use Rattle.typing.specs.Faults.{InContext}

@@ -8,9 +8,9 @@ use Rattle.masks.specs.Mask.{has, with, without}
 use Rattle.format.specs.declared.Node.{Node}
 use Rattle.rules.specs.declared.Way.{Way}
 use Rattle.rules.specs.declared.Way.the-variants.{Sends, Receives}
-use Rattle.running.specs.declared.Thread.{Thread}
-use Rattle.running.specs.Threads.{value, movedTo, onward, masked, bound}
-use Rattle.running.specs.Choice.{Clinic, State, threadAt, kindHeld, changed, added, minted, removed}
+use Rattle.steps.specs.declared.Thread.{Thread}
+use Rattle.steps.specs.Threads.{value, movedTo, onward, masked, bound}
+use Rattle.steps.specs.Choice.{Clinic, State, threadAt, kindHeld, changed, added, minted, removed}
 use Rattle.clinic.specs.File.{InCount}
 use Rattle.typing.specs.Typing.{Permitted}
 

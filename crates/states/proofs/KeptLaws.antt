@@ -1,69 +1,32 @@
--- What is kept of a node gives its row, and the state taken after each state of its parent.
+-- What it costs to stay in a state and to enter one gives a node's row, and the state taken after each state of its parent.
 use Prim.Native.Nat.{ℕ, zero, suc, _+_, _*_, _/_, _%_, _^_, _≤_, _<_}
 use mathlib.Core.Path.{_≡_, refl, sym, ap, ap₂, _∙_}
 use mathlib.Core.Bool.{Bool, true, false, cond, not, _&&_, _||_}
-use mathlib.Core.List.{List, _∷_}
 use native.Mathlib.Omega.{arith}
 use native.Mathlib.Numerals.{one-add}
 use lib.Dec.{eqb, ltb}
 use lib.ListN.{getD}
 use lib.Pow.{shr-shr}
-use borrow.Author.Tests.{ltb-true, ltb-false, eqb-true, eqb-false, eq-eqb, ne-eqb, le-ltb}
+use borrow.Author.Tests.{ltb-true, ltb-false, eqb-true, eqb-false, eq-eqb, ne-eqb}
 use Rattle.masks.specs.Mask.{has}
 use Rattle.masks.proofs.Bits.{bit-lt}
 use Rattle.optimum.specs.Optimum.{scan, gate}
 use Rattle.optimum.proofs.Optimal.{Least, scan-least}
 use Rattle.states.specs.States.{Label, needs, suits, cost, up, rowOf, taken}
-use Rattle.states.specs.Kept.{allowed, stay, enter, keeps, bitsFrom, keptBy, keptOf, after}
+use Rattle.states.specs.Kept.{allowed}
 
--- lists and numbers made from a function
-
+-- a list made from a function
 pub up-at : (i n : ℕ) (f : ℕ → ℕ) (s : ℕ) → s < n → getD (up i n f) s 0 ≡ f (i + s)
 unfolding up
 up-at i zero f s h = let no-way : ⊥ = omega arith in absurd no-way
 up-at i (suc n) f zero h = let z : i + 0 ≡ i = omega arith in rw z
 up-at i (suc n) f (suc s) h = let z : suc i + s ≡ i + suc s = omega arith in rw z at (up-at (suc i) n f s (omega arith))
 
-pub up-same : (i n : ℕ) (f g : ℕ → ℕ) → ((s : ℕ) → s < i + n → f s ≡ g s) → up i n f ≡ up i n g
-unfolding up
-up-same i zero f g h = refl
-up-same i (suc n) f g h = ap₂ _∷_ (h i (omega arith)) (up-same (suc i) n f g (λ s k. h s (omega arith)))
-
-pub bits-same : (i n : ℕ) (f g : ℕ → ℕ) (t : ℕ) → ((s : ℕ) → s < i + n → f s ≡ g s) → bitsFrom i n f t ≡ bitsFrom i n g t
-unfolding bitsFrom
-bits-same i zero f g t h = refl
-bits-same i (suc n) f g t h = ap₂ (λ x y. x + 2 * y) (h i (omega arith)) (bits-same (suc i) n f g t (λ s k. h s (omega arith)))
-
-pub bits-below : (i n : ℕ) (f : ℕ → ℕ) (t : ℕ) → ((s : ℕ) → f s < 2) → t < 32 → bitsFrom i n f t < 32 * 2 ^ n
-unfolding bitsFrom
-bits-below i zero f t h k = omega arith
-bits-below i (suc n) f t h k = omega (arith, h i, bits-below (suc i) n f t h k)
-
 -- the shift by one more
 halved : (x y k : ℕ) → x < 2 → (x + 2 * y) / 2 ^ suc k ≡ y / 2 ^ k
 halved x y k h =
     let one : (x + 2 * y) / 2 ^ 1 ≡ y = omega arith in
     ap (λ n. (x + 2 * y) / 2 ^ n) (sym (one-add k)) ∙ sym (shr-shr (x + 2 * y) 1 k) ∙ ap (λ z. z / 2 ^ k) one
-
-pub bit-at : (i n : ℕ) (f : ℕ → ℕ) (t p : ℕ) → ((s : ℕ) → f s < 2) → p < n → bitsFrom i n f t / 2 ^ p % 2 ≡ f (i + p)
-unfolding bitsFrom
-bit-at i zero f t p h k = let no-way : ⊥ = omega arith in absurd no-way
-bit-at i (suc n) f t zero h k = let z : i + 0 ≡ i = omega arith in rw z (omega (arith, h i))
-bit-at i (suc n) f t (suc p) h k =
-    let z : suc i + p ≡ i + suc p = omega arith in
-    ap (λ x. x % 2) (halved (f i) (bitsFrom (suc i) n f t) p (h i)) ∙ (rw z at (bit-at (suc i) n f t p h (omega arith)))
-
-pub bits-above : (i n : ℕ) (f : ℕ → ℕ) (t : ℕ) → ((s : ℕ) → f s < 2) → bitsFrom i n f t / 2 ^ n ≡ t
-unfolding bitsFrom
-bits-above i zero f t h = omega arith
-bits-above i (suc n) f t h = halved (f i) (bitsFrom (suc i) n f t) n (h i) ∙ bits-above (suc i) n f t h
-
-pub keeps-bit : (v p low at : ℕ) → keeps v p low at < 2
-keeps-bit v p low at = go (ltb v low || (eqb v low && ltb p at))
-  where
-    go : (b : Bool) → cond b 1 0 < 2
-    go true = omega arith
-    go false = omega arith
 
 -- the least is one
 pub least-unique : (k : ℕ) (f : ℕ → ℕ) (r q : ℕ × ℕ) → Least k f r → Least k f q → r ≡ q
@@ -78,6 +41,13 @@ least-unique k f r q i j =
     go false e true g =
         let no-way : ⊥ = omega (arith, i .first (q .0) (ltb-true (q .0) (r .0) g), j .value, j .least (r .0) (i .within), i .value) in absurd no-way
     go false e false g = omega (arith, ltb-false (r .0) (q .0) e, ltb-false (q .0) (r .0) g)
+
+-- what a state costs with the children where the node may have it, after itself and after another
+abbrev pub stay : ℕ → (ℕ → ℕ) → ℕ → ℕ
+stay m kids s = cond (eqb (m / 2 ^ s % 2) 1) (kids s) (kids s + 1025)
+
+abbrev pub enter : ℕ → (ℕ → ℕ) → ℕ → ℕ
+enter m kids s = stay m kids s + cond (eqb s 0) 0 (m / 2 ^ s % 2)
 
 -- the bits are the states that the node may have
 pub allowed-suits : (l : Label) (s : ℕ) → eqb (allowed (l .tag) (l .roles) / 2 ^ s % 2) 1 ≡ suits l s
@@ -189,85 +159,18 @@ module _ (l : Label) (kids : ℕ → ℕ) where
             let q = is e (kept-enters (ltb-false v (e .1) a) (λ z. absurd (eqb-false v (e .1) b z))) in
             (ap (λ r. r .0) q, ap (λ r. r .1) q)
 
--- the row, as the costs of staying and of entering give it
-pub row-is : (l : Label) (kids : ℕ → ℕ)
-    → up 0 17 (λ p. cond (ltb (stay (m l kids) kids p) (scan 16 (enter (m l kids) kids) .1)) (stay (m l kids) kids p) (scan 16 (enter (m l kids) kids) .1)) ≡ rowOf l kids
-unfolding rowOf
-row-is l kids = up-same 0 17 _ _ (λ p h. kept-scan l kids p (omega arith) .1)
+-- the same, where the state entered and its cost are known
+module _ (l : Label) (kids : ℕ → ℕ) (e c : ℕ) (low : scan 16 (enter (allowed (l .tag) (l .roles)) kids) ≡ (e, c)) (p : ℕ) (h : p ≤ 16) where
+  abbrev w : ℕ
+  w = stay (allowed (l .tag) (l .roles)) kids p
 
--- the state read is the one taken
-pub after-taken : (l : Label) (kids : ℕ → ℕ) (p : ℕ) → p ≤ 16 → after (keptOf l kids) p ≡ taken l kids p
-unfolding keptOf taken
-after-taken l kids p h =
-    let e : ℕ × ℕ = scan 16 (enter (m l kids) kids) in
-    let g : ℕ → ℕ = λ p. keeps (stay (m l kids) kids p) p (e .1) (e .0) in
-    let z : 0 + p ≡ p = omega arith in
-    let small : (s : ℕ) → g s < 2 = λ s. keeps-bit (stay (m l kids) kids s) s (e .1) (e .0) in
-    let bit : bitsFrom 0 17 g (e .0) / 2 ^ p % 2 ≡ g p = rw z at (bit-at 0 17 g (e .0) p small (omega arith)) in
-    let above : bitsFrom 0 17 g (e .0) / 131072 ≡ e .0 = bits-above 0 17 g (e .0) small in
-    let high : bitsFrom 0 17 g (e .0) / 131072 % 32 ≡ e .0 = omega (arith, above, scan-least 16 (enter (m l kids) kids) .within) in
-    ap₂ (λ x y. cond (eqb x 1) p y) bit high ∙ go (ltb (stay (m l kids) kids p) (e .1) || (eqb (stay (m l kids) kids p) (e .1) && ltb p (e .0))) ∙ kept-scan l kids p h .0
-  where
-    go : (b : Bool) → cond (eqb (cond b 1 0) 1) p (scan 16 (enter (m l kids) kids) .0) ≡ cond b p (scan 16 (enter (m l kids) kids) .0)
-    go true = refl
-    go false = refl
+  pub taken-is : cond (ltb w c || (eqb w c && ltb p e)) p e ≡ taken l kids p
+  unfolding taken
+  taken-is = ap (λ r. cond (ltb w (r .1) || (eqb w (r .1) && ltb p (r .0))) p (r .0)) (sym low) ∙ kept-scan l kids p h .0
 
--- the same, from a list of the costs of staying
-pub settles : (l : Label) (kids : ℕ → ℕ) (mask : ℕ) (stays : List ℕ) (low at : ℕ) → mask ≡ allowed (l .tag) (l .roles) → stays ≡ up 0 17 (stay mask kids)
-    → low ≡ scan 16 (enter mask kids) .1 → at ≡ scan 16 (enter mask kids) .0
-    → (up 0 17 (λ p. cond (ltb (getD stays p 0) low) (getD stays p 0) low) ≡ rowOf l kids) × (keptBy (λ p. getD stays p 0) low at ≡ keptOf l kids)
-unfolding keptOf
-settles l kids mask stays low at me se le ae =
-    let le′ : low ≡ scan 16 (enter (m l kids) kids) .1 = le ∙ ap (λ x. scan 16 (enter x kids) .1) me in
-    let ae′ : at ≡ scan 16 (enter (m l kids) kids) .0 = ae ∙ ap (λ x. scan 16 (enter x kids) .0) me in (
-      up-same 0 17 _ _ (λ p h. ap₂ (λ x y. cond (ltb x y) x y) (each p (omega arith)) le′) ∙ row-is l kids,
-      bits-same 0 17 _ (λ p. keeps (stay (m l kids) kids p) p low at) at (λ p h. ap (λ x. keeps x p low at) (each p (omega arith)))
-          ∙ ap₂ (keptBy (stay (m l kids) kids)) le′ ae′,
-    )
-  where
-    each : (p : ℕ) → p < 17 → getD stays p 0 ≡ stay (m l kids) kids p
-    each p h =
-        let z : 0 + p ≡ p = omega arith in
-        ap (λ x. getD x p 0) se ∙ (rw z at (up-at 0 17 (stay mask kids) p h)) ∙ ap (λ x. stay x kids p) me
-
--- an end
-module _ (l : Label) (kids : ℕ → ℕ) (t : l .tag ≡ 0) (k : kids 0 ≡ 0) where
-  may : suits l 0 ≡ true
-  unfolding suits
-  may = rw t
-
-  end-cost : (p : ℕ) → cost p l 0 ≡ 0
-  unfolding gate
-  end-cost p = rw may
-
-  end-enter : enter (m l kids) kids 0 ≡ 0
-  end-enter = rw (allowed-suits l 0 ∙ may) (omega arith)
-
-  abbrev entry : ℕ × ℕ
-  entry = scan 16 (enter (m l kids) kids)
-
-  end-low : entry .1 ≡ 0
-  end-low = omega (arith, scan-least 16 (enter (m l kids) kids) .least 0 (omega arith), end-enter)
-
-  end-at : entry .0 ≡ 0
-  end-at = go (ltb 0 (entry .0)) refl
-    where
-      go : (b : Bool) → ltb 0 (entry .0) ≡ b → entry .0 ≡ 0
-      go true e = let no-way : ⊥ = omega (arith, scan-least 16 (enter (m l kids) kids) .first 0 (ltb-true 0 (entry .0) e), end-enter) in absurd no-way
-      go false e = omega (arith, ltb-false 0 (entry .0) e)
-
-  pub end-row : up 0 17 (λ p. 0) ≡ rowOf l kids
+  pub row-is : getD (rowOf l kids) p 0 ≡ cond (ltb w c) w c
   unfolding rowOf
-  end-row = up-same 0 17 (λ p. 0) (λ p. scan 16 (λ s. cost p l s + kids s) .1)
-      (λ p h. omega (arith, scan-least 16 (λ s. cost p l s + kids s) .least 0 (omega arith), end-cost p))
-
-  pub end-word : bitsFrom 0 17 (λ p. 0) 0 ≡ keptOf l kids
-  unfolding keptOf
-  end-word =
-      bits-same 0 17 (λ p. 0) (λ p. keeps (stay (m l kids) kids p) p 0 0) 0
-      (λ p h. rw (le-ltb (stay (m l kids) kids p) 0 (omega arith), le-ltb p 0 (omega arith)) (go (eqb (stay (m l kids) kids p) 0)))
-      ∙ sym (ap₂ (keptBy (stay (m l kids) kids)) end-low end-at)
-    where
-      go : (b : Bool) → _≡_ {A = ℕ} 0 (cond (b && false) 1 0)
-      go true = refl
-      go false = refl
+  row-is =
+      let z : 0 + p ≡ p = omega arith in
+      (rw z at (up-at 0 17 (λ p. scan 16 (λ s. cost p l s + kids s) .1) p (omega arith)))
+      ∙ sym (kept-scan l kids p h .1) ∙ ap (λ r. cond (ltb w (r .1)) w (r .1)) low

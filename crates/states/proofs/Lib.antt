@@ -1,5 +1,6 @@
 pub mod KeptLaws
-pub mod FillLaws
-pub mod RowLaws
+pub mod LowestLaws
+pub mod CellLaws
+pub mod AgreeLaws
 pub mod PassLaws
 pub mod TurnLaws

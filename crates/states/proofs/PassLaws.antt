@@ -1,20 +1,23 @@
 -- The stacks in arrays, and one turn of the loop each way.
-use Prim.Native.Nat.{ℕ, zero, suc, _+_, _*_, _-_, _≤_, _<_}
-use mathlib.Core.Path.{_≡_, refl, sym, ap, ap₂, _∙_, fun-ext}
+use Prim.Native.Nat.{ℕ, zero, suc, _+_, _*_, _-_, _/_, _≤_, _<_}
+use mathlib.Core.Path.{_≡_, refl, sym, ap, ap₂, _∙_}
 use mathlib.Core.Bool.{Bool, true, false, cond}
 use mathlib.Core.List.{List, [], _∷_, _++_, map}
 use native.Mathlib.Omega.{arith}
-use native.Mathlib.Numerals.{add-one, one-add}
+use native.Mathlib.Numerals.{add-one}
 use lib.Dec.{eqb}
-use lib.ListN.{length, getD, drop, set, replicate, length-set}
-use lib.Seq.{sets, drop-cons, getD-set-same, getD-set-other}
+use lib.ListN.{length, getD, take, drop, set}
+use lib.Seq.{sets, drop-cons, getD-set-same, getD-set-other, set-split, drop-at, length-take-le}
+use borrow.Author.Tests.{eqb-true}
 use Rattle.format.specs.Words.{wordAt}
 use Rattle.format.specs.Sections.{nodeAt, nodesFrom}
 use Rattle.format.specs.declared.Node.{Node}
-use Rattle.states.specs.States.{Label, first, rest, below, beyond, rowOf, rows, top, onward, labelled, packed}
-use Rattle.states.specs.Kept.{kidsCost, kidsOf, keptOf, keptAll, after, followed}
-use Rattle.states.proofs.FillLaws.{drop-set}
-use Rattle.states.proofs.RowLaws.{two-rows}
+use Rattle.states.specs.States.{Label, rest, top, onward, labelled, packed}
+use Rattle.states.specs.Kept.{upper, lower, cellOf, wordOf, cellsPast, cells, keptAll, after, followed}
+use Rattle.states.proofs.CellLaws.{Roled, cell-most}
+
+drop-set : {A : Type 0} (l : List A) (i : ℕ) (v : A) → i < length l → drop i (set l i v) ≡ v ∷ drop (suc i) l
+drop-set l i v h = rw (set-split l i v h) (drop-at (take i l) (v ∷ drop (suc i) l) i (length-take-le i l (omega arith)))
 
 module _ {A : Type 0} (z : A) where
   -- a stack in an array, above the element 0
@@ -35,43 +38,44 @@ module _ {A : Type 0} (z : A) where
   held-rest a zero = refl
   held-rest a (suc d) = let d1 : suc d - 1 ≡ d = omega arith in rw d1
 
-  -- what is left, by what a tag has below it
-  held-beyond : (tag : ℕ) (a : List A) (d : ℕ) → held a (cond (eqb tag 0) d (cond (eqb tag 1) (d - 1 - 1) (d - 1))) ≡ cond (eqb tag 0) (held a d) (cond (eqb tag 1) (rest (rest (held a d))) (rest (held a d)))
-  held-beyond tag a d = go (eqb tag 0) (eqb tag 1)
-    where
-      go : (x y : Bool) → held a (cond x d (cond y (d - 1 - 1) (d - 1))) ≡ cond x (held a d) (cond y (rest (rest (held a d))) (rest (held a d)))
-      go true y = refl
-      go false true = sym (ap rest (held-rest a d) ∙ held-rest a (d - 1))
-      go false false = sym (held-rest a d)
-
 -- the element 0 is as nothing
-
-abbrev pub zeros : List ℕ
-zeros = replicate 17 0
-
-zeros-at : (n s : ℕ) → _≡_ {A = ℕ} (getD (replicate n 0) s 0) 0
-zeros-at zero s = refl
-zeros-at (suc n) zero = refl
-zeros-at (suc n) (suc s) = zeros-at n s
-
-first-at : (a : List (List ℕ)) (d s : ℕ) → getD a 0 [] ≡ zeros → getD (getD a d []) s 0 ≡ getD (first (held [] a d)) s 0
-first-at a zero s e = ap (λ r. getD r s 0) e ∙ zeros-at 17 s
-first-at a (suc d) s e = refl
-
-second-at : (a : List (List ℕ)) (d s : ℕ) → getD a 0 [] ≡ zeros → getD (getD a (d - 1) []) s 0 ≡ getD (first (rest (held [] a d))) s 0
-second-at a d s e = first-at a (d - 1) s e ∙ ap (λ rs. getD (first rs) s 0) (sym (held-rest [] a d))
-
 pub top-held : (a : List ℕ) (d : ℕ) → getD a 0 0 ≡ 0 → top (held 0 a d) ≡ getD a d 0
 top-held a zero e = sym e
 top-held a (suc d) e = refl
 
-pub kids-below : (tag : ℕ) (a : List (List ℕ)) (d : ℕ) → getD a 0 [] ≡ zeros
-    → kidsOf tag (getD a d []) (getD a (d - 1) []) ≡ below tag (held [] a d)
-kids-below tag a d e = fun-ext (λ s. ap₂ (kidsCost tag) (first-at a d s e) (second-at a d s e))
+-- two lists that differ by zeros at their ends
+abbrev pub Same : List ℕ → List ℕ → Type 0
+Same cs ds = (k : ℕ) → getD cs k 0 ≡ getD ds k 0
 
-pub rows-fit : (a : List (List ℕ)) (d s : ℕ) (ls : List Label) → getD a 0 [] ≡ zeros → held [] a d ≡ rows ls
-    → getD (getD a d []) s 0 + getD (getD a (d - 1) []) s 0 ≤ 1025 * length ls
-rows-fit a d s ls e h = rw (first-at a d s e, second-at a d s e, h) (two-rows ls s)
+only-zero : Same (0 ∷ []) []
+only-zero zero = refl
+only-zero (suc k) = refl
+
+top-first : (cs : List ℕ) → top cs ≡ getD cs 0 0
+top-first [] = refl
+top-first (c ∷ cs) = refl
+
+rest-next : (cs : List ℕ) (k : ℕ) → getD (rest cs) k 0 ≡ getD cs (suc k) 0
+rest-next [] k = refl
+rest-next (c ∷ cs) k = refl
+
+same-top : (cs ds : List ℕ) → Same cs ds → top cs ≡ top ds
+same-top cs ds h = top-first cs ∙ h 0 ∙ sym (top-first ds)
+
+same-rest : (cs ds : List ℕ) → Same cs ds → Same (rest cs) (rest ds)
+same-rest cs ds h k = rest-next cs k ∙ h (suc k) ∙ sym (rest-next ds k)
+
+same-cons : (c d : ℕ) (cs ds : List ℕ) → c ≡ d → Same cs ds → Same (c ∷ cs) (d ∷ ds)
+same-cons c d cs ds e h zero = e
+same-cons c d cs ds e h (suc k) = h k
+
+same-past : (tag : ℕ) (cs ds : List ℕ) → Same cs ds → Same (cellsPast tag cs) (cellsPast tag ds)
+same-past tag cs ds h = go (eqb tag 0) (eqb tag 1)
+  where
+    go : (x y : Bool) → Same (cond x cs (cond y (rest (rest cs)) (rest cs))) (cond x ds (cond y (rest (rest ds)) (rest ds)))
+    go true y = h
+    go false true = same-rest (rest cs) (rest ds) (same-rest cs ds h)
+    go false false = same-rest cs ds h
 
 -- the nodes from the number i + 1 on, with their roles
 abbrev pub labelsFrom : List ℕ → ℕ → ℕ → List ℕ → ℕ → List Label
@@ -104,35 +108,103 @@ unfolding labelled
 labels-next f p n roles i h k =
     ap₂ labelled (nodes-next f p n i h) (ap (λ j. drop j roles) (sym (add-one i)) ∙ drop-cons roles (i + 1) 0 k)
 
+-- what a slice of u16 holds
+abbrev pub Short : List ℕ → Type 0
+Short rs = (i : ℕ) → getD rs i 0 < 65536
+
+short-drop : (k : ℕ) (rs : List ℕ) → Short rs → Short (drop k rs)
+short-drop zero rs h = h
+short-drop (suc k) [] h = h
+short-drop (suc k) (r ∷ rs) h = short-drop k rs (λ i. h (suc i))
+
+short-roled : (ns : List Node) (rs : List ℕ) → Short rs → Roled (labelled ns rs)
+unfolding Roled labelled
+short-roled [] rs h = tt
+short-roled (n ∷ ns) [] h = tt
+short-roled (n ∷ ns) (r ∷ rs) h = (h 0, short-roled ns rs (λ i. h (suc i)))
+
+pub labels-roled : (ns : List Node) (k : ℕ) (rs : List ℕ) → Short rs → Roled (labelled ns (drop k rs))
+labels-roled ns k rs h = short-roled ns (drop k rs) (short-drop k rs h)
+
+-- what the trees in a list of rows cost at most
+unfoldable total : List ℕ → ℕ
+total [] = 0
+total (c ∷ cs) = c / 131072 + total cs
+
+shared : (tag : ℕ) (cs : List ℕ) → upper tag (top cs) / 131072 + lower tag (top (rest cs)) / 131072 + total (cellsPast tag cs) ≤ total cs
+unfolding total
+shared tag cs = go (eqb tag 0) refl (eqb tag 1) refl cs
+  where
+    go : (x : Bool) → eqb tag 0 ≡ x → (y : Bool) → eqb tag 1 ≡ y → (cs : List ℕ)
+        → cond x 0 (top cs) / 131072 + cond y (top (rest cs)) 0 / 131072 + total (cond x cs (cond y (rest (rest cs)) (rest cs))) ≤ total cs
+    go true e true g cs = let no-way : ⊥ = omega (arith, eqb-true tag 0 e, eqb-true tag 1 g) in absurd no-way
+    go true e false g cs = omega arith
+    go false e true g [] = omega arith
+    go false e true g (a ∷ []) = omega arith
+    go false e true g (a ∷ b ∷ cs) = omega arith
+    go false e false g [] = omega arith
+    go false e false g (a ∷ cs) = omega arith
+
+-- no more than one for each node
+cells-total : (ls : List Label) → Roled ls → total (cells ls) ≤ length ls
+unfolding total cells Roled
+cells-total [] h = omega arith
+cells-total (l ∷ ls) h =
+    omega (arith, cell-most (l .tag) (l .roles) (top (cells ls)) (top (rest (cells ls))) (h .0), shared (l .tag) (cells ls), cells-total ls (h .1))
+
+two-cells : (cs : List ℕ) → top cs / 131072 + top (rest cs) / 131072 ≤ total cs
+unfolding total
+two-cells [] = omega arith
+two-cells (a ∷ []) = omega arith
+two-cells (a ∷ b ∷ cs) = omega arith
+
+pub cells-fit : (t : ℕ) (a : List ℕ) (d : ℕ) (ls : List Label) → Roled ls → getD a 0 0 ≡ 0 → Same (t ∷ held 0 a d) (cells ls) → t / 131072 + getD a d 0 / 131072 ≤ length ls
+cells-fit t a d ls r e h =
+    let rs : List ℕ = t ∷ held 0 a d in
+    omega (arith, top-held a d e, same-top rs (cells ls) h, same-top (held 0 a d) (rest (cells ls)) (same-rest rs (cells ls) h), two-cells (cells ls), cells-total ls r)
+
+-- the stack after a node: the row before it goes there, where it is no part of the node's tree
+right-past : (tag t : ℕ) (a : List ℕ) (d : ℕ) → d + 1 < length a
+    → held 0 (set a (d + 1) t) (cond (eqb tag 0) (d + 1) (cond (eqb tag 1) (d - 1) d)) ≡ cellsPast tag (t ∷ held 0 a d)
+right-past tag t a d h = let one : d + 1 ≡ suc d = omega arith in rw one (go (eqb tag 0) (eqb tag 1))
+  where
+    go : (x y : Bool) → held 0 (set a (suc d) t) (cond x (suc d) (cond y (d - 1) d)) ≡ cond x (t ∷ held 0 a d) (cond y (rest (held 0 a d)) (held 0 a d))
+    go true y = held-push 0 a d t (omega arith)
+    go false true = held-set 0 a (suc d) t (d - 1) (omega arith) ∙ sym (held-rest 0 a d)
+    go false false = held-set 0 a (suc d) t d (omega arith)
+
 -- from the right: node i + 1 of n is read, i of them are left
-module _ (f : List ℕ) (p n : ℕ) (roles : List ℕ) (i : ℕ) (h : i < n) (k : i + 1 < length roles) (a : List (List ℕ)) (d : ℕ) (e : getD a 0 [] ≡ zeros)
-    (st : held [] a d ≡ rows (labelsFrom f p n roles (i + 1))) (tag : ℕ) (its : tag ≡ wordAt f (p + 3 * i)) where
-  abbrev pub label : Label
-  label = record { tag = tag; roles = getD roles (i + 1) 0 }
+module _ (f : List ℕ) (p n : ℕ) (roles : List ℕ) (i : ℕ) (h : i < n) (k : i + 1 < length roles) (t : ℕ) (a : List ℕ) (d : ℕ) (e : getD a 0 0 ≡ 0)
+    (st : Same (t ∷ held 0 a d) (cells (labelsFrom f p n roles (i + 1)))) (tag : ℕ) (its : tag ≡ wordAt f (p + 3 * i)) where
+  abbrev ls : List Label
+  ls = labelsFrom f p n roles (i + 1)
 
-  abbrev pub kids : ℕ → ℕ
-  kids = kidsOf tag (getD a d []) (getD a (d - 1) [])
+  abbrev role : ℕ
+  role = getD roles (i + 1) 0
 
-  kids-are : kids ≡ below tag (rows (labelsFrom f p n roles (i + 1)))
-  kids-are = kids-below tag a d e ∙ ap (below tag) st
+  one-is : t ≡ top (cells ls)
+  one-is = same-top (t ∷ held 0 a d) (cells ls) st
 
-  this : labelsFrom f p n roles i ≡ label ∷ labelsFrom f p n roles (i + 1)
-  this = labels-next f p n roles i h k ∙ ap (λ t. record { tag = t; roles = getD roles (i + 1) 0 } ∷ labelsFrom f p n roles (i + 1)) (sym its)
+  two-is : getD a d 0 ≡ top (rest (cells ls))
+  two-is = sym (top-held a d e) ∙ same-top (held 0 a d) (rest (cells ls)) (same-rest (t ∷ held 0 a d) (cells ls) st)
 
-  pub right-rows : (row : List ℕ) (j : ℕ) → row ≡ rowOf label kids → j ≡ cond (eqb tag 0) d (cond (eqb tag 1) (d - 1 - 1) (d - 1)) → 1 + j < length a
-      → held [] (set a (1 + j) row) (1 + j) ≡ rows (labelsFrom f p n roles i)
-  unfolding rows
-  right-rows row j re je fits =
-      let fits′ : suc j < length a = omega arith in
-      ap (λ x. held [] (set a x row) x) (one-add j) ∙ held-push [] a j row fits′
-      ∙ ap₂ _∷_ (re ∙ ap (rowOf label) kids-are) (ap (held [] a) je ∙ held-beyond [] tag a d ∙ ap (beyond tag) st)
-      ∙ ap rows (sym this)
+  this : labelsFrom f p n roles i ≡ record { tag = tag; roles = role } ∷ ls
+  this = labels-next f p n roles i h k ∙ ap (λ t. record { tag = t; roles = role } ∷ ls) (sym its)
 
-  pub right-words : (words ends : List ℕ) (w : ℕ) → w ≡ keptOf label kids → i < length words → drop (i + 1) words ≡ keptAll (labelsFrom f p n roles (i + 1)) ++ ends
+  pub right-cells : (cell j : ℕ) → cell ≡ cellOf tag role t (getD a d 0) → j ≡ cond (eqb tag 0) (d + 1) (cond (eqb tag 1) (d - 1) d) → d + 1 < length a
+      → Same (cell ∷ held 0 (set a (d + 1) t) j) (cells (labelsFrom f p n roles i))
+  unfolding cells
+  right-cells cell j ce je fits q =
+      ap (λ cs. getD (cell ∷ cs) q 0) (ap (held 0 (set a (d + 1) t)) je ∙ right-past tag t a d fits)
+      ∙ same-cons cell (cellOf tag role (top (cells ls)) (top (rest (cells ls)))) (cellsPast tag (t ∷ held 0 a d)) (cellsPast tag (cells ls))
+      (ce ∙ ap₂ (cellOf tag role) one-is two-is) (same-past tag (t ∷ held 0 a d) (cells ls) st) q
+      ∙ ap (λ ls. getD (cells ls) q 0) (sym this)
+
+  pub right-words : (words ends : List ℕ) (w : ℕ) → w ≡ wordOf tag role t (getD a d 0) → i < length words → drop (i + 1) words ≡ keptAll ls ++ ends
       → drop i (set words i w) ≡ keptAll (labelsFrom f p n roles i) ++ ends
   unfolding keptAll
   right-words words ends w we len inv =
-      drop-set words i w len ∙ ap₂ _∷_ (we ∙ ap (keptOf label) kids-are) (ap (λ j. drop j words) (sym (add-one i)) ∙ inv)
+      drop-set words i w len ∙ ap₂ _∷_ (we ∙ ap₂ (wordOf tag role) one-is two-is) (ap (λ j. drop j words) (sym (add-one i)) ∙ inv)
       ∙ ap (λ ls. keptAll ls ++ ends) (sym this)
 
 -- no state above b
@@ -159,21 +231,46 @@ under-onward b tag s st le h = go (eqb tag 0) (eqb tag 1)
     go false true = (le, (le, under-rest b st h))
     go false false = (le, under-rest b st h)
 
--- from the left
-pub left-stack : (tag s : ℕ) (a : List ℕ) (d : ℕ) → d + 2 < length a
-    → held 0 (set (set a (d + 1) s) (d + 2) s) (cond (eqb tag 0) d (cond (eqb tag 1) (d + 2) (d + 1))) ≡ onward tag s (held 0 a d)
-left-stack tag s a d h =
-    let one : d + 1 ≡ suc d = omega arith in
-    let two : d + 2 ≡ suc (suc d) = omega arith in
-    rw (one, two) (go (eqb tag 0) (eqb tag 1))
-  where
-    long : suc (suc d) < length (set a (suc d) s)
-    long = simp length-set (omega arith)
+pub under-same : (b : ℕ) (cs ds : List ℕ) → Same cs ds → Under b ds → Under b cs
+unfolding Under
+under-same b [] ds h u = tt
+under-same b (c ∷ cs) ds h u =
+    (omega (arith, h 0, top-first ds, under-top b ds u), under-same b cs (rest ds) (λ k. h (suc k) ∙ sym (rest-next ds k)) (under-rest b ds u))
 
-    go : (x y : Bool) → held 0 (set (set a (suc d) s) (suc (suc d)) s) (cond x d (cond y (suc (suc d)) (suc d))) ≡ cond x (held 0 a d) (cond y (s ∷ s ∷ held 0 a d) (s ∷ held 0 a d))
-    go true y = held-set 0 (set a (suc d) s) (suc (suc d)) s d (omega arith) ∙ held-set 0 a (suc d) s d (omega arith)
-    go false true = held-push 0 (set a (suc d) s) (suc d) s long ∙ ap (s ∷_) (held-push 0 a d s (omega arith))
-    go false false = held-set 0 (set a (suc d) s) (suc (suc d)) s (suc d) (omega arith) ∙ held-push 0 a d s (omega arith)
+same-onward : (tag s : ℕ) (cs ds : List ℕ) → Same cs ds → Same (onward tag s cs) (onward tag s ds)
+same-onward tag s cs ds h = go (eqb tag 0) (eqb tag 1)
+  where
+    go : (x y : Bool) → Same (cond x cs (cond y (s ∷ s ∷ cs) (s ∷ cs))) (cond x ds (cond y (s ∷ s ∷ ds) (s ∷ ds)))
+    go true y = h
+    go false true = same-cons s s (s ∷ cs) (s ∷ ds) refl (same-cons s s cs ds refl h)
+    go false false = same-cons s s cs ds refl h
+
+pub same-followed : (ns : List Node) (ks cs ds : List ℕ) → Same cs ds → followed ns ks cs ≡ followed ns ks ds
+unfolding followed
+same-followed [] ks cs ds h = refl
+same-followed (n ∷ ns) [] cs ds h = refl
+same-followed (n ∷ ns) (k ∷ ks) cs ds h =
+    let s : ℕ = after k (top ds) in
+    ap (λ p. record { from = p; to = after k p } ∷ followed ns ks (onward (n .tag) (after k p) (rest cs))) (same-top cs ds h)
+    ∙ ap (record { from = top ds; to = s } ∷_)
+    (same-followed ns ks (onward (n .tag) s (rest cs)) (onward (n .tag) s (rest ds)) (same-onward (n .tag) s (rest cs) (rest ds) (same-rest cs ds h)))
+
+-- from the left
+pub left-stack : (tag s : ℕ) (a : List ℕ) (d f j : ℕ) → d + 1 < length a → getD a 0 0 ≡ 0 → f ≡ cond (eqb tag 0) (getD a d 0) s → j ≡ cond (eqb tag 0) (d - 1) (cond (eqb tag 1) (d + 1) d)
+    → Same (f ∷ held 0 (set a (d + 1) s) j) (onward tag s (held 0 a d))
+left-stack tag s a d f j h z fe je k =
+    let one : d + 1 ≡ suc d = omega arith in
+    ap₂ (λ f j. getD (f ∷ held 0 (set a (d + 1) s) j) k 0) fe je ∙ (rw one (go (eqb tag 0) (eqb tag 1) k))
+  where
+    ended : (d : ℕ) → Same (getD a d 0 ∷ held 0 a (d - 1)) (held 0 a d)
+    ended zero zero = z
+    ended zero (suc k) = refl
+    ended (suc d) k = let d1 : suc d - 1 ≡ d = omega arith in ap (λ x. getD (getD a (suc d) 0 ∷ held 0 a x) k 0) d1
+
+    go : (x y : Bool) → Same (cond x (getD a d 0) s ∷ held 0 (set a (suc d) s) (cond x (d - 1) (cond y (suc d) d))) (cond x (held 0 a d) (cond y (s ∷ s ∷ held 0 a d) (s ∷ held 0 a d)))
+    go true y k = ap (λ l. getD (getD a d 0 ∷ l) k 0) (held-set 0 a (suc d) s (d - 1) (omega arith)) ∙ ended d k
+    go false true k = ap (λ l. getD (s ∷ l) k 0) (held-push 0 a d s (omega arith))
+    go false false k = ap (λ l. getD (s ∷ l) k 0) (held-set 0 a (suc d) s d (omega arith))
 
 pub left-turn : (f : List ℕ) (p n i : ℕ) (words turns whole st st′ : List ℕ) (tag from to : ℕ) → i < n → i < length words
     → tag ≡ wordAt f (p + 3 * i) → from ≡ top st → to ≡ after (getD words i 0) from → st′ ≡ onward tag to (rest st)
@@ -204,38 +301,38 @@ labels-all f p n roles i e =
     let all : n - 0 ≡ n = omega arith in
     rw (e, at, all)
 
-pub right-begins : (f : List ℕ) (p n : ℕ) (roles : List ℕ) → [] ≡ rows (labelsFrom f p n roles n)
-unfolding rows
-right-begins f p n roles = ap rows (sym (labels-none f p n roles))
+pub right-begins : (f : List ℕ) (p n : ℕ) (roles : List ℕ) → Same (0 ∷ []) (cells (labelsFrom f p n roles n))
+unfolding cells
+right-begins f p n roles k = only-zero k ∙ ap (λ ls. getD (cells ls) k 0) (sym (labels-none f p n roles))
 
 pub right-empty : (f : List ℕ) (p n : ℕ) (roles ends : List ℕ) → ends ≡ keptAll (labelsFrom f p n roles n) ++ ends
 unfolding keptAll
 right-empty f p n roles ends = ap (λ ls. keptAll ls ++ ends) (sym (labels-none f p n roles))
 
 pub left-begins : (f : List ℕ) (p n : ℕ) (words turns : List ℕ)
-    → sets turns 1 (map packed (followed (nodesFrom f (p + 3 * 0) (n - 0)) (drop 0 words) [])) ≡ sets turns 1 (map packed (followed (nodesFrom f p n) words []))
+    → sets turns 1 (map packed (followed (nodesFrom f (p + 3 * 0) (n - 0)) (drop 0 words) (0 ∷ []))) ≡ sets turns 1 (map packed (followed (nodesFrom f p n) words []))
 left-begins f p n words turns =
     let at : p + 3 * 0 ≡ p = omega arith in
     let all : n - 0 ≡ n = omega arith in
-    rw (at, all)
+    rw (at, all) (ap (λ ts. sets turns 1 (map packed ts)) (same-followed (nodesFrom f p n) words (0 ∷ []) [] only-zero))
 
 pub left-ends : (f : List ℕ) (p n i : ℕ) (words turns st : List ℕ) → i ≡ n → turns ≡ sets turns (i + 1) (map packed (followed (nodesFrom f p (n - i)) words st))
 unfolding nodesFrom followed
 left-ends f p n i words turns st e = let none : n - i ≡ 0 = omega arith in rw none
 
 -- the depths, and the element 0
-pub right-depth : (tag d j : ℕ) → j ≡ cond (eqb tag 0) d (cond (eqb tag 1) (d - 1 - 1) (d - 1)) → j ≤ d
+pub right-depth : (tag d j : ℕ) → j ≡ cond (eqb tag 0) (d + 1) (cond (eqb tag 1) (d - 1) d) → j ≤ d + 1
 right-depth tag d j e = omega (arith, e, go (eqb tag 0) (eqb tag 1))
   where
-    go : (x y : Bool) → cond x d (cond y (d - 1 - 1) (d - 1)) ≤ d
+    go : (x y : Bool) → cond x (d + 1) (cond y (d - 1) d) ≤ d + 1
     go true y = omega arith
     go false true = omega arith
     go false false = omega arith
 
-pub left-depth : (tag d j : ℕ) → j ≡ cond (eqb tag 0) d (cond (eqb tag 1) (d + 2) (d + 1)) → j ≤ d + 2
+pub left-depth : (tag d j : ℕ) → j ≡ cond (eqb tag 0) (d - 1) (cond (eqb tag 1) (d + 1) d) → j ≤ d + 1
 left-depth tag d j e = omega (arith, e, go (eqb tag 0) (eqb tag 1))
   where
-    go : (x y : Bool) → cond x d (cond y (d + 2) (d + 1)) ≤ d + 2
+    go : (x y : Bool) → cond x (d - 1) (cond y (d + 1) d) ≤ d + 1
     go true y = omega arith
     go false true = omega arith
     go false false = omega arith

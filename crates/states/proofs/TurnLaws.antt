@@ -8,9 +8,10 @@ use lib.Seq.{sets}
 use Rattle.format.specs.declared.Node.{Node}
 use Rattle.optimum.proofs.Optimal.{scan-least}
 use Rattle.states.specs.States.{Label, cost, taken, below, rows, top, rest, onward, turnsFrom, turnsOf, labelled, packed, unpacked}
-use Rattle.states.specs.Kept.{keptOf, keptAll, after, followed}
+use Rattle.states.specs.Kept.{Served, wordOf, cells, keptAll, after, followed}
 use Rattle.states.specs.declared.Turn.{Turn}
-use Rattle.states.proofs.KeptLaws.{after-taken}
+use Rattle.states.proofs.CellLaws.{Roled}
+use Rattle.states.proofs.AgreeLaws.{agrees, after-taken}
 use Rattle.states.proofs.PassLaws.{Under, under-top, under-onward}
 
 pub taken-within : (l : Label) (kids : ℕ → ℕ) (p : ℕ) → taken l kids p ≤ 16
@@ -60,23 +61,22 @@ pub turns-unpacked : (ls : List Label) → map unpacked (map packed (turnsOf ls)
 turns-unpacked ls = small-unpacked (turnsOf ls) (turns-small ls)
 
 -- read from what is kept
-follows-from : (ns : List Node) (rs ends st : List ℕ) → length ns ≤ length rs → Under 16 st
+follows-from : (ns : List Node) (rs ends st : List ℕ) → length ns ≤ length rs → Roled (labelled ns rs) → Served (labelled ns rs) → Under 16 st
     → followed ns (keptAll (labelled ns rs) ++ ends) st ≡ turnsFrom (labelled ns rs) st
-unfolding followed labelled keptAll turnsFrom
-follows-from [] rs ends st h u = refl
-follows-from (n ∷ ns) [] ends st h u = let no-way : ⊥ = omega arith in absurd no-way
-follows-from (n ∷ ns) (r ∷ rs) ends st h u =
+unfolding followed labelled keptAll turnsFrom Roled Served
+follows-from [] rs ends st h f s u = refl
+follows-from (n ∷ ns) [] ends st h f s u = let no-way : ⊥ = omega arith in absurd no-way
+follows-from (n ∷ ns) (r ∷ rs) ends st h f s u =
     let l : Label = record { tag = n .tag; roles = r } in
-    let kids : ℕ → ℕ = below (n .tag) (rows (labelled ns rs)) in
-    let e : after (keptOf l kids) (top st) ≡ taken l kids (top st) = after-taken l kids (top st) (under-top 16 st u) in
-    let s : ℕ = taken l kids (top st) in
-    ap (λ x. record { from = top st; to = x } ∷ followed ns (keptAll (labelled ns rs) ++ ends) (onward (n .tag) x (rest st))) e
-    ∙ ap (record { from = top st; to = s } ∷_) (follows-from ns rs ends (onward (n .tag) s (rest st)) (omega arith) (under-onward 16 (n .tag) s st (taken-within l kids (top st)) u))
+    let ls : List Label = labelled ns rs in
+    let kids : ℕ → ℕ = below (n .tag) (rows ls) in
+    let e : after (wordOf (n .tag) r (top (cells ls)) (top (rest (cells ls)))) (top st) ≡ taken l kids (top st) =
+    after-taken l (cells ls) (rows ls) (f .0) (s .0) (agrees ls (f .1) (s .1)) (top st) (under-top 16 st u) in
+    let t : ℕ = taken l kids (top st) in
+    ap (λ x. record { from = top st; to = x } ∷ followed ns (keptAll ls ++ ends) (onward (n .tag) x (rest st))) e
+    ∙ ap (record { from = top st; to = t } ∷_) (follows-from ns rs ends (onward (n .tag) t (rest st)) (omega arith) (f .1) (s .1) (under-onward 16 (n .tag) t st (taken-within l kids (top st)) u))
 
-pub follows : (ns : List Node) (rs ends : List ℕ) → length ns ≤ length rs → followed ns (keptAll (labelled ns rs) ++ ends) [] ≡ turnsOf (labelled ns rs)
-unfolding turnsOf Under
-follows ns rs ends h = follows-from ns rs ends [] h tt
-
-pub finish : (turns rs kept ends : List ℕ) (ns : List Node) → kept ≡ keptAll (labelled ns rs) ++ ends → length ns ≤ length rs
+pub finish : (turns rs kept ends : List ℕ) (ns : List Node) → kept ≡ keptAll (labelled ns rs) ++ ends → length ns ≤ length rs → Roled (labelled ns rs) → Served (labelled ns rs)
     → sets turns 1 (map packed (followed ns kept [])) ≡ sets turns 1 (map packed (turnsOf (labelled ns rs)))
-finish turns rs kept ends ns e h = ap (λ ts. sets turns 1 (map packed ts)) (ap (λ k. followed ns k []) e ∙ follows ns rs ends h)
+unfolding turnsOf Under
+finish turns rs kept ends ns e h f s = ap (λ ts. sets turns 1 (map packed ts)) (ap (λ k. followed ns k []) e ∙ follows-from ns rs ends [] h f s tt)

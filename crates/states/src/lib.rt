@@ -13,6 +13,7 @@ ghost use lib.ListN.{length, drop};
 ghost use lib.Seq.{sets};
 ghost use Rattle.format.specs.Sections.{nodesFrom};
 ghost use Rattle.states.specs.States.{labelled, turnsOf, packed};
+ghost use Rattle.states.specs.Kept.{Served};
 
 // What becomes of a node: the state of its parent, 0 above a root, and its own. 0 is no role.
 pub struct Turn {
@@ -22,7 +23,8 @@ pub struct Turn {
 
 // The turn of each node, at its number.
 pub fn turns(file: &[u8], head: Head, roles: &[u16], turns: &mut [u16])
-    requires { ⌜ (head .count .nodes ≤ 1024) × (length (now roles) ≡ 1025) × (length (now turns) ≡ 1025) ⌝ }
+    requires { ⌜ (head .count .nodes ≤ 1024) × (length (now roles) ≡ 1025) × (length (now turns) ≡ 1025)
+        × Served (labelled (nodesFrom (now file) (head .at .nodes) (head .count .nodes)) (drop 1 (now roles))) ⌝ }
     ensures { λ r. ⌜ now (turns .exit) ≡ sets (now (turns .entry)) 1 (map packed (turnsOf (labelled (nodesFrom (now (file .entry)) (head .at .nodes) (head .count .nodes)) (drop 1 (now (roles .entry)))))) ⌝ }
 {
     let at = wide(head.at.nodes);

@@ -1,4 +1,4 @@
-// Both ways over the nodes, each with a stack. Below a stack's values is one more, all zeros.
+// Both ways over the nodes, each with a stack. Below a stack's values is one more, 0.
 use super::costs::keep;
 use format::words::word;
 ghost use mathlib.Core.Path.{_≡_};
@@ -33,22 +33,22 @@ fn by_tag(tag: u16, none: usize, two: usize, one: usize) -> usize
     }
 }
 
-// From the right: the stack has the rows of the trees that follow.
+// From the right: the stack has the rows of the trees that follow, but for the first.
 pub fn decide(file: &[u8], at: usize, n: usize, roles: &[u16], words: &mut [u32])
     requires { ⌜ (at < 65536) × (n ≤ 1024) × (length (now roles) ≡ 1025) × (length (now words) ≡ 1024) ⌝ }
     ensures { λ r. ⌜ now (words .exit) ≡ keptAll (labelled (nodesFrom (now (file .entry)) at n) (drop 1 (now (roles .entry)))) ++ drop n (now (words .entry)) ⌝ }
 {
-    let mut stack = [[0u32; 17]; 1025];
+    let mut stack = [0u32; 1025];
     let mut depth: usize = 0;
+    let mut row: u32 = 0;
     let mut i = n;
     while 0 < i {
         i -= 1;
         let tag = word(file, at + 3 * i);
-        let left = less(depth);
-        let it = keep(tag, roles[i + 1], &stack, depth, left);
-        depth = 1 + by_tag(tag, depth, less(left), left);
-        let row = it.row;
-        stack[depth] = row;
+        let it = keep(tag, roles[i + 1], row, stack[depth]);
+        stack[depth + 1] = row;
+        depth = by_tag(tag, depth + 1, less(depth), depth);
+        row = it.cell;
         words[i] = it.word;
     }
 }
@@ -64,23 +64,32 @@ fn state_after(word: u32, p: u16) -> u16
     (word / 131072 % 32) as u16
 }
 
-// From the left: the stack has the states above the trees that wait.
+// The state above the next node: after an end it is one that waits.
+fn above_next(tag: u16, waits: u16, to: u16) -> u16
+    ensures { λ r. ⌜ r ≡ cond (eqb tag 0) waits to ⌝ }
+{
+    if tag == 0 {
+        return waits;
+    }
+    to
+}
+
+// From the left: the stack has the states above the trees that wait, but for the next.
 pub fn follow(file: &[u8], at: usize, n: usize, words: &[u32], turns: &mut [u16])
     requires { ⌜ (at < 65536) × (n ≤ 1024) × (length (now words) ≡ 1024) × (length (now turns) ≡ 1025) ⌝ }
     ensures { λ r. ⌜ now (turns .exit) ≡ sets (now (turns .entry)) 1 (map packed (followed (nodesFrom (now (file .entry)) at n) (now (words .entry)) [])) ⌝ }
 {
-    let mut stack = [0u16; 1026];
+    let mut stack = [0u16; 1025];
     let mut depth: usize = 0;
+    let mut from: u16 = 0;
     let mut i: usize = 0;
     while i < n {
         let tag = word(file, at + 3 * i);
-        let from = stack[depth];
         let to = state_after(words[i], from);
         i += 1;
         turns[i] = from + 256 * to;
-        let left = less(depth);
-        stack[left + 1] = to;
-        stack[left + 2] = to;
-        depth = by_tag(tag, left, left + 2, left + 1);
+        from = above_next(tag, stack[depth], to);
+        stack[depth + 1] = to;
+        depth = by_tag(tag, less(depth), depth + 1, depth);
     }
 }

@@ -1,4 +1,4 @@
-use Rattle.running.specs.Choice.{clinicOf}
+use Rattle.steps.specs.Choice.{clinicOf}
 use Rattle.running.specs.Run.{start, run}
 use Rattle.running.proofs.EntryLaws.{place-word, stopped-by, pair-stopped, pair-found}
 use borrow.Author.Needs.{needs}

@@ -1,12 +1,13 @@
 use Prim.Native.Nat.{_≤_}
-use mathlib.Core.Path.{ap₂, _∙_}
+use mathlib.Core.Path.{sym, ap₂, subst, _∙_}
 use mathlib.Core.List.{map}
 use native.Mathlib.Omega.{arith}
 use lib.ListN.{length, drop, length-drop}
 use lib.Seq.{sets}
 use Rattle.format.specs.Sections.{nodesFrom}
 use Rattle.states.specs.States.{labelled, turnsOf, packed}
-use Rattle.states.proofs.PassLaws.{length-nodes}
+use Rattle.states.specs.Kept.{Served}
+use Rattle.states.proofs.PassLaws.{length-nodes, labels-roled}
 use Rattle.states.proofs.TurnLaws.{finish}
 use Rattle.states.proofs.turns.Statement.{statement}
 use Rattle.states.proofs.turns.Tie as tie
@@ -53,7 +54,10 @@ returns c =
     let ns = nodesFrom (a .file .now) (p .result) (n .result) in
     let rs = drop 1 (a .roles .now) in
     let long : length ns ≤ length rs = omega (arith, length-nodes (a .file .now) (p .result) (n .result), length-drop 1 (a .roles .now), n .ensures .0) in
-    c .before .before .follow .ensures ∙ finish (a .turns .now) rs _ _ ns (c .before .before .before .before .before .before .decide .ensures) long
+    let served : Served (labelled ns rs) =
+    subst (λ x. Served (labelled (nodesFrom (a .file .now) x (n .result)) rs)) (sym (p .ensures .0))
+    (subst (λ y. Served (labelled (nodesFrom (a .file .now) (a .head .at .nodes) y) rs)) (sym (n .ensures .0)) (c .before .before .before .before .before .before .before .before .before .before .before .before .before .pre .3)) in
+    c .before .before .follow .ensures ∙ finish (a .turns .now) rs _ _ ns (c .before .before .before .before .before .before .decide .ensures) long (labels-roled ns 1 (a .roles .now) (λ i. omega (arith, c .before .before .before .before .before .before .before .before .before .before .before .shared-slice-known2 .given i))) served
     ∙ ap₂ (λ x y. sets (a .turns .now) 1 (map packed (turnsOf (labelled (nodesFrom (a .file .now) x y) rs)))) (p .ensures .0) (n .ensures .0)
 
 pub turns-spec : {M : Type 1} → statement M

@@ -14,6 +14,7 @@ use Rattle.groups.specs.declared.Sums.{Sums}
 use Rattle.placing.specs.Placing.{unservedFrom, settling, noSums, summed}
 use Rattle.placing.specs.declared.Decision.{Decision}
 use Rattle.placing.proofs.DecideLaws.{decided-loud, decided-quiet, unserved-loud, too-large, not-too-large, turns-written}
+use Rattle.placing.proofs.ServedLaws.{all-served}
 use borrow.Author.Needs.{needs}
 use Rattle.placing.proofs.decide.settle.Statement.{statement}
 use Rattle.placing.proofs.decide.settle.Tie as tie
@@ -51,7 +52,12 @@ returns c =
 
 -- src/decide.rt:42:5
 turns-requires : tie.Need-turns-requires
-turns-requires c κs = search needs
+turns-requires c κs =
+    let a = c .before .before .before .before .before .before .before .before .args in
+    let pre = c .before .before .before .before .before .before .before .before .pre in
+    let ls : List Label = labelled (nodesIn (a .file .now) (a .head)) (drop 1 (a .roles .now)) in
+    let quiet : Quiet (unservedFrom 1 ls) = sym (ap (λ (x : Verdict). x .number) (c .before .before .before .unserved .ensures)) ∙ c .before .if1 .left in
+    (pre .0 .nodes, pre .1, pre .2, all-served 1 ls quiet)
 
 -- src/decide.rt:43:9
 starts-requires : tie.Need-starts-requires

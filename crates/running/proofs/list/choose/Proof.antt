@@ -4,8 +4,8 @@ use native.Mathlib.Omega.{arith}
 use lib.ListN.{getD}
 use borrow.Author.Tests.{not-true, not-false}
 use Rattle.rules.specs.Names.{within}
-use Rattle.running.specs.Choice.{Chosen, clinicOf}
-use Rattle.running.specs.Kept.{stateIn, Carried}
+use Rattle.steps.specs.Choice.{Chosen, clinicOf}
+use Rattle.steps.specs.Kept.{stateIn, Carried}
 use Rattle.running.proofs.ChoiceLaws.{within-both, acted-placed, choice-by, choice-none}
 use borrow.Author.Needs.{needs}
 use Rattle.running.proofs.list.choose.Statement.{statement}
@@ -17,7 +17,7 @@ use Rattle.running.proofs.list.is_thread.Reads as is-thread-reads
 use Rattle.running.proofs.list.partner_at.Reads as partner-at-reads
 use Rattle.running.proofs.list.store.Reads as store-reads
 use Rattle.running.proofs.state.thread_at.Reads as thread-at-reads
-use Rattle.running.proofs.act.act.Reads as act-reads
+use Rattle.steps.proofs.act.act.Reads as act-reads
 
 -- src/list.rt:109:17
 slice-read-count : tie.Need-slice-read-count

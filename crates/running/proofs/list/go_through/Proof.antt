@@ -3,9 +3,9 @@ use Prim.Native.Nat.{_-_, _/_, _≤_}
 use native.Mathlib.Omega.{arith}
 use borrow.Author.Needs.{needs}
 use lib.ListN.{length}
-use Rattle.running.specs.Choice.{clinicOf}
+use Rattle.steps.specs.Choice.{clinicOf}
 use Rattle.running.specs.Run.{run}
-use Rattle.running.specs.Kept.{stateIn, Sized}
+use Rattle.steps.specs.Kept.{stateIn, Sized}
 use Rattle.running.proofs.RunLaws.{Left, left-begin, left-halts, left-goes, left-ends, gone}
 use Rattle.running.proofs.list.go_through.Statement.{statement}
 use Rattle.running.proofs.list.go_through.Tie as tie

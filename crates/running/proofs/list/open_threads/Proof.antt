@@ -6,9 +6,9 @@ use borrow.Author.Needs.{needs}
 use lib.ListN.{length, length-set}
 use Rattle.format.specs.Words.{wordAt}
 use Rattle.format.specs.declared.Session.{Session}
-use Rattle.running.specs.Threads.{zeros}
+use Rattle.steps.specs.Threads.{zeros}
 use Rattle.running.specs.Run.{threadsFrom}
-use Rattle.running.specs.Kept.{threadsIn}
+use Rattle.steps.specs.Kept.{threadsIn}
 use Rattle.running.proofs.TableLaws.{stored-length}
 use Rattle.running.proofs.RunLaws.{open-more, open-state}
 use Rattle.running.proofs.list.open_threads.Statement.{statement}

@@ -3,7 +3,7 @@ use mathlib.Core.Path.{_≡_, sym, ap, _∙_}
 use mathlib.Core.Bool.{true, false}
 use native.Mathlib.Omega.{arith}
 use Rattle.rules.specs.Names.{within}
-use Rattle.running.specs.Kept.{threadIn}
+use Rattle.steps.specs.Kept.{threadIn}
 use Rattle.running.proofs.ChoiceLaws.{within-both}
 use borrow.Author.Needs.{needs}
 use Rattle.running.proofs.list.partner_at.Statement.{statement}

@@ -3,7 +3,7 @@ use lib.ListN.{length}
 use Rattle.rules.specs.declared.Way.the-variants.{Sends, Receives}
 use Rattle.rules.specs.Schema.{schemaOf}
 use Rattle.rules.proofs.GrantLaws.{grants-filled, grants-length, granting}
-use Rattle.running.specs.Choice.{State, clinicOf}
+use Rattle.steps.specs.Choice.{State, clinicOf}
 use Rattle.running.specs.Run.{run}
 use Rattle.running.specs.Stored.{Gone}
 use borrow.Author.Needs.{needs}

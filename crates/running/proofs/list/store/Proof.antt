@@ -1,8 +1,8 @@
 use mathlib.Core.Path.{ap, subst, _∙_}
 use native.Mathlib.Omega.{arith}
 use lib.ListN.{getD}
-use Rattle.running.specs.Choice.{State, changed}
-use Rattle.running.specs.Kept.{stateIn}
+use Rattle.steps.specs.Choice.{State, changed}
+use Rattle.steps.specs.Kept.{stateIn}
 use Rattle.running.specs.Stored.{Placed}
 use Rattle.running.proofs.StateLaws.{put-state, mint-state}
 use Rattle.running.proofs.StoreLaws.{then-added, then-minted, refused-stored, moves-stored, adds-stored, makes-stored, ends-stored, meets-stored}

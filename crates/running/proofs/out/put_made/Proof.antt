@@ -5,7 +5,7 @@ use lib.ListN.{length}
 use lib.Seq.{sets}
 use Rattle.format.specs.Words.{bytesOf}
 use Rattle.running.specs.Run.{madeWords}
-use Rattle.running.specs.Kept.{madeIn}
+use Rattle.steps.specs.Kept.{madeIn}
 use Rattle.running.proofs.PutLaws.{made-begin, made-turn, made-end}
 use borrow.Author.Needs.{needs}
 use Rattle.running.proofs.out.put_made.Statement.{statement}

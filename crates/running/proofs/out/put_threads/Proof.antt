@@ -5,7 +5,7 @@ use lib.ListN.{length}
 use lib.Seq.{sets}
 use Rattle.format.specs.Words.{bytesOf}
 use Rattle.running.specs.Run.{threadWords}
-use Rattle.running.specs.Kept.{threadsIn}
+use Rattle.steps.specs.Kept.{threadsIn}
 use Rattle.running.proofs.PutLaws.{threads-begin, threads-turn, threads-end}
 use borrow.Author.Needs.{needs}
 use Rattle.running.proofs.out.put_threads.Statement.{statement}

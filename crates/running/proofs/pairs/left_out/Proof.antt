@@ -1,4 +1,4 @@
-use Rattle.running.specs.Choice.{clinicOf}
+use Rattle.steps.specs.Choice.{clinicOf}
 use mathlib.Core.Path.{sym, ap, _∙_}
 use native.Mathlib.Omega.{arith}
 use Rattle.format.specs.declared.Node.{Node}

@@ -1,7 +1,7 @@
 use lib.ListN.{getD}
-use Rattle.running.specs.Kept.{madeIn}
+use Rattle.steps.specs.Kept.{madeIn}
 use mathlib.Core.Path.{_∙_}
-use Rattle.running.specs.Choice.{clinicOf}
+use Rattle.steps.specs.Choice.{clinicOf}
 use Rattle.running.proofs.PairLaws.{meets-by}
 use borrow.Author.Needs.{needs}
 use Rattle.running.proofs.pairs.meets.Statement.{statement}
@@ -9,7 +9,7 @@ use Rattle.running.proofs.pairs.meets.Tie as tie
 use Rattle.running.proofs.pairs.meets.Reads as reads
 use Rattle.running.proofs.pairs.meets.Lts as lts
 use Rattle.running.proofs.pairs.is_meeting.Reads as is-meeting-reads
-use Rattle.running.proofs.act.act.Reads as act-reads
+use Rattle.steps.proofs.act.act.Reads as act-reads
 
 -- src/pairs.rt:52:9
 act-requires : tie.Need-act-requires

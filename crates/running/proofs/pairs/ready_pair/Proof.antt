@@ -2,9 +2,9 @@ use native.Mathlib.Omega.{arith}
 use Prim.Native.Nat.{_+_, _*_, _-_, _≤_}
 use mathlib.Core.Path.{_≡_, refl}
 use lib.ListN.{getD}
-use Rattle.running.specs.Choice.{clinicOf}
+use Rattle.steps.specs.Choice.{clinicOf}
 use Rattle.running.specs.Run.{receiverFrom, pairFrom, readyPair}
-use Rattle.running.specs.Kept.{threadsIn, stateIn}
+use Rattle.steps.specs.Kept.{threadsIn, stateIn}
 use Rattle.running.proofs.PairLaws.{two, receivers-begin, receiver-missed, receiver-found, receivers-end, senders-begin, sender-passed, sender-found, senders-end}
 use borrow.Author.Needs.{needs}
 use Rattle.running.proofs.pairs.ready_pair.Statement.{statement}

@@ -1,13 +1,13 @@
-use Prim.Native.Nat.{ℕ, _+_, _-_, _≤_}
-use mathlib.Core.Path.{_≡_, refl, sym, ap, ap₂, _∙_}
+use Prim.Native.Nat.{suc, _+_, _*_, _-_, _≤_}
+use mathlib.Core.Path.{_≡_, refl, sym, ap, _∙_}
 use mathlib.Core.Bool.{cond}
-use mathlib.Core.List.{[], _++_}
+use mathlib.Core.List.{_∷_, _++_}
 use native.Mathlib.Omega.{arith}
 use lib.Dec.{eqb}
 use lib.ListN.{length, getD, drop, length-set}
-use Rattle.states.specs.States.{Label, rows, rowOf}
-use Rattle.states.specs.Kept.{kidsOf, keptOf, keptAll}
-use Rattle.states.proofs.PassLaws.{held, zeros, labelsFrom, labels-few, labels-all, rows-fit, right-rows, right-words, right-begins, right-empty, right-depth, first-kept}
+use Rattle.format.specs.Sections.{nodesFrom}
+use Rattle.states.specs.Kept.{cells, keptAll}
+use Rattle.states.proofs.PassLaws.{held, Same, labelsFrom, labels-few, labels-all, labels-roled, cells-fit, right-cells, right-words, right-begins, right-empty, right-depth, first-kept}
 use Rattle.states.proofs.pass.decide.Statement.{statement}
 use Rattle.states.proofs.pass.decide.Tie as tie
 use Rattle.states.proofs.pass.decide.Reads as reads
@@ -18,28 +18,24 @@ use Rattle.states.proofs.pass.by_tag.Reads as by-tag-reads
 use Rattle.states.proofs.pass.less.Reads as less-reads
 
 abbrev Inv-loop : tie.InvT-loop
-Inv-loop file at n roles words₀ stack₀ depth₀ i₀ words stack depth i =
-    (i ≤ n) × (depth ≤ n - i) × (length stack ≡ 1025) × (getD stack 0 [] ≡ zeros) × (length words ≡ 1024)
-    × (held [] stack depth ≡ rows (labelsFrom file at n roles i))
+Inv-loop file at n roles words₀ stack₀ depth₀ row₀ i₀ words stack depth row i =
+    (i ≤ n) × (depth ≤ n - i) × (length stack ≡ 1025) × (getD stack 0 0 ≡ 0) × (length words ≡ 1024)
+    × Same (row ∷ held 0 stack depth) (cells (labelsFrom file at n roles i))
     × (drop i words ≡ keptAll (labelsFrom file at n roles i) ++ drop n words₀)
 
 abbrev μ-loop : tie.MeasureT-loop
-μ-loop file at n roles words₀ stack₀ depth₀ i₀ words stack depth i =
-    i
+μ-loop file at n roles words₀ stack₀ depth₀ row₀ i₀ words stack depth row i = i
 
 -- the rows that are left
-left : (c : tie.After-by-tag Inv-loop μ-loop)
-    → c .by-tag .result ≡ cond (eqb (c .before .before .before .before .before .before .word .result) 0) (c .before .before .before .before .before .before .before .before .loop .depth) (cond (eqb (c .before .before .before .before .before .before .word .result) 1) (c .before .before .before .before .before .before .before .before .loop .depth - 1 - 1) (c .before .before .before .before .before .before .before .before .loop .depth - 1))
+left : (c : tie.After-by-tag Inv-loop μ-loop) → c .by-tag .result ≡ cond (eqb (c .before .before .before .before .word .result) 0) (c .before .before .before .before .before .before .loop .depth + 1) (cond (eqb (c .before .before .before .before .word .result) 1) (c .before .before .before .before .before .before .loop .depth - 1) (c .before .before .before .before .before .before .loop .depth))
 left c =
-    let d = c .before .before .before .before .before .before .before .before .loop .depth in
-    let tag = c .before .before .before .before .before .before .word .result in
-    let less = c .before .before .before .before .before .less .ensures in
-    c .by-tag .ensures ∙ ap₂ (λ x y. cond (eqb tag 0) d (cond (eqb tag 1) x y)) (c .before .less2 .ensures ∙ ap (λ x. x - 1) less) less
+    let d = c .before .before .before .before .before .before .loop .depth in
+    let tag = c .before .before .before .before .word .result in
+    c .by-tag .ensures ∙ ap (λ x. cond (eqb tag 0) (d + 1) (cond (eqb tag 1) x d)) (c .before .less .ensures)
 
-few : (c : tie.After-by-tag Inv-loop μ-loop) → c .by-tag .result ≤ c .before .before .before .before .before .before .before .before .loop .depth
-few c = right-depth (c .before .before .before .before .before .before .word .result) (c .before .before .before .before .before .before .before .before .loop .depth) (c .by-tag .result) (left c)
+few : (c : tie.After-by-tag Inv-loop μ-loop) → c .by-tag .result ≤ c .before .before .before .before .before .before .loop .depth + 1
+few c = right-depth (c .before .before .before .before .word .result) (c .before .before .before .before .before .before .loop .depth) (c .by-tag .result) (left c)
 
--- src/pass.rt:44:5
 loop-holds : tie.Need-loop-holds Inv-loop μ-loop
 loop-holds c =
     let a = c .before .before .before .args in (
@@ -52,121 +48,91 @@ loop-holds c =
       right-empty (a .file .now) (a .at) (a .n) (a .roles .now) (drop (a .n) (a .words .now)),
     )
 
--- src/pass.rt:45:9
 sub-i : tie.Need-sub-i Inv-loop μ-loop
 sub-i c = omega arith
 
--- src/pass.rt:46:35
 mul-word : tie.Need-mul-word Inv-loop μ-loop
 mul-word c = omega arith
 
--- src/pass.rt:46:30
 add-word : tie.Need-add-word Inv-loop μ-loop
 add-word c = omega arith
 
--- src/pass.rt:46:13
 word-requires : tie.Need-word-requires Inv-loop μ-loop
 word-requires c κs = omega arith
 
--- src/pass.rt:47:13
-less-requires : tie.Need-less-requires Inv-loop μ-loop
-less-requires c κs = omega arith
-
--- src/pass.rt:48:34
 add-keep : tie.Need-add-keep Inv-loop μ-loop
 add-keep c = omega arith
 
--- src/pass.rt:48:28
 mul-keep : tie.Need-mul-keep Inv-loop μ-loop
 mul-keep c = omega arith
 
--- src/pass.rt:48:28
 shared-slice-read-keep : tie.Need-shared-slice-read-keep Inv-loop μ-loop
 shared-slice-read-keep c = omega arith
 
--- src/pass.rt:48:42
-slice-aggregate-keep : tie.Need-slice-aggregate-keep Inv-loop μ-loop
-slice-aggregate-keep c = omega arith
+mul-keep-2 : tie.Need-mul-keep-2 Inv-loop μ-loop
+mul-keep-2 c = omega arith
 
--- src/pass.rt:48:13
+array-read-keep : tie.Need-array-read-keep Inv-loop μ-loop
+array-read-keep c = omega arith
+
 keep-requires : tie.Need-keep-requires Inv-loop μ-loop
 keep-requires c κs =
-    let a = c .before .before .before .before .before .before .before .before .before .args in
-    let l = c .before .before .before .before .before .loop in
-    let less = c .before .before .less .ensures in (
-      omega arith,
-      omega (arith, less),
-      λ s. omega (
-        arith,
-        rows-fit (l .stack) (l .depth) s (labelsFrom (a .file .now) (a .at) (a .n) (a .roles .now) (l .i)) (l .inv .3) (l .inv .5),
-        labels-few (a .file .now) (a .at) (a .n) (a .roles .now) (l .i),
-        ap (λ j. getD (getD (l .stack) j []) s 0) less,
-      ),
-    )
+    let a = c .before .before .before .before .before .before .before .args in
+    let l = c .before .before .before .loop in
+    let ls = labelsFrom (a .file .now) (a .at) (a .n) (a .roles .now) (l .i) in
+    let roled = labels-roled (nodesFrom (a .file .now) (a .at + 3 * l .i) (a .n - l .i)) (suc (l .i)) (a .roles .now) (λ i. omega (arith, c .before .before .before .before .before .shared-slice-known2 .given i)) in
+    omega (arith, cells-fit (l .row) (l .stack) (l .depth) ls roled (l .inv .3) (l .inv .5), labels-few (a .file .now) (a .at) (a .n) (a .roles .now) (l .i))
 
--- src/pass.rt:49:40
-less-requires-2 : tie.Need-less-requires-2 Inv-loop μ-loop
-less-requires-2 c κs = omega arith
+add-stack : tie.Need-add-stack Inv-loop μ-loop
+add-stack c = omega arith
 
--- src/pass.rt:49:21
+mul-stack : tie.Need-mul-stack Inv-loop μ-loop
+mul-stack c = omega arith
+
+array-write-stack : tie.Need-array-write-stack Inv-loop μ-loop
+array-write-stack c = omega arith
+
+add-by-tag : tie.Need-add-by-tag Inv-loop μ-loop
+add-by-tag c = omega arith
+
+less-requires : tie.Need-less-requires Inv-loop μ-loop
+less-requires c κs = omega arith
+
 by-tag-requires : tie.Need-by-tag-requires Inv-loop μ-loop
 by-tag-requires c κs = omega arith
 
--- src/pass.rt:49:17
-add-depth : tie.Need-add-depth Inv-loop μ-loop
-add-depth c = omega (arith, few c)
-
--- src/pass.rt:51:9
-mul-stack : tie.Need-mul-stack Inv-loop μ-loop
-mul-stack c = omega (arith, few (c .before))
-
--- src/pass.rt:51:9
-array-set-from-stack : tie.Need-array-set-from-stack Inv-loop μ-loop
-array-set-from-stack c = omega (arith, few (c .before))
-
--- src/pass.rt:52:9
 mul-words : tie.Need-mul-words Inv-loop μ-loop
 mul-words c = omega arith
 
--- src/pass.rt:52:9
 slice-write-words : tie.Need-slice-write-words Inv-loop μ-loop
 slice-write-words c = omega arith
 
--- src/pass.rt:44:5
 loop-less : tie.Need-loop-less Inv-loop μ-loop
 loop-less c = omega arith
 
--- src/pass.rt:44:5
 loop-again : tie.Need-loop-again Inv-loop μ-loop
 loop-again c =
-    let a = c .before .before .before .before .before .before .before .before .before .before .before .before .before .args in
-    let l = c .before .before .before .before .before .before .before .before .before .loop in
+    let a = c .before .before .before .before .before .before .before .before .before .before .args in
+    let l = c .before .before .before .before .before .before .loop in
     let i = l .i - 1 in
-    let tag = c .before .before .before .before .before .before .before .word .result in
-    let less = c .before .before .before .before .before .before .less .ensures in
-    let it = c .before .before .before .keep .result in
-    let j = c .before .by-tag .result in
+    let tag = c .before .before .before .before .word .result in
+    let it = c .before .before .keep in
     let back : i + 1 ≡ l .i = omega arith in
-    let st : held [] (l .stack) (l .depth) ≡ rows (labelsFrom (a .file .now) (a .at) (a .n) (a .roles .now) (i + 1)) =
-    l .inv .5 ∙ ap (λ x. rows (labelsFrom (a .file .now) (a .at) (a .n) (a .roles .now) x)) (sym back) in
+    let st : Same (l .row ∷ held 0 (l .stack) (l .depth)) (cells (labelsFrom (a .file .now) (a .at) (a .n) (a .roles .now) (i + 1))) =
+    λ k. l .inv .5 k ∙ ap (λ x. getD (cells (labelsFrom (a .file .now) (a .at) (a .n) (a .roles .now) x)) k 0) (sym back) in
     let done : drop (i + 1) (l .words) ≡ keptAll (labelsFrom (a .file .now) (a .at) (a .n) (a .roles .now) (i + 1)) ++ drop (a .n) (a .words .now) =
-    ap (λ x. drop x (l .words)) back ∙ l .inv .6 ∙ ap (λ x. keptAll (labelsFrom (a .file .now) (a .at) (a .n) (a .roles .now) x) ++ drop (a .n) (a .words .now)) (sym back) in
-    let node : Label = record { tag = tag; roles = getD (a .roles .now) (i + 1) 0 } in
-    let costs : ℕ → ℕ → ℕ = λ y. kidsOf tag (getD (l .stack) (l .depth) []) (getD (l .stack) y []) in
-    let row : it .row ≡ rowOf node (costs (l .depth - 1)) = c .before .before .before .keep .ensures .0 ∙ ap (λ y. rowOf node (costs y)) less in
-    let word : it .word ≡ keptOf node (costs (l .depth - 1)) = c .before .before .before .keep .ensures .1 ∙ ap (λ y. keptOf node (costs y)) less in (
+    ap (λ x. drop x (l .words)) back ∙ l .inv .6 ∙ ap (λ x. keptAll (labelsFrom (a .file .now) (a .at) (a .n) (a .roles .now) x) ++ drop (a .n) (a .words .now)) (sym back) in (
       omega arith,
-      omega (arith, few (c .before)),
+      omega (arith, few c),
       simp length-set (l .inv .2),
-      first-kept [] (l .stack) (1 + j) (it .row) (omega arith) ∙ l .inv .3,
+      first-kept 0 (l .stack) (l .depth + 1) (l .row) (omega arith) ∙ l .inv .3,
       simp length-set (l .inv .4),
-      right-rows (a .file .now) (a .at) (a .n) (a .roles .now) i (omega arith) (omega arith) (l .stack) (l .depth) (l .inv .3) st tag (c .before .before .before .before .before .before .before .word .ensures)
-          (it .row) j row (left (c .before)) (omega (arith, few (c .before))),
-      right-words (a .file .now) (a .at) (a .n) (a .roles .now) i (omega arith) (omega arith) (l .stack) (l .depth) (l .inv .3) st tag (c .before .before .before .before .before .before .before .word .ensures)
-          (l .words) (drop (a .n) (a .words .now)) (it .word) word (omega arith) done,
+      right-cells (a .file .now) (a .at) (a .n) (a .roles .now) i (omega arith) (omega arith) (l .row) (l .stack) (l .depth) (l .inv .3) st tag (c .before .before .before .before .word .ensures)
+          (it .result .cell) (c .by-tag .result) (it .ensures .0) (left c) (omega arith),
+      right-words (a .file .now) (a .at) (a .n) (a .roles .now) i (omega arith) (omega arith) (l .row) (l .stack) (l .depth) (l .inv .3) st tag (c .before .before .before .before .word .ensures)
+          (l .words) (drop (a .n) (a .words .now)) (it .result .word) (it .ensures .1) (omega arith) done,
     )
 
--- src/pass.rt:37:1
 same-length : tie.Need-same-length Inv-loop μ-loop
 same-length c = omega arith
 
@@ -189,17 +155,18 @@ decide-spec =
     mul-word
     add-word
     word-requires
-    less-requires
     add-keep
     mul-keep
     shared-slice-read-keep
-    slice-aggregate-keep
+    mul-keep-2
+    array-read-keep
     keep-requires
-    less-requires-2
-    by-tag-requires
-    add-depth
+    add-stack
     mul-stack
-    array-set-from-stack
+    array-write-stack
+    add-by-tag
+    less-requires
+    by-tag-requires
     mul-words
     slice-write-words
     loop-less

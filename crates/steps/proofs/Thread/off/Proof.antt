@@ -1,0 +1,21 @@
+use borrow.Author.Needs.{needs}
+use Rattle.steps.proofs.Thread.off.Statement.{statement}
+use Rattle.steps.proofs.Thread.off.Tie as tie
+use Rattle.steps.proofs.Thread.off.Reads as reads
+use Rattle.steps.proofs.Thread.off.Lts as lts
+use Rattle.masks.proofs.without_role.Reads as without-role-reads
+
+-- src/threads.rt:78:9
+without-role-requires : tie.Need-without-role-requires
+without-role-requires c κs = search needs
+
+-- src/threads.rt:79:9
+add-self : tie.Need-add-self
+add-self c = search needs
+
+-- src/threads.rt:74:5
+returns : tie.Need-returns
+returns c = cc
+
+pub off-spec : {M : Type 1} → statement M
+off-spec = tie.close (tie.spec without-role-requires add-self returns)

@@ -1,0 +1,108 @@
+use mathlib.Core.Path.{_≡_, sym, _∙_}
+use mathlib.Core.Bool.{Bool}
+use native.Mathlib.Omega.{arith}
+use lib.ListN.{getD}
+use borrow.Author.Tests.{not-true, not-false}
+use Rattle.rules.specs.Names.{within}
+use Rattle.steps.specs.Choice.{clinicOf}
+use Rattle.steps.specs.Kept.{madeIn}
+use Rattle.steps.proofs.ActLaws.{answered, in-count, sending-alone, sending-missing, sending-out, sending-elsewhere, sending-received}
+use borrow.Author.Needs.{needs}
+use Rattle.steps.proofs.act.send.Statement.{statement}
+use Rattle.steps.proofs.act.send.Tie as tie
+use Rattle.steps.proofs.act.send.Reads as reads
+use Rattle.steps.proofs.act.send.Lts as lts
+use Rattle.format.proofs.sections.node.Reads as node-reads
+use Rattle.steps.proofs.act.is_node.Reads as is-node-reads
+use Rattle.steps.proofs.act.meets.Reads as meets-reads
+use Rattle.steps.proofs.act.refused.Reads as refused-reads
+
+-- the partner's node is in count, or not
+counted : (c : tie.After-is-node) {b : Bool} → c .is-node .result ≡ b → let a = c .before .before .before .before .before .before .before .before .args in within (a .head .count .nodes) (a .other .node) ≡ b
+counted c h = sym (c .is-node .ensures) ∙ h
+
+-- src/act.rt:220:9
+refused-requires : tie.Need-refused-requires
+refused-requires c κs = search needs
+
+-- src/act.rt:220:9
+returns : tie.Need-returns
+returns c =
+    let a = c .before .before .before .before .before .before .args in
+    answered (sending-alone (clinicOf (a .file .now) (a .head)) (madeIn (a .beside .now) 2 (getD (a .beside .now) 1 0)) (a .own) (a .it) (getD (a .beside .now) 0 0) (a .partner) (a .other) (c .before .if1 .taken)) (c .refused .ensures)
+
+-- src/act.rt:222:8
+shared-slice-read-if2 : tie.Need-shared-slice-read-if2
+shared-slice-read-if2 c = search needs
+
+-- src/act.rt:223:9
+refused-requires-2 : tie.Need-refused-requires-2
+refused-requires-2 c κs = search needs
+
+-- src/act.rt:223:9
+returns-2 : tie.Need-returns-2
+returns-2 c =
+    let a = c .before .before .before .before .before .before .before .before .args in
+    answered (sending-missing (clinicOf (a .file .now) (a .head)) (madeIn (a .beside .now) 2 (getD (a .beside .now) 1 0)) (a .own) (a .it) (getD (a .beside .now) 0 0) (a .partner) (a .other) (c .before .before .before .if1 .left) (c .before .if2 .taken)) (c .refused2 .ensures)
+
+-- src/act.rt:225:9
+is-node-requires : tie.Need-is-node-requires
+is-node-requires c κs = search needs
+
+-- src/act.rt:226:9
+refused-requires-3 : tie.Need-refused-requires-3
+refused-requires-3 c κs = search needs
+
+-- src/act.rt:226:9
+returns-3 : tie.Need-returns-3
+returns-3 c =
+    let a = c .before .before .before .before .before .before .before .before .before .before .args in
+    answered (sending-out (clinicOf (a .file .now) (a .head)) (madeIn (a .beside .now) 2 (getD (a .beside .now) 1 0)) (a .own) (a .it) (getD (a .beside .now) 0 0) (a .partner) (a .other) (c .before .before .before .before .before .if1 .left) (c .before .before .before .if2 .left) (counted (c .before .before) (not-true _ (c .before .if3 .taken)))) (c .refused3 .ensures)
+
+-- src/act.rt:228:9
+node-requires : tie.Need-node-requires
+node-requires c κs =
+    let a = c .before .before .before .before .before .before .before .before .before .args in
+    in-count (a .head .count .nodes) (a .other .node) (counted (c .before) (not-false _ (c .if3 .left))) .0
+
+-- src/act.rt:230:9
+refused-requires-4 : tie.Need-refused-requires-4
+refused-requires-4 c κs = search needs
+
+-- src/act.rt:230:9
+returns-4 : tie.Need-returns-4
+returns-4 c =
+    let a = c .before .before .before .before .before .before .before .before .before .before .before .before .before .args in
+    answered (sending-elsewhere (clinicOf (a .file .now) (a .head)) (madeIn (a .beside .now) 2 (getD (a .beside .now) 1 0)) (a .own) (a .it) (getD (a .beside .now) 0 0) (a .partner) (a .other) (c .before .before .before .node .result) (c .before .before .before .node .ensures) (c .before .before .before .before .before .before .before .before .if1 .left) (c .before .before .before .before .before .before .if2 .left) (counted (c .before .before .before .before .before) (not-false _ (c .before .before .before .before .if3 .left))) (c .before .if4 .taken)) (c .refused4 .ensures)
+
+-- src/act.rt:232:5
+meets-requires : tie.Need-meets-requires
+meets-requires c κs =
+    let a = c .before .before .before .before .before .before .before .before .before .before .before .before .args in
+    let w = in-count (a .head .count .nodes) (a .other .node) (counted (c .before .before .before .before) (not-false _ (c .before .before .before .if3 .left))) in
+    let p = c .before .before .before .before .before .before .before .before .before .before .before .before .pre in
+    (p .1, omega (arith, p .0, w .1), p .2, p .3, p .4, p .5)
+
+-- src/act.rt:205:1
+returns-5 : tie.Need-returns-5
+returns-5 c =
+    let a = c .before .before .before .before .before .before .before .before .before .before .before .before .before .args in
+    answered (sending-received (clinicOf (a .file .now) (a .head)) (madeIn (a .beside .now) 2 (getD (a .beside .now) 1 0)) (a .own) (a .it) (getD (a .beside .now) 0 0) (a .partner) (a .other) (c .before .before .before .node .result) (c .before .before .before .node .ensures) (c .before .before .before .before .before .before .before .before .if1 .left) (c .before .before .before .before .before .before .if2 .left) (counted (c .before .before .before .before .before) (not-false _ (c .before .before .before .before .if3 .left))) (c .before .if4 .left)) (c .meets .ensures)
+
+pub send-spec : {M : Type 1} → statement M
+send-spec =
+    tie.close
+    (tie.spec
+    refused-requires
+    returns
+    shared-slice-read-if2
+    refused-requires-2
+    returns-2
+    is-node-requires
+    refused-requires-3
+    returns-3
+    node-requires
+    refused-requires-4
+    returns-4
+    meets-requires
+    returns-5)

@@ -1,0 +1,4 @@
+pub mod Threads
+pub mod Choice
+pub mod Kept
+pub mod Acted

@@ -1,0 +1,265 @@
+// One choice, by value on what it touches.
+use super::Acted;
+use super::Answer;
+use super::Made;
+use super::Thread;
+use format::Head;
+use format::Node;
+use format::sections::channel;
+use format::sections::node;
+use format::sections::user_roles;
+use format::words::wide;
+use masks::UserRole;
+use masks::has_role;
+use rules::grants::grant_of;
+ghost use mathlib.Core.Path.{_≡_};
+ghost use mathlib.Core.Bool.{cond, not};
+ghost use Prim.Native.Nat.{_+_, _≤_, _<_};
+ghost use lib.Bits.{bitAnd};
+ghost use lib.Dec.{eqb, ltb};
+ghost use lib.ListN.{length, getD};
+ghost use Rattle.masks.specs.Mask.{has, with};
+ghost use Rattle.rules.specs.Schema.{schemaOf};
+ghost use Rattle.rules.specs.Names.{within};
+ghost use Rattle.rules.specs.Kept.{Granting};
+ghost use Rattle.rules.specs.declared.Way.the-variants.{Sends, Receives};
+ghost use Rattle.steps.specs.declared.Outcome.the-variants.{Refused, Moves, Adds, Makes};
+ghost use Rattle.steps.specs.Threads.{noThread, masked, bound};
+ghost use Rattle.steps.specs.Choice.{clinicOf, kindHeld, meeting, sending, lone, acting};
+ghost use Rattle.steps.specs.Kept.{madeIn};
+ghost use Rattle.steps.specs.Acted.{partnerOf, actedOf};
+
+// A node in count.
+fn is_node(head: Head, n: u16) -> bool
+    ensures { λ r. ⌜ r ≡ within (head .count .nodes) n ⌝ }
+{
+    (0 < n) & (n <= head.count.nodes)
+}
+
+// The kind of a value, 0 for a plain one.
+fn kind_held(file: &[u8], head: Head, beside: &[u16], v: u16) -> u16
+    requires { ⌜ (length (now beside) ≡ 130) × (getD (now beside) 1 0 ≤ 64) ⌝ }
+    ensures { λ r. ⌜ r ≡ kindHeld (schemaOf (now (file .entry)) head) (madeIn (now (beside .entry)) 2 (getD (now (beside .entry)) 1 0)) v ⌝ }
+{
+    if v < 257 {
+        return 0;
+    }
+    if v < 385 {
+        let it = channel(file, head, v - 256);
+        return it.kind.0;
+    }
+    let i = wide(v - 385);
+    if i < wide(beside[1]) {
+        return beside[2 * i + 3];
+    }
+    0
+}
+
+// One active role permits a step on the kind, by the table that has the roles for each kind.
+fn is_able(table: &[u16], mask: u16, kind: u16) -> bool
+    ensures { λ r. ⌜ r ≡ not (eqb (bitAnd mask (getD (now (table .entry)) kind 0)) 0) ⌝ }
+{
+    (mask & grant_of(table, kind)) != 0
+}
+
+fn no_thread() -> Thread
+    ensures { λ r. ⌜ r ≡ noThread ⌝ }
+{
+    Thread {
+        user: 0,
+        node: 0,
+        mask: 0,
+        vars: [0; 8],
+    }
+}
+
+// An answer that leaves one thread at most.
+fn sole(answer: Answer, first: Thread) -> Acted
+    ensures { λ r. ⌜ r ≡ record { answer = answer; first = first; second = noThread } ⌝ }
+{
+    Acted {
+        answer,
+        first,
+        second: no_thread(),
+    }
+}
+
+fn refused(number: u16) -> Acted
+    ensures { λ r. ⌜ r ≡ actedOf (Refused number) ⌝ }
+{
+    sole(Answer::Refused(number), no_thread())
+}
+
+// A thread that moves on alone, or the refusal.
+fn moves_if(fits: bool, moved: Thread, number: u16) -> Acted
+    ensures { λ r. ⌜ r ≡ actedOf (cond fits (Moves moved) (Refused number)) ⌝ }
+{
+    if fits {
+        return sole(Answer::Moves, moved);
+    }
+    refused(number)
+}
+
+// A new last thread; 20 where it is the 65th.
+fn adds(threads: u16, first: Thread, second: Thread) -> Acted
+    ensures { λ r. ⌜ r ≡ actedOf (cond (ltb threads 64) (Adds (record { first = first; second = second })) (Refused 20)) ⌝ }
+{
+    if threads < 64 {
+        return Acted {
+            answer: Answer::Adds,
+            first,
+            second,
+        };
+    }
+    refused(20)
+}
+
+// A made channel; 20 where it is the 65th.
+fn makes(made: u16, own: Thread, kind: u16) -> Acted
+    requires { ⌜ own .node < 65535 ⌝ }
+    ensures { λ r. ⌜ r ≡ actedOf (cond (ltb made 64) (Makes (record { thread = bound own (385 + made); made = record { owner = own .user; kind = kind } })) (Refused 20)) ⌝ }
+{
+    if made < 64 {
+        let it = Made {
+            owner: own.user,
+            kind,
+        };
+        return sole(Answer::Makes(it), own.bound(385 + made));
+    }
+    refused(20)
+}
+
+// On of a role assigned to the user; 11 of another.
+fn switches_on(file: &[u8], head: Head, own: Thread, role: UserRole) -> Acted
+    requires { ⌜ own .node < 65535 ⌝ }
+    ensures { λ r. ⌜ r ≡ actedOf (cond (has (schemaOf (now (file .entry)) head .assigned (own .user)) (role .0)) (Moves (masked own (with (own .mask) (role .0)))) (Refused 11)) ⌝ }
+{
+    if own.user == 0 {
+        return refused(11);
+    }
+    if has_role(user_roles(file, head, own.user), role) {
+        return sole(Answer::Moves, own.on(role));
+    }
+    refused(11)
+}
+
+// A lone step, by its tag.
+fn step(file: &[u8], head: Head, threads: u16, made: u16, own: Thread, it: Node) -> Acted
+    requires { ⌜ own .node < 65535 ⌝ }
+    ensures { λ r. ⌜ r ≡ actedOf (lone (clinicOf (now (file .entry)) head) threads made own it) ⌝ }
+{
+    let tag = it.tag;
+    match tag {
+        0 => sole(Answer::Ends, no_thread()),
+        1 => adds(threads, own.onward(), own.moved_to(it.f1)),
+        2 => adds(threads, own, own.onward()),
+        3 => makes(made, own, it.f1),
+        4 => moves_if(own.value(it.f1) == own.value(it.f2), own.onward(), 19),
+        7 => switches_on(file, head, own, UserRole(it.f1)),
+        8 => {
+            let role = UserRole(it.f1);
+            moves_if(has_role(own.mask, role), own.off(role), 12)
+        }
+        _ => refused(18),
+    }
+}
+
+// A send with a receive. The kind is looked up anew only where their channels differ.
+fn meets(
+    file: &[u8],
+    head: Head,
+    sends: &[u16],
+    receives: &[u16],
+    beside: &[u16],
+    own: Thread,
+    it: Node,
+    other: Thread,
+    theirs: Node,
+) -> Acted
+    requires { ⌜ (own .node < 65535) × (other .node < 65535) × Granting (schemaOf (now file) head) Sends (now sends) × Granting (schemaOf (now file) head) Receives (now receives) × (length (now beside) ≡ 130) × (getD (now beside) 1 0 ≤ 64) ⌝ }
+    ensures { λ r. ⌜ r ≡ actedOf (meeting (clinicOf (now (file .entry)) head) (madeIn (now (beside .entry)) 2 (getD (now (beside .entry)) 1 0)) own it other theirs) ⌝ }
+{
+    let over = own.value(it.f1);
+    let kind = kind_held(file, head, beside, over);
+    if !is_able(sends, own.mask, kind) {
+        return refused(13);
+    }
+    let at = other.value(theirs.f1);
+    if over != at {
+        if is_able(receives, other.mask, kind_held(file, head, beside, at)) {
+            return refused(19);
+        }
+        return refused(13);
+    }
+    if !is_able(receives, other.mask, kind) {
+        return refused(13);
+    }
+    Acted {
+        answer: Answer::Meets,
+        first: own.onward(),
+        second: other.bound(own.value(it.f2)),
+    }
+}
+
+// A send needs a partner that is a thread at a receive.
+fn send(
+    file: &[u8],
+    head: Head,
+    sends: &[u16],
+    receives: &[u16],
+    beside: &[u16],
+    own: Thread,
+    it: Node,
+    partner: u16,
+    other: Thread,
+) -> Acted
+    requires { ⌜ (head .count .nodes ≤ 1024) × (own .node < 65535) × Granting (schemaOf (now file) head) Sends (now sends) × Granting (schemaOf (now file) head) Receives (now receives) × (length (now beside) ≡ 130) × (getD (now beside) 1 0 ≤ 64) ⌝ }
+    ensures { λ r. ⌜ r ≡ actedOf (sending (clinicOf (now (file .entry)) head) (madeIn (now (beside .entry)) 2 (getD (now (beside .entry)) 1 0)) own it (partnerOf (getD (now (beside .entry)) 0 0) partner other)) ⌝ }
+{
+    if partner == 0 {
+        return refused(18);
+    }
+    if beside[0] < partner {
+        return refused(18);
+    }
+    if !is_node(head, other.node) {
+        return refused(18);
+    }
+    let theirs = node(file, head, other.node);
+    if theirs.tag != 5 {
+        return refused(18);
+    }
+    meets(file, head, sends, receives, beside, own, it, other, theirs)
+}
+
+// What a choice of a thread comes to. The partner is named by its number, 0 if alone, and `other` is that thread where there is one. The tables have
+// the roles that permit sending, and receiving, on each kind; beside the threads stand their number, the number of made channels, and owner and kind
+// of each.
+pub fn act(
+    file: &[u8],
+    head: Head,
+    sends: &[u16],
+    receives: &[u16],
+    beside: &[u16],
+    own: Thread,
+    partner: u16,
+    other: Thread,
+) -> Acted
+    requires { ⌜ (head .count .nodes ≤ 1024) × Granting (schemaOf (now file) head) Sends (now sends) × Granting (schemaOf (now file) head) Receives (now receives) × (length (now beside) ≡ 130) × (getD (now beside) 1 0 ≤ 64) ⌝ }
+    ensures { λ r. ⌜ r ≡ actedOf (acting (clinicOf (now (file .entry)) head) (getD (now (beside .entry)) 0 0) (madeIn (now (beside .entry)) 2 (getD (now (beside .entry)) 1 0)) own (partnerOf (getD (now (beside .entry)) 0 0) partner other)) ⌝ }
+{
+    if !is_node(head, own.node) {
+        return refused(18);
+    }
+    let it = node(file, head, own.node);
+    if it.tag == 6 {
+        return send(file, head, sends, receives, beside, own, it, partner, other);
+    }
+    if it.tag == 5 {
+        return refused(18);
+    }
+    if partner != 0 {
+        return refused(18);
+    }
+    step(file, head, beside[0], beside[1], own, it)
+}
