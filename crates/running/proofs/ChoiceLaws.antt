@@ -139,6 +139,22 @@ choice-told C s i p = go (within (length (s .threads)) i)
     go true = done-told (length (s .threads)) (length (s .made)) s i p _ (acting-fair (length (s .threads)) p C (s .made) (threadAt s i) (threadAt s p))
     go false = some 17
 
+-- the thread looked at for the partner is a thread; it is the partner where the choice names one
+pub looked : (n i p q : ℕ) → within n i ≡ true → q ≡ cond (within n p) p i → (0 < q) × (q ≤ n)
+looked n i p q h e = go (within n p) refl e
+  where
+    go : (x : Bool) → within n p ≡ x → q ≡ cond x p i → (0 < q) × (q ≤ n)
+    go true w f = subst (λ (k : ℕ). (0 < k) × (k ≤ n)) (sym f) (within-both n p w)
+    go false w f = subst (λ (k : ℕ). (0 < k) × (k ≤ n)) (sym f) (within-both n i h)
+
+pub partner-read : (w : List ℕ) (n i p q at to : ℕ) (own other : Thread) → q ≡ cond (within n p) p i → at ≡ i - 1 → own ≡ threadIn w (11 * at) → to ≡ q - 1
+    → other ≡ threadIn w (11 * to) → other ≡ cond (within n p) (threadIn w (11 * (p - 1))) own
+partner-read w n i p q at to own other e a mine b theirs = go (within n p) e
+  where
+    go : (x : Bool) → q ≡ cond x p i → other ≡ cond x (threadIn w (11 * (p - 1))) own
+    go true f = theirs ∙ ap (λ (k : ℕ). threadIn w (11 * k)) (b ∙ ap (λ (k : ℕ). k - 1) f)
+    go false f = theirs ∙ ap (λ (k : ℕ). threadIn w (11 * k)) (b ∙ ap (λ (k : ℕ). k - 1) f ∙ sym a) ∙ sym mine
+
 -- the choice of a state in tables, by the threads read from them
 module _ (C : Clinic) (w b : List ℕ) (p : ℕ) (own other : Thread) (it : Acted)
     (acted : it ≡ actedOf (acting C (getD b 0 0) (madeIn b 2 (getD b 1 0)) own (partnerOf (getD b 0 0) p other))) where

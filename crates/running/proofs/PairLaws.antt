@@ -8,41 +8,23 @@ use native.Mathlib.Numerals.{add-one}
 use lib.Dec.{eqb, eqb·suc-zero}
 use lib.ListN.{length, getD}
 use borrow.Author.Tests.{eq-eqb, ne-eqb, le-ltb, lt-ltb, le-leb, lt-leb}
+use Rattle.format.specs.declared.Node.{Node}
 use Rattle.rules.specs.Names.{within}
+use Rattle.rules.specs.declared.Way.the-variants.{Sends, Receives}
 use Rattle.steps.specs.declared.Thread.{Thread}
 use Rattle.steps.specs.declared.Made.{Made}
 use Rattle.running.specs.declared.Two.{Two}
-use Rattle.steps.specs.declared.Acted.{Acted}
-use Rattle.steps.specs.declared.Outcome.{Outcome}
-use Rattle.steps.specs.declared.Outcome.the-variants.{Refused, Moves, Adds, Makes, Ends, Meets}
+use Rattle.steps.specs.declared.Outcome.the-variants.{Refused, Meets}
 use Rattle.steps.specs.declared.Partner.the-variants.{With}
-use Rattle.steps.specs.Threads.{noThread}
-use Rattle.steps.specs.Choice.{Clinic, State, sending, lone, aloneOnly, acting}
+use Rattle.steps.specs.Threads.{value, onward, bound}
+use Rattle.steps.specs.Choice.{Clinic, State, allowed, meeting, sending, lone, aloneOnly, acting}
 use Rattle.running.specs.Run.{isMeeting, receiverFrom, pairFrom, readyPair}
 use Rattle.steps.specs.Kept.{threadIn, threadsIn, madeIn, stateIn}
-use Rattle.steps.specs.Acted.{partnerOf, actedOf, outcomeBy}
 use Rattle.running.proofs.PutLaws.{threads-length}
 
 -- a pair by its two numbers
 pub two : (q : ℕ × ℕ) (s r : ℕ) → q ≡ (s, r) → _≡_ {A = Two} (record { sender = s; receiver = r }) (record { sender = q .0; receiver = q .1 })
 two q s r e = ap (λ (x : ℕ × ℕ). record { sender = x .0; receiver = x .1 }) (sym e)
-
--- what code hands back of a choice tells whether it is a meeting
-answered : (o : Outcome) → isMeeting (outcomeBy (actedOf o .answer) noThread noThread) ≡ isMeeting o
-answered (Refused n) = refl
-answered (Moves u) = refl
-answered (Adds q) = refl
-answered (Makes q) = refl
-answered Ends = refl
-answered (Meets q) = refl
-
-pub meets-by : (C : Clinic) (n : ℕ) (made : List Made) (t r : Thread) (p : ℕ) (a : Acted) → 0 < p → p ≤ n → a ≡ actedOf (acting C n made t (partnerOf n p r))
-    → isMeeting (outcomeBy (a .answer) noThread noThread) ≡ isMeeting (acting C n made t (With r))
-meets-by C n made t r p a pos le e =
-    let some : partnerOf n p r ≡ With r = rw (ne-eqb p 0 (λ z. let none : ⊥ = omega (arith, pos, z) in none), le-leb p n le) in
-    ap (λ (x : Acted). isMeeting (outcomeBy (x .answer) noThread noThread)) e
-    ∙ answered (acting C n made t (partnerOf n p r))
-    ∙ ap (λ x. isMeeting (acting C n made t x)) some
 
 -- a thread that is at no send meets none
 abbrev pub atSend : Clinic → Thread → Bool
@@ -57,6 +39,56 @@ meets-none C n made t r = go (within (C .nodes) (t .node)) (eqb (C .node (t .nod
     go true false true e = refl
     go true false false e = refl
     go true true z e = let none : _≡_ {A = ℕ} 0 1 = cc in absurd (omega arith)
+
+-- a send meets no thread that is at no receive
+meets-no-receive : (C : Clinic) (n : ℕ) (made : List Made) (t r : Thread) → within (C .nodes) (r .node) && eqb (C .node (r .node) .tag) 5 ≡ false
+    → isMeeting (acting C n made t (With r)) ≡ false
+unfolding acting aloneOnly sending
+meets-no-receive C n made t r e = rw e (go (within (C .nodes) (t .node)) (eqb (C .node (t .node) .tag) 6) (eqb (C .node (t .node) .tag) 5))
+  where
+    go : (x y z : Bool) → isMeeting (cond x (cond y (Refused 18) (cond z (Refused 18) (Refused 18))) (Refused 18)) ≡ false
+    go false y z = refl
+    go true true z = refl
+    go true false true = refl
+    go true false false = refl
+
+-- two threads, as code looks at their nodes
+module _ (C : Clinic) (n : ℕ) (made : List Made) (t r : Thread) where
+  pub met-out : within (C .nodes) (r .node) ≡ false → false ≡ isMeeting (acting C n made t (With r))
+  met-out w = sym (meets-no-receive C n made t r (rw w))
+
+  pub met-elsewhere : (m : Node) → m ≡ C .node (r .node) → within (C .nodes) (r .node) ≡ true → (m .tag ≡ 5 → ⊥) → false ≡ isMeeting (acting C n made t (With r))
+  met-elsewhere m k w d = sym (meets-no-receive C n made t r (rw (w, ← k, ne-eqb (m .tag) 5 d)))
+
+  pub met-from-out : within (C .nodes) (t .node) ≡ false → false ≡ isMeeting (acting C n made t (With r))
+  met-from-out w = sym (meets-none C n made t r (rw w))
+
+  pub met-from-elsewhere : (q : Node) → q ≡ C .node (t .node) → within (C .nodes) (t .node) ≡ true → (q .tag ≡ 6 → ⊥) → false ≡ isMeeting (acting C n made t (With r))
+  met-from-elsewhere q k w d = sym (meets-none C n made t r (rw (w, ← k, ne-eqb (q .tag) 6 d)))
+
+  pub met : (q m : Node) → q ≡ C .node (t .node) → m ≡ C .node (r .node) → within (C .nodes) (t .node) ≡ true → q .tag ≡ 6
+      → within (C .nodes) (r .node) ≡ true → m .tag ≡ 5 → isMeeting (meeting C made t q r m) ≡ isMeeting (acting C n made t (With r))
+  unfolding acting sending
+  met q m k l w e v f = rw (← k, ← l, w, eq-eqb (q .tag) 6 e, v, eq-eqb (m .tag) 5 f)
+
+-- a send with a receive, as code tests them
+module _ (C : Clinic) (made : List Made) (t : Thread) (n : Node) (r : Thread) (m : Node) where
+  pub agrees-apart : (value t (n .f1) ≡ value r (m .f1) → ⊥) → false ≡ isMeeting (meeting C made t n r m)
+  unfolding meeting
+  agrees-apart d = rw (ne-eqb (value t (n .f1)) (value r (m .f1)) d) (go (allowed C made t Sends (n .f1) && allowed C made r Receives (m .f1)))
+    where
+      go : (b : Bool) → false ≡ isMeeting (cond b (Refused 19) (Refused 13))
+      go true = refl
+      go false = refl
+
+  pub agrees-same : (x y : Bool) → value t (n .f1) ≡ value r (m .f1) → allowed C made t Sends (n .f1) ≡ x → allowed C made r Receives (m .f1) ≡ y
+      → x && y ≡ isMeeting (meeting C made t n r m)
+  unfolding meeting
+  agrees-same x y e f g = rw (f, g, eq-eqb (value t (n .f1)) (value r (m .f1)) e) (go (x && y))
+    where
+      go : (b : Bool) → b ≡ isMeeting (cond b (Meets (record { first = onward t; second = bound r (value t (n .f2)) })) (Refused 13))
+      go true = refl
+      go false = refl
 
 no-receiver : (C : Clinic) (s : State) (t : Thread) (j : ℕ) (ts : List Thread) → atSend C t ≡ false → receiverFrom C s t j ts ≡ 0
 unfolding receiverFrom

@@ -79,15 +79,14 @@ fn is_thread(count: u16, i: u16) -> bool
     (0 < i) & (i <= count)
 }
 
-// The partner that a choice names; where it names no thread, the thread itself stands for it.
-fn partner_at(threads: &[u16], count: u16, p: u16, own: Thread) -> Thread
-    requires { ⌜ 11 * count ≤ length (now threads) ⌝ }
-    ensures { λ r. ⌜ r ≡ cond (within count p) (threadIn (now (threads .entry)) (11 * (p - 1))) own ⌝ }
+// The thread to look at for the partner: the one that a choice names; where it names none, the thread itself.
+fn looked_at(count: u16, i: u16, p: u16) -> u16
+    ensures { λ r. ⌜ r ≡ cond (within count p) p i ⌝ }
 {
     if is_thread(count, p) {
-        return thread_at(threads, wide(p - 1));
+        return p;
     }
-    own
+    i
 }
 
 // One choice, carried out in the tables: the refusal, 0 where the step is done.
@@ -111,7 +110,8 @@ fn choose(
         return 18;
     }
     let own = thread_at(threads, wide(i - 1));
-    let other = partner_at(threads, count, p, own);
+    let q = looked_at(count, i, p);
+    let other = thread_at(threads, wide(q - 1));
     let it = act(file, head, sends, receives, beside, own, p, other);
     store(threads, beside, i, p, it)
 }

@@ -2,15 +2,17 @@
 use super::Two;
 use super::state::thread_at;
 use format::Head;
+use format::Node;
 use format::sections::node;
 use format::words::wide;
 use rules::grants::fill_grants;
-use steps::Answer;
 use steps::Thread;
-use steps::act::act;
+use steps::act::is_able;
+use steps::act::is_node;
+use steps::act::kind_held;
 ghost use mathlib.Core.Path.{_≡_};
 ghost use mathlib.Core.Bool.{cond, _&&_};
-ghost use Prim.Native.Nat.{_≤_, _<_};
+ghost use Prim.Native.Nat.{_≤_};
 ghost use lib.Dec.{eqb};
 ghost use lib.ListN.{length, getD, replicate};
 ghost use Rattle.format.specs.Header.{Laid};
@@ -19,27 +21,34 @@ ghost use Rattle.rules.specs.Names.{within};
 ghost use Rattle.rules.specs.Kept.{Granting};
 ghost use Rattle.rules.specs.declared.Way.the-variants.{Sends, Receives};
 ghost use Rattle.steps.specs.declared.Partner.the-variants.{With};
-ghost use Rattle.steps.specs.Threads.{noThread};
-ghost use Rattle.steps.specs.Choice.{clinicOf, acting};
+ghost use Rattle.steps.specs.Choice.{clinicOf, meeting, acting};
 ghost use Rattle.running.specs.Run.{isMeeting, readyPair};
 ghost use Rattle.steps.specs.Kept.{madeIn, stateIn, Sized};
-ghost use Rattle.steps.specs.Acted.{outcomeBy};
 
-// Whether two threads meet, whatever they are.
-fn is_meeting(answer: Answer) -> bool
-    ensures { λ r. ⌜ r ≡ isMeeting (outcomeBy answer noThread noThread) ⌝ }
+// A send and a receive meet without refusal. The kind is looked up only where their channels are the same.
+fn agrees(
+    file: &[u8],
+    head: Head,
+    sends: &[u16],
+    receives: &[u16],
+    beside: &[u16],
+    own: Thread,
+    it: Node,
+    other: Thread,
+    theirs: Node,
+) -> bool
+    requires { ⌜ Granting (schemaOf (now file) head) Sends (now sends) × Granting (schemaOf (now file) head) Receives (now receives) × (length (now beside) ≡ 130) × (getD (now beside) 1 0 ≤ 64) ⌝ }
+    ensures { λ r. ⌜ r ≡ isMeeting (meeting (clinicOf (now (file .entry)) head) (madeIn (now (beside .entry)) 2 (getD (now (beside .entry)) 1 0)) own it other theirs) ⌝ }
 {
-    match answer {
-        Answer::Refused(_) => false,
-        Answer::Moves => false,
-        Answer::Adds => false,
-        Answer::Makes(_) => false,
-        Answer::Ends => false,
-        Answer::Meets => true,
+    let over = own.value(it.f1);
+    if over != other.value(theirs.f1) {
+        return false;
     }
+    let kind = kind_held(file, head, beside, over);
+    is_able(sends, own.mask, kind) & is_able(receives, other.mask, kind)
 }
 
-// A sender can meet a receiver, the thread of a number, without refusal.
+// A sender can meet a receiver without refusal.
 fn meets(
     file: &[u8],
     head: Head,
@@ -47,15 +56,26 @@ fn meets(
     receives: &[u16],
     beside: &[u16],
     own: Thread,
-    partner: u16,
     other: Thread,
 ) -> bool
-    requires { ⌜ (head .count .nodes ≤ 1024) × Granting (schemaOf (now file) head) Sends (now sends) × Granting (schemaOf (now file) head) Receives (now receives) × (length (now beside) ≡ 130) × (getD (now beside) 1 0 ≤ 64) × (0 < partner) × (partner ≤ getD (now beside) 0 0) ⌝ }
+    requires { ⌜ Granting (schemaOf (now file) head) Sends (now sends) × Granting (schemaOf (now file) head) Receives (now receives) × (length (now beside) ≡ 130) × (getD (now beside) 1 0 ≤ 64) ⌝ }
     ensures { λ r. ⌜ r ≡ isMeeting (acting (clinicOf (now (file .entry)) head) (getD (now (beside .entry)) 0 0) (madeIn (now (beside .entry)) 2 (getD (now (beside .entry)) 1 0)) own (With other)) ⌝ }
 {
-    let acted = act(file, head, sends, receives, beside, own, partner, other);
-    let answer = acted.answer;
-    is_meeting(answer)
+    if !is_node(head, other.node) {
+        return false;
+    }
+    let theirs = node(file, head, other.node);
+    if theirs.tag != 5 {
+        return false;
+    }
+    if !is_node(head, own.node) {
+        return false;
+    }
+    let it = node(file, head, own.node);
+    if it.tag != 6 {
+        return false;
+    }
+    agrees(file, head, sends, receives, beside, own, it, other, theirs)
 }
 
 // How many of the threads a thread at a node need not try: none at a send, and all at any other node.
@@ -101,7 +121,7 @@ pub fn ready_pair(
         while j < count {
             let other = thread_at(threads, wide(j));
             j += 1;
-            if meets(file, head, sends, receives, beside, own, j, other) {
+            if meets(file, head, sends, receives, beside, own, other) {
                 sender = i;
                 receiver = j;
                 break 'senders;

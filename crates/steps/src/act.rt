@@ -30,14 +30,14 @@ ghost use Rattle.steps.specs.Kept.{madeIn};
 ghost use Rattle.steps.specs.Acted.{partnerOf, actedOf};
 
 // A node in count.
-fn is_node(head: Head, n: u16) -> bool
+pub fn is_node(head: Head, n: u16) -> bool
     ensures { λ r. ⌜ r ≡ within (head .count .nodes) n ⌝ }
 {
     (0 < n) & (n <= head.count.nodes)
 }
 
 // The kind of a value, 0 for a plain one.
-fn kind_held(file: &[u8], head: Head, beside: &[u16], v: u16) -> u16
+pub fn kind_held(file: &[u8], head: Head, beside: &[u16], v: u16) -> u16
     requires { ⌜ (length (now beside) ≡ 130) × (getD (now beside) 1 0 ≤ 64) ⌝ }
     ensures { λ r. ⌜ r ≡ kindHeld (schemaOf (now (file .entry)) head) (madeIn (now (beside .entry)) 2 (getD (now (beside .entry)) 1 0)) v ⌝ }
 {
@@ -56,7 +56,7 @@ fn kind_held(file: &[u8], head: Head, beside: &[u16], v: u16) -> u16
 }
 
 // One active role permits a step on the kind, by the table that has the roles for each kind.
-fn is_able(table: &[u16], mask: u16, kind: u16) -> bool
+pub fn is_able(table: &[u16], mask: u16, kind: u16) -> bool
     ensures { λ r. ⌜ r ≡ not (eqb (bitAnd mask (getD (now (table .entry)) kind 0)) 0) ⌝ }
 {
     (mask & grant_of(table, kind)) != 0
