@@ -29,7 +29,8 @@ use Rattle.format.specs.declared.Node.{Node}
 use Rattle.rules.specs.Rules.{Context}
 use Rattle.steps.specs.Threads.{firstFree}
 use Rattle.steps.specs.Choice.{Clinic, State, threadAt, choice, halts, goes}
-use Rattle.running.specs.Run.{run, ranOf, listed, running, readyPair}
+use Rattle.choices.specs.Choices.{run, ranOf}
+use Rattle.running.specs.Run.{listed, running, readyPair}
 use Rattle.runs.specs.Steps.{StandsAt, Steps, Chain}
 use Rattle.runs.specs.Conditions.{Condition, FirstRefusal}
 use Rattle.runs.specs.Keeps.{Reaches, Kept}

@@ -18,33 +18,8 @@ use Rattle.states.specs.declared.Turn.{Turn}
 use Rattle.states.specs.States.{unpacked}
 use Rattle.groups.specs.Groups.{switchTo, offs, ons, before, sizeOf, sizesOf, onOf, onsOf, startsFrom, moved, groupsFrom, sessionsFrom, withNodes, placedWords, turnsIn}
 use Rattle.groups.specs.Switches.{switches}
+use Rattle.format.proofs.PutRuns.{sets-join, bytes-append, bytes-length, puts-join, puts-then}
 use Rattle.groups.proofs.GroupLaws.{words-length, sessions-length, node-words-length}
-
--- one run of stores after another
-sets-join : (l : List ℕ) (i : ℕ) (vs ws : List ℕ) → sets (sets l i vs) (i + length vs) ws ≡ sets l i (vs ++ ws)
-sets-join l i [] ws = let z : i + 0 ≡ i = omega arith in rw z
-sets-join l i (v ∷ vs) ws = let z : i + suc (length vs) ≡ suc i + length vs = omega arith in rw z (sets-join (set l i v) (suc i) vs ws)
-
-bytes-append : (vs ws : List ℕ) → bytesOf (vs ++ ws) ≡ bytesOf vs ++ bytesOf ws
-unfolding bytesOf
-bytes-append [] ws = refl
-bytes-append (v ∷ vs) ws = rw (bytes-append vs ws)
-
-bytes-length : (ws : List ℕ) → length (bytesOf ws) ≡ 2 * length ws
-unfolding bytesOf
-bytes-length [] = refl
-bytes-length (w ∷ ws) = let later : length (bytesOf ws) ≡ 2 * length ws = bytes-length ws in omega (arith, later)
-
-pub puts-join : (l m : List ℕ) (i j : ℕ) (vs ws : List ℕ) → m ≡ sets l (2 * i) (bytesOf vs) → j ≡ i + length vs
-    → sets m (2 * j) (bytesOf ws) ≡ sets l (2 * i) (bytesOf (vs ++ ws))
-puts-join l m i j vs ws e k =
-    let place : 2 * j ≡ 2 * i + length (bytesOf vs) = omega (arith, bytes-length vs) in
-    rw (e, place, bytes-append vs ws) (sets-join l (2 * i) (bytesOf vs) (bytesOf ws))
-
--- the same, for what the second run leaves
-pub puts-then : (l m q : List ℕ) (i j : ℕ) (vs ws : List ℕ) → m ≡ sets l (2 * i) (bytesOf vs) → j ≡ i + length vs → q ≡ sets m (2 * j) (bytesOf ws)
-    → q ≡ sets l (2 * i) (bytesOf (vs ++ ws))
-puts-then l m q i j vs ws e k h = h ∙ puts-join l m i j vs ws e k
 
 node-words-append : (ms ns : List Node) → nodeWords (ms ++ ns) ≡ nodeWords ms ++ nodeWords ns
 unfolding nodeWords

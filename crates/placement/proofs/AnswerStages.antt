@@ -45,7 +45,7 @@ pub data Among (lo hi : ℕ) (v : Verdict) : Type 0 where
   none : v ≡ fine → Among lo hi v
   some : lo ≤ v .number → v .number ≤ hi → Among lo hi v
 
-number-of : {v w : Verdict} → v ≡ w → v .number ≡ w .number
+pub number-of : {v w : Verdict} → v ≡ w → v .number ≡ w .number
 number-of e = ap (λ (x : Verdict). x .number) e
 
 pub among-fine : (lo hi : ℕ) (v : Verdict) → 1 ≤ lo → Among lo hi v → Quiet v → v ≡ fine

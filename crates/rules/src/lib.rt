@@ -1,7 +1,7 @@
 // The rules of the check: grants, operands, the rules at one node, and the pass over the nodes that finds 9 to 13.
 pub mod grants;
 pub mod judge;
-mod names;
+pub mod names;
 mod steps;
 
 use format::Verdict;

@@ -1,15 +1,15 @@
 // Runs a clinic file through a list of choices: the arguments name the file, and the choices as words, low byte first. It writes the state that
 // a run to the end of the list leaves, or the line `refused N P` with the refusal's number and its place. Where the arguments are not two, or a
 // file cannot be read, it says so on standard error and writes nothing else.
-mod choices;
 mod lines;
+mod list;
 
-use choices::list_words;
-use choices::no_bytes;
-use choices::no_words;
-use choices::put_words;
-use choices::read_choices;
 use lines::write_state;
+use list::list_words;
+use list::no_bytes;
+use list::no_words;
+use list::put_words;
+use list::read_choices;
 use running::run;
 use streams::Input;
 ghost use Prim.Native.Nat.{_≤_};

@@ -18,10 +18,11 @@ use Rattle.format.proofs.HeadLaws.{headed, head-number}
 use Rattle.checking.specs.Check.{readingNames}
 use Rattle.checking.proofs.CheckLaws.{names-refused}
 use Rattle.running.specs.declared.Ready.{Ready}
-use Rattle.running.specs.declared.Counted.{Counted}
+use Rattle.choices.specs.declared.Counted.{Counted}
 use Rattle.running.specs.declared.Two.{Two}
 use Rattle.steps.specs.Choice.{Clinic, clinicOf, State, Chosen, halts, goes, choice}
-use Rattle.running.specs.Run.{start, Ran, follow, run, ranWords, listed, stopped, running, runOver, readyPair, readyOf, ready}
+use Rattle.choices.specs.Choices.{start, Ran, follow, run}
+use Rattle.running.specs.Run.{ranWords, listed, stopped, running, runOver, readyPair, readyOf, ready}
 
 -- two words a choice, and a refused one is not done
 abbrev Counts : Ran → ℕ → Type 0

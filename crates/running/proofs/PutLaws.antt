@@ -7,36 +7,11 @@ use lib.ListN.{length, getD, set, length-append, length-map}
 use lib.Seq.{sets}
 use Rattle.masks.specs.Mask.{held}
 use Rattle.format.specs.Words.{bytesOf}
+use Rattle.format.proofs.PutRuns.{sets-join, bytes-append, bytes-length, puts-join, puts-then}
 use Rattle.steps.specs.declared.Thread.{Thread}
 use Rattle.steps.specs.declared.Made.{Made}
 use Rattle.running.specs.Run.{madeWords, threadWords, ranWords}
 use Rattle.steps.specs.Kept.{threadIn, threadsIn, madeIn, stateIn}
-
--- one run of stores after another
-sets-join : (l : List ℕ) (i : ℕ) (vs ws : List ℕ) → sets (sets l i vs) (i + length vs) ws ≡ sets l i (vs ++ ws)
-sets-join l i [] ws = let z : i + 0 ≡ i = omega arith in rw z
-sets-join l i (v ∷ vs) ws = let z : i + suc (length vs) ≡ suc i + length vs = omega arith in rw z (sets-join (set l i v) (suc i) vs ws)
-
-bytes-append : (vs ws : List ℕ) → bytesOf (vs ++ ws) ≡ bytesOf vs ++ bytesOf ws
-unfolding bytesOf
-bytes-append [] ws = refl
-bytes-append (v ∷ vs) ws = rw (bytes-append vs ws)
-
-bytes-length : (ws : List ℕ) → length (bytesOf ws) ≡ 2 * length ws
-unfolding bytesOf
-bytes-length [] = refl
-bytes-length (w ∷ ws) = let later : length (bytesOf ws) ≡ 2 * length ws = bytes-length ws in omega (arith, later)
-
-puts-join : (l m : List ℕ) (i j : ℕ) (vs ws : List ℕ) → m ≡ sets l (2 * i) (bytesOf vs) → j ≡ i + length vs
-    → sets m (2 * j) (bytesOf ws) ≡ sets l (2 * i) (bytesOf (vs ++ ws))
-puts-join l m i j vs ws e k =
-    let place : 2 * j ≡ 2 * i + length (bytesOf vs) = omega (arith, bytes-length vs) in
-    rw (e, place, bytes-append vs ws) (sets-join l (2 * i) (bytesOf vs) (bytesOf ws))
-
--- the same, for what the second run leaves
-pub puts-then : (l m q : List ℕ) (i j : ℕ) (vs ws : List ℕ) → m ≡ sets l (2 * i) (bytesOf vs) → j ≡ i + length vs → q ≡ sets m (2 * j) (bytesOf ws)
-    → q ≡ sets l (2 * i) (bytesOf (vs ++ ws))
-puts-then l m q i j vs ws e k h = h ∙ puts-join l m i j vs ws e k
 
 -- a turn of a loop that puts words: those still to come, from where they go
 puts-turn : (l m whole : List ℕ) (i j : ℕ) (vs ws all : List ℕ) → m ≡ sets l (2 * i) (bytesOf vs) → j ≡ i + length vs → all ≡ vs ++ ws
@@ -59,7 +34,8 @@ unfolding madeIn
 made-length b p zero = refl
 made-length b p (suc k) = ap suc (made-length b (p + 2) k)
 
-made-words-length : (ms : List Made) → length (madeWords ms) ≡ 2 * length ms
+-- two words a made channel
+pub made-words-length : (ms : List Made) → length (madeWords ms) ≡ 2 * length ms
 unfolding madeWords
 made-words-length [] = refl
 made-words-length (m ∷ ms) = let later : length (madeWords ms) ≡ 2 * length ms = made-words-length ms in omega (arith, later)
@@ -114,10 +90,6 @@ threads-turn w l m whole base n i t h et e inv =
 pub threads-end : (w l whole : List ℕ) (n i p : ℕ) → n ≤ i → sets l p (bytesOf (threadsAfter w n i)) ≡ whole → l ≡ whole
 unfolding threadWords threadsIn
 threads-end w l whole n i p h inv = let z : n - i ≡ 0 = omega arith in puts-end l whole (threadsAfter w n i) p (rw z) inv
-
--- what owning an array tells is of the list of its elements' parts
-pub unmapped : {A B : Type 0} (f : A → B) (l : List A) (n : ℕ) → length (map f l) ≡ n → length l ≡ n
-unmapped f l n e = sym (length-map l f) ∙ e
 
 -- one thread: four words, then its eight variables
 eight : (l : List ℕ) → length l ≡ 8

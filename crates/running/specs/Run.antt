@@ -1,4 +1,4 @@
--- A run: the start, the choices in order up to the first that is refused, and the output.
+-- A run of a file: what refuses it, its output, and the ready pair.
 use Prim.Native.Nat.{ℕ, zero, suc, _+_, _*_, _-_, _%_}
 use mathlib.Core.Bool.{Bool, true, false, cond, _&&_, _||_}
 use mathlib.Core.List.{List, [], _∷_, _++_}
@@ -18,32 +18,8 @@ use Rattle.steps.specs.declared.Partner.the-variants.{With}
 use Rattle.steps.specs.declared.Outcome.{Outcome}
 use Rattle.steps.specs.declared.Outcome.the-variants.{Refused, Moves, Adds, Makes, Ends, Meets}
 use Rattle.running.specs.declared.Ready.{Ready}
-use Rattle.steps.specs.Threads.{zeros, noThread}
-use Rattle.steps.specs.Choice.{Clinic, clinicOf, acting, State, Chosen, halts, goes, choice}
-
--- one thread for each session, in order, at its root, with the session's mask, nothing bound and no channel made
-unfoldable pub threadsFrom : List ℕ → ℕ → ℕ → List Thread
-threadsFrom f p zero = []
-threadsFrom f p (suc k) = record { user = wordAt f p; node = wordAt f (p + 2); mask = wordAt f (p + 1); vars = zeros } ∷ threadsFrom f (p + 3) k
-
-abbrev pub start : List ℕ → Head → State
-start f h = record { threads = threadsFrom f (h .at .sessions) (h .count .sessions); made = [] }
-
--- choices done, the refusal (0 if none), the state
-pub record Ran : Type 0 where
-  pub count : ℕ
-  pub refusal : ℕ
-  pub state : State
-
-abbrev pub follow : State → Chosen → (State → Ran) → Ran
-follow s (halts n) go = record { count = 0; refusal = n; state = s }
-follow s (goes s′) go = let r : Ran = go s′ in record { count = suc (r .count); refusal = r .refusal; state = r .state }
-
--- a list of choices as words, two each
-unfoldable pub run : Clinic → State → List ℕ → Ran
-run C s [] = record { count = 0; refusal = 0; state = s }
-run C s (i ∷ []) = record { count = 0; refusal = 0; state = s }
-run C s (i ∷ p ∷ ws) = follow s (choice C s i p) (λ s′. run C s′ ws)
+use Rattle.steps.specs.Choice.{Clinic, clinicOf, acting, State}
+use Rattle.choices.specs.Choices.{Ran, ranOf}
 
 -- per made channel owner and kind
 unfoldable pub madeWords : List Made → List ℕ
@@ -63,10 +39,6 @@ ranWords r =
 -- 17: an odd number of words of choices, or over 65,535 choices
 abbrev pub listed : ℕ → Bool
 listed words = eqb (words % 2) 0 && leb words 131070
-
--- the run of a file through a list
-abbrev pub ranOf : List ℕ → List ℕ → Ran
-ranOf f ws = run (clinicOf f (headAt f)) (start f (headAt f)) ws
 
 -- a run halted at a choice has the choice's number as place
 abbrev pub stopped : Ran → Verdict

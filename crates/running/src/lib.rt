@@ -1,15 +1,14 @@
-// Running: one choice, lists of choices, the ready pair.
-mod list;
+// Running: a file through a list of choices, with its output; the ready pair.
 mod out;
 mod pairs;
-mod state;
 
 use checking::read_names;
+use choices::Counted;
+use choices::list::run_list;
 use format::Head;
 use format::HeadAnswer;
 use format::Verdict;
 use format::header::read_head;
-use list::run_list;
 use out::put_state;
 use pairs::pair_after;
 ghost use mathlib.Core.Path.{_≡_};
@@ -22,7 +21,8 @@ ghost use Rattle.format.specs.Words.{bytesOf};
 ghost use Rattle.format.specs.Answers.{fine, refused};
 ghost use Rattle.format.specs.Header.{Laid};
 ghost use Rattle.steps.specs.Choice.{clinicOf};
-ghost use Rattle.running.specs.Run.{start, run, ranWords, listed, stopped, running, runOver, readyPair, readyOf, ready};
+ghost use Rattle.choices.specs.Choices.{start, run};
+ghost use Rattle.running.specs.Run.{ranWords, listed, stopped, running, runOver, readyPair, readyOf, ready};
 
 // The ready pair, or the refusal that stopped the run.
 #[repr(C)]
@@ -31,12 +31,6 @@ pub struct Ready {
     pub place: u16,
     pub sender: u16,
     pub receiver: u16,
-}
-
-// How many choices were done, and the refusal of the next, 0 if none.
-pub struct Counted {
-    pub count: u16,
-    pub refusal: u16,
 }
 
 // A sender and a receiver, 0 and 0 for none.

@@ -1,6 +1,6 @@
 // The output of a run: choices done, the refusal, and the state.
-use super::Counted;
-use super::state::thread_at;
+use choices::Counted;
+use choices::state::thread_at;
 use format::words::put_word;
 use format::words::wide;
 use masks::role_count;

@@ -1,6 +1,6 @@
 // The ready pair of a state.
 use super::Two;
-use super::state::thread_at;
+use choices::state::thread_at;
 use format::Head;
 use format::Node;
 use format::sections::node;

@@ -6,7 +6,7 @@ use mathlib.Core.List.{List, [], _∷_}
 use native.Mathlib.Omega.{arith}
 use lib.ListN.{length, getD, take}
 use Rattle.steps.specs.Choice.{Clinic, State, Chosen, halts, goes, choice}
-use Rattle.running.specs.Run.{Ran, follow, run}
+use Rattle.choices.specs.Choices.{Ran, follow, run}
 use Rattle.runs.specs.Steps.{Chain}
 use Rattle.runs.proofs.ChoiceRuled.{steps-choice}
 use Rattle.runs.proofs.Agree.{choice-steps, refused-positive}

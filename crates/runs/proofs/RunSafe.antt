@@ -18,7 +18,8 @@ use Rattle.rules.specs.Rules.{Context, activate, barred}
 use Rattle.rules.specs.Checking.{openings, nodesIn}
 use Rattle.steps.specs.Threads.{noThread, firstFree}
 use Rattle.steps.specs.Choice.{Clinic, clinicOf, State, Chosen, halts, goes, threadAt, choice}
-use Rattle.running.specs.Run.{start, Ran, follow, run, listed, ranOf, stopped, running}
+use Rattle.choices.specs.Choices.{start, Ran, follow, run, ranOf}
+use Rattle.running.specs.Run.{listed, stopped, running}
 use Rattle.placing.specs.Placing.{placing, placedBytes}
 use Rattle.clinic.specs.Lists.{All}
 use Rattle.clinic.specs.File.{InCount}

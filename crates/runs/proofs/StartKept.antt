@@ -23,7 +23,7 @@ use Rattle.rules.specs.Rules.{Context}
 use Rattle.rules.specs.Checking.{openingsFrom, openings}
 use Rattle.steps.specs.declared.Thread.{Thread}
 use Rattle.steps.specs.Threads.{zeros}
-use Rattle.running.specs.Run.{threadsFrom, start}
+use Rattle.choices.specs.Choices.{threadsFrom, start}
 use Rattle.clinic.specs.Lists.{All}
 use Rattle.clinic.specs.File.{InCount}
 use Rattle.clinic.specs.Refusals.{rootWords, misseated}
@@ -39,7 +39,8 @@ seated f q = record { user = wordAt f q; node = wordAt f (q + 2); mask = wordAt 
 abbrev opened : List ℕ → ℕ → Context
 opened f q = record { user = wordAt f q; mask = wordAt f (q + 1); vars = [] }
 
-opening-get : (f : List ℕ) (p k i : ℕ) → i < k → getD (openingsFrom f p k) i nowhere ≡ opened f (p + 3 * i)
+-- each session's opening, from its record
+pub opening-get : (f : List ℕ) (p k i : ℕ) → i < k → getD (openingsFrom f p k) i nowhere ≡ opened f (p + 3 * i)
 unfolding openingsFrom
 opening-get f p zero i l = absurd (omega arith)
 opening-get f p (suc k) zero l = let e : p ≡ p + 3 * 0 = omega arith in ap (opened f) e
@@ -79,7 +80,7 @@ module _ (f : List ℕ) (clean : readingNames f ≡ fine) where
   D = schemaOf f head
 
   -- a session's user is there, and its starting roles are assigned
-  session-seated : (k : ℕ) → InCount (head .count .sessions) k
+  pub session-seated : (k : ℕ) → InCount (head .count .sessions) k
       → InCount (head .count .users) (sessionOf f head k .user) × Within (sessionOf f head k .mask) (userRoles f head (sessionOf f head k .user))
   unfolding recordFits
   session-seated k n = go (recordFits f head Sessions k) refl

@@ -1,5 +1,5 @@
 use native.Mathlib.Omega.{arith}
-use Rattle.groups.proofs.WriteLaws.{puts-then}
+use Rattle.format.proofs.PutRuns.{puts-then}
 use mathlib.Core.List.{[], _∷_}
 use Prim.Native.Nat.{_+_}
 use borrow.Author.Needs.{needs}

@@ -1,5 +1,5 @@
 use Rattle.steps.specs.Choice.{clinicOf}
-use Rattle.running.specs.Run.{start, run}
+use Rattle.choices.specs.Choices.{start, run}
 use Rattle.running.proofs.EntryLaws.{place-word, stopped-by, pair-stopped, pair-found}
 use borrow.Author.Needs.{needs}
 use Rattle.running.proofs.ready_in.Statement.{statement}
@@ -9,7 +9,7 @@ use Rattle.running.proofs.ready_in.Lts as lts
 use Rattle.running.proofs.no_pair.Reads as no-pair-reads
 use Rattle.running.proofs.pairs.pair_after.Reads as pair-after-reads
 use Rattle.running.proofs.stopped_at.Reads as stopped-at-reads
-use Rattle.running.proofs.list.run_list.Reads as run-list-reads
+use Rattle.choices.proofs.list.run_list.Reads as run-list-reads
 
 -- src/lib.rt:171:49
 slice-aggregate-run-list : tie.Need-slice-aggregate-run-list

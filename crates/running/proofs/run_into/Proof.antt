@@ -1,5 +1,5 @@
 use Rattle.steps.specs.Choice.{clinicOf}
-use Rattle.running.specs.Run.{start, run}
+use Rattle.choices.specs.Choices.{start, run}
 use Rattle.running.proofs.EntryLaws.{place-word, stopped-by, put-by}
 use borrow.Author.Needs.{needs}
 use Rattle.running.proofs.run_into.Statement.{statement}
@@ -8,7 +8,7 @@ use Rattle.running.proofs.run_into.Reads as reads
 use Rattle.running.proofs.run_into.Lts as lts
 use Rattle.running.proofs.out.put_state.Reads as put-state-reads
 use Rattle.running.proofs.stopped_at.Reads as stopped-at-reads
-use Rattle.running.proofs.list.run_list.Reads as run-list-reads
+use Rattle.choices.proofs.list.run_list.Reads as run-list-reads
 
 -- src/lib.rt:124:49
 slice-aggregate-run-list : tie.Need-slice-aggregate-run-list

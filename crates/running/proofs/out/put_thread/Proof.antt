@@ -1,4 +1,5 @@
-use Rattle.running.proofs.PutLaws.{unmapped, thread-put}
+use Rattle.steps.proofs.ThreadLaws.{unmapped}
+use Rattle.running.proofs.PutLaws.{thread-put}
 use borrow.Author.Needs.{needs}
 use Rattle.running.proofs.out.put_thread.Statement.{statement}
 use Rattle.running.proofs.out.put_thread.Tie as tie

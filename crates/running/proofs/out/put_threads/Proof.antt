@@ -13,7 +13,7 @@ use Rattle.running.proofs.out.put_threads.Tie as tie
 use Rattle.running.proofs.out.put_threads.Reads as reads
 use Rattle.running.proofs.out.put_threads.Lts as lts
 use Rattle.running.proofs.out.put_thread.Reads as put-thread-reads
-use Rattle.running.proofs.state.thread_at.Reads as thread-at-reads
+use Rattle.choices.proofs.state.thread_at.Reads as thread-at-reads
 
 abbrev Inv-loop : tie.InvT-loop
 Inv-loop threads count out₀ base i₀ out i =

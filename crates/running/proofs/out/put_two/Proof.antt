@@ -1,7 +1,7 @@
 use native.Mathlib.Omega.{arith}
 use mathlib.Core.List.{[], _∷_}
 use Prim.Native.Nat.{_+_}
-use Rattle.running.proofs.PutLaws.{puts-then}
+use Rattle.format.proofs.PutRuns.{puts-then}
 use borrow.Author.Needs.{needs}
 use Rattle.running.proofs.out.put_two.Statement.{statement}
 use Rattle.running.proofs.out.put_two.Tie as tie

@@ -14,7 +14,7 @@ use Rattle.running.proofs.pairs.ready_pair.Lts as lts
 use Rattle.format.proofs.words.wide.Reads as wide-reads
 use Rattle.running.proofs.pairs.left_out.Reads as left-out-reads
 use Rattle.running.proofs.pairs.meets.Reads as meets-reads
-use Rattle.running.proofs.state.thread_at.Reads as thread-at-reads
+use Rattle.choices.proofs.state.thread_at.Reads as thread-at-reads
 
 abbrev Inv-loop : tie.InvT-loop
 Inv-loop file head sends receives threads beside count sender₀ receiver₀ i own j₀ sender receiver j =

@@ -1,0 +1,122 @@
+-- A run: its start in the tables, and what is left of it after some choices.
+use Prim.Native.Nat.{ℕ, zero, suc, _+_, _*_, _-_, _/_, _≤_, _<_}
+use mathlib.Core.Path.{_≡_, sym, ap, ap₂, _∙_}
+use mathlib.Core.List.{List, [], _∷_, _++_}
+use native.Mathlib.Omega.{arith}
+use lib.ListN.{length, getD, set, drop, length-set, length-drop}
+use lib.Seq.{drop-cons, getD-set-same, getD-set-other}
+use Rattle.format.specs.Words.{wordAt}
+use Rattle.format.specs.declared.Head.{Head}
+use Rattle.steps.specs.declared.Thread.{Thread}
+use Rattle.steps.specs.Threads.{zeros}
+use Rattle.steps.specs.Choice.{Clinic, State, Chosen, halts, goes, choice}
+use Rattle.choices.specs.Choices.{threadsFrom, start, Ran, follow, run}
+use Rattle.steps.specs.Kept.{threadsIn, madeIn, stateIn, Sized, Carried}
+use Rattle.choices.specs.Stored.{stored, Gone}
+use Rattle.choices.proofs.StateLaws.{threads-add}
+use Rattle.choices.proofs.ChoiceLaws.{Told, choice-told}
+
+-- a run of which some choices are done already
+abbrev pub after : ℕ → Ran → Ran
+after k r = record { count = k + r .count; refusal = r .refusal; state = r .state }
+
+-- what is left from here gives what the whole gives
+abbrev pub Left : Clinic → State → List ℕ → ℕ → State → Type 0
+Left C s ws k now = run C s ws ≡ after k (run C now (drop (2 * k) ws))
+
+pub left-begin : (C : Clinic) (s : State) (ws : List ℕ) → Left C s ws 0 s
+left-begin C s ws =
+    let z : run C s ws .count ≡ 0 + run C s ws .count = omega arith in
+    ap (λ (k : ℕ). record { count = k; refusal = run C s ws .refusal; state = run C s ws .state }) z
+
+-- the next choice of the list
+next : (ws : List ℕ) (k : ℕ) → k < length ws / 2 → drop (2 * k) ws ≡ getD ws (2 * k) 0 ∷ getD ws (2 * k + 1) 0 ∷ drop (2 * (k + 1)) ws
+next ws k lt =
+    let one : suc (2 * k) ≡ 2 * k + 1 = omega arith in
+    let two : suc (2 * k + 1) ≡ 2 * (k + 1) = omega arith in
+    drop-cons ws (2 * k) 0 (omega (arith, lt))
+    ∙ ap (λ (l : List ℕ). getD ws (2 * k) 0 ∷ l) (ap (λ (j : ℕ). drop j ws) one ∙ drop-cons ws (2 * k + 1) 0 (omega (arith, lt)) ∙ ap (λ (j : ℕ). getD ws (2 * k + 1) 0 ∷ drop j ws) two)
+
+module _ (C : Clinic) (s : State) (ws : List ℕ) (k : ℕ) (now now′ : State) (r : ℕ) (lt : k < length ws / 2)
+    (left : Left C s ws k now) (carried : Carried (choice C now (getD ws (2 * k) 0) (getD ws (2 * k + 1) 0)) r now now′) where
+  here : run C s ws ≡ after k (follow now (choice C now (getD ws (2 * k) 0) (getD ws (2 * k + 1) 0)) (λ x. run C x (drop (2 * (k + 1)) ws)))
+  unfolding run
+  here = left ∙ ap (λ (l : List ℕ). after k (run C now l)) (next ws k lt)
+
+  pub left-halts : (r ≡ 0 → ⊥) → run C s ws ≡ record { count = k; refusal = r; state = now′ }
+  left-halts some = go (choice C now (getD ws (2 * k) 0) (getD ws (2 * k + 1) 0)) carried here
+    where
+      go : (x : Chosen) → Carried x r now now′ → run C s ws ≡ after k (follow now x (λ y. run C y (drop (2 * (k + 1)) ws))) → run C s ws ≡ record { count = k; refusal = r; state = now′ }
+      go (halts n) (e, q) h =
+          let z : k + 0 ≡ k = omega arith in
+          h ∙ (λ j. record { count = z j; refusal = sym e j; state = sym q j })
+      go (goes y) (e, q) h = absurd (some e)
+
+  pub left-goes : r ≡ 0 → Left C s ws (k + 1) now′
+  left-goes none = go (choice C now (getD ws (2 * k) 0) (getD ws (2 * k + 1) 0)) (choice-told C now (getD ws (2 * k) 0) (getD ws (2 * k + 1) 0)) carried here
+    where
+      go : (x : Chosen) → Told x → Carried x r now now′ → run C s ws ≡ after k (follow now x (λ y. run C y (drop (2 * (k + 1)) ws))) → Left C s ws (k + 1) now′
+      go (halts n) told (e, q) h = absurd (told (sym e ∙ none))
+      go (goes y) told (e, q) h =
+          let R : Ran = run C y (drop (2 * (k + 1)) ws) in
+          let z : k + suc (R .count) ≡ k + 1 + R .count = omega arith in
+          h ∙ ap (λ (n : ℕ). record { count = n; refusal = R .refusal; state = R .state }) z ∙ ap (λ (x : State). after (k + 1) (run C x (drop (2 * (k + 1)) ws))) (sym q)
+
+-- at the end no choice is left
+pub left-ends : (C : Clinic) (s : State) (ws : List ℕ) (k : ℕ) (now : State) → k ≡ length ws / 2 → Left C s ws k now → run C s ws ≡ record { count = k; refusal = 0; state = now }
+unfolding run
+left-ends C s ws k now e left = left ∙ go (drop (2 * k) ws) (omega (arith, e, length-drop (2 * k) ws))
+  where
+    go : (l : List ℕ) → length l ≤ 1 → after k (run C now l) ≡ record { count = k; refusal = 0; state = now }
+    go [] h = let z : k + 0 ≡ k = omega arith in ap (λ (n : ℕ). record { count = n; refusal = 0; state = now }) z
+    go (x ∷ []) h = let z : k + 0 ≡ k = omega arith in ap (λ (n : ℕ). record { count = n; refusal = 0; state = now }) z
+    go (x ∷ y ∷ l) h = let none : ⊥ = omega (arith, h) in absurd none
+
+-- so many choices done, then a refusal or the end, are the answer
+pub gone : (R : Ran) (k : ℕ) (w b : List ℕ) (c r : ℕ) → R ≡ record { count = k; refusal = r; state = stateIn w b } → c ≡ k → Sized w b → Gone R (record { count = c; refusal = r }) w b
+gone R k w b c r e q z = (
+  ap₂ (λ (x y : ℕ). record { count = x; refusal = y }) (q ∙ ap (λ (x : Ran). x .count) (sym e)) (ap (λ (x : Ran). x .refusal) (sym e)),
+  ap (λ (x : Ran). x .state) (sym e),
+  z,
+)
+
+-- the start: a session more
+pub from-more : (f : List ℕ) (p k : ℕ)
+    → threadsFrom f p (suc k) ≡ threadsFrom f p k ++ (record { user = wordAt f (p + 3 * k); node = wordAt f (p + 3 * k + 2); mask = wordAt f (p + 3 * k + 1); vars = zeros } ∷ [])
+unfolding threadsFrom
+from-more f p zero =
+    let e : p ≡ p + 3 * 0 = omega arith in
+    ap (λ (x : ℕ). record { user = wordAt f x; node = wordAt f (x + 2); mask = wordAt f (x + 1); vars = zeros } ∷ []) e
+from-more f p (suc k) =
+    let e : p + 3 + 3 * k ≡ p + 3 * suc k = omega arith in
+    ap (λ (ts : List Thread). record { user = wordAt f p; node = wordAt f (p + 2); mask = wordAt f (p + 1); vars = zeros } ∷ ts)
+    (from-more f (p + 3) k ∙ ap (λ (x : ℕ). threadsFrom f (p + 3) k ++ (record { user = wordAt f x; node = wordAt f (x + 2); mask = wordAt f (x + 1); vars = zeros } ∷ [])) e)
+
+pub open-more : (f : List ℕ) (p : ℕ) (w v : List ℕ) (i : ℕ) (t : Thread) → 11 * i + 11 ≤ length w
+    → t ≡ record { user = wordAt f (p + 3 * i); node = wordAt f (p + 3 * i + 2); mask = wordAt f (p + 3 * i + 1); vars = zeros } → (v ≡ stored w (11 * i) t) × (length (t .vars) ≡ 8)
+    → threadsIn w 0 i ≡ threadsFrom f p i → threadsIn v 0 (i + 1) ≡ threadsFrom f p (i + 1)
+open-more f p w v i t fits is put have =
+    let one : suc i ≡ i + 1 = omega arith in
+    ap (λ (x : List ℕ). threadsIn x 0 (i + 1)) (put .0)
+    ∙ threads-add w i t fits (put .1)
+    ∙ ap₂ (λ (ts : List Thread) (x : Thread). ts ++ (x ∷ [])) have is
+    ∙ sym (from-more f p i)
+    ∙ ap (threadsFrom f p) one
+
+-- the counts are written beside
+pub open-state : (f : List ℕ) (h : Head) (w b : List ℕ) (n : ℕ) → length w ≡ 704 → length b ≡ 130 → n ≤ 32 → n ≡ h .count .sessions
+    → threadsIn w 0 n ≡ threadsFrom f (h .at .sessions) n → (stateIn w (set (set b 0 n) 1 0) ≡ start f h) × Sized w (set (set b 0 n) 1 0)
+unfolding madeIn
+open-state f h w b n words long few e have =
+    let d : List ℕ = set (set b 0 n) 1 0 in
+    let count : getD d 0 0 ≡ n = getD-set-other (set b 0 n) 1 0 0 0 (λ q. omega (arith, q)) ∙ getD-set-same b 0 n 0 (omega (arith, long)) in
+    let none : getD d 1 0 ≡ 0 = getD-set-same (set b 0 n) 1 0 0 (omega (arith, long, length-set b 0 n)) in (
+      ap₂ (λ (k m : ℕ). record { threads = threadsIn w 0 k; made = madeIn d 2 m }) count none
+          ∙ ap (λ (ts : List Thread). record { threads = ts; made = [] }) (have ∙ ap (threadsFrom f (h .at .sessions)) e),
+      record {
+        words = words;
+        beside = length-set (set b 0 n) 1 0 ∙ length-set b 0 n ∙ long;
+        threads = omega (arith, count, few);
+        made = omega (arith, none);
+      },
+    )

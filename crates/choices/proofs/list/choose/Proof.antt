@@ -1,0 +1,141 @@
+use mathlib.Core.Path.{_≡_, refl, sym, subst, _∙_}
+use mathlib.Core.Bool.{true, false}
+use native.Mathlib.Omega.{arith}
+use lib.ListN.{getD}
+use borrow.Author.Tests.{not-true, not-false}
+use Rattle.rules.specs.Names.{within}
+use Rattle.steps.specs.Choice.{Chosen, clinicOf}
+use Rattle.steps.specs.Kept.{stateIn, Carried}
+use Rattle.choices.proofs.ChoiceLaws.{within-both, looked, partner-read, acted-placed, choice-by, choice-none}
+use borrow.Author.Needs.{needs}
+use Rattle.choices.proofs.list.choose.Statement.{statement}
+use Rattle.choices.proofs.list.choose.Tie as tie
+use Rattle.choices.proofs.list.choose.Reads as reads
+use Rattle.choices.proofs.list.choose.Lts as lts
+use Rattle.format.proofs.words.wide.Reads as wide-reads
+use Rattle.steps.proofs.act.act.Reads as act-reads
+use Rattle.choices.proofs.list.is_thread.Reads as is-thread-reads
+use Rattle.choices.proofs.list.looked_at.Reads as looked-at-reads
+use Rattle.choices.proofs.list.store.Reads as store-reads
+use Rattle.choices.proofs.state.thread_at.Reads as thread-at-reads
+
+-- the thread is in count
+inside : (c : tie.Else1) → within (getD (c .before .before .before .before .before .before .before .before .args .beside .now) 0 0) (c .before .before .before .before .before .before .before .before .args .i) ≡ true
+inside c = sym (c .before .is-thread .ensures) ∙ not-false _ (c .if1 .left)
+
+-- src/list.rt:108:17
+slice-read-count : tie.Need-slice-read-count
+slice-read-count c = search needs
+
+-- src/list.rt:109:9
+is-thread-requires : tie.Need-is-thread-requires
+is-thread-requires c κs = search needs
+
+-- src/list.rt:110:9
+returns : tie.Need-returns
+returns c =
+    let a = c .before .before .before .before .before .before .before .before .args in
+    let C = clinicOf (a .file .now) (a .head) in
+    let outside : within (getD (a .beside .now) 0 0) (a .i) ≡ false = sym (c .before .is-thread .ensures) ∙ not-true _ (c .if1 .taken) in
+    (subst (λ (x : Chosen). Carried x 18 (stateIn (a .threads .now) (a .beside .now)) (stateIn (a .threads .now) (a .beside .now))) (sym (choice-none C (a .threads .now) (a .beside .now) (a .i) (a .p) outside)) (refl, refl), c .before .before .before .before .before .before .before .before .pre .3)
+
+-- src/list.rt:112:39
+sub-wide : tie.Need-sub-wide
+sub-wide c =
+    let a = c .before .before .before .before .before .before .before .before .before .args in
+    let some = within-both (getD (a .beside .now) 0 0) (a .i) (inside (c .before)) in
+    omega (arith, some .0)
+
+-- src/list.rt:112:34
+wide-requires : tie.Need-wide-requires
+wide-requires c κs = search needs
+
+-- src/list.rt:112:9
+thread-at-requires : tie.Need-thread-at-requires
+thread-at-requires c κs =
+    let s = c .before .before .before .before .before .before .before .before .before .before in
+    let some = within-both (getD (s .args .beside .now) 0 0) (s .args .i) (inside (c .before .before)) in
+    omega (arith, some .0, some .1, c .wide .ensures .0, s .pre .3 .words, s .pre .3 .threads)
+
+-- src/list.rt:113:9
+looked-at-requires : tie.Need-looked-at-requires
+looked-at-requires c κs = search needs
+
+-- src/list.rt:114:41
+sub-wide-2 : tie.Need-sub-wide-2
+sub-wide-2 c =
+    let a = c .before .before .before .before .before .before .before .before .before .before .before .before .before .args in
+    let some = looked (getD (a .beside .now) 0 0) (a .i) (a .p) (c .before .looked-at .result) (inside (c .before .before .before .before .before)) (c .before .looked-at .ensures) in
+    omega (arith, some .0)
+
+-- src/list.rt:114:36
+wide-requires-2 : tie.Need-wide-requires-2
+wide-requires-2 c κs = search needs
+
+-- src/list.rt:114:9
+thread-at-requires-2 : tie.Need-thread-at-requires-2
+thread-at-requires-2 c κs =
+    let s = c .before .before .before .before .before .before .before .before .before .before .before .before .before .before in
+    let a = s .args in
+    let some = looked (getD (a .beside .now) 0 0) (a .i) (a .p) (c .before .before .looked-at .result) (inside (c .before .before .before .before .before .before)) (c .before .before .looked-at .ensures) in
+    omega (arith, some .0, some .1, c .wide2 .ensures .0, s .pre .3 .words, s .pre .3 .threads)
+
+-- src/list.rt:115:9
+act-requires : tie.Need-act-requires
+act-requires c κs = search needs
+
+-- src/list.rt:116:5
+store-requires : tie.Need-store-requires
+store-requires c κs =
+    let s = c .before .before .before .before .before .before .before .before .before .before .before .before .before .before .before .before .before .before .before in
+    let a = s .args in
+    let C = clinicOf (a .file .now) (a .head) in
+    let some = within-both (getD (a .beside .now) 0 0) (a .i) (inside (c .before .before .before .before .before .before .before .before .before .before .before)) in (
+      s .pre .3,
+      some .0,
+      some .1,
+      acted-placed C (a .threads .now) (a .beside .now) (a .p) (c .before .before .before .before .before .before .before .before .thread-at .result) (c .before .before .before .before .thread-at2 .result) (c .before .before .act .result) (c .before .before .act .ensures),
+    )
+
+-- src/list.rt:93:1
+same-length : tie.Need-same-length
+same-length c = search needs
+
+-- src/list.rt:93:1
+same-length-2 : tie.Need-same-length-2
+same-length-2 c = search needs
+
+-- src/list.rt:93:1
+returns-2 : tie.Need-returns-2
+returns-2 c =
+    let a = c .before .before .before .before .before .before .before .before .before .before .before .before .before .before .before .before .before .before .before .before .before .before .before .before .args in
+    let C = clinicOf (a .file .now) (a .head) in
+    let own = c .before .before .before .before .before .before .before .before .before .before .before .before .before .thread-at in
+    let at = c .before .before .before .before .before .before .before .before .before .before .before .before .before .before .wide in
+    let q = c .before .before .before .before .before .before .before .before .before .before .before .before .looked-at in
+    let other = c .before .before .before .before .before .before .before .before .before .thread-at2 in
+    let it = c .before .before .before .before .before .before .before .act in
+    let stored = c .before .before .before .before .store in
+    let theirs = partner-read (a .threads .now) (getD (a .beside .now) 0 0) (a .i) (a .p) (q .result) (at .result) (c .before .before .before .before .before .before .before .before .before .before .wide2 .result) (own .result) (other .result) (q .ensures) (at .ensures .0) (own .ensures) (c .before .before .before .before .before .before .before .before .before .before .wide2 .ensures .0) (other .ensures) in
+    let same = choice-by C (a .threads .now) (a .beside .now) (a .p) (own .result) (other .result) (it .result) (it .ensures) (a .i) (at .result) (inside (c .before .before .before .before .before .before .before .before .before .before .before .before .before .before .before .before)) (at .ensures .0) (own .ensures) theirs in
+    (subst (λ (x : Chosen). Carried x (stored .result) (stateIn (a .threads .now) (a .beside .now)) (stateIn (stored .last .0) (stored .last .1 .0))) same (stored .ensures .0), stored .ensures .1)
+
+pub choose-spec : {M : Type 1} → statement M
+choose-spec =
+    tie.close
+    (tie.spec
+    slice-read-count
+    is-thread-requires
+    returns
+    sub-wide
+    wide-requires
+    thread-at-requires
+    looked-at-requires
+    sub-wide-2
+    wide-requires-2
+    thread-at-requires-2
+    act-requires
+    store-requires
+    same-length
+    same-length-2
+    returns-2)

@@ -1,0 +1,69 @@
+-- What is kept stays within the buffer, whose length does not change; the measure is the number of turns that are left.
+use Prim.Native.Nat.{_≤_}
+use mathlib.Core.Path.{_≡_, sym}
+use lib.ListN.{length}
+use lib.Seq.{length-take-le}
+use native.Mathlib.Omega.{arith}
+use Rattle.run.proofs.list.read_choices.Statement.{statement}
+use Rattle.run.proofs.list.read_choices.Tie as tie
+
+abbrev Inv-loop : tie.InvT-loop
+Inv-loop descriptor buffer₀ kept₀ turns₀ buffer kept turns = (kept ≤ 262144) × (length buffer ≡ 278528)
+
+abbrev μ-loop : tie.MeasureT-loop
+μ-loop descriptor buffer₀ kept₀ turns₀ buffer kept turns = turns
+
+loop-holds : tie.Need-loop-holds Inv-loop μ-loop
+loop-holds c = omega arith
+
+read-behind-requires : tie.Need-read-behind-requires Inv-loop μ-loop
+read-behind-requires c κs = omega arith
+
+same-length : tie.Need-same-length Inv-loop μ-loop
+same-length c = omega arith
+
+returns : tie.Need-returns Inv-loop μ-loop
+returns c = ((omega arith, sym (length-take-le _ _ (omega arith))), omega arith)
+
+count-requires : tie.Need-count-requires Inv-loop μ-loop
+count-requires c κs = tt
+
+add-enough : tie.Need-add-enough Inv-loop μ-loop
+add-enough c = omega arith
+
+enough-requires : tie.Need-enough-requires Inv-loop μ-loop
+enough-requires c κs = tt
+
+sub-turns : tie.Need-sub-turns Inv-loop μ-loop
+sub-turns c = omega arith
+
+loop-less : tie.Need-loop-less Inv-loop μ-loop
+loop-less c = omega arith
+
+loop-again : tie.Need-loop-again Inv-loop μ-loop
+loop-again c = omega arith
+
+same-length-2 : tie.Need-same-length-2 Inv-loop μ-loop
+same-length-2 c = omega arith
+
+returns-2 : tie.Need-returns-2 Inv-loop μ-loop
+returns-2 c = ((omega arith, sym (length-take-le _ _ (omega arith))), omega arith)
+
+pub read-choices-spec : {M : Type 1} → statement M
+read-choices-spec =
+    tie.close
+    (tie.spec
+    Inv-loop
+    μ-loop
+    loop-holds
+    read-behind-requires
+    same-length
+    returns
+    count-requires
+    add-enough
+    enough-requires
+    sub-turns
+    loop-less
+    loop-again
+    same-length-2
+    returns-2)
