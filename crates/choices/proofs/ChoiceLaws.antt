@@ -20,12 +20,12 @@ use Rattle.steps.specs.declared.Outcome.the-variants.{Refused, Moves, Adds, Mak
 use Rattle.steps.specs.declared.Acted.{Acted}
 use Rattle.steps.specs.declared.Answer.{Answer}
 use Rattle.steps.specs.declared.Answer.the-variants as answers
-use Rattle.steps.specs.Threads.{value}
+use Rattle.steps.specs.Threads.{value, noThread}
 use Rattle.steps.specs.Choice.{Clinic, allowed, meeting, sending, lone, aloneOnly, acting, State, Chosen, halts, goes, threadAt, partnerAt, done, choice}
-use Rattle.steps.specs.Kept.{threadIn, threadsIn, madeIn, stateIn}
+use Rattle.steps.specs.Kept.{threadIn, threadsIn, madeIn}
 use Rattle.steps.specs.Acted.{partnerOf, actedOf, outcomeBy, outcomeOf}
 use Rattle.choices.specs.Stored.{Placed}
-use Rattle.choices.proofs.TableLaws.{threads-length, thread-get}
+use Rattle.choices.proofs.TableLaws.{thread-get}
 use Rattle.choices.proofs.StateLaws.{made-length}
 
 abbrev Fair : ℕ → ℕ → ℕ → Outcome → Type 0
@@ -147,16 +147,16 @@ looked n i p q h e = go (within n p) refl e
     go true w f = subst (λ (k : ℕ). (0 < k) × (k ≤ n)) (sym f) (within-both n p w)
     go false w f = subst (λ (k : ℕ). (0 < k) × (k ≤ n)) (sym f) (within-both n i h)
 
-pub partner-read : (w : List ℕ) (n i p q at to : ℕ) (own other : Thread) → q ≡ cond (within n p) p i → at ≡ i - 1 → own ≡ threadIn w (11 * at) → to ≡ q - 1
-    → other ≡ threadIn w (11 * to) → other ≡ cond (within n p) (threadIn w (11 * (p - 1))) own
-partner-read w n i p q at to own other e a mine b theirs = go (within n p) e
+partner-read : (ts : List Thread) (n i p q at to : ℕ) (own other : Thread) → q ≡ cond (within n p) p i → at ≡ i - 1 → own ≡ getD ts at noThread → to ≡ q - 1
+    → other ≡ getD ts to noThread → other ≡ cond (within n p) (getD ts (p - 1) noThread) own
+partner-read ts n i p q at to own other e a mine b theirs = go (within n p) e
   where
-    go : (x : Bool) → q ≡ cond x p i → other ≡ cond x (threadIn w (11 * (p - 1))) own
-    go true f = theirs ∙ ap (λ (k : ℕ). threadIn w (11 * k)) (b ∙ ap (λ (k : ℕ). k - 1) f)
-    go false f = theirs ∙ ap (λ (k : ℕ). threadIn w (11 * k)) (b ∙ ap (λ (k : ℕ). k - 1) f ∙ sym a) ∙ sym mine
+    go : (x : Bool) → q ≡ cond x p i → other ≡ cond x (getD ts (p - 1) noThread) own
+    go true f = theirs ∙ ap (λ (k : ℕ). getD ts k noThread) (b ∙ ap (λ (k : ℕ). k - 1) f)
+    go false f = theirs ∙ ap (λ (k : ℕ). getD ts k noThread) (b ∙ ap (λ (k : ℕ). k - 1) f ∙ sym a) ∙ sym mine
 
--- the choice of a state in tables, by the threads read from them
-module _ (C : Clinic) (w b : List ℕ) (p : ℕ) (own other : Thread) (it : Acted)
+-- the choice of a state whose counts and made channels stand in a table, by the threads read from it
+module _ (C : Clinic) (b : List ℕ) (p : ℕ) (own other : Thread) (it : Acted)
     (acted : it ≡ actedOf (acting C (getD b 0 0) (madeIn b 2 (getD b 1 0)) own (partnerOf (getD b 0 0) p other))) where
   pub acted-placed : Placed (getD b 0 0) (getD b 1 0) p (it .answer)
   acted-placed =
@@ -165,33 +165,35 @@ module _ (C : Clinic) (w b : List ℕ) (p : ℕ) (own other : Thread) (it : Acte
       let fair : Fair (getD b 0 0) (getD b 1 0) p o = subst (λ (k : ℕ). Fair (getD b 0 0) k p o) (made-length b 2 (getD b 1 0)) (acting-fair (getD b 0 0) p C made own other) in
       fair-placed (getD b 0 0) (getD b 1 0) p (it .answer) (it .first) (it .second) (subst (Fair (getD b 0 0) (getD b 1 0) p) (sym (ap outcomeOf acted ∙ back o)) fair)
 
-  partner-same : other ≡ cond (within (getD b 0 0) p) (threadIn w (11 * (p - 1))) own → (b1 b2 : Bool) → eqb p 0 ≡ b1 → leb p (getD b 0 0) ≡ b2
-      → cond b1 Alone (cond b2 (With other) Missing) ≡ cond b1 Alone (cond b2 (With (threadAt (stateIn w b) p)) Missing)
-  partner-same e true b2 e1 e2 = refl
-  partner-same e false false e1 e2 = refl
-  partner-same e false true e1 e2 =
-      let pos : 0 < p = positive p (eqb-false p 0 e1) in
-      let le : p ≤ getD b 0 0 = leb-true p (getD b 0 0) e2 in
-      let there : 0 + 11 * (p - 1) ≡ 11 * (p - 1) = omega arith in
-      let read : threadAt (stateIn w b) p ≡ threadIn w (11 * (p - 1)) = thread-get w 0 (getD b 0 0) (p - 1) (omega (arith, pos, le)) ∙ ap (threadIn w) there in
-      ap With (e ∙ (rw (lt-ltb 0 p pos, e2)) ∙ sym read)
+  module _ (ts : List Thread) (long : length ts ≡ getD b 0 0) where
+    abbrev s : State
+    s = record { threads = ts; made = madeIn b 2 (getD b 1 0) }
 
-  pub choice-by : (i at : ℕ) → within (getD b 0 0) i ≡ true → at ≡ i - 1 → own ≡ threadIn w (11 * at)
-      → other ≡ cond (within (getD b 0 0) p) (threadIn w (11 * (p - 1))) own → done (stateIn w b) i p (outcomeOf it) ≡ choice C (stateIn w b) i p
-  unfolding choice
-  choice-by i at inside a mine theirs =
-      let n : ℕ = getD b 0 0 in
-      let s : State = stateIn w b in
-      let long : length (s .threads) ≡ n = threads-length w 0 n in
-      let some-one : (0 < i) × (i ≤ n) = within-both n i inside in
-      let there : 0 + 11 * (i - 1) ≡ 11 * at = omega (arith, a) in
-      let read : own ≡ threadAt s i = mine ∙ sym (thread-get w 0 n (i - 1) (omega (arith, some-one .0, some-one .1)) ∙ ap (threadIn w) there) in
-      let partner : partnerOf n p other ≡ partnerOf n p (threadAt s p) = partner-same theirs (eqb p 0) (leb p n) refl refl in
-      let o : outcomeOf it ≡ acting C n (s .made) (threadAt s i) (partnerOf n p (threadAt s p)) =
-      ap outcomeOf acted ∙ back _ ∙ ap₂ (acting C n (s .made)) read partner in
-      let whole : within (length (s .threads)) i ≡ true = ap (λ (k : ℕ). within k i) long ∙ inside in
-      ap (done s i p) (o ∙ ap (λ (k : ℕ). acting C k (s .made) (threadAt s i) (partnerOf k p (threadAt s p))) (sym long)) ∙ sym (rw whole)
+    partner-same : other ≡ cond (within (getD b 0 0) p) (threadAt s p) own → (b1 b2 : Bool) → eqb p 0 ≡ b1 → leb p (getD b 0 0) ≡ b2
+        → cond b1 Alone (cond b2 (With other) Missing) ≡ cond b1 Alone (cond b2 (With (threadAt s p)) Missing)
+    partner-same e true b2 e1 e2 = refl
+    partner-same e false false e1 e2 = refl
+    partner-same e false true e1 e2 = ap With (e ∙ (rw (lt-ltb 0 p (positive p (eqb-false p 0 e1)), e2)))
 
-pub choice-none : (C : Clinic) (w b : List ℕ) (i p : ℕ) → within (getD b 0 0) i ≡ false → choice C (stateIn w b) i p ≡ halts 18
+    pub choice-by : (i q at to : ℕ) → within (getD b 0 0) i ≡ true → q ≡ cond (within (getD b 0 0) p) p i → at ≡ i - 1 → own ≡ getD ts at noThread
+        → to ≡ q - 1 → other ≡ getD ts to noThread → done s i p (outcomeOf it) ≡ choice C s i p
+    unfolding choice
+    choice-by i q at to inside e a mine there theirs =
+        let n : ℕ = getD b 0 0 in
+        let read : own ≡ threadAt s i = mine ∙ ap (λ (k : ℕ). getD ts k noThread) a in
+        let other-read : other ≡ cond (within n p) (threadAt s p) own = partner-read ts n i p q at to own other e a mine there theirs in
+        let partner : partnerOf n p other ≡ partnerOf n p (threadAt s p) = partner-same other-read (eqb p 0) (leb p n) refl refl in
+        let o : outcomeOf it ≡ acting C n (s .made) (threadAt s i) (partnerOf n p (threadAt s p)) =
+        ap outcomeOf acted ∙ back _ ∙ ap₂ (acting C n (s .made)) read partner in
+        let whole : within (length ts) i ≡ true = ap (λ (k : ℕ). within k i) long ∙ inside in
+        ap (done s i p) (o ∙ ap (λ (k : ℕ). acting C k (s .made) (threadAt s i) (partnerOf k p (threadAt s p))) (sym long)) ∙ sym (rw whole)
+
+pub choice-none : (C : Clinic) (s : State) (n i p : ℕ) → length (s .threads) ≡ n → within n i ≡ false → choice C s i p ≡ halts 18
 unfolding choice
-choice-none C w b i p outside = let whole : within (length (threadsIn w 0 (getD b 0 0))) i ≡ false = ap (λ (k : ℕ). within k i) (threads-length w 0 (getD b 0 0)) ∙ outside in rw whole
+choice-none C s n i p long outside = let whole : within (length (s .threads)) i ≡ false = ap (λ (k : ℕ). within k i) long ∙ outside in rw whole
+
+-- a thread of the words of a table is one of the threads in it
+pub thread-read : (w : List ℕ) (n at : ℕ) (t : Thread) → at < n → t ≡ threadIn w (11 * at) → t ≡ getD (threadsIn w 0 n) at noThread
+thread-read w n at t lt e =
+    let there : 11 * at ≡ 0 + 11 * at = omega arith in
+    e ∙ ap (threadIn w) there ∙ sym (thread-get w 0 n at lt)

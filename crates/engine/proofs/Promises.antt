@@ -1,14 +1,16 @@
 -- What the engine promises, each promise under a sentence of the paper (01) or of the demands; nothing else stands here.
 -- What a caller gets is in the contracts of the exported functions (src/lib.rt): of any bytes handed over `pilzdamo_read` answers `readingNames`, the refusals 1 to 10,
 -- `pilzdamo_check` `checking`, the refusals 1 to 13, `pilzdamo_place` `placing`, with `placedOver` in the output, `pilzdamo_run`
--- `running`, with `runOver` in the output, and `pilzdamo_ready` `ready`.
-use Prim.Native.Nat.{ℕ, _*_, _%_, _≤_, _<_}
+-- `running`, with `runOver` in the output, `pilzdamo_ready` `ready`, and `pilzdamo_choose` `choosing`, with `recordsOver` in the lent list and `besideOver` beside it.
+use Prim.Native.Nat.{ℕ, _+_, _*_, _%_, _≤_, _<_}
 use mathlib.Core.Path.{_≡_}
 use mathlib.Core.Logic.{_↔_, _≢_, _⊎_}
-use mathlib.Core.Bool.{true}
-use mathlib.Core.List.{List, [], _++_}
-use lib.ListN.{length, take, drop}
+use mathlib.Core.Bool.{true, cond}
+use mathlib.Core.List.{List, [], _∷_, _++_}
+use lib.Dec.{eqb}
+use lib.ListN.{length, getD, take, drop}
 use Rattle.format.specs.Answers.{fine, refused}
+use Rattle.format.specs.Header.{headAt}
 use Rattle.reading.specs.Reading.{reading}
 use Rattle.clinic.specs.Lists.{All}
 use Rattle.clinic.specs.File.{InCount, File, WellFormed, encode}
@@ -27,13 +29,16 @@ use Rattle.placement.specs.Promised.{WellPlaced, Clean, SomeMask, IsSwitch, Uns
 use Rattle.placement.specs.Cases.{Shown, cases}
 use Rattle.format.specs.declared.Node.{Node}
 use Rattle.rules.specs.Rules.{Context}
+use Rattle.steps.specs.declared.Thread.{Thread}
 use Rattle.steps.specs.Threads.{firstFree}
-use Rattle.steps.specs.Choice.{Clinic, State, threadAt, choice, halts, goes}
-use Rattle.choices.specs.Choices.{run, ranOf}
+use Rattle.steps.specs.Choice.{Clinic, clinicOf, State, threadAt, choice, halts, goes}
+use Rattle.choices.specs.Choices.{start, run, ranOf}
 use Rattle.running.specs.Run.{listed, running, readyPair}
 use Rattle.runs.specs.Steps.{StandsAt, Steps, Chain}
 use Rattle.runs.specs.Conditions.{Condition, FirstRefusal}
 use Rattle.runs.specs.Keeps.{Reaches, Kept}
+use Rattle.lent.specs.Lent.{stateOf, lending, choosing, recordsOver, besideOver}
+use Rattle.lent.specs.Lendable.{Lendable, Eight, Lends, inTurn}
 use Rattle.reading.proofs.LongLaws.{Stands}
 use Rattle.checking.proofs.CheckLaws.{stands-check}
 use Rattle.typing.proofs.CheckExact.{check-exact, names-exact}
@@ -46,6 +51,9 @@ use Rattle.runs.proofs.Agree.{agree, one-result, refused-first, done-free}
 use Rattle.runs.proofs.RunChain.{Refuses, run-chain, run-stopped, run-whole}
 use Rattle.runs.proofs.ReadyPair.{ready-done, ready-lowest, ready-none}
 use Rattle.runs.proofs.RunSafe.{run-kept, next-free, run-safe, placed-safe, placed-seventeen, placed-unbarred}
+use Rattle.lent.proofs.LendableLaws.{eighteen-zero, ten-first, past-ten-one}
+use Rattle.lent.proofs.LentRuns.{kept-lendable, lent-next, whole-run, lent-again}
+use Rattle.lent.proofs.Unchanged.{refused-unchanged, past-kept}
 use Rattle.clinic.proofs.Exact.{sound, complete, single}
 use Rattle.clinic.proofs.EncodedBytes.{encode-bytes}
 use Rattle.clinic.proofs.FirstRefusal.{first-refusal}
@@ -195,6 +203,48 @@ ready-is-lowest = ready-lowest
 pub no-pair-exactly : (C : Clinic) (s : State)
     → (readyPair C s ≡ (0, 0)) ↔ ((j q : ℕ) (n : Node) → StandsAt C s j n → n .tag ≡ 6 → (m : ℕ) × (choice C s j q ≡ halts m))
 no-pair-exactly = ready-none
+
+-- The live desk's list. "Another number of records, a count above 64, a made channel's owner or kind out of count, or in a counted thread a node out of count, a user not that of the node's session, a role in
+-- the mask not assigned to that user, or a variable not of the kind that rule 1 gives it at that node (0 where none is bound), is 18 at place 0": exactly where the file passes 1 to 10 and what is lent is not `Lendable`.
+pub lent-exactly : (f : List ℕ) (l : List Thread) → All Eight l → (b : List ℕ) (i p : ℕ) → (choosing f l b i p ≡ refused 18 0) ↔ ((readingNames f ≡ fine) × (Lendable f l b → ⊥))
+lent-exactly = eighteen-zero
+
+-- "the file is judged by 1 to 10 first", and "the choice itself has place 1": what a choice in the state that is lent is refused with.
+pub file-first : (f : List ℕ) (l : List Thread) (b : List ℕ) (i p n q : ℕ) → 1 ≤ n → n ≤ 10 → (choosing f l b i p ≡ refused n q) ↔ (readingNames f ≡ refused n q)
+file-first = ten-first
+
+pub choice-has-place-one : (f : List ℕ) (l : List Thread) (b : List ℕ) (i p n : ℕ) → 10 < n
+    → (choosing f l b i p ≡ refused n 1) ↔ ((lending f l b ≡ fine) × (choice (clinicOf f (headAt f)) (stateOf l b) i p ≡ halts n))
+choice-has-place-one = past-ten-one
+
+-- "from a state of a run it gives the run's next state": a state of a run is never 18 at place 0; a choice in it leaves the list holding the state of the run with that choice more, or is refused at place 1 as
+-- that run is; and so for whole lists of choices, done one after the other.
+pub run-may-be-lent : (f : List ℕ) → readingNames f ≡ fine → (ws : List ℕ) (l : List Thread) (b : List ℕ) → Lends l b (ranOf f ws .state) → lending f l b ≡ fine
+run-may-be-lent = kept-lendable
+
+pub next-of-run : (f : List ℕ) → readingNames f ≡ fine → (ws : List ℕ) → length ws % 2 ≡ 0 → ranOf f ws .refusal ≡ 0 → (l : List Thread) (b : List ℕ) → Lends l b (ranOf f ws .state) → (i p : ℕ)
+    → Lends (recordsOver f l b i p) (besideOver f l b i p) (ranOf f (ws ++ (i ∷ p ∷ [])) .state)
+    × (choosing f l b i p ≡ cond (eqb (ranOf f (ws ++ (i ∷ p ∷ [])) .refusal) 0) fine (refused (ranOf f (ws ++ (i ∷ p ∷ [])) .refusal) 1))
+next-of-run = lent-next
+
+pub run-in-turn : (f : List ℕ) → readingNames f ≡ fine → (ws : List ℕ) (l : List Thread) (b : List ℕ) → Lends l b (start f (headAt f))
+    → Lends (inTurn f l b ws .records) (inTurn f l b ws .beside) (ranOf f ws .state)
+    × (inTurn f l b ws .answer ≡ cond (eqb (ranOf f ws .refusal) 0) fine (refused (ranOf f ws .refusal) 1))
+run-in-turn = whole-run
+
+-- A list that passes the judging passes it again after a choice that is done in it.
+pub lent-after : (f : List ℕ) (l : List Thread) → All Eight l → (b : List ℕ) → lending f l b ≡ fine → (i p : ℕ) → choosing f l b i p ≡ fine
+    → lending f (recordsOver f l b i p) (besideOver f l b i p) ≡ fine
+lent-after = lent-again
+
+-- "Every refused choice leaves the list unchanged; records past the count after the choice keep what they held": the words beside it alike.
+pub refused-leaves-all : (f : List ℕ) (l : List Thread) (b : List ℕ) (i p : ℕ) → choosing f l b i p .number ≢ 0 → (recordsOver f l b i p ≡ l) × (besideOver f l b i p ≡ b)
+refused-leaves-all = refused-unchanged
+
+pub past-the-count : (f : List ℕ) (l : List Thread) (b : List ℕ) (i p : ℕ)
+    → (drop (getD (besideOver f l b i p) 0 0) (recordsOver f l b i p) ≡ drop (getD (besideOver f l b i p) 0 0) l)
+    × (drop (2 + 2 * getD (besideOver f l b i p) 1 0) (besideOver f l b i p) ≡ drop (2 + 2 * getD (besideOver f l b i p) 1 0) b)
+past-the-count = past-kept
 
 -- "Starred cases belong to the proved set .. shown on the definitions through one theorem about their list."
 pub starred-cases : All Shown cases

@@ -1,13 +1,22 @@
 // The engine's public face: one function for each thing that a caller asks, exported for C and Rust. A lent slice of bytes is a
 // pointer and a length there.
+mod records;
+
 use format::Verdict;
+use lent::counted;
+use lent::decide;
+use lent::verdict_of;
 use placing::Placed;
+use records::read_in;
+use records::store;
 use running::Ready;
+use steps::Thread;
 ghost use mathlib.Core.Path.{_≡_};
 ghost use lib.ListN.{length};
 ghost use Rattle.checking.specs.Check.{readingNames, checking};
 ghost use Rattle.placing.specs.Placing.{placing, placedOver};
 ghost use Rattle.running.specs.Run.{running, runOver, ready};
+ghost use Rattle.lent.specs.Lent.{choosing, recordsOver, besideOver};
 
 // Reads a clinic file, of any bytes and any length: the first of the refusals 1 to 10, or 0 and 0 where there is none.
 #[no_mangle]
@@ -50,4 +59,27 @@ pub extern "C" fn pilzdamo_ready(file: &[u8], choices: &[u16]) -> Ready
     ensures { λ r. ⌜ r ≡ ready (now (file .entry)) (now (choices .entry)) ⌝ }
 {
     running::ready_after(file, choices)
+}
+
+// Carries out one choice in the list that the live desk lends: 64 records of threads, and beside them 130 words: the thread count, the number of made
+// channels, owner and kind of 64 made channels. The first of 1 to 10; 18 at place 0 where what is lent is no list of the file's threads; the choice's
+// refusal at place 1; or 0 and 0, and then only what the choice changes is stored.
+#[no_mangle]
+pub extern "C" fn pilzdamo_choose(
+    file: &[u8],
+    threads: &mut [Thread],
+    beside: &mut [u16],
+    thread: u16,
+    partner: u16,
+) -> Verdict
+    ensures { λ r. ⌜ (r ≡ choosing (now (file .entry)) (now (threads .entry)) (now (beside .entry)) thread partner)
+        × (now (threads .exit) ≡ recordsOver (now (file .entry)) (now (threads .entry)) (now (beside .entry)) thread partner)
+        × (now (beside .exit) ≡ besideOver (now (file .entry)) (now (threads .entry)) (now (beside .entry)) thread partner) ⌝ }
+{
+    let records = threads.len();
+    let n = counted(records, &*beside);
+    let all = read_in(&mut *threads, n);
+    let it = decide(file, records, all, &mut *beside, thread, partner);
+    store(&mut *threads, it);
+    verdict_of(it)
 }

@@ -35,11 +35,11 @@ stacked-set a i v (suc d) h =
     let other : getD (set a i v) d 0 ≡ getD a d 0 = getD-set-other a i d v 0 (λ e. let no : d ≡ i = e in omega arith) in
     rw (other, stacked-set a i v d (omega arith))
 
-stacked-push : (a : List ℕ) (d v : ℕ) → d < length a → stacked (set a d v) (suc d) ≡ v ∷ stacked a d
+pub stacked-push : (a : List ℕ) (d v : ℕ) → d < length a → stacked (set a d v) (suc d) ≡ v ∷ stacked a d
 unfolding stacked
 stacked-push a d v h = rw (getD-set-same a d v 0 h, stacked-set a d v d (omega arith))
 
-stacked-top : (a : List ℕ) (d : ℕ) → 0 < d → stacked a d ≡ getD a (d - 1) 0 ∷ stacked a (d - 1)
+pub stacked-top : (a : List ℕ) (d : ℕ) → 0 < d → stacked a d ≡ getD a (d - 1) 0 ∷ stacked a (d - 1)
 unfolding stacked
 stacked-top a zero pos = let no : ⊥ = omega arith in absurd no
 stacked-top a (suc d) pos = let d1 : suc d - 1 ≡ d = omega arith in rw d1

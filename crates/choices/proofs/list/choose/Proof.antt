@@ -5,8 +5,9 @@ use lib.ListN.{getD}
 use borrow.Author.Tests.{not-true, not-false}
 use Rattle.rules.specs.Names.{within}
 use Rattle.steps.specs.Choice.{Chosen, clinicOf}
-use Rattle.steps.specs.Kept.{stateIn, Carried}
-use Rattle.choices.proofs.ChoiceLaws.{within-both, looked, partner-read, acted-placed, choice-by, choice-none}
+use Rattle.steps.specs.Kept.{threadsIn, stateIn, Carried}
+use Rattle.choices.proofs.ChoiceLaws.{within-both, looked, acted-placed, choice-by, choice-none, thread-read}
+use Rattle.choices.proofs.TableLaws.{threads-length}
 use borrow.Author.Needs.{needs}
 use Rattle.choices.proofs.list.choose.Statement.{statement}
 use Rattle.choices.proofs.list.choose.Tie as tie
@@ -37,7 +38,7 @@ returns c =
     let a = c .before .before .before .before .before .before .before .before .args in
     let C = clinicOf (a .file .now) (a .head) in
     let outside : within (getD (a .beside .now) 0 0) (a .i) ≡ false = sym (c .before .is-thread .ensures) ∙ not-true _ (c .if1 .taken) in
-    (subst (λ (x : Chosen). Carried x 18 (stateIn (a .threads .now) (a .beside .now)) (stateIn (a .threads .now) (a .beside .now))) (sym (choice-none C (a .threads .now) (a .beside .now) (a .i) (a .p) outside)) (refl, refl), c .before .before .before .before .before .before .before .before .pre .3)
+    (subst (λ (x : Chosen). Carried x 18 (stateIn (a .threads .now) (a .beside .now)) (stateIn (a .threads .now) (a .beside .now))) (sym (choice-none C (stateIn (a .threads .now) (a .beside .now)) (getD (a .beside .now) 0 0) (a .i) (a .p) (threads-length (a .threads .now) 0 (getD (a .beside .now) 0 0)) outside)) (refl, refl), c .before .before .before .before .before .before .before .before .pre .3)
 
 -- src/list.rt:112:39
 sub-wide : tie.Need-sub-wide
@@ -94,7 +95,7 @@ store-requires c κs =
       s .pre .3,
       some .0,
       some .1,
-      acted-placed C (a .threads .now) (a .beside .now) (a .p) (c .before .before .before .before .before .before .before .before .thread-at .result) (c .before .before .before .before .thread-at2 .result) (c .before .before .act .result) (c .before .before .act .ensures),
+      acted-placed C (a .beside .now) (a .p) (c .before .before .before .before .before .before .before .before .thread-at .result) (c .before .before .before .before .thread-at2 .result) (c .before .before .act .result) (c .before .before .act .ensures),
     )
 
 -- src/list.rt:93:1
@@ -116,8 +117,15 @@ returns-2 c =
     let other = c .before .before .before .before .before .before .before .before .before .thread-at2 in
     let it = c .before .before .before .before .before .before .before .act in
     let stored = c .before .before .before .before .store in
-    let theirs = partner-read (a .threads .now) (getD (a .beside .now) 0 0) (a .i) (a .p) (q .result) (at .result) (c .before .before .before .before .before .before .before .before .before .before .wide2 .result) (own .result) (other .result) (q .ensures) (at .ensures .0) (own .ensures) (c .before .before .before .before .before .before .before .before .before .before .wide2 .ensures .0) (other .ensures) in
-    let same = choice-by C (a .threads .now) (a .beside .now) (a .p) (own .result) (other .result) (it .result) (it .ensures) (a .i) (at .result) (inside (c .before .before .before .before .before .before .before .before .before .before .before .before .before .before .before .before)) (at .ensures .0) (own .ensures) theirs in
+    let to = c .before .before .before .before .before .before .before .before .before .before .wide2 in
+    let n = getD (a .beside .now) 0 0 in
+    let w = a .threads .now in
+    let within-i = inside (c .before .before .before .before .before .before .before .before .before .before .before .before .before .before .before .before) in
+    let some = within-both n (a .i) within-i in
+    let some-q = looked n (a .i) (a .p) (q .result) within-i (q .ensures) in
+    let mine = thread-read w n (at .result) (own .result) (omega (arith, some .0, some .1, at .ensures .0)) (own .ensures) in
+    let theirs = thread-read w n (to .result) (other .result) (omega (arith, some-q .0, some-q .1, to .ensures .0)) (other .ensures) in
+    let same = choice-by C (a .beside .now) (a .p) (own .result) (other .result) (it .result) (it .ensures) (threadsIn w 0 n) (threads-length w 0 n) (a .i) (q .result) (at .result) (to .result) within-i (q .ensures) (at .ensures .0) mine (to .ensures .0) theirs in
     (subst (λ (x : Chosen). Carried x (stored .result) (stateIn (a .threads .now) (a .beside .now)) (stateIn (stored .last .0) (stored .last .1 .0))) same (stored .ensures .0), stored .ensures .1)
 
 pub choose-spec : {M : Type 1} → statement M

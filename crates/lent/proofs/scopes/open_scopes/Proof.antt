@@ -1,0 +1,113 @@
+use Prim.Native.Nat.{_+_, _*_, _-_, _≤_}
+use mathlib.Core.Path.{_≡_, refl, ap, ap₂, _∙_}
+use native.Mathlib.Omega.{arith}
+use lib.ListN.{length, length-set}
+use borrow.Author.Needs.{needs}
+use Rattle.format.specs.declared.Session.{Session}
+use Rattle.format.specs.Words.{wordAt}
+use Rattle.rules.specs.Kept.{stacked}
+use Rattle.lent.specs.Scopes.{openScopesFrom}
+use Rattle.lent.proofs.FillLaws.{pushes}
+use Rattle.lent.proofs.scopes.open_scopes.Statement.{statement}
+use Rattle.lent.proofs.scopes.open_scopes.Tie as tie
+use Rattle.lent.proofs.scopes.open_scopes.Reads as reads
+use Rattle.lent.proofs.scopes.open_scopes.Lts as lts
+use Rattle.format.proofs.sections.session.Reads as session-reads
+use Rattle.format.proofs.words.narrow.Reads as narrow-reads
+use Rattle.format.proofs.words.wide.Reads as wide-reads
+
+abbrev Inv-loop : tie.InvT-loop
+Inv-loop file head stack₀ sessions depth₀ stack depth =
+    (depth ≤ sessions) × (length stack ≡ 1057) × (stacked stack depth ≡ openScopesFrom file (head .at .sessions + 3 * (sessions - depth)) depth)
+
+abbrev μ-loop : tie.MeasureT-loop
+μ-loop file head stack₀ sessions depth₀ stack depth = sessions - depth
+
+-- src/scopes.rt:86:9
+wide-requires : tie.Need-wide-requires Inv-loop μ-loop
+wide-requires c κs = search needs
+
+-- src/scopes.rt:88:5
+loop-holds : tie.Need-loop-holds Inv-loop μ-loop
+unfolding stacked openScopesFrom
+loop-holds c = (omega arith, omega arith, refl)
+
+-- src/scopes.rt:89:45
+sub-narrow : tie.Need-sub-narrow Inv-loop μ-loop
+sub-narrow c = search needs
+
+-- src/scopes.rt:89:38
+narrow-requires : tie.Need-narrow-requires Inv-loop μ-loop
+narrow-requires c κs = search needs
+
+-- src/scopes.rt:89:13
+session-requires : tie.Need-session-requires Inv-loop μ-loop
+session-requires c κs = search needs
+
+-- src/scopes.rt:90:24
+cast-stack : tie.Need-cast-stack Inv-loop μ-loop
+cast-stack c = search needs
+
+-- src/scopes.rt:90:9
+mul-stack : tie.Need-mul-stack Inv-loop μ-loop
+mul-stack c = search needs
+
+-- src/scopes.rt:90:9
+slice-write-stack : tie.Need-slice-write-stack Inv-loop μ-loop
+slice-write-stack c = search needs
+
+-- src/scopes.rt:91:9
+add-depth : tie.Need-add-depth Inv-loop μ-loop
+add-depth c = search needs
+
+-- src/scopes.rt:88:5
+loop-less : tie.Need-loop-less Inv-loop μ-loop
+loop-less c = search needs
+
+-- src/scopes.rt:88:5
+loop-again : tie.Need-loop-again Inv-loop μ-loop
+loop-again c =
+    let a = c .before .before .before .before .before .before .before .before .args in
+    let l = c .before .before .before .before .loop in
+    let s = c .before .before .before .before .before .wide .result in
+    let it = c .before .session .result in
+    let user : it .user ≡ wordAt (a .file .now) (a .head .at .sessions + 3 * (s - l .depth - 1)) =
+    ap (λ (x : Session). x .user) (c .before .session .ensures) ∙ ap (λ k. wordAt (a .file .now) (a .head .at .sessions + 3 * (k - 1))) (c .before .before .narrow .ensures) in (
+      omega arith,
+      simp length-set (l .inv .1),
+      pushes (a .file .now) (a .head .at .sessions) s (l .depth) (it .user) (l .stack) (omega arith) (omega arith) user (l .inv .2),
+    )
+
+-- src/scopes.rt:81:1
+same-length : tie.Need-same-length Inv-loop μ-loop
+same-length c = search needs
+
+-- src/scopes.rt:81:1
+returns : tie.Need-returns Inv-loop μ-loop
+returns c =
+    let a = c .before .before .before .before .before .args in
+    let l = c .before .loop in
+    let s = c .before .before .wide .result in
+    let all : l .depth ≡ a .head .count .sessions = omega (arith, c .before .before .wide .ensures .0) in
+    let from : a .head .at .sessions + 3 * (s - l .depth) ≡ a .head .at .sessions = omega arith in
+    (all, l .inv .1, l .inv .2 ∙ ap₂ (openScopesFrom (a .file .now)) from all)
+
+pub open-scopes-spec : {M : Type 1} → statement M
+open-scopes-spec =
+    tie.close
+    (tie.spec
+    Inv-loop
+    μ-loop
+    wide-requires
+    loop-holds
+    sub-narrow
+    narrow-requires
+    session-requires
+    cast-stack
+    mul-stack
+    slice-write-stack
+    add-depth
+    loop-less
+    loop-again
+    same-length
+    returns)
