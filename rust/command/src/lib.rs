@@ -1,0 +1,45 @@
+//! What the command does. The engine judges, places and runs; here are only
+//! the files, the words of the command line and the lines that are printed.
+
+#![forbid(unsafe_code)]
+
+mod choices;
+mod clinic;
+mod explain;
+mod jobs;
+mod names;
+mod output;
+mod page;
+mod refusals;
+mod report;
+mod sessions;
+pub mod show;
+mod source;
+mod state;
+mod tree;
+mod words;
+
+use std::ffi::OsString;
+
+/// What a job came to.
+enum Outcome {
+    Answer,
+    Refusal,
+}
+
+/// Why there is neither an answer nor a refusal: words that can't be
+/// understood, or a file that can't be read or written.
+struct WrongUse(String);
+
+/// Does what the words ask for. The exit status: 0 for an answer, 1 for a
+/// refusal, 2 for wrong use.
+pub fn go(words: impl Iterator<Item = OsString>) -> u8 {
+    match words::job(words).and_then(jobs::carry_out) {
+        Ok(Outcome::Answer) => 0,
+        Ok(Outcome::Refusal) => 1,
+        Err(WrongUse(why)) => {
+            output::say(&format!("pilzdamo: {why}"));
+            2
+        }
+    }
+}

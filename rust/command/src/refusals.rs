@@ -1,0 +1,252 @@
+//! The refusals: what each means, what its place counts, and who can mend it.
+
+/// One refusal in words.
+pub struct Refusal {
+    /// In a few words.
+    pub short: &'static str,
+    /// What its place counts.
+    pub place: &'static str,
+    /// Who can mend it.
+    pub who: &'static str,
+    /// What is wrong.
+    pub wrong: &'static str,
+    /// How to mend it.
+    pub mend: &'static str,
+}
+
+/// What a place counts.
+#[derive(Clone, Copy, Debug, PartialEq)]
+pub enum Counts {
+    Nothing,
+    Word,
+    Session,
+    Node,
+    Choice,
+}
+
+const WRITER: &str = "the file's writer";
+const KEEPER: &str = "the schema's keeper";
+const AUTHOR: &str = "the routine's author";
+const CALLER: &str = "the caller";
+
+const NOTHING: &str = "nothing; it is 0";
+const WORD: &str = "words: the first word of the record, from 0 at the start of the file";
+const SESSION: &str = "sessions, from 1";
+const NODE: &str = "nodes, from 1";
+const NODE_OR_CHOICE: &str = "nodes, from 1; in a run choices, from 1";
+const CHOICE: &str = "choices, from 1";
+
+/// The refusal of this number.
+pub fn of(number: u16) -> Option<&'static Refusal> {
+    ALL.get(usize::from(number).checked_sub(1)?)
+}
+
+/// What the place of a refusal of this number counts.
+pub fn counts(number: u16, place: u16, in_run: bool) -> Counts {
+    match number {
+        6 => Counts::Word,
+        7 => Counts::Session,
+        11..=13 if in_run => Counts::Choice,
+        14 if place == 0 => Counts::Nothing,
+        8..=15 => Counts::Node,
+        18..=20 => Counts::Choice,
+        _ => Counts::Nothing,
+    }
+}
+
+/// The refusals from 1 on.
+pub const ALL: [Refusal; 20] = [
+    Refusal {
+        short: "the file has under 26 bytes, or an odd number of them",
+        place: NOTHING,
+        who: WRITER,
+        wrong: "A file is made of words of two bytes, and its head alone has 13 of them. This one \
+            is shorter than a head, or ends in the middle of a word.",
+        mend: "Fetch the file again: most often it was cut off on its way. If it is so at its \
+            source, write it again.",
+    },
+    Refusal {
+        short: "the version isn't 1",
+        place: NOTHING,
+        who: WRITER,
+        wrong:
+            "The first word of a file is the version of its format. This engine reads version 1.",
+        mend:
+            "Write the file in version 1. If that is what was meant, make sure that each word is \
+            written low byte first, and that this is a clinic's file at all.",
+    },
+    Refusal {
+        short: "a count is out of range",
+        place: NOTHING,
+        who: WRITER,
+        wrong: "The head counts the records: at most 32 users, 16 roles, 32 kinds, 64 channels, \
+            32 sessions and 1,024 nodes. One of the counts is higher.",
+        mend: "Correct the count, or share out the routines over two files. `pilzdamo show` marks \
+            the count.",
+    },
+    Refusal {
+        short: "an offset isn't the one that the counts give",
+        place: NOTHING,
+        who: WRITER,
+        wrong: "The six sections (users, roles, kinds, channels, sessions, nodes) stand back to \
+            back behind the head, and the head says at which word each begins. One of these \
+            offsets isn't the one that follows from the counts.",
+        mend: "Correct the offset, or the count before it. `pilzdamo show` names the offset that \
+            is due.",
+    },
+    Refusal {
+        short: "the length isn't the one that the counts give",
+        place: NOTHING,
+        who: WRITER,
+        wrong: "The file is longer or shorter than its head and the records that it counts.",
+        mend: "Correct the count that is wrong, or leave away what stands behind the last node. A \
+            file that is too short may have been cut off on its way.",
+    },
+    Refusal {
+        short: "the record names a role, kind or user that isn't there",
+        place: WORD,
+        who: KEEPER,
+        wrong:
+            "A user's mask has a role, a role's mask a kind, a kind's word a kind, or a channel \
+            an owner or a kind, that is above the count. A channel's owner and kind may not be 0 \
+            either.",
+        mend: "Correct the record, or add the one that it names. `pilzdamo show` marks the record.",
+    },
+    Refusal {
+        short: "the session's user isn't there, or a starting role isn't that user's",
+        place: SESSION,
+        who: AUTHOR,
+        wrong: "The session names user 0 or a user above the count, or its starting mask has a \
+            role that isn't assigned to its user.",
+        mend: "Correct the session's user or mask; or the schema's keeper assigns the role to the \
+            user.",
+    },
+    Refusal {
+        short: "the tree isn't built as it should be",
+        place: "nodes, from 1; one more than there are if a tree runs past the last",
+        who: AUTHOR,
+        wrong: "Nodes stand in preorder: the first child is the next node, a fork's second child \
+            follows the first child's whole tree, each session's root follows the tree before \
+            it, and no node is left over. Tags are 0 to 8, fields that a tag doesn't use are 0, \
+            and a path binds at most 8 variables. One of these doesn't hold at this node.",
+        mend: "Correct the node, or the root or second child that should name it. `pilzdamo show` \
+            marks it, and names the root or second child that is due.",
+    },
+    Refusal {
+        short: "an operand names nothing, or a role or kind is out of count",
+        place: NODE,
+        who: AUTHOR,
+        wrong: "Operands are users (1 to 32), channels (257 to 320) and variables (512 to 519). \
+            One of this node's is none of these, or above the count, or a variable that no node \
+            above it binds; or its role or kind is 0 or above the count.",
+        mend: "Correct the operand, or add what it names. A node can't use the variable that it \
+            binds itself.",
+    },
+    Refusal {
+        short: "the step is against the rules of kinds",
+        place: NODE,
+        who: AUTHOR,
+        wrong: "A send needs a channel, and a value that this channel's kind carries. A receive \
+            needs a channel that the session's user owns, or a variable bound by new. A compare \
+            needs two plain values or two channels of one kind.",
+        mend: "Correct the operands, or the kind of the channel. A channel that was received can \
+            be sent on, but not received on.",
+    },
+    Refusal {
+        short: "the role put on isn't assigned to the session's user",
+        place: NODE_OR_CHOICE,
+        who: AUTHOR,
+        wrong: "An on step may only put on a role that the user's record has.",
+        mend: "Put on another role; or the schema's keeper assigns this one to the user. The runs \
+            of a placed file never come to this.",
+    },
+    Refusal {
+        short: "the role put off isn't held",
+        place: NODE_OR_CHOICE,
+        who: AUTHOR,
+        wrong: "An off step may only put off a role that is on. A role is on once: on 1, on 1, \
+            off 1 leaves it off.",
+        mend: "Leave the off step away, or put the role on before it. `pilzdamo show` tells which \
+            roles are held at each node. The runs of a placed file never come to this.",
+    },
+    Refusal {
+        short: "no role that is held permits the send or receive",
+        place: NODE_OR_CHOICE,
+        who: AUTHOR,
+        wrong:
+            "A send or receive needs one role that is on, and that may send, or receive, on the \
+            kind of the channel. The roles of the session's own user count, never those of the \
+            channel's owner.",
+        mend:
+            "A routine that has no on and off yet is to be placed (`pilzdamo place`), which puts \
+            them in. Otherwise put on a role that permits the step. The runs of a placed file \
+            never come to this.",
+    },
+    Refusal {
+        short: "a routine to be placed, but with on, off or a starting role",
+        place: "nodes, from 1: the on or off; or nothing, and is 0, for a starting mask",
+        who: AUTHOR,
+        wrong: "Placing puts every on and off in by itself. This file has some already, or a \
+            session that starts with a role.",
+        mend:
+            "Take out the on and off nodes and set the starting masks to 0. A file that is placed \
+            already is left as it is; `pilzdamo check` judges it.",
+    },
+    Refusal {
+        short: "no role of the user permits the send or receive",
+        place: NODE,
+        who: AUTHOR,
+        wrong: "Not one role of the session's user may send, or receive, on the kind of this \
+            channel, so that no placement exists.",
+        mend:
+            "Let another user's session make the step; or the schema's keeper grants the kind to \
+            one of the user's roles, or assigns the user a role that has it.",
+    },
+    Refusal {
+        short: "the placed file would have over 1,024 nodes",
+        place: NOTHING,
+        who: AUTHOR,
+        wrong:
+            "With the on and off nodes that placing puts in, the file is longer than a file may \
+            be.",
+        mend: "Share out the sessions over two files, shorten the routines, or have the schema's \
+            keeper grant the steps that follow each other to one role.",
+    },
+    Refusal {
+        short: "the list has an odd number of words, or over 65,535 choices",
+        place: NOTHING,
+        who: CALLER,
+        wrong: "A choice is two numbers, thread and partner, and the list has half a choice too \
+            many; or it is longer than a list may be. (A program that calls the engine itself \
+            gets this number for an output that is too small as well.)",
+        mend: "Give each choice its partner, 0 where the thread steps alone.",
+    },
+    Refusal {
+        short: "there is no such thread, or the two can't make this step",
+        place: CHOICE,
+        who: CALLER,
+        wrong: "Threads are numbered in the order of the list, and after an end those behind it \
+            move down by one. A send needs a partner that stands at a receive; the sender is \
+            named first. Every other step has the partner 0.",
+        mend: "Look at the state that the run printed: it has every thread and the step that it \
+            stands at. Correct the choice.",
+    },
+    Refusal {
+        short: "the two values differ, or sender and receiver are on two channels",
+        place: CHOICE,
+        who: CALLER,
+        wrong:
+            "A compare goes on only if its two values are equal. A send and a receive meet only \
+            on the same channel.",
+        mend: "Choose another thread or partner. A compare whose values differ stays where it is \
+            for good.",
+    },
+    Refusal {
+        short: "it would be the 65th thread, or the 65th made channel",
+        place: CHOICE,
+        who: CALLER,
+        wrong: "A run has at most 64 threads at a time, and makes at most 64 channels in all.",
+        mend: "Let threads come to their end before others fork or repeat. Made channels are not \
+            given back.",
+    },
+];

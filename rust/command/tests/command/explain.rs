@@ -1,0 +1,45 @@
+//! `explain N`.
+
+use crate::common::pilzdamo;
+
+#[test]
+fn every_refusal_is_explained() {
+    let who = |number| match number {
+        1..=5 => "the file's writer",
+        6 => "the schema's keeper",
+        7..=16 => "the routine's author",
+        _ => "the caller",
+    };
+    let counts = |number| match number {
+        6 => "words",
+        7 => "sessions",
+        8..=15 => "nodes",
+        18..=20 => "choices",
+        _ => "nothing",
+    };
+    for number in 1..=20 {
+        let answer = pilzdamo(&["explain", &number.to_string()]);
+        assert_eq!((answer.status, answer.err.as_str()), (0, ""));
+        let text = answer.text();
+        assert!(text.starts_with(&format!("refusal {number}: ")), "{text}");
+        let place = format!("\nthe place counts: {}", counts(number));
+        assert!(text.contains(&place), "{text}");
+        let mends = format!("\nwho can mend it: {}\n", who(number));
+        assert!(text.contains(&mends), "{text}");
+        assert!(text.contains("\nwhat is wrong: "), "{text}");
+        assert!(text.contains("\nhow to mend it: "), "{text}");
+        assert!(text.lines().all(|line| line.len() <= 80), "{text}");
+    }
+}
+
+#[test]
+fn no_other_number() {
+    for word in ["0", "21", "-", "-1", "x", "13 ", "65536", "1.0"] {
+        let answer = pilzdamo(&["explain", word]);
+        assert_eq!((answer.status, answer.text()), (2, ""), "{word}");
+        assert!(
+            answer.err.contains("the refusals have the numbers 1 to 20"),
+            "{word}"
+        );
+    }
+}

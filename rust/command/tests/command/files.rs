@@ -1,0 +1,273 @@
+//! The files of the folder `examples`, built from their records.
+
+use crate::draft::*;
+
+/// Every binary example: its name there, and its bytes.
+pub fn all() -> Vec<(&'static str, Vec<u8>)> {
+    let mut all = vec![
+        ("booking.clinic", booking().bytes()),
+        ("transfer.clinic", transfer().bytes()),
+        ("spring/bare.clinic", spring(&READ_AND_WRITE, false).bytes()),
+        ("spring/cut.clinic", spring(&READ_CUT_WRITE, true).bytes()),
+    ];
+    all.extend(refused());
+    all
+}
+
+/// The booking of the paper: user 1 has role 1, which sends on kind 1, and
+/// role 2, which sends on both kinds.
+pub fn booking() -> Draft {
+    booking_of(&[send(channel(1), 2), send(channel(2), 2), END])
+}
+
+/// The booking's tables, with another routine for user 1.
+fn booking_of(nodes: &[[u16; 3]]) -> Draft {
+    Draft::default()
+        .user(&[1, 2])
+        .user(&[])
+        .role(&[1], &[])
+        .role(&[1, 2], &[])
+        .kind(0)
+        .kind(0)
+        .channel(2, 1)
+        .channel(2, 2)
+        .session(1, nodes)
+}
+
+/// Wards 1 and 2 ask ward 3 for a bed, each over a channel that it makes for
+/// the answer. User 4 stands for the bed.
+pub fn transfer() -> Draft {
+    Draft::default()
+        .user(&[1])
+        .user(&[1])
+        .user(&[2])
+        .user(&[])
+        .role(&[1], &[2])
+        .role(&[2], &[1])
+        .kind(2)
+        .kind(0)
+        .channel(3, 1)
+        .session(1, &ask(1))
+        .session(2, &ask(8))
+        .session(3, &[REPEAT, receive(channel(1)), send(variable(1), 4), END])
+}
+
+/// Makes a channel, sends it in one branch and receives on it in the other.
+/// The root is the node of this number.
+fn ask(root: u16) -> [[u16; 3]; 7] {
+    [
+        new(2),
+        fork(root + 4),
+        send(channel(1), variable(1)),
+        END,
+        receive(variable(1)),
+        compare(variable(2), 4),
+        END,
+    ]
+}
+
+/// A scheduler's steps: reads the free bed, writes the booking.
+const READ_AND_WRITE: [[u16; 3]; 3] = [receive(0), send(channel(3), variable(1)), END];
+
+/// The same with the lowest role for each step: cut in between.
+const READ_CUT_WRITE: [[u16; 3]; 7] = [
+    on(1),
+    receive(0),
+    off(1),
+    on(2),
+    send(channel(3), variable(1)),
+    off(2),
+    END,
+];
+
+/// Two schedulers (users 1 and 2) and the desk (user 3). Users 4 and 5 stand
+/// for two beds. Role 1 reads free beds; role 2 reads them and books; role 3 is
+/// the desk's. The desk's note of the free bed is passed along on channel 4.
+fn spring(scheduler: &[[u16; 3]], with_roles: bool) -> Draft {
+    let reads = |line| -> Vec<[u16; 3]> {
+        let own = |node| {
+            if node == receive(0) {
+                receive(channel(line))
+            } else {
+                node
+            }
+        };
+        scheduler.iter().copied().map(own).collect()
+    };
+    let draft = Draft::default()
+        .user(&[1, 2])
+        .user(&[1, 2])
+        .user(&[3])
+        .user(&[])
+        .user(&[])
+        .role(&[], &[1])
+        .role(&[2], &[1])
+        .role(&[1], &[1, 2])
+        .kind(0)
+        .kind(0)
+        .channel(1, 1)
+        .channel(2, 1)
+        .channel(3, 2)
+        .channel(3, 1)
+        .session(1, &reads(1))
+        .session(2, &reads(2));
+    desk(draft, with_roles)
+}
+
+/// The desk's sessions: the note that bed 4 is free; one session for each
+/// scheduler that takes the note, tells it and passes it on; and one that takes
+/// a booking, replaces the note by bed 5 and takes another booking.
+fn desk(draft: Draft, with_roles: bool) -> Draft {
+    let note = channel(4);
+    let held = |nodes: &[[u16; 3]]| {
+        if with_roles {
+            holding(3, nodes)
+        } else {
+            nodes.to_vec()
+        }
+    };
+    let tell = |line| {
+        let passes = send(note, variable(1));
+        held(&[receive(note), send(channel(line), variable(1)), passes, END])
+    };
+    let draft = draft
+        .session(3, &held(&[send(note, 4), END]))
+        .session(3, &tell(1))
+        .session(3, &tell(2));
+    let next = draft.nodes.len() as u16;
+    let second = if with_roles { next + 8 } else { next + 6 };
+    let books = [
+        receive(channel(3)),
+        receive(note),
+        fork(second),
+        send(note, 5),
+        END,
+        receive(channel(3)),
+        END,
+    ];
+    draft.session(3, &held(&books))
+}
+
+/// A tree with a role on from its root to before each end.
+fn holding(role: u16, nodes: &[[u16; 3]]) -> Vec<[u16; 3]> {
+    let mut held = vec![on(role)];
+    for &node in nodes {
+        if node == END {
+            held.push(off(role));
+        }
+        held.push(node);
+    }
+    held
+}
+
+/// A file for each number that a file can be refused with, and one to run for
+/// the numbers of a choice.
+fn refused() -> Vec<(&'static str, Vec<u8>)> {
+    let mut all = refused_heads();
+    all.extend(
+        [
+            ("refused/06-record.clinic", record()),
+            ("refused/07-session.clinic", session()),
+            ("refused/08-tree.clinic", tree()),
+            ("refused/09-name.clinic", name()),
+            ("refused/10-kinds.clinic", kinds()),
+            ("refused/11-on.clinic", on_another()),
+            ("refused/12-off.clinic", off_at_once()),
+            ("refused/13-role.clinic", off_too_soon()),
+            ("refused/14-placed.clinic", placed()),
+            ("refused/15-no-role.clinic", no_role()),
+            ("refused/16-too-long.clinic", too_long()),
+            ("refused/choices.clinic", choices()),
+        ]
+        .map(|(name, draft)| (name, draft.bytes())),
+    );
+    all
+}
+
+/// The booking with a byte too many, and with one word of the head changed.
+fn refused_heads() -> Vec<(&'static str, Vec<u8>)> {
+    let booking = booking().bytes();
+    let with_word = |at: usize, word: u16| {
+        let mut bytes = booking.clone();
+        bytes[2 * at..2 * at + 2].copy_from_slice(&word.to_le_bytes());
+        bytes
+    };
+    let longer = |more: &[u8]| [booking.as_slice(), more].concat();
+    vec![
+        ("refused/01-odd.clinic", longer(&[0])),
+        ("refused/02-version.clinic", with_word(0, 9)),
+        ("refused/03-count.clinic", with_word(1, 33)),
+        ("refused/04-offset.clinic", with_word(9, 24)),
+        ("refused/05-length.clinic", longer(&[0, 0])),
+    ]
+}
+
+/// Channel 2 has kind 3 of 2.
+fn record() -> Draft {
+    let mut draft = booking();
+    draft.channels[1] = [2, 3];
+    draft
+}
+
+/// The second session belongs to user 2, who has no role, and starts with role 1.
+fn session() -> Draft {
+    booking().session_with(2, &[1], &[END])
+}
+
+/// The fork's second child is node 4, not 5.
+fn tree() -> Draft {
+    booking_of(&[fork(5), send(channel(1), 2), END, send(channel(2), 2), END])
+}
+
+/// There is no channel 3.
+fn name() -> Draft {
+    booking_of(&[send(channel(1), 2), send(channel(3), 2), END])
+}
+
+/// User 1 receives on a channel of user 2.
+fn kinds() -> Draft {
+    booking_of(&[send(channel(1), 2), receive(channel(2)), END])
+}
+
+/// User 2 has no role, and puts on role 1.
+fn on_another() -> Draft {
+    let mut draft = booking_of(&[on(1), END]);
+    draft.sessions[0][0] = 2;
+    draft
+}
+
+/// Nothing was put on.
+fn off_at_once() -> Draft {
+    booking_of(&[off(1), END])
+}
+
+/// On 1, on 1, off 1: role 1 is off.
+fn off_too_soon() -> Draft {
+    booking_of(&[on(1), on(1), off(1), send(channel(1), 2), END])
+}
+
+/// The booking as it is when placed.
+fn placed() -> Draft {
+    booking_of(&[on(2), send(channel(1), 2), send(channel(2), 2), off(2), END])
+}
+
+/// The second send is of user 2, who has no role.
+fn no_role() -> Draft {
+    booking().session(2, &[send(channel(1), 1), END])
+}
+
+/// Sends on kinds 1 and 2 in turn, 300 times, with no role for both: 600
+/// nodes to switch at.
+fn too_long() -> Draft {
+    let pair = [send(channel(1), 2), send(channel(2), 2)];
+    let mut nodes = pair.repeat(300);
+    nodes.push(END);
+    let mut draft = booking_of(&nodes);
+    draft.roles[1] = [mask(&[2]), 0, 0, 0];
+    draft
+}
+
+/// Runs at once: a compare of two users, and a repeat.
+fn choices() -> Draft {
+    booking_of(&[compare(1, 2), END]).session(1, &[REPEAT, END])
+}

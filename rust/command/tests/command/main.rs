@@ -1,0 +1,17 @@
+//! The built command and its examples.
+
+mod any_bytes;
+mod check;
+mod common;
+mod draft;
+mod examples;
+mod explain;
+mod files;
+mod place;
+mod refused;
+mod run;
+mod script;
+mod show;
+mod spring;
+mod streams;
+mod wrong_use;

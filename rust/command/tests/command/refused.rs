@@ -1,0 +1,141 @@
+//! One example for each refusal.
+
+use crate::common::{example, pilzdamo};
+
+/// The example, what is asked of it, the refusal, and its place in the message.
+const FILES: [(&str, &str, u16, &str); 16] = [
+    ("01-odd", "check", 1, "place 0 (the file as a whole)"),
+    ("02-version", "check", 2, "place 0 (the file as a whole)"),
+    ("03-count", "check", 3, "place 0 (the file as a whole)"),
+    ("04-offset", "check", 4, "place 0 (the file as a whole)"),
+    ("05-length", "check", 5, "place 0 (the file as a whole)"),
+    ("06-record", "check", 6, "word 27"),
+    ("07-session", "check", 7, "session 2"),
+    (
+        "08-tree",
+        "check",
+        8,
+        "node 1: fork, second child 5 (4 is due)",
+    ),
+    (
+        "09-name",
+        "check",
+        9,
+        "node 2: send user 2 on channel 3 (out of count)",
+    ),
+    (
+        "10-kinds",
+        "check",
+        10,
+        "node 2: receive variable 1 on channel 2",
+    ),
+    ("11-on", "check", 11, "node 1: on role 1"),
+    ("12-off", "check", 12, "node 1: off role 1"),
+    ("13-role", "check", 13, "node 4: send user 2 on channel 1"),
+    ("14-placed", "place", 14, "node 1: on role 2"),
+    (
+        "15-no-role",
+        "place",
+        15,
+        "node 4: send user 1 on channel 1",
+    ),
+    ("16-too-long", "place", 16, "place 0 (the file as a whole)"),
+];
+
+/// The line of a shown file behind which the refusal of a check is marked.
+const MARKED: [(&str, &str); 13] = [
+    ("01-odd", "length: 83 bytes (82 by the counts)"),
+    ("02-version", "version: 9"),
+    (
+        "03-count",
+        "counts: 33 users (at most 32), 2 roles, 2 kinds, 2 channels, 1 session, 3 nodes",
+    ),
+    (
+        "04-offset",
+        "offsets: users 13, roles 15, kinds 24 (23 is due), channels 25, sessions 29, nodes 32",
+    ),
+    ("05-length", "length: 84 bytes (82 by the counts)"),
+    (
+        "06-record",
+        "channel 2: owner user 2, kind 3 (out of count)",
+    ),
+    (
+        "07-session",
+        "session 2: user 2, role 1 at the start, root 4",
+    ),
+    (
+        "08-tree",
+        "           1  -     fork, second child 5 (4 is due)",
+    ),
+    (
+        "09-name",
+        "           2  -     send user 2 on channel 3 (out of count)",
+    ),
+    (
+        "10-kinds",
+        "           2  -     receive variable 1 on channel 2",
+    ),
+    ("11-on", "  +1       1  -     on role 1"),
+    ("12-off", "  -1       1  -     off role 1"),
+    ("13-role", "           4  -     send user 2 on channel 1"),
+];
+
+fn who(number: u16) -> &'static str {
+    match number {
+        1..=5 => "the file's writer",
+        6 => "the schema's keeper",
+        7..=16 => "the routine's author",
+        _ => "the caller",
+    }
+}
+
+#[test]
+fn files() {
+    for (name, verb, number, place) in FILES {
+        let file = example(&format!("refused/{name}.clinic"));
+        let answer = pilzdamo(&[verb, &file]);
+        assert_eq!((answer.status, answer.text()), (1, ""), "{name}");
+        let due = format!("pilzdamo: {file}: refused {number} at {place}\n");
+        assert!(answer.err.starts_with(&due), "{}", answer.err);
+        let mends = format!(
+            "  {} can mend it; more: pilzdamo explain {number}\n",
+            who(number)
+        );
+        assert!(answer.err.contains(&mends), "{}", answer.err);
+    }
+}
+
+#[test]
+fn lists() {
+    let lists = [
+        ("17-odd", 17, "place 0 (the list as a whole)"),
+        ("18-thread", 18, "choice 1: thread 3, partner 0"),
+        ("19-unequal", 19, "choice 2: thread 1, partner 0"),
+        ("20-thread", 20, "choice 63: thread 2, partner 0"),
+    ];
+    for (name, number, place) in lists {
+        let list = example(&format!("refused/{name}.choices"));
+        let answer = pilzdamo(&["run", &example("refused/choices.clinic"), &list]);
+        assert_eq!(answer.status, 1, "{name}");
+        let due = format!("{list}: refused {number} at {place}\n");
+        assert!(answer.err.contains(&due), "{}", answer.err);
+        let mends = format!(
+            "  {} can mend it; more: pilzdamo explain {number}\n",
+            who(number)
+        );
+        assert!(answer.err.contains(&mends), "{}", answer.err);
+        assert_eq!(answer.text().is_empty(), number == 17);
+    }
+}
+
+#[test]
+fn shown_with_the_refusal_at_its_place() {
+    for (number, (name, line)) in (1..).zip(MARKED) {
+        let answer = pilzdamo(&["show", &example(&format!("refused/{name}.clinic"))]);
+        assert_eq!((answer.status, answer.err.as_str()), (0, ""), "{name}");
+        let text = answer.text();
+        let due = format!("\n{line}\n!! refused {number} at ");
+        assert!(text.contains(&due), "{text}");
+        assert!(text.starts_with(&format!("check: refused {number}, marked !!")));
+    }
+}

@@ -1,0 +1,143 @@
+//! What the examples of spring show.
+
+use crate::common::{example, example_bytes, pilzdamo};
+use pilzdamo::RUN_ROOM;
+
+/// What is looked at in a thread: its node, mask, first and third variable.
+#[derive(Debug, PartialEq)]
+struct Thread {
+    node: u16,
+    mask: u16,
+    first: u16,
+    third: u16,
+}
+
+/// The threads of a state that has no made channels.
+fn threads(file: &[u8], choices: &[u16]) -> Vec<Thread> {
+    let mut room = [0; RUN_ROOM];
+    assert!(pilzdamo::run(file, choices, &mut room).is_clean());
+    let words: Vec<u16> = room
+        .as_chunks()
+        .0
+        .iter()
+        .copied()
+        .map(u16::from_le_bytes)
+        .collect();
+    assert_eq!(words[3], 0);
+    let thread = |i: u16| {
+        let at = 4 + 12 * usize::from(i);
+        Thread {
+            node: words[at + 1],
+            mask: words[at + 2],
+            first: words[at + 4],
+            third: words[at + 6],
+        }
+    };
+    (0..words[2]).map(thread).collect()
+}
+
+fn choices(name: &str) -> Vec<u16> {
+    let text = String::from_utf8(example_bytes(name)).expect("text");
+    let lines = text
+        .lines()
+        .map(|line| line.split('#').next().unwrap_or(""));
+    lines
+        .flat_map(|line| {
+            line.split_whitespace()
+                .map(|word| word.parse().expect("a number"))
+        })
+        .collect()
+}
+
+fn cut() -> Vec<u8> {
+    example_bytes("spring/cut.clinic")
+}
+
+fn placed() -> Vec<u8> {
+    pilzdamo(&["place", &example("spring/bare.clinic")]).out
+}
+
+/// The two schedulers.
+fn schedulers(threads: &[Thread]) -> [&Thread; 2] {
+    [&threads[0], &threads[1]]
+}
+
+/// Both have read bed 4, neither has written, and neither holds a role.
+#[test]
+fn the_cut_routine_with_both_reads_first() {
+    let threads = threads(&cut(), &choices("spring/cut-both-read.choices"));
+    let [one, other] = schedulers(&threads);
+    assert_eq!((one.node, one.mask, one.first), (4, 0, 4));
+    assert_eq!((other.node, other.mask, other.first), (11, 0, 4));
+}
+
+/// The desk has two bookings of bed 4, and at no time did the two schedulers
+/// hold the same role.
+#[test]
+fn the_cut_routine_promises_one_bed_twice() {
+    let list = choices("spring/cut-both-write.choices");
+    let last = threads(&cut(), &list);
+    assert_eq!((last[6].first, last[6].third), (4, 4));
+    for done in 0..=list.len() / 2 {
+        let state = threads(&cut(), &list[..2 * done]);
+        let [one, other] = schedulers(&state);
+        assert_eq!(one.mask & other.mask, 0);
+    }
+    let read = choices("spring/cut-both-read.choices");
+    assert_eq!(list[..read.len()], read);
+}
+
+/// One after the other, cut and placed do the same: beds 4 and 5.
+#[test]
+fn one_by_one() {
+    for (file, list) in [
+        (cut(), "spring/cut-one-by-one.choices"),
+        (placed(), "spring/placed-one-by-one.choices"),
+    ] {
+        let last = threads(&file, &choices(list));
+        assert_eq!((last[6].first, last[6].third), (4, 5));
+    }
+}
+
+/// Placed, both can read first as well; but then both hold role 2.
+#[test]
+fn the_placed_routine_with_both_reads_first() {
+    let threads = threads(&placed(), &choices("spring/placed-both-read.choices"));
+    let [one, other] = schedulers(&threads);
+    assert_eq!((one.node, one.mask, one.first), (3, 2, 4));
+    assert_eq!((other.node, other.mask, other.first), (8, 2, 4));
+}
+
+/// The rows of the first session, as shown.
+fn first_session(shown: &str) -> Vec<String> {
+    let rows = shown
+        .lines()
+        .skip_while(|line| !line.starts_with("session 1"));
+    rows.skip(2)
+        .take_while(|line| !line.is_empty())
+        .map(str::to_string)
+        .collect()
+}
+
+#[test]
+fn shown() {
+    let answer = pilzdamo(&["show", &example("spring/cut.clinic")]);
+    let cut = [
+        "  +1       1  -     on role 1",
+        "           2  1     receive variable 1 on channel 1",
+        "  -1       3  1     off role 1",
+        "  +2       4  -     on role 2",
+        "           5  2     send variable 1 on channel 3",
+        "  -2       6  2     off role 2",
+        "           7  -     end",
+    ];
+    assert_eq!(first_session(answer.text()), cut);
+    let placed = [
+        "  +2       1  -     on role 2",
+        "           2  2     receive variable 1 on channel 1",
+        "           3  2     send variable 1 on channel 3",
+        "  -2       4  2     off role 2",
+        "           5  -     end",
+    ];
+    assert_eq!(first_session(&command::show::text(&self::placed())), placed);
+}

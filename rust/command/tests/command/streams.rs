@@ -1,0 +1,70 @@
+//! Standard output that is gone, full or a terminal.
+
+use crate::common::{example, example_bytes};
+use std::fs::File;
+use std::io::Write;
+use std::process::{Command, Output, Stdio};
+
+/// Feeds a file to the command, whose standard output this is.
+fn fed(words: &[&str], file: &str, out: Stdio) -> Output {
+    let mut child = Command::new(env!("CARGO_BIN_EXE_pilzdamo"))
+        .args(words)
+        .stdin(Stdio::piped())
+        .stdout(out)
+        .stderr(Stdio::piped())
+        .spawn()
+        .expect("the command starts");
+    // Nobody reads what it writes, if that is a pipe.
+    drop(child.stdout.take());
+    let mut input = child.stdin.take().expect("a pipe");
+    input.write_all(&example_bytes(file)).expect("it is read");
+    drop(input);
+    child.wait_with_output().expect("the command ends")
+}
+
+#[test]
+fn a_reader_that_has_left() {
+    for words in [["show", "-"], ["check", "-"]] {
+        let output = fed(&words, "spring/cut.clinic", Stdio::piped());
+        assert_eq!(output.status.code(), Some(0));
+        assert_eq!(output.stderr, b"");
+    }
+    let list = example("refused/19-unequal.choices");
+    let output = fed(
+        &["run", "-", &list],
+        "refused/choices.clinic",
+        Stdio::piped(),
+    );
+    assert_eq!(output.status.code(), Some(1));
+}
+
+#[test]
+fn a_full_disk() {
+    let Ok(full) = File::options().write(true).open("/dev/full") else {
+        return;
+    };
+    let output = fed(&["place", "-"], "booking.clinic", full.into());
+    assert_eq!(output.status.code(), Some(2));
+    let err = String::from_utf8_lossy(&output.stderr);
+    assert!(
+        err.starts_with("pilzdamo: standard output can't be written: "),
+        "{err}"
+    );
+}
+
+#[test]
+fn a_terminal() {
+    let terminal = || File::options().read(true).write(true).open("/dev/ptmx");
+    let (Ok(one), Ok(other)) = (terminal(), terminal()) else {
+        return;
+    };
+    let output = fed(&["place", "-"], "booking.clinic", one.into());
+    assert_eq!(output.status.code(), Some(2));
+    let err = String::from_utf8_lossy(&output.stderr);
+    assert!(
+        err.ends_with("not written to a terminal; name a file with -o\n"),
+        "{err}"
+    );
+    let output = fed(&["check", "-"], "spring/cut.clinic", other.into());
+    assert_eq!(output.status.code(), Some(0));
+}

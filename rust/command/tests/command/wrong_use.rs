@@ -1,0 +1,102 @@
+//! Words that can't be understood, and files that can't be read.
+
+use crate::common::{example, pilzdamo, Folder};
+
+#[test]
+fn help_and_version() {
+    let help = include_str!("../../src/help.txt");
+    for words in [vec!["--help"], vec!["-h"], vec!["place", "--help"]] {
+        let answer = pilzdamo(&words);
+        assert_eq!(
+            (answer.status, answer.text(), answer.err.as_str()),
+            (0, help, "")
+        );
+    }
+    for word in ["check", "place", "run", "show", "explain"] {
+        assert!(help.contains(&format!("  pilzdamo {word} ")));
+    }
+    let version = concat!("pilzdamo ", env!("CARGO_PKG_VERSION"), "\n");
+    assert_eq!(pilzdamo(&["--version"]).text(), version);
+}
+
+#[test]
+fn words() {
+    let wrong: [(&[&str], &str); 20] = [
+        (&[], "what to do?"),
+        (&[""], "there is no word ''"),
+        (&["judge", "a"], "there is no word 'judge'"),
+        (&["--verbose"], "there is no word '--verbose'"),
+        (&["check"], "check: FILE is missing"),
+        (&["check", "a", "b"], "check: 'b' is too many"),
+        (&["check", "-x"], "check has no option '-x'"),
+        (&["check", "a", "-o", "b"], "check has no option '-o'"),
+        (&["place"], "place: FILE is missing"),
+        (&["place", "-o"], "place: -o wants the name of a file"),
+        (&["place", "a", "b"], "place: 'b' is too many"),
+        (
+            &["place", "a", "-o", "b", "-o", "c"],
+            "place: -o stands there twice",
+        ),
+        (&["run"], "run: FILE is missing"),
+        (&["run", "a"], "run: CHOICES is missing"),
+        (&["run", "a", "b", "c"], "run: 'c' is too many"),
+        (
+            &["run", "-", "-"],
+            "run: only one of FILE and CHOICES can be standard input",
+        ),
+        (&["show"], "show: FILE is missing"),
+        (&["show", "a", "b"], "show: 'b' is too many"),
+        (&["explain"], "explain: N is missing"),
+        (&["explain", "1", "2"], "explain: '2' is too many"),
+    ];
+    for (words, due) in wrong {
+        let answer = pilzdamo(words);
+        assert_eq!((answer.status, answer.text()), (2, ""), "{words:?}");
+        assert!(
+            answer.err.starts_with(&format!("pilzdamo: {due}")),
+            "{}",
+            answer.err
+        );
+        assert!(answer
+            .err
+            .ends_with("pilzdamo --help lists what can be asked\n"));
+    }
+}
+
+#[test]
+fn files_that_cannot_be_read() {
+    let folder = Folder::new("unreadable");
+    let absent = folder.at("no such file");
+    let here = folder.path().display().to_string();
+    let sound = example("booking.clinic");
+    for (file, why) in [
+        (&absent, "there is no such file or folder"),
+        (&here, "it is a folder"),
+    ] {
+        let due = format!("pilzdamo: {file}: can't be read: {why}\n");
+        let uses: [&[&str]; 5] = [
+            &["check", file],
+            &["place", file],
+            &["show", file],
+            &["run", file, &sound],
+            &["run", &sound, file],
+        ];
+        for words in uses {
+            let answer = pilzdamo(words);
+            assert_eq!((answer.status, answer.text()), (2, ""), "{words:?}");
+            assert_eq!(answer.err, due);
+        }
+    }
+}
+
+#[cfg(unix)]
+#[test]
+fn names_that_are_no_text() {
+    use std::ffi::OsStr;
+    use std::os::unix::ffi::OsStrExt;
+    let name = OsStr::from_bytes(b"/no/such/\xff\xfe");
+    let answer = pilzdamo(&[OsStr::new("check"), name]);
+    assert_eq!(answer.status, 2);
+    assert_eq!(pilzdamo(&[name]).status, 2);
+    assert_eq!(pilzdamo(&[OsStr::new("explain"), name]).status, 2);
+}
