@@ -30,6 +30,8 @@
 //! [`run`] carries out a list of choices, step by step, from the file's own
 //! start, and writes the state that they lead to. [`ready`] says which two
 //! threads can meet in that state.
+//!
+//! [`choose`] carries out one choice in a list of threads that the caller keeps.
 
 use std::fmt;
 
@@ -166,6 +168,29 @@ impl fmt::Display for Ready {
 /// The bytes that [`run`] wants of its output: those of the largest state.
 pub const RUN_ROOM: usize = 1_800;
 
+/// A thread's record in the list that is lent to [`choose`].
+#[repr(C)]
+#[derive(Clone, Copy, Debug, Default, PartialEq, Eq, Hash)]
+pub struct Thread {
+    /// The user of its session.
+    pub user: u16,
+    /// The node at which it stands.
+    pub node: u16,
+    /// The mask of its active roles.
+    pub mask: u16,
+    /// The values of its variables, 0 where nothing is bound.
+    pub vars: [u16; 8],
+}
+
+// Eleven words and nothing between them.
+const _: () = assert!(size_of::<Thread>() == 22);
+
+/// The records of the list that is lent to [`choose`].
+pub const RECORDS: usize = 64;
+
+/// The words that are lent to [`choose`] beside the list.
+pub const BESIDE: usize = 130;
+
 extern "C" {
     fn pilzdamo_read(file: *const u8, len: usize) -> Verdict;
     fn pilzdamo_check(file: *const u8, len: usize) -> Verdict;
@@ -179,6 +204,16 @@ extern "C" {
         out_len: usize,
     ) -> Verdict;
     fn pilzdamo_ready(file: *const u8, len: usize, choices: *const u16, words: usize) -> Ready;
+    fn pilzdamo_choose(
+        file: *const u8,
+        len: usize,
+        threads: *mut Thread,
+        records: usize,
+        beside: *mut u16,
+        words: usize,
+        thread: u16,
+        partner: u16,
+    ) -> Verdict;
 }
 
 /// Judges a clinic file by refusals 1 to 10.
@@ -332,4 +367,80 @@ pub fn ready(file: &[u8], choices: &[u16]) -> Ready {
     // `words` words from `choices` on, during the call; the slices vouch for
     // them.
     unsafe { pilzdamo_ready(file.as_ptr(), file.len(), choices.as_ptr(), choices.len()) }
+}
+
+/// Carries out one choice in a list of threads that is lent: thread `thread`
+/// steps, alone if `partner` is 0. From a state of a [`run`] it gives the run's
+/// next state.
+///
+/// `threads` must have [`RECORDS`] records, and `beside` [`BESIDE`] words: the
+/// number of threads, which are the first records, that of the made channels, and
+/// the owner and kind of each made channel. What stands past these numbers may be
+/// anything.
+///
+/// Refusals 1 to 10 come first, then 18 at place 0 for anything wrong with what
+/// is lent, and then the refusal of the choice itself, at place 1. Any bytes and
+/// any words will do, of any length. A choice that is refused leaves everything
+/// as it was. One that is done changes what it must and nothing else; where a
+/// thread ends, the last of the old list stays behind the new one.
+///
+/// ```
+/// # let words = [
+/// #     1, 2, 2, 1, 1, 2, 4, 13, 15, 23, 24, 26, 32, 1, 2, 1, 0, 0, 0, 0, 0, 1, 0, 0, 2, 1,
+/// #     1, 1, 1, 2, 2, 3, 6, 257, 1, 0, 0, 0, 5, 257, 0, 0, 0, 0u16,
+/// # ];
+/// # let file: Vec<u8> = words.into_iter().flat_map(u16::to_le_bytes).collect();
+/// use pilzdamo::{choose, Thread, BESIDE, RECORDS};
+///
+/// // The file of `run`'s example, with a thread at the start of each session.
+/// let mut threads = [Thread::default(); RECORDS];
+/// threads[0] = Thread { user: 1, node: 1, mask: 1, ..Thread::default() };
+/// threads[1] = Thread { user: 2, node: 3, mask: 2, ..Thread::default() };
+/// let mut beside = [0; BESIDE];
+/// beside[0] = 2;
+///
+/// // Thread 1 sends to thread 2.
+/// assert!(choose(&file, &mut threads, &mut beside, 1, 2).is_clean());
+/// assert_eq!(threads[0].node, 2);
+/// assert_eq!((threads[1].node, threads[1].vars[0]), (4, 1));
+///
+/// // It ends. The other is then thread 1, and its old record stays.
+/// let last = threads[1];
+/// assert!(choose(&file, &mut threads, &mut beside, 1, 0).is_clean());
+/// assert_eq!((beside[0], threads[0], threads[1]), (1, last, last));
+///
+/// // There is no thread 2 now.
+/// let verdict = choose(&file, &mut threads, &mut beside, 2, 0);
+/// assert_eq!(verdict.to_string(), "refused 18 1");
+///
+/// // User 2 has no role 1.
+/// threads[0].mask = 1;
+/// let verdict = choose(&file, &mut threads, &mut beside, 1, 0);
+/// assert_eq!(verdict.to_string(), "refused 18 0");
+/// ```
+#[inline]
+pub fn choose(
+    file: &[u8],
+    threads: &mut [Thread],
+    beside: &mut [u16],
+    thread: u16,
+    partner: u16,
+) -> Verdict {
+    // SAFETY: the engine only reads the `len` bytes from `file` on, and only
+    // reads and writes the `records` records from `threads` on and the `words`
+    // words from `beside` on, during the call. The slices vouch for them, and that
+    // no two of the three have a byte in common. A record has no padding, and any
+    // words in it make a thread.
+    unsafe {
+        pilzdamo_choose(
+            file.as_ptr(),
+            file.len(),
+            threads.as_mut_ptr(),
+            threads.len(),
+            beside.as_mut_ptr(),
+            beside.len(),
+            thread,
+            partner,
+        )
+    }
 }

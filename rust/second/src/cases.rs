@@ -7,7 +7,7 @@ mod reading;
 mod running;
 
 pub use placing::{Due, PlaceCase};
-pub use running::{booking, placed_booking, RunCase};
+pub use running::{booking, choose_cases, placed_booking, ChooseCase, Lent, RunCase};
 
 use crate::draft::Draft;
 

@@ -1,7 +1,7 @@
 //! Why a file or a call is refused. The number follows from the cause.
 
 use crate::file::Section;
-use crate::running::Halt;
+use crate::running::{Halt, Unfit};
 use crate::Verdict;
 
 /// One way to be refused. `second` says that the node stands in a fork's
@@ -67,6 +67,7 @@ pub enum Cause {
     OutputTooShort,
     OddChoices,
     TooManyChoices,
+    Lent(Unfit),
     Choice(Halt),
 }
 
@@ -122,6 +123,7 @@ impl Cause {
             NoRoleSends { .. } | NoRoleReceives { .. } => 15,
             ResultTooLarge => 16,
             OutputTooShort | OddChoices | TooManyChoices => 17,
+            Lent(_) => 18,
             Choice(halt) => halt.number(),
         }
     }
@@ -145,6 +147,14 @@ impl Cause {
         let mut all = vec![OutputTooShort, OddChoices, TooManyChoices];
         all.extend(Halt::all().into_iter().map(Choice));
         all
+    }
+
+    /// The causes that a choice in a lent list has besides those of the file:
+    /// the list's, and then those of the choice itself.
+    pub fn of_choosing() -> Vec<Cause> {
+        let lent = Unfit::ALL.map(Cause::Lent).into_iter();
+        lent.chain(Halt::all().into_iter().map(Cause::Choice))
+            .collect()
     }
 
     /// Every cause of the check, in the order of the numbers.

@@ -2,8 +2,8 @@
 //!
 //! It is written from the paper alone and shares nothing with the engine, so
 //! that the two can be compared. The timed functions, [`read`],
-//! [`read_names`], [`check`], [`place`], [`run`] and [`ready`], go over the
-//! file a few times, in place, and allocate nothing.
+//! [`read_names`], [`check`], [`place`], [`run`], [`ready`] and [`choose`], go
+//! over the file a few times, in place, and allocate nothing.
 
 #![forbid(unsafe_code)]
 
@@ -21,10 +21,11 @@ mod tree;
 pub use cause::{Cause, Refusal};
 pub use file::Section;
 pub use placing::ROOM;
-pub use running::{Halt, Made, Run, Thread, RUN_ROOM};
+pub use running::{Halt, Run, Thread, Unfit, BESIDE, RECORDS, RUN_ROOM};
 
 use file::File;
 use placing::Plan;
+use running::{Lent, Scopes, State};
 
 /// A refusal's number and place; 0 and 0 where nothing is refused.
 #[derive(Clone, Copy, Debug, PartialEq, Eq)]
@@ -173,9 +174,31 @@ pub fn ready(file: &[u8], choices: &[u16]) -> Ready {
     }
 }
 
+/// Refusals 1 to 10, 18 at place 0 for what is lent, and then the choice at
+/// place 1, which is carried out in what is lent: [`RECORDS`] records of
+/// threads, and [`BESIDE`] words beside them, namely how many threads there are,
+/// how many made channels, and the owner and kind of each made channel.
+pub fn choose(
+    file: &[u8],
+    threads: &mut [Thread],
+    beside: &mut [u16],
+    thread: u16,
+    partner: u16,
+) -> Verdict {
+    Verdict::of(judge_choosing(file, threads, beside, [thread, partner]))
+}
+
 /// The start of a run, if 1 to 10 leave the file clean.
 pub fn start(file: &[u8]) -> Result<Run<'_>, Refusal> {
     judge_running(file, &[])
+}
+
+/// The run that goes on from what is lent, if 1 to 10 leave the file clean and
+/// nothing lent is refused.
+pub fn resume<'a>(file: &'a [u8], threads: &[Thread], beside: &[u16]) -> Result<Run<'a>, Refusal> {
+    let (mut threads, mut beside) = (threads.to_vec(), beside.to_vec());
+    let (file, lent) = judge_lent(file, &mut threads, &mut beside)?;
+    Ok(Run::resume(file, lent))
 }
 
 /// Why [`run`] refuses or halts where the output has this many bytes, if it
@@ -183,6 +206,18 @@ pub fn start(file: &[u8]) -> Result<Run<'_>, Refusal> {
 pub fn cause_in_run(file: &[u8], choices: &[u16], room: usize) -> Option<Refusal> {
     let judged = running::judge_room(room);
     judged.and_then(|()| judge_choices(file, choices)).err()
+}
+
+/// Why [`choose`] refuses the choice, if it does.
+pub fn cause_in_choosing(
+    file: &[u8],
+    threads: &[Thread],
+    beside: &[u16],
+    thread: u16,
+    partner: u16,
+) -> Option<Refusal> {
+    let (mut threads, mut beside) = (threads.to_vec(), beside.to_vec());
+    judge_choosing(file, &mut threads, &mut beside, [thread, partner]).err()
 }
 
 /// Why [`place`] refuses the file where the output has this many bytes, if it
@@ -226,6 +261,47 @@ fn judge_choices<'a>(file: &'a [u8], choices: &[u16]) -> Result<Run<'a>, Refusal
     let mut run = judge_running(file, choices)?;
     run.go_through(choices)?;
     Ok(run)
+}
+
+/// The lists are looked at before the names of the file's nodes are judged, so
+/// that one pass over these will do, but refused only after it.
+fn judge_lent<'a, 'l>(
+    file: &'a [u8],
+    threads: &'l mut [Thread],
+    beside: &'l mut [u16],
+) -> Result<(File<'a>, Lent<'l>), Refusal> {
+    let file = judge_reading(file)?;
+    let lent = Lent::of(threads, beside);
+    let counted = lent.as_ref().map_or(&[][..], Lent::counted);
+    let mut scopes = Scopes::of(counted);
+    names::each_node(&file, |context, node| scopes.note(node, context))?;
+    let judged = lent.and_then(|lent| lent.judge(&file, &scopes).map(|()| lent));
+    match judged {
+        Ok(lent) => Ok((file, lent)),
+        Err(unfit) => Err(Refusal {
+            cause: Cause::Lent(unfit),
+            place: 0,
+        }),
+    }
+}
+
+fn judge_choosing(
+    file: &[u8],
+    threads: &mut [Thread],
+    beside: &mut [u16],
+    [thread, partner]: [u16; 2],
+) -> Result<(), Refusal> {
+    let (file, lent) = judge_lent(file, threads, beside)?;
+    let mut state = State {
+        file: &file,
+        rights: &file,
+        threads: lent.threads,
+        beside: lent.beside,
+    };
+    state.choose(thread, partner).map_err(|halt| Refusal {
+        cause: Cause::Choice(halt),
+        place: 1,
+    })
 }
 
 #[cfg(test)]

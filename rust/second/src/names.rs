@@ -26,7 +26,7 @@ struct Point {
 /// What the names at a node mean, and whose roles are asked for.
 pub struct Context<'a> {
     file: &'a File<'a>,
-    user: u16,
+    pub user: u16,
     pub assigned: u16,
     variables: [Variable; VARIABLES as usize],
     point: Point,
@@ -53,7 +53,21 @@ pub fn judge_with_roles(file: &File) -> Result<(), Refusal> {
 
 /// Judges 9 and 10 on a file that 1 to 8 leave clean, and shows each act with
 /// the place of its node.
-pub fn each_act(file: &File, mut show: impl FnMut(&mut Context, u16, Act)) -> Result<(), Refusal> {
+pub fn each_act(file: &File, show: impl FnMut(&mut Context, u16, Act)) -> Result<(), Refusal> {
+    go_through(file, |_, _| {}, show)
+}
+
+/// Judges 9 and 10 on a file that 1 to 8 leave clean, and shows what holds as
+/// each node is reached.
+pub fn each_node(file: &File, reach: impl FnMut(&Context, u16)) -> Result<(), Refusal> {
+    go_through(file, reach, |_, _, _| {})
+}
+
+fn go_through(
+    file: &File,
+    mut reach: impl FnMut(&Context, u16),
+    mut show: impl FnMut(&mut Context, u16, Act),
+) -> Result<(), Refusal> {
     let mut context = Context::new(file);
     let mut sessions = file.sessions.iter();
     let mut at_root = true;
@@ -64,6 +78,7 @@ pub fn each_act(file: &File, mut show: impl FnMut(&mut Context, u16, Act)) -> Re
             context.enter(sessions.next().expect("a session for each root"));
             at_root = false;
         }
+        reach(&context, place);
         let [tag, f1, f2] = three(node);
         match tag {
             0 if open == 0 => at_root = true,
@@ -106,6 +121,12 @@ impl<'a> Context<'a> {
         self.assigned = word(&self.file.users[usize::from(user) - 1], 0);
         self.point = Point { bound: 0, active };
         self.second = false;
+    }
+
+    /// The kinds of the variables that are bound.
+    pub fn kinds(&self) -> impl Iterator<Item = u16> + '_ {
+        let bound = &self.variables[..self.point.bound];
+        bound.iter().map(|variable| variable.kind)
     }
 
     /// Judges a node with one child, binds its variable, and says what it

@@ -21,10 +21,8 @@ pub fn step(file: &File, assigned: u16, active: u16, act: Act, second: bool) -> 
         Act::On { role } => Ok(active | 1 << (role - 1)),
         Act::Off { role } if !has(active.into(), role) => Err(Cause::OffNotActive { second }),
         Act::Off { role } => Ok(active & !(1 << (role - 1))),
-        Act::Send { kind } if !permits(file, active, |(sends, _)| has(sends, kind)) => {
-            Err(Cause::SendNotAllowed { second })
-        }
-        Act::Receive { kind } if !permits(file, active, |(_, receives)| has(receives, kind)) => {
+        Act::Send { kind } if !file.may_send(active, kind) => Err(Cause::SendNotAllowed { second }),
+        Act::Receive { kind } if !file.may_receive(active, kind) => {
             Err(Cause::ReceiveNotAllowed { second })
         }
         Act::Send { .. } | Act::Receive { .. } => Ok(active),
@@ -47,6 +45,26 @@ fn permits(file: &File, mut active: u16, will_do: impl Fn((u32, u32)) -> bool) -
     false
 }
 
+/// What is known of who may act on a kind.
+pub trait Rights {
+    /// Whether an active role may send on the kind.
+    fn may_send(&self, active: u16, kind: u16) -> bool;
+
+    /// Whether an active role may receive on it.
+    fn may_receive(&self, active: u16, kind: u16) -> bool;
+}
+
+/// The active roles' grants, looked up as they are asked for.
+impl Rights for File<'_> {
+    fn may_send(&self, active: u16, kind: u16) -> bool {
+        permits(self, active, |(sends, _)| has(sends, kind))
+    }
+
+    fn may_receive(&self, active: u16, kind: u16) -> bool {
+        permits(self, active, |(_, receives)| has(receives, kind))
+    }
+}
+
 /// For each kind the masks of the roles that may send and receive on it.
 #[derive(Clone)]
 pub struct Permitted {
@@ -66,6 +84,16 @@ impl Permitted {
             add(&mut permitted.to_receive, receives, role);
         }
         permitted
+    }
+}
+
+impl Rights for Permitted {
+    fn may_send(&self, active: u16, kind: u16) -> bool {
+        self.to_send[usize::from(kind) - 1] & active != 0
+    }
+
+    fn may_receive(&self, active: u16, kind: u16) -> bool {
+        self.to_receive[usize::from(kind) - 1] & active != 0
     }
 }
 

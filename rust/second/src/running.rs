@@ -1,39 +1,29 @@
 //! Running: refusals 17 to 20, and 11 to 13 at a choice.
 
 mod halt;
+mod lent;
+mod state;
 mod thread;
+mod unfit;
 
 pub use halt::Halt;
+pub use lent::{Lent, Scopes};
+pub use state::{State, BESIDE, RECORDS};
 pub use thread::Thread;
+pub use unfit::Unfit;
 
 use crate::cause::{Cause, Refusal};
 use crate::draft::set_word;
-use crate::file::{three, word, File};
-use crate::roles::{has, Permitted};
+use crate::file::{three, File};
+use crate::roles::{Permitted, Rights};
+use state::{counted, kind_of, made, node_of, RECEIVE, SEND};
 
 /// The bytes that a run's output must have, whatever is written there.
 pub const RUN_ROOM: usize = 1_800;
 
 const MOST_CHOICES: usize = 65_535;
-const MOST_THREADS: usize = 64;
-const MOST_MADE: usize = 64;
 
-const END: u16 = 0;
-const FORK: u16 = 1;
-const REPEAT: u16 = 2;
-const NEW: u16 = 3;
-const COMPARE: u16 = 4;
-const RECEIVE: u16 = 5;
-const SEND: u16 = 6;
-const ON: u16 = 7;
-
-/// The values of the file's first channel and of the first that is made.
-const NAMED: u16 = 257;
-const MADE: u16 = 385;
-
-/// Words of a state before its records, of a made channel, and of a thread.
-const HEAD: usize = 4;
-const MADE_WORDS: usize = 2;
+/// Words of a thread in the output.
 const THREAD_WORDS: usize = 12;
 
 /// Refusal 17 for the output.
@@ -54,49 +44,50 @@ fn refuse_if(wrong: bool, cause: Cause) -> Result<(), Refusal> {
     Ok(())
 }
 
-/// A channel made by a thread of its owner.
-#[derive(Clone, Copy, Debug, Default, PartialEq, Eq)]
-pub struct Made {
-    pub owner: u16,
-    pub kind: u16,
-}
-
 /// A file that meets refusals 1 to 10 clean, and the state of a run of it.
 #[derive(Clone)]
 pub struct Run<'a> {
     file: File<'a>,
     permitted: Permitted,
-    threads: [Thread; MOST_THREADS],
-    count: usize,
-    made: [Made; MOST_MADE],
-    made_count: usize,
+    threads: [Thread; RECORDS],
+    beside: [u16; BESIDE],
 }
 
 impl<'a> Run<'a> {
     /// A thread for each session, in order, at its root.
     pub(crate) fn start(file: File<'a>) -> Run<'a> {
-        let mut threads = [Thread::default(); MOST_THREADS];
+        let mut threads = [Thread::default(); RECORDS];
         for (thread, session) in threads.iter_mut().zip(file.sessions) {
             *thread = Thread::start(three(session));
         }
+        let mut beside = [0; BESIDE];
+        beside[0] = file.sessions.len() as u16;
         Run {
             permitted: Permitted::of(&file),
             threads,
-            count: file.sessions.len(),
-            made: [Made::default(); MOST_MADE],
-            made_count: 0,
+            beside,
+            file,
+        }
+    }
+
+    /// The state that is lent.
+    pub(crate) fn resume(file: File<'a>, lent: Lent) -> Run<'a> {
+        Run {
+            permitted: Permitted::of(&file),
+            threads: *lent.threads,
+            beside: *lent.beside,
             file,
         }
     }
 
     /// The threads that there are.
     pub fn threads(&self) -> &[Thread] {
-        &self.threads[..self.count]
+        counted(&self.threads, &self.beside)
     }
 
-    /// The channels made so far.
-    pub fn made(&self) -> &[Made] {
-        &self.made[..self.made_count]
+    /// Owner and kind of the channels made so far.
+    pub fn made(&self) -> &[[u16; 2]] {
+        made(&self.beside)
     }
 
     /// Carries out the choices up to the first that is refused.
@@ -114,40 +105,22 @@ impl<'a> Run<'a> {
 
     /// Carries out a choice. Refused, it leaves the state as it was.
     pub fn choose(&mut self, thread: u16, partner: u16) -> Result<(), Halt> {
-        let at = self.index(thread, Halt::ThreadZero, Halt::ThreadAbove)?;
-        let [tag, f1, f2] = self.node_of(&self.threads[at]);
-        match tag {
-            SEND => self.send(at, partner, f1, f2)?,
-            RECEIVE => return Err(Halt::ReceiveFirst),
-            _ if partner != 0 => return Err(Halt::PartnerOfLone { tag }),
-            END => self.remove(at),
-            FORK => {
-                self.add(at, f1, Halt::ThreadsFullAtFork)?;
-                self.threads[at].advance();
-            }
-            REPEAT => {
-                let child = self.threads[at].node + 1;
-                self.add(at, child, Halt::ThreadsFullAtRepeat)?;
-            }
-            NEW => self.make(at, f1)?,
-            COMPARE => self.threads[at].compare(f1, f2)?,
-            ON => {
-                let user = usize::from(self.threads[at].user);
-                let assigned = word(&self.file.users[user - 1], 0);
-                self.threads[at].put_on(f1, assigned)?;
-            }
-            _ => self.threads[at].put_off(f1)?,
-        }
-        Ok(())
+        let mut state = State {
+            file: &self.file,
+            rights: &self.permitted,
+            threads: &mut self.threads,
+            beside: &mut self.beside,
+        };
+        state.choose(thread, partner)
     }
 
     /// The lowest sender, then the lowest receiver that can meet it without
     /// refusal; 0 and 0 if no pair exists.
     pub fn ready(&self) -> (u16, u16) {
         // The channel that each thread may receive on now, 0 for none.
-        let mut open = [0; MOST_THREADS];
+        let mut open = [0; RECORDS];
         for (open, thread) in open.iter_mut().zip(self.threads()) {
-            let [tag, f1, _] = self.node_of(thread);
+            let [tag, f1, _] = node_of(&self.file, thread);
             if tag == RECEIVE {
                 let channel = thread.value_of(f1);
                 *open = if self.may_receive(thread, channel) {
@@ -158,7 +131,7 @@ impl<'a> Run<'a> {
             }
         }
         for (sender, thread) in self.threads().iter().enumerate() {
-            let [tag, f1, _] = self.node_of(thread);
+            let [tag, f1, _] = node_of(&self.file, thread);
             if tag != SEND {
                 continue;
             }
@@ -175,110 +148,27 @@ impl<'a> Run<'a> {
 
     /// Writes the state, and nothing past it.
     pub(crate) fn write(&self, done: u16, refusal: u16, out: &mut [u8]) {
-        let (threads, made) = (self.threads(), self.made());
-        let head = [done, refusal, threads.len() as u16, made.len() as u16];
-        for (at, word) in head.into_iter().enumerate() {
+        let head = [done, refusal];
+        let beside = &self.beside[..2 + 2 * self.made().len()];
+        for (at, &word) in head.iter().chain(beside).enumerate() {
             set_word(out, at, word);
         }
-        let (channels, rest) = out[2 * HEAD..].split_at_mut(2 * MADE_WORDS * made.len());
-        let records = channels.as_chunks_mut::<{ 2 * MADE_WORDS }>().0;
-        for (record, made) in records.iter_mut().zip(made) {
-            set_word(record, 0, made.owner);
-            set_word(record, 1, made.kind);
-        }
+        let rest = &mut out[2 * (head.len() + beside.len())..];
         let records = rest.as_chunks_mut::<{ 2 * THREAD_WORDS }>().0;
-        for (record, thread) in records.iter_mut().zip(threads) {
+        for (record, thread) in records.iter_mut().zip(self.threads()) {
             for (at, word) in thread.words().into_iter().enumerate() {
                 set_word(record, at, word);
             }
         }
     }
 
-    /// Where the thread of this number stands in the list.
-    fn index(&self, number: u16, zero: Halt, above: Halt) -> Result<usize, Halt> {
-        match usize::from(number) {
-            0 => Err(zero),
-            number if number > self.count => Err(above),
-            number => Ok(number - 1),
-        }
-    }
-
-    fn node_of(&self, thread: &Thread) -> [u16; 3] {
-        three(&self.file.nodes[usize::from(thread.node) - 1])
-    }
-
-    /// Takes a thread out; those after it move down by one.
-    fn remove(&mut self, at: usize) {
-        self.threads.copy_within(at + 1..self.count, at);
-        self.count -= 1;
-    }
-
-    /// Adds a last thread, like the one at `at` but for its node.
-    fn add(&mut self, at: usize, node: u16, full: Halt) -> Result<(), Halt> {
-        if self.count == MOST_THREADS {
-            return Err(full);
-        }
-        self.threads[self.count] = self.threads[at].twin(node);
-        self.count += 1;
-        Ok(())
-    }
-
-    /// Makes a channel of the thread's user.
-    fn make(&mut self, at: usize, kind: u16) -> Result<(), Halt> {
-        if self.made_count == MOST_MADE {
-            return Err(Halt::ChannelsFull);
-        }
-        let thread = &mut self.threads[at];
-        self.made[self.made_count] = Made {
-            owner: thread.user,
-            kind,
-        };
-        thread.bind(MADE + self.made_count as u16);
-        self.made_count += 1;
-        Ok(())
-    }
-
-    /// Sends `value` on `channel`, two operands of the thread at `from`.
-    fn send(&mut self, from: usize, partner: u16, channel: u16, value: u16) -> Result<(), Halt> {
-        let to = self.index(partner, Halt::SendAlone, Halt::SendPartnerAbove)?;
-        let (sender, receiver) = (&self.threads[from], &self.threads[to]);
-        let [tag, received_on, _] = self.node_of(receiver);
-        if tag != RECEIVE {
-            let itself = to == from;
-            return Err(Halt::PartnerNotReceiving { itself });
-        }
-        let channels = [sender.value_of(channel), receiver.value_of(received_on)];
-        if !self.may_send(sender, channels[0]) {
-            return Err(Halt::SenderNotAllowed);
-        }
-        if !self.may_receive(receiver, channels[1]) {
-            return Err(Halt::ReceiverNotAllowed);
-        }
-        if channels[0] != channels[1] {
-            return Err(Halt::ChannelsDiffer);
-        }
-        let value = sender.value_of(value);
-        self.threads[from].advance();
-        self.threads[to].bind(value);
-        Ok(())
-    }
-
     fn may_send(&self, thread: &Thread, channel: u16) -> bool {
-        let roles = self.permitted.to_send[self.kind_of(channel) - 1];
-        roles & thread.mask != 0
+        let kind = kind_of(&self.file, &self.beside, channel);
+        self.permitted.may_send(thread.mask, kind)
     }
 
     fn may_receive(&self, thread: &Thread, channel: u16) -> bool {
-        let roles = self.permitted.to_receive[self.kind_of(channel) - 1];
-        roles & thread.mask != 0
-    }
-
-    /// The kind of a channel, by its value.
-    fn kind_of(&self, channel: u16) -> usize {
-        let kind = match channel {
-            MADE.. => self.made[usize::from(channel - MADE)].kind,
-            _ => word(&self.file.channels[usize::from(channel - NAMED)], 1),
-        };
-        kind.into()
+        let kind = kind_of(&self.file, &self.beside, channel);
+        self.permitted.may_receive(thread.mask, kind)
     }
 }

@@ -1,6 +1,8 @@
-use crate::cases::{booking, cases, place_cases, placed_booking, run_cases, Due, BOOKING};
+use crate::cases::{booking, cases, choose_cases, place_cases, placed_booking, run_cases};
+use crate::cases::{Due, BOOKING};
 use crate::draft::to_bytes;
-use crate::{cause, cause_in_placing, cause_in_run, check, place, read, read_names, ready, run};
+use crate::{cause, cause_in_choosing, cause_in_placing, cause_in_run};
+use crate::{check, choose, place, read, read_names, ready, run};
 use crate::{Cause, Placed, Verdict, ROOM};
 use std::collections::BTreeSet;
 
@@ -52,6 +54,23 @@ fn named_cases_of_running() {
 }
 
 #[test]
+fn named_cases_of_choosing() {
+    let mut causes = BTreeSet::new();
+    for case in choose_cases() {
+        case.demand("second", choose);
+        let (threads, beside) = case.lists();
+        let [thread, partner] = case.choice;
+        let refusal = cause_in_choosing(&case.file, &threads, &beside, thread, partner);
+        let told = refusal.map_or(Verdict::CLEAN, |refusal| refusal.verdict());
+        assert_eq!((told.number, told.place), case.answer, "{}", case.name);
+        causes.extend(refusal.map(|refusal| refusal.cause));
+    }
+    for cause in Cause::of_choosing() {
+        assert!(causes.contains(&cause), "no case of {cause:?}");
+    }
+}
+
+#[test]
 fn the_booking_of_the_runs_is_placed() {
     let mut out = [0; ROOM];
     let due = placed_booking().bytes();
@@ -77,7 +96,10 @@ fn causes_are_listed_once_and_by_number() {
     assert_eq!(all.last().map(|cause| cause.number()), Some(17));
     let of_running = Cause::of_running();
     assert!(of_running.windows(2).all(|two| two[0] < two[1]));
+    let of_choosing = Cause::of_choosing();
+    assert!(of_choosing.windows(2).all(|two| two[0] < two[1]));
     let at_choices = of_running.split_at(3).1;
+    assert!(of_choosing.ends_with(at_choices));
     assert!(at_choices.is_sorted_by_key(|cause| cause.number()));
     assert_eq!(at_choices.last().map(|cause| cause.number()), Some(20));
 }

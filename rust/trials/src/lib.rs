@@ -7,6 +7,7 @@ mod aim;
 mod answers;
 mod bare;
 mod change;
+mod choosing;
 mod deal;
 mod desk;
 mod grow;
@@ -23,6 +24,9 @@ mod wild;
 
 pub use answers::{agreed, engine_check, engine_read, second_check, second_read, Answer};
 pub use bare::{deal_bare, full_bare, largest_bare, overfull_bare, small_bare, typical_bare};
+pub use choosing::{agreed_choice, compare_choosing, deal_lent, engine_choose, full_lent};
+pub use choosing::{long_run_by_choices, run_by_choices, to_engine, typical_lent};
+pub use choosing::{ChooseTally, Lent, Lists, Steps};
 pub use deal::{deal, largest, typical};
 pub use placing::{agreed_placing, compare_placing, engine_place, PlaceTally};
 pub use rng::Rng;

@@ -100,7 +100,7 @@ fn of_tag(tags: &[u16], tag: u16) -> Vec<u16> {
 }
 
 /// A choice that would be done, if there is one.
-fn enabled(rng: &mut Rng, run: &Run, nodes: &[[u16; 3]], steer: Steer) -> Option<[u16; 2]> {
+pub fn enabled(rng: &mut Rng, run: &Run, nodes: &[[u16; 3]], steer: Steer) -> Option<[u16; 2]> {
     let tags = tags(run, nodes);
     let receivers = of_tag(&tags, RECEIVE);
     let mut found = Vec::new();
@@ -120,7 +120,7 @@ fn enabled(rng: &mut Rng, run: &Run, nodes: &[[u16; 3]], steer: Steer) -> Option
 }
 
 /// A choice that is refused for this cause now, if one is found.
-fn refused(rng: &mut Rng, run: &Run, nodes: &[[u16; 3]], due: Halt) -> Option<[u16; 2]> {
+pub fn refused(rng: &mut Rng, run: &Run, nodes: &[[u16; 3]], due: Halt) -> Option<[u16; 2]> {
     let tags = tags(run, nodes);
     let mut found: Vec<[u16; 2]> = (0..20).map(|_| any_choice(rng, tags.len())).collect();
     match due {

@@ -1,4 +1,4 @@
-//! The trees of a sound file, with what rules 5 and 6 ask at each node.
+//! The trees of a sound file, with what rules 1, 5 and 6 say at each node.
 
 use second::draft::Draft;
 
@@ -8,6 +8,10 @@ pub struct Node {
     pub parent: Option<usize>,
     /// The indices of the children, as many as there are.
     children: [Option<usize>; 2],
+    /// The session's user.
+    pub user: u16,
+    /// What is bound above the node.
+    variables: Variables,
     /// The roles that are assigned to the session's user.
     pub assigned: u16,
     /// The roles, assigned or not, that permit a send or receive; none where
@@ -18,6 +22,12 @@ pub struct Node {
 impl Node {
     pub fn children(&self) -> impl Iterator<Item = usize> + '_ {
         self.children.iter().flatten().copied()
+    }
+
+    /// The kinds of the variables that are bound above the node, 0 where they
+    /// are plain.
+    pub fn kinds(&self) -> &[u16] {
+        &self.variables.kinds[..self.variables.len]
     }
 
     pub fn is_end(&self) -> bool {
@@ -35,6 +45,7 @@ pub struct Trees {
 impl Trees {
     pub fn of(draft: &Draft) -> Trees {
         let mut nodes: Vec<Node> = Vec::with_capacity(draft.nodes.len());
+        // What is bound below each node.
         let mut variables: Vec<Variables> = Vec::with_capacity(draft.nodes.len());
         let mut parents = vec![None; draft.nodes.len()];
         let mut sessions = draft.sessions.iter();
@@ -43,19 +54,22 @@ impl Trees {
             for child in children.into_iter().flatten() {
                 parents[child] = Some(at);
             }
-            let (assigned, mut bound) = match parents[at] {
-                Some(parent) => (nodes[parent].assigned, variables[parent]),
+            let (user, above) = match parents[at] {
+                Some(parent) => (nodes[parent].user, variables[parent]),
                 None => {
-                    let [user, _, _] = sessions.next().expect("a session for each root");
-                    (draft.users[usize::from(*user) - 1][0], Variables::default())
+                    let &[user, _, _] = sessions.next().expect("a session for each root");
+                    (user, Variables::default())
                 }
             };
-            let permitted = pass(draft, node, &mut bound);
-            variables.push(bound);
+            let mut below = above;
+            let permitted = pass(draft, node, &mut below);
+            variables.push(below);
             nodes.push(Node {
                 parent: parents[at],
                 children,
-                assigned,
+                user,
+                variables: above,
+                assigned: draft.users[usize::from(user) - 1][0],
                 permitted,
             });
         }

@@ -8,7 +8,7 @@ use trials::{deal_state, engine_ready, engine_run, seed};
 const FILES: u64 = 8_000;
 
 /// The least number of states in which something comes up.
-const LEAST: u64 = 300;
+const LEAST: u64 = 500;
 
 /// A state of a run: the file and the choices that lead to it.
 struct State {

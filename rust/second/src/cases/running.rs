@@ -2,11 +2,13 @@
 
 mod booking;
 mod halts;
+mod lent;
 mod ready;
 mod refusals;
 mod steps;
 
 pub use booking::{booking, placed_booking};
+pub use lent::{cases as choose_cases, ChooseCase, Lent};
 
 use crate::draft::{set_word, Draft};
 use crate::{Ready, Verdict, RUN_ROOM};

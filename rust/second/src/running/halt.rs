@@ -1,6 +1,6 @@
 //! Why a run is halted at a choice.
 
-use super::{COMPARE, END, FORK, NEW, ON, REPEAT};
+use super::state::{COMPARE, END, FORK, NEW, ON, REPEAT};
 
 const OFF: u16 = 8;
 

@@ -1,6 +1,7 @@
 //! One thread of a run, and the steps that concern it alone.
 
-use super::{has, Halt};
+use super::Halt;
+use crate::roles::has;
 use crate::tree::VARIABLES;
 
 const MOST: usize = VARIABLES as usize;
@@ -8,15 +9,13 @@ const MOST: usize = VARIABLES as usize;
 /// The operand that names the first variable.
 const FIRST_VARIABLE: usize = 512;
 
-/// A thread as it stands.
+/// A thread as it stands, and its record in a list that is lent.
 #[derive(Clone, Copy, Debug, Default, PartialEq, Eq)]
 pub struct Thread {
     pub user: u16,
     pub node: u16,
     /// The active roles.
     pub mask: u16,
-    /// How many variables are bound.
-    bound: u16,
     /// The values of the variables, 0 where nothing is bound.
     pub variables: [u16; MOST],
 }
@@ -28,7 +27,6 @@ impl Thread {
             user,
             node: root,
             mask,
-            bound: 0,
             variables: [0; MOST],
         }
     }
@@ -49,10 +47,11 @@ impl Thread {
         self.node += 1;
     }
 
-    /// Gives the next variable on the path its value.
+    /// Gives the next variable on the path its value. All that are bound have
+    /// one, and no value is 0.
     pub(super) fn bind(&mut self, value: u16) {
-        self.variables[usize::from(self.bound)] = value;
-        self.bound += 1;
+        let bound = self.variables.iter().filter(|value| **value != 0);
+        self.variables[bound.count()] = value;
         self.advance();
     }
 

@@ -1,5 +1,5 @@
-//! Times reading, checking, placing and running, the engine against the second
-//! implementation.
+//! Times reading, checking, placing, running and choosing, the engine against the
+//! second implementation.
 
 use second::cases::run_cases;
 use second::{Ready, Verdict, ROOM, RUN_ROOM};
@@ -91,12 +91,67 @@ fn ready_row(size: &str, file: &[u8], choices: &[u16], calls: u32) {
     time(&format!("ready {size}"), file, calls, engine, second);
 }
 
+/// Times a send that is done in a lent list. Before each call the two threads
+/// that it moves are put back; nothing else is changed by it.
+fn choose_row(size: &str, lent: &trials::Lent, calls: u32) {
+    let name = format!("choose {size}");
+    let trials::Lent {
+        file,
+        lists,
+        choice,
+    } = lent;
+    let (verdict, _) = trials::agreed_choice(file, lists, *choice, &name);
+    assert_eq!(verdict, Verdict::CLEAN);
+    let [thread, partner] = *choice;
+    let moved = choice.map(|number| usize::from(number) - 1);
+    let records: Vec<_> = lists.threads.iter().map(trials::to_engine).collect();
+    let (mut threads, mut beside) = (records.clone(), lists.beside.clone());
+    let engine = || {
+        for at in moved {
+            threads[at] = records[at];
+        }
+        let (threads, beside) = (black_box(&mut threads[..]), black_box(&mut beside[..]));
+        black_box(pilzdamo::choose(
+            black_box(file),
+            threads,
+            beside,
+            thread,
+            partner,
+        ));
+    };
+    let (mut of_second, mut beside_second) = (lists.threads.clone(), lists.beside.clone());
+    let second = || {
+        for at in moved {
+            of_second[at] = lists.threads[at];
+        }
+        let (threads, beside) = (
+            black_box(&mut of_second[..]),
+            black_box(&mut beside_second[..]),
+        );
+        black_box(second::choose(
+            black_box(file),
+            threads,
+            beside,
+            thread,
+            partner,
+        ));
+    };
+    time(&name, file, calls, engine, second);
+}
+
 /// The booking of two desks, placed, and the choices that take it to its end.
 fn short_run() -> (Vec<u8>, Vec<u16>) {
     let mut cases = run_cases().into_iter();
     let case = cases.find(|case| case.name == "the booking to its end");
     let case = case.expect("a case of that name");
     (case.file, case.choices)
+}
+
+/// How many variables of the threads that count are bound.
+fn bound(lent: &trials::Lent) -> usize {
+    let counted = &lent.lists.threads[..lent.lists.beside[0].into()];
+    let values = counted.iter().flat_map(|thread| thread.variables);
+    values.filter(|value| *value != 0).count()
 }
 
 /// Times two calls in turns.
@@ -119,6 +174,7 @@ fn time(name: &str, file: &[u8], calls: u32, mut engine: impl FnMut(), mut secon
 fn main() {
     let seed = trials::seed();
     let (busy, short, crowded) = (trials::busy(seed), short_run(), trials::crowded());
+    let (full, small) = (trials::full_lent(seed), trials::typical_lent(seed));
     println!("Nanoseconds a call; {SAMPLES} samples each, in turns.");
     println!("Read: refusals 1 to 10. Check: 1 to 13. Largest: 1,024 nodes. Typical: 40 nodes.");
     println!(
@@ -132,6 +188,16 @@ fn main() {
         short.1.len() / 2
     );
     println!("Ready, crowded: 32 choices, then 64 threads of which no two can meet.");
+    println!(
+        "Choose, a send that is done: largest has 64 threads with {} variables, and 64 made channels;",
+        bound(&full)
+    );
+    println!(
+        "typical has {} threads with {}, and {} made channels.",
+        small.lists.beside[0],
+        bound(&small),
+        small.lists.beside[1]
+    );
     println!("No buffers are cleared before a call.");
     println!();
     println!(
@@ -150,7 +216,13 @@ fn main() {
         ("typical", trials::typical(seed), 300),
     ] {
         let name = |question: &str| format!("{question} {size}");
-        row(&name("read"), &file, calls, pilzdamo::read, second::read_names);
+        row(
+            &name("read"),
+            &file,
+            calls,
+            pilzdamo::read,
+            second::read_names,
+        );
         row(&name("check"), &file, calls, pilzdamo::check, second::check);
     }
     place_row("largest", &trials::largest_bare(seed), 50, 0);
@@ -160,4 +232,6 @@ fn main() {
     run_row("busy", &busy.0, &busy.1, 1);
     run_row("short", &short.0, &short.1, 300);
     ready_row("crowded", &crowded.0, &crowded.1, 100);
+    choose_row("largest", &full, 50);
+    choose_row("typical", &small, 300);
 }

@@ -1,5 +1,6 @@
 //! The runs of the trials, by index.
 
+use super::replay::{Meeting, Replay};
 use super::Dealt;
 use crate::bare::filled;
 use crate::desk::{deal_desk, Use};
@@ -33,8 +34,9 @@ pub fn deal_run(seed: u64, index: u64) -> Dealt {
     }
 }
 
-/// A file and a list of choices that are all done. Half of the lists end where
-/// threads can meet, if they come by such a state.
+/// A file and a list of choices that are all done. Most lists end where threads
+/// can meet, and many of these where a lower send or receive is passed over, if
+/// they come by such a state.
 pub fn deal_state(seed: u64, index: u64) -> (Vec<u8>, Vec<u16>) {
     let rng = &mut Rng::new(seed.rotate_left(3), index);
     let good_for = *rng.of(&[Use::Any, Use::Permission]);
@@ -45,14 +47,34 @@ pub fn deal_state(seed: u64, index: u64) -> (Vec<u8>, Vec<u16>) {
         halt: None,
     };
     let mut choices = schedule(rng, &file, goal);
-    if rng.once_in(2) {
-        let lengths: Vec<usize> = (0..=choices.len() / 2).collect();
-        let is_ready = |done: &usize| second::ready(&file, &choices[..2 * done]).sender != 0;
-        if let Some(done) = rng.find(&lengths, is_ready) {
+    if second::start(&file).is_ok() {
+        let states = meetings(&file, &choices);
+        let wish = rng.below(4);
+        let wished = |meeting: &Meeting| match wish {
+            0 => false,
+            1 => meeting.ready,
+            2 => meeting.past_send,
+            _ => meeting.past_receive,
+        };
+        let found = rng.find(&states, wished);
+        let ready = |meeting: &Meeting| wish > 0 && meeting.ready;
+        if let Some(done) = found.or_else(|| rng.find(&states, ready)) {
             choices.truncate(2 * done);
         }
     }
     (file, choices)
+}
+
+/// What can be said of the ready pairs of all states of a run, from its start
+/// on.
+fn meetings(file: &[u8], choices: &[u16]) -> Vec<Meeting> {
+    let mut replay = Replay::start(file);
+    let mut meetings = vec![replay.meeting()];
+    for &[thread, partner] in choices.as_chunks().0 {
+        replay.run.choose(thread, partner).expect("it is done");
+        meetings.push(replay.meeting());
+    }
+    meetings
 }
 
 /// Leaves most lists as they are. Others go on with any choices, have other

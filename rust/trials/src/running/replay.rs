@@ -15,6 +15,14 @@ pub struct Replay<'a> {
     nodes: Vec<[u16; 3]>,
 }
 
+/// What is known of a state's ready pair: whether there is one, and whether a
+/// lower send, or a lower receive, is passed over.
+pub struct Meeting {
+    pub ready: bool,
+    pub past_send: bool,
+    pub past_receive: bool,
+}
+
 impl<'a> Replay<'a> {
     pub fn start(file: &'a [u8]) -> Replay<'a> {
         Replay {
@@ -36,6 +44,21 @@ impl<'a> Replay<'a> {
         match self.node_of(thread)[1] {
             operand @ 512.. => thread.variables[usize::from(operand) - 512],
             operand => operand,
+        }
+    }
+
+    /// What there is to say of the ready pair.
+    pub fn meeting(&self) -> Meeting {
+        let (sender, receiver) = self.run.ready();
+        let lower = |number: u16, tag| {
+            let lower = usize::from(number).saturating_sub(1);
+            let mut threads = self.run.threads()[..lower].iter();
+            threads.any(|thread| self.node_of(thread)[0] == tag)
+        };
+        Meeting {
+            ready: sender != 0,
+            past_send: lower(sender, 6),
+            past_receive: lower(receiver, 5),
         }
     }
 
@@ -62,7 +85,7 @@ impl<'a> Replay<'a> {
             let on_made = channel >= 385;
             let value = self.thread(partner).variables;
             let value = value[receiver.variables.iter().filter(|v| **v != 0).count()];
-            let maker = on_made && self.run.made()[usize::from(channel) - 385].owner == sender.user;
+            let maker = on_made && self.run.made()[usize::from(channel) - 385][0] == sender.user;
             note("sends done", true);
             note("sends to a thread before", partner < thread);
             note("sends on a made channel", on_made);

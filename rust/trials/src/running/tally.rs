@@ -83,16 +83,9 @@ impl RunTally {
         let run = &replay.run;
         self.note("states with 64 threads", run.threads().len() == 64);
         self.note("states with 64 made channels", run.made().len() == 64);
-        let (sender, _) = run.ready();
-        self.note("states with a ready pair", sender != 0);
-        let lower = run
-            .threads()
-            .iter()
-            .take(usize::from(sender) - usize::from(sender != 0));
-        let passed_over = lower
-            .into_iter()
-            .any(|thread| replay.node_of(thread)[0] == 6);
-        self.note("ready pairs past a lower send", passed_over);
+        let meeting = replay.meeting();
+        self.note("states with a ready pair", meeting.ready);
+        self.note("ready pairs past a lower send", meeting.past_send);
     }
 
     /// Counts what else could have been said of the choice that was refused.

@@ -1,0 +1,168 @@
+//! Threads and made channels as they stand, and what a choice does to them.
+
+use super::{Halt, Thread};
+use crate::file::{three, word, File};
+use crate::roles::Rights;
+
+/// The most threads that there can be.
+pub const RECORDS: usize = 64;
+
+const MOST_MADE: usize = 64;
+
+/// Words beside the threads: how many threads there are, how many made
+/// channels, and the owner and kind of each made channel.
+pub const BESIDE: usize = 2 + 2 * MOST_MADE;
+
+pub const END: u16 = 0;
+pub const FORK: u16 = 1;
+pub const REPEAT: u16 = 2;
+pub const NEW: u16 = 3;
+pub const COMPARE: u16 = 4;
+pub const RECEIVE: u16 = 5;
+pub const SEND: u16 = 6;
+pub const ON: u16 = 7;
+
+/// The values of the file's first channel and of the first that is made.
+pub const NAMED: u16 = 257;
+pub const MADE: u16 = 385;
+
+/// The threads that there are.
+pub fn counted<'s>(threads: &'s [Thread; RECORDS], beside: &[u16; BESIDE]) -> &'s [Thread] {
+    &threads[..usize::from(beside[0])]
+}
+
+/// Owner and kind of the channels made so far.
+pub fn made(beside: &[u16; BESIDE]) -> &[[u16; 2]] {
+    let words = 2 * usize::from(beside[1]);
+    beside[2..2 + words].as_chunks().0
+}
+
+/// The node at which a thread stands.
+pub fn node_of(file: &File, thread: &Thread) -> [u16; 3] {
+    three(&file.nodes[usize::from(thread.node) - 1])
+}
+
+/// The kind of a channel, by its value.
+pub fn kind_of(file: &File, beside: &[u16; BESIDE], channel: u16) -> u16 {
+    match channel {
+        MADE.. => made(beside)[usize::from(channel - MADE)][1],
+        _ => word(&file.channels[usize::from(channel - NAMED)], 1),
+    }
+}
+
+/// A state of a file: a run's own, or one that is lent.
+pub struct State<'s, R> {
+    pub file: &'s File<'s>,
+    pub rights: &'s R,
+    pub threads: &'s mut [Thread; RECORDS],
+    pub beside: &'s mut [u16; BESIDE],
+}
+
+impl<R: Rights> State<'_, R> {
+    /// Carries out a choice. Refused, it leaves the state as it was.
+    pub fn choose(&mut self, thread: u16, partner: u16) -> Result<(), Halt> {
+        let at = self.index(thread, Halt::ThreadZero, Halt::ThreadAbove)?;
+        let [tag, f1, f2] = node_of(self.file, &self.threads[at]);
+        match tag {
+            SEND => self.send(at, partner, f1, f2)?,
+            RECEIVE => return Err(Halt::ReceiveFirst),
+            _ if partner != 0 => return Err(Halt::PartnerOfLone { tag }),
+            END => self.remove(at),
+            FORK => {
+                self.add(at, f1, Halt::ThreadsFullAtFork)?;
+                self.threads[at].advance();
+            }
+            REPEAT => {
+                let child = self.threads[at].node + 1;
+                self.add(at, child, Halt::ThreadsFullAtRepeat)?;
+            }
+            NEW => self.make(at, f1)?,
+            COMPARE => self.threads[at].compare(f1, f2)?,
+            ON => {
+                let user = usize::from(self.threads[at].user);
+                let assigned = word(&self.file.users[user - 1], 0);
+                self.threads[at].put_on(f1, assigned)?;
+            }
+            _ => self.threads[at].put_off(f1)?,
+        }
+        Ok(())
+    }
+
+    fn kind_of(&self, channel: u16) -> u16 {
+        kind_of(self.file, self.beside, channel)
+    }
+
+    fn count(&self) -> usize {
+        self.beside[0].into()
+    }
+
+    /// Where the thread of this number stands in the list.
+    fn index(&self, number: u16, zero: Halt, above: Halt) -> Result<usize, Halt> {
+        match usize::from(number) {
+            0 => Err(zero),
+            number if number > self.count() => Err(above),
+            number => Ok(number - 1),
+        }
+    }
+
+    /// Takes a thread out; those after it move down by one.
+    fn remove(&mut self, at: usize) {
+        let count = self.count();
+        self.threads.copy_within(at + 1..count, at);
+        self.beside[0] -= 1;
+    }
+
+    /// Adds a last thread, like the one at `at` but for its node.
+    fn add(&mut self, at: usize, node: u16, full: Halt) -> Result<(), Halt> {
+        let count = self.count();
+        if count == RECORDS {
+            return Err(full);
+        }
+        self.threads[count] = self.threads[at].twin(node);
+        self.beside[0] += 1;
+        Ok(())
+    }
+
+    /// Makes a channel of the thread's user.
+    fn make(&mut self, at: usize, kind: u16) -> Result<(), Halt> {
+        let number = usize::from(self.beside[1]);
+        if number == MOST_MADE {
+            return Err(Halt::ChannelsFull);
+        }
+        let thread = &mut self.threads[at];
+        self.beside[2 + 2 * number] = thread.user;
+        self.beside[2 + 2 * number + 1] = kind;
+        self.beside[1] += 1;
+        thread.bind(MADE + number as u16);
+        Ok(())
+    }
+
+    /// Sends `value` on `channel`, two operands of the thread at `from`.
+    fn send(&mut self, from: usize, partner: u16, channel: u16, value: u16) -> Result<(), Halt> {
+        let to = self.index(partner, Halt::SendAlone, Halt::SendPartnerAbove)?;
+        let (sender, receiver) = (&self.threads[from], &self.threads[to]);
+        let [tag, received_on, _] = node_of(self.file, receiver);
+        if tag != RECEIVE {
+            let itself = to == from;
+            return Err(Halt::PartnerNotReceiving { itself });
+        }
+        let sent_on = sender.value_of(channel);
+        let received_on = receiver.value_of(received_on);
+        if !self.rights.may_send(sender.mask, self.kind_of(sent_on)) {
+            return Err(Halt::SenderNotAllowed);
+        }
+        if !self
+            .rights
+            .may_receive(receiver.mask, self.kind_of(received_on))
+        {
+            return Err(Halt::ReceiverNotAllowed);
+        }
+        if sent_on != received_on {
+            return Err(Halt::ChannelsDiffer);
+        }
+        let value = sender.value_of(value);
+        self.threads[from].advance();
+        self.threads[to].bind(value);
+        Ok(())
+    }
+}

@@ -1,0 +1,124 @@
+//! Whole runs, choice by choice in a lent list.
+
+use super::fit::Clinic;
+use super::{agreed_choice, engine_choose, Lists};
+use crate::rng::Rng;
+use crate::running::{deal_run, engine_run};
+use second::draft::{to_bytes, Draft};
+use second::{Run, Thread, Verdict, RUN_ROOM};
+
+/// What came up over the runs.
+#[derive(Debug, Default)]
+pub struct Steps {
+    pub runs: u64,
+    pub done: u64,
+    /// Runs that a choice halts.
+    pub halted: u64,
+}
+
+/// The threads at the start of a run, one for each session, with anything past
+/// them.
+fn start(rng: &mut Rng, file: &[u8]) -> Lists {
+    let sessions = Draft::of(file).sessions;
+    let thread = |&[user, mask, root]: &[u16; 3]| Thread {
+        user,
+        node: root,
+        mask,
+        ..Thread::default()
+    };
+    let threads: Vec<Thread> = sessions.iter().map(thread).collect();
+    Clinic::of(file).with_rest(rng, &threads, &[])
+}
+
+/// What a run writes in a state: the choices done, the refusal, and what the
+/// lists hold.
+fn written(lists: &Lists, done: u16, refusal: u16) -> Vec<u8> {
+    let [threads, made] = [0, 1].map(|at| usize::from(lists.beside[at]));
+    let mut words = vec![done, refusal];
+    words.extend(&lists.beside[..2 + 2 * made]);
+    for thread in &lists.threads[..threads] {
+        let roles = (0..16).filter(|bit| thread.mask >> bit & 1 != 0).count();
+        words.extend([thread.user, thread.node, thread.mask, roles as u16]);
+        words.extend(thread.variables);
+    }
+    to_bytes(&words)
+}
+
+/// Asserts that the engine's run through these choices is refused as it says
+/// and leaves what the lists hold.
+fn assert_run(file: &[u8], choices: &[u16], lists: &Lists, refusal: u16, origin: &str) {
+    let all = choices.len() / 2;
+    let (done, place) = match refusal {
+        0 => (all, 0),
+        _ => (all - 1, all),
+    };
+    let due = written(lists, done as u16, refusal);
+    let mut out = [0; RUN_ROOM];
+    let verdict = engine_run(file, choices, &mut out);
+    assert_eq!(
+        (verdict.number, usize::from(verdict.place)),
+        (refusal, place),
+        "{origin}"
+    );
+    assert!(
+        out[..due.len()] == due,
+        "{origin}: another state after {all} choices"
+    );
+}
+
+/// Whether the lists hold the state of a run.
+fn holds(lists: &Lists, run: &Run) -> bool {
+    let Lists { threads, beside } = lists;
+    let (counted, made) = (run.threads(), run.made().as_flattened());
+    beside[..2] == [counted.len() as u16, made.len() as u16 / 2]
+        && beside[2..].starts_with(made)
+        && threads.starts_with(counted)
+}
+
+/// Goes through `runs` runs by choices, both implementations at a time, and
+/// panics where the state after a choice is not the run's.
+pub fn run_by_choices(seed: u64, runs: u64) -> Steps {
+    let mut steps = Steps::default();
+    for index in 0..runs {
+        let dealt = deal_run(seed, index);
+        let Ok(mut run) = second::start(&dealt.file) else {
+            continue;
+        };
+        steps.runs += 1;
+        let mut lists = start(&mut Rng::new(seed, index), &dealt.file);
+        let (choices, _) = dealt.choices.as_chunks();
+        for (at, &choice) in choices.iter().enumerate() {
+            let origin = format!("trials::deal_run({seed}, {index}), choice {}", at + 1);
+            let (verdict, after) = agreed_choice(&dealt.file, &lists, choice, &origin);
+            let Verdict { number, place } = verdict;
+            assert_eq!(place, number.min(1), "{origin}: {verdict:?}");
+            let halt = run.choose(choice[0], choice[1]).err();
+            assert_eq!(number, halt.map_or(0, |halt| halt.number()), "{origin}");
+            assert!(holds(&after, &run), "{origin}: not the run's next state");
+            let so_far = &dealt.choices[..2 * at + 2];
+            assert_run(&dealt.file, so_far, &after, number, &origin);
+            lists = after;
+            if number != 0 {
+                steps.halted += 1;
+                break;
+            }
+            steps.done += 1;
+        }
+    }
+    steps
+}
+
+/// Goes through one run by the engine's choices alone. All of them are done,
+/// and each leaves the state of the second implementation's run.
+pub fn long_run_by_choices(file: &[u8], choices: &[u16]) {
+    let mut lists = start(&mut Rng::new(0, 0), file);
+    let mut run = second::start(file).expect("1 to 10 leave it clean");
+    for &[thread, partner] in choices.as_chunks().0 {
+        let Lists { threads, beside } = &mut lists;
+        let verdict = engine_choose(file, threads, beside, thread, partner);
+        assert_eq!(verdict, Verdict::CLEAN);
+        run.choose(thread, partner).expect("it is done");
+        assert!(holds(&lists, &run));
+    }
+    assert_run(file, choices, &lists, 0, "the whole list");
+}

@@ -1,0 +1,213 @@
+//! Counting choices in lent lists by number and cause, and by what is lent.
+
+use super::fit::Clinic;
+use super::{Lent, Lists};
+use second::{Cause, Halt, Unfit, Verdict, BESIDE, RECORDS};
+use std::collections::BTreeMap;
+
+/// The least number of choices for each cause, of those refused with each
+/// number, and of those done for each tag.
+const LEAST_OF_EACH: u64 = 500;
+
+/// The tags of the nodes at which the thread of a choice that is done stands.
+const TAGS: [u16; 8] = [0, 1, 2, 3, 4, 6, 7, 8];
+
+/// What has to come up, and in how many choices.
+const LEAST: [(&str, u64); 19] = [
+    ("choices done", 10_000),
+    ("choices done with 64 threads", 500),
+    ("choices done with 64 made channels", 500),
+    ("choices done with a thread of eight variables", 500),
+    ("choices done where the check refuses the file", 500),
+    ("choices done that add the 64th thread", 200),
+    ("choices done that make the 64th channel", 200),
+    ("sends done to a thread before", 500),
+    ("sends done on a channel of kind 17 to 32", 500),
+    ("sends done on a made channel", 500),
+    ("sends done of a made channel", 500),
+    ("sends done on a channel in a variable", 500),
+    ("ends done with threads behind", 500),
+    ("choices in a list without threads", 500),
+    ("1 to 10 before 18 at place 0", 500),
+    ("18 at place 0 for a binder's own variable", 500),
+    ("18 at place 0 for a made channel past the number", 500),
+    ("18 at place 1 for a thread past the count", 500),
+    ("11 to 13 where the check passes the file", 500),
+];
+
+/// What came up over many choices.
+#[derive(Default)]
+pub struct ChooseTally {
+    counts: BTreeMap<&'static str, u64>,
+    /// By number and by whether the place is the choice's.
+    by_number: BTreeMap<(u16, bool), u64>,
+    by_cause: BTreeMap<Cause, u64>,
+    done_by_tag: BTreeMap<u16, u64>,
+}
+
+/// Why the choice is refused, if it is.
+fn cause_of(lent: &Lent) -> Option<Cause> {
+    let Lists { threads, beside } = &lent.lists;
+    let [thread, partner] = lent.choice;
+    let refusal = second::cause_in_choosing(&lent.file, threads, beside, thread, partner);
+    refusal.map(|refusal| refusal.cause)
+}
+
+/// Why it is refused if the two counts are these.
+fn cause_if_counted(lent: &Lent, counts: [u16; 2]) -> Option<Cause> {
+    let mut counted = lent.clone();
+    counted.lists.beside[..2].copy_from_slice(&counts);
+    cause_of(&counted)
+}
+
+/// Whether there is another number of records or words than there must be, or
+/// a count that is too large.
+fn is_misshapen(Lists { threads, beside }: &Lists) -> bool {
+    threads.len() != RECORDS || beside.len() != BESIDE || beside[..2].iter().any(|n| *n > 64)
+}
+
+impl ChooseTally {
+    fn note(&mut self, what: &'static str, shown: bool) {
+        *self.counts.entry(what).or_default() += u64::from(shown);
+    }
+
+    pub(super) fn count(&mut self, lent: &Lent, verdict: Verdict, after: &Lists) {
+        let at_choice = verdict.number > 10 && verdict.place == 1;
+        let number = (verdict.number, at_choice);
+        *self.by_number.entry(number).or_default() += 1;
+        let Some(cause) = cause_of(lent) else {
+            self.count_done(lent, after);
+            return;
+        };
+        *self.by_cause.entry(cause).or_default() += 1;
+        match cause {
+            Cause::Lent(unfit) => self.count_unfit(lent, unfit),
+            Cause::Choice(halt) => self.count_halt(lent, halt),
+            _ => {
+                let misshapen = is_misshapen(&lent.lists);
+                self.note("1 to 10 before 18 at place 0", misshapen);
+            }
+        }
+    }
+
+    fn count_done(&mut self, lent: &Lent, after: &Lists) {
+        let clinic = Clinic::of(&lent.file);
+        let Lists { threads, beside } = &lent.lists;
+        let counted = &threads[..beside[0].into()];
+        let [number, partner] = lent.choice.map(usize::from);
+        let thread = &threads[number - 1];
+        let tag = clinic.tag(thread);
+        *self.done_by_tag.entry(tag).or_default() += 1;
+        self.note("choices done", true);
+        self.note("choices done with 64 threads", counted.len() == RECORDS);
+        self.note("choices done with 64 made channels", beside[1] == 64);
+        let full = counted.iter().any(|thread| thread.variables[7] != 0);
+        self.note("choices done with a thread of eight variables", full);
+        let refused = second::check(&lent.file) != Verdict::CLEAN;
+        self.note("choices done where the check refuses the file", refused);
+        let full = after.beside[0] == 64 && counted.len() == 63;
+        self.note("choices done that add the 64th thread", full);
+        let full = after.beside[1] == 64 && beside[1] == 63;
+        self.note("choices done that make the 64th channel", full);
+        let behind = number < counted.len();
+        self.note("ends done with threads behind", tag == 0 && behind);
+        if tag == 6 {
+            let operand = clinic.draft.nodes[usize::from(thread.node) - 1][1];
+            let channel = match operand {
+                512.. => thread.variables[usize::from(operand) - 512],
+                _ => operand,
+            };
+            let bound = clinic.kinds(&threads[partner - 1]).len();
+            let value = after.threads[partner - 1].variables[bound];
+            let mut channels = clinic.channels(beside[2..].as_chunks().0);
+            let high = channels.any(|(found, kind)| found == channel && kind > 16);
+            self.note("sends done to a thread before", partner < number);
+            self.note("sends done on a channel of kind 17 to 32", high);
+            self.note("sends done on a made channel", channel >= 385);
+            self.note("sends done of a made channel", value >= 385);
+            self.note("sends done on a channel in a variable", operand >= 512);
+        }
+    }
+
+    fn count_unfit(&mut self, lent: &Lent, unfit: Unfit) {
+        let Lists { threads, beside } = &lent.lists;
+        match unfit {
+            Unfit::Unbound => {
+                let clinic = Clinic::of(&lent.file);
+                let nodes = 1..=clinic.draft.nodes.len();
+                let counted = threads[..beside[0].into()].iter();
+                let mut there = counted.filter(|thread| nodes.contains(&thread.node.into()));
+                let early = there.any(|thread| {
+                    let binds = matches!(clinic.tag(thread), 3 | 5);
+                    binds && thread.variables[clinic.kinds(thread).len()] != 0
+                });
+                self.note("18 at place 0 for a binder's own variable", early);
+            }
+            Unfit::Nothing => {
+                // It would do if all the channels that there is room for counted.
+                let cause = cause_if_counted(lent, [beside[0], 64]);
+                let past = !matches!(cause, Some(Cause::Lent(_)));
+                self.note("18 at place 0 for a made channel past the number", past);
+            }
+            _ => {}
+        }
+    }
+
+    fn count_halt(&mut self, lent: &Lent, halt: Halt) {
+        let [count, made] = [0, 1].map(|at| lent.lists.beside[at]);
+        self.note("choices in a list without threads", count == 0);
+        match halt.number() {
+            11..=13 => {
+                let passes = second::check(&lent.file) == Verdict::CLEAN;
+                self.note("11 to 13 where the check passes the file", passes);
+            }
+            18 => {
+                // It would be done if the threads up to the named one counted.
+                let named = lent.choice[0].max(lent.choice[1]);
+                let past = count < named && named <= 64;
+                let done = past && cause_if_counted(lent, [named, made]).is_none();
+                self.note("18 at place 1 for a thread past the count", done);
+            }
+            _ => {}
+        }
+    }
+
+    /// Prints the table, and fails if something came up too seldom.
+    pub fn demand(&self) {
+        for ((number, at_choice), count) in &self.by_number {
+            let place = match (number, at_choice) {
+                (11.., true) => " at place 1",
+                (11.., false) => " at place 0",
+                _ => "",
+            };
+            println!("{count:>9} of {number}{place}");
+        }
+        let of_cause = |cause| self.by_cause.get(&cause).copied().unwrap_or(0);
+        let of_tag = |tag| self.done_by_tag.get(&tag).copied().unwrap_or(0);
+        let of_number = |number| self.by_number.get(&number).copied().unwrap_or(0);
+        for cause in Cause::of_choosing() {
+            println!("{:>9} {:>3} {cause:?}", of_cause(cause), cause.number());
+        }
+        for tag in TAGS {
+            println!("{:>9} done of tag {tag}", of_tag(tag));
+        }
+        for (what, _) in LEAST {
+            println!("{:>9} {what}", self.counts.get(what).copied().unwrap_or(0));
+        }
+        println!("{:>9} choices", self.by_number.values().sum::<u64>());
+        for cause in Cause::of_choosing() {
+            assert!(of_cause(cause) >= LEAST_OF_EACH, "too few of {cause:?}");
+        }
+        for tag in TAGS {
+            assert!(of_tag(tag) >= LEAST_OF_EACH, "too few done of tag {tag}");
+        }
+        for number in [11, 12, 13, 18, 19, 20] {
+            let count = of_number((number, true));
+            assert!(count >= LEAST_OF_EACH, "too few of {number} at place 1");
+        }
+        for (what, least) in LEAST {
+            let count = self.counts.get(what).copied().unwrap_or(0);
+            assert!(count >= least, "too few {what}");
+        }
+    }
+}
