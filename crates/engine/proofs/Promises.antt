@@ -23,7 +23,8 @@ use Rattle.rules.specs.Schema.{Schema}
 use Rattle.clinic.specs.Tree.{Tree}
 use Rattle.clinic.specs.Refusals.{nth}
 use Rattle.placing.specs.Placing.{placing, noPlace, placedBytes, placedOver}
-use Rattle.placement.specs.Placement.{onSteps}
+use Rattle.placement.specs.Placement.{onSteps, onStepsOf, Placement}
+use Rattle.placement.specs.ByRoles.{PlacementByRoles}
 use Rattle.placement.specs.Placed.{labels, placedTree, Throughout}
 use Rattle.placement.specs.Promised.{WellPlaced, Clean, SomeMask, IsSwitch, Unserved, Lowest, Unrefused, NoPlacement, PlacedWith}
 use Rattle.placement.specs.Cases.{Shown, cases}
@@ -46,6 +47,7 @@ use Rattle.typing.proofs.CheckFirst.{check-first, names-first}
 use Rattle.placing.proofs.PlaceLaws.{stands-placed}
 use Rattle.placement.proofs.FilePlaced.{one-role}
 use Rattle.placement.proofs.PlacingExact.{placed-well, placed-exactly, fourteen-masks, fifteen-exactly, fifteen-place, sixteen-exactly, seventeen-exactly, ten-exactly, out-kept, out-written}
+use Rattle.placement.proofs.RivalsByRoles.{rivals-all, fewest-of-all, none-at-all}
 use Rattle.placement.proofs.StarredCases.{starred}
 use Rattle.runs.proofs.Agree.{agree, one-result, refused-first, done-free}
 use Rattle.runs.proofs.RunChain.{Refuses, run-chain, run-stopped, run-whole}
@@ -105,6 +107,21 @@ places-well = placed-well
 -- "A file that nothing earlier refuses is refused for want of a role exactly when it has no such placement."
 pub no-role-exactly : (f : List ℕ) → All (λ b. b < 256) f → (room : ℕ) → ((p : ℕ) × (placing f room ≡ noPlace 15 p)) ↔ (Unrefused f room × NoPlacement f)
 no-role-exactly = fifteen-exactly
+
+-- "it passes if rules 5 and 6 hold .. Demand 3's rivals are all placements that pass and hold so, whatever their form": `Placement` asks a rival for every rule of the check, `PlacementByRoles` for
+-- rules 5 and 6 alone, and for a file that 1 to 10 let through the two are the same.
+pub rivals-are-all : (f : List ℕ) → All (λ b. b < 256) f → readingNames f ≡ fine → (F : File) → encode F ≡ f → (ts : List Tree) → Placement F ts ↔ PlacementByRoles F ts
+rivals-are-all = rivals-all
+
+-- So what is placed has the fewest on steps of all that pass by rules 5 and 6 ..
+pub fewest-of-all-rivals : (f : List ℕ) → All (λ b. b < 256) f → (room : ℕ) → placing f room .number ≡ 0 → (F : File) → encode F ≡ f → (ts : List Tree) → PlacementByRoles F ts
+    → placing f room .«on_steps» ≤ onStepsOf ts
+fewest-of-all-rivals = fewest-of-all
+
+-- .. and "15 is the answer exactly when nothing before it in the order below refuses and there is none of these".
+pub no-role-no-rival : (f : List ℕ) → All (λ b. b < 256) f → (room : ℕ)
+    → ((p : ℕ) × (placing f room ≡ noPlace 15 p)) ↔ (Unrefused f room × ((F : File) → encode F ≡ f → (ts : List Tree) → PlacementByRoles F ts → ⊥))
+no-role-no-rival = none-at-all
 
 -- "16 placing only: the result has over 1,024 nodes": exactly when nothing before it refuses, there is a placement, and the file fixed by the rule has more.
 pub too-large-exactly : (f : List ℕ) → All (λ b. b < 256) f → (room : ℕ) → ((p : ℕ) × (placing f room ≡ noPlace 16 p)) ↔ (Unrefused f room × PlacedWith (λ n. 1024 < n) f)

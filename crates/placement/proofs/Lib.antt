@@ -34,5 +34,8 @@ pub mod BytesPlaced
 pub mod AnswerStages
 pub mod RefusedPlaces
 pub mod PlacingExact
+-- A rival that is asked for rules 5 and 6 alone obeys every rule (rivals-by-roles, rivals-all): the fewest on steps of all, and 15 where there is none at all
+-- (fewest-of-all, none-at-all)
+pub mod RivalsByRoles
 -- the starred cases
 pub mod StarredCases

@@ -111,7 +111,7 @@ ten-exactly f room = names-stage f room
 
 module _ (f : List ℕ) (bytes : All (λ b. b < 256) f) where
   -- a file whose bytes these are is well formed, and its names and kinds are right
-  named-file : readingNames f ≡ fine → (F : File) → encode F ≡ f → WellFormed F × Named F
+  pub named-file : readingNames f ≡ fine → (F : File) → encode F ≡ f → WellFormed F × Named F
   named-file r F e =
       let (G, W, e′, N) = names-exact f bytes .0 r in
       subst (λ (H : File). WellFormed H × Named H) (single G F (e′ ∙ sym e)) (W, N)

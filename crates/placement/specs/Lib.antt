@@ -1,4 +1,5 @@
 pub mod Placement
+pub mod ByRoles
 pub mod Placed
 pub mod Counts
 pub mod Promised
