@@ -1,4 +1,5 @@
-//! Links the engine's static library, `libengine.a`.
+//! Links the engine's static library, `libengine.a`, and tells the tests where it
+//! is.
 
 use std::env;
 use std::path::PathBuf;
@@ -20,6 +21,7 @@ fn main() {
         std::process::exit(1);
     }
     println!("cargo:rerun-if-changed={}", archive.display());
+    println!("cargo:rustc-env=PILZDAMO_ARCHIVE={}", archive.display());
     println!("cargo:rustc-link-search=native={}", folder.display());
     println!("cargo:rustc-link-lib=static=engine");
 }

@@ -105,15 +105,23 @@ pub fn lively_bare(rng: &mut Rng) -> Draft {
 /// The largest file that is placed with an on step: one tree of 1,022 nodes
 /// that needs one of its 16 roles, so that the result has 1,024.
 pub fn largest_bare(seed: u64) -> Vec<u8> {
+    chain_bare(seed, Section::Roles.most(), MOST_NODES)
+}
+
+/// A file of so many roles and one tree, without forks, that needs one of them.
+/// Its result has so many nodes; it has two less. Everything else is at its
+/// largest.
+pub fn chain_bare(seed: u64, roles: u16, nodes: u16) -> Vec<u8> {
     let rng = &mut Rng::new(seed, 0);
     let size = Size {
+        roles,
         sessions: 1,
-        nodes: MOST_NODES - 2,
+        nodes: nodes - 2,
         ..Size::FULL
     };
     let mut draft = schema(rng, size);
-    draft.users.fill([u16::MAX]);
-    draft.roles[rng.below(16)] = [u16::MAX; 4];
+    draft.users.fill([u16::MAX >> (16 - roles)]);
+    draft.roles[rng.below(roles.into())] = [u16::MAX; 4];
     draft.sessions[0][1] = 0;
     let (bent, heed) = (Bent::CHAIN, Heed::Assigned);
     grow(rng, &mut draft, size.nodes, bent, heed, None);

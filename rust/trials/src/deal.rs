@@ -69,6 +69,20 @@ pub fn largest(seed: u64) -> Vec<u8> {
     usual(seed, Size::FULL)
 }
 
+/// A file of so many roles and nodes that passes the check, with 32 nodes to a
+/// session and everything else at its largest.
+pub fn sized(seed: u64, roles: u16, nodes: u16) -> Vec<u8> {
+    usual(
+        seed,
+        Size {
+            roles,
+            sessions: nodes / 32,
+            nodes,
+            ..Size::FULL
+        },
+    )
+}
+
 /// A file of 40 nodes that passes the check.
 pub fn typical(seed: u64) -> Vec<u8> {
     usual(seed, Size::TYPICAL)

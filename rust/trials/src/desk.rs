@@ -317,6 +317,30 @@ fn add_session(draft: &mut Draft, user: u16, tree: &[[u16; 3]]) {
     draft.nodes.extend(tree);
 }
 
+/// Brings every count to its largest. The sessions that are added do nothing: they
+/// compare users 1 and 2.
+pub fn fill_up(draft: &mut Draft) {
+    let Size {
+        users,
+        roles,
+        kinds,
+        channels,
+        sessions,
+        nodes,
+    } = Size::FULL;
+    draft.users.resize(users.into(), [7]);
+    draft.roles.resize(roles.into(), [0; 4]);
+    draft.kinds.resize(kinds.into(), [0]);
+    draft.channels.resize(channels.into(), [1, 1]);
+    let mut left = usize::from(nodes) - draft.nodes.len();
+    for more in (1..=usize::from(sessions) - draft.sessions.len()).rev() {
+        let size = left / more;
+        left -= size;
+        let compares = vec![[4, 1, 2]; size - 1];
+        add_session(draft, 1, &[compares, vec![END]].concat());
+    }
+}
+
 /// 32 sessions that each fork in two: half of the threads send on one channel,
 /// the others receive on another, and no two can meet.
 pub fn crowded_desk() -> Draft {

@@ -23,16 +23,17 @@ mod trees;
 mod wild;
 
 pub use answers::{agreed, engine_check, engine_read, second_check, second_read, Answer};
-pub use bare::{deal_bare, full_bare, largest_bare, overfull_bare, small_bare, typical_bare};
+pub use bare::typical_bare;
+pub use bare::{chain_bare, deal_bare, full_bare, largest_bare, overfull_bare, small_bare};
 pub use choosing::{agreed_choice, compare_choosing, deal_lent, engine_choose, full_lent};
 pub use choosing::{long_run_by_choices, run_by_choices, to_engine, typical_lent};
 pub use choosing::{ChooseTally, Lent, Lists, Steps};
-pub use deal::{deal, largest, typical};
+pub use deal::{deal, largest, sized, typical};
 pub use placing::{agreed_placing, compare_placing, engine_place, PlaceTally};
 pub use rng::Rng;
 pub use running::{agreed_run, compare_running, deal_run, deal_state, run_placed, sends_in};
 pub use running::{engine_ready, engine_run, Dealt, PlacedRuns, RunTally};
-pub use schedule::{busy, crowded, MOST_CHOICES};
+pub use schedule::{busy, crowded, largest_run, typical_run, MOST_CHOICES};
 pub use tally::{compare, Tally};
 pub use trees::Trees;
 

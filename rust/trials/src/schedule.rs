@@ -1,10 +1,12 @@
 //! Lists of choices for a file: mostly such as are done, up to a choice that is
 //! to be refused.
 
-use crate::desk::{busy_desk, crowded_desk};
+use crate::deal::typical;
+use crate::desk::{busy_desk, crowded_desk, fill_up};
 use crate::rng::Rng;
+use crate::running::sends_in;
 use second::draft::Draft;
-use second::{Halt, Run};
+use second::{Halt, Run, RECORDS};
 
 /// The most choices of a list.
 pub const MOST_CHOICES: usize = 65_535;
@@ -187,14 +189,29 @@ pub fn schedule(rng: &mut Rng, file: &[u8], goal: Goal) -> Vec<u16> {
     choices
 }
 
-/// A busy file, and as many choices as a list can have, which are all done: in
-/// turns, new threads by the repeats, and then all that these can do.
+/// A busy file, and as many choices as a list can have, which are all done.
 pub fn busy(seed: u64) -> (Vec<u8>, Vec<u16>) {
-    let rng = &mut Rng::new(seed, 0);
     let draft = busy_desk();
+    let sessions = draft.sessions.len();
+    (draft.bytes(), busy_choices(seed, &draft, sessions))
+}
+
+/// The same with every count of the file at its largest.
+pub fn largest_run(seed: u64) -> (Vec<u8>, Vec<u16>) {
+    let mut draft = busy_desk();
+    let sessions = draft.sessions.len();
+    fill_up(&mut draft);
+    (draft.bytes(), busy_choices(seed, &draft, sessions))
+}
+
+/// As many choices as a list can have, for a file whose first sessions are those
+/// of a busy one, while the others do nothing: in turns, new threads by the
+/// repeats, and then all that these can do.
+fn busy_choices(seed: u64, draft: &Draft, busy: usize) -> Vec<u16> {
+    let rng = &mut Rng::new(seed, 0);
     let file = draft.bytes();
     let mut run = second::start(&file).expect("1 to 10 leave it clean");
-    let sessions = draft.sessions.len() as u16;
+    let most_pairs = (RECORDS - draft.sessions.len()) / 2;
     let mut repeats = Vec::new();
     let mut choices = Vec::new();
     while choices.len() < 2 * MOST_CHOICES {
@@ -204,8 +221,8 @@ pub fn busy(seed: u64) -> (Vec<u8>, Vec<u16>) {
                 Some(thread) => [thread, 0],
                 None => {
                     // A sender and its receiver, several times.
-                    for _ in 0..1 + rng.below(22) {
-                        let sender = 1 + 2 * rng.from(0, sessions / 2 - 1);
+                    for _ in 0..1 + rng.below(most_pairs) {
+                        let sender = 1 + 2 * rng.from(0, busy as u16 / 2 - 1);
                         repeats.extend([sender, sender + 1]);
                     }
                     continue;
@@ -215,7 +232,24 @@ pub fn busy(seed: u64) -> (Vec<u8>, Vec<u16>) {
         run.choose(choice[0], choice[1]).expect("it is done");
         choices.extend(choice);
     }
-    (file, choices)
+    choices
+}
+
+/// A file of 40 nodes, and 40 choices that are all done, several of them sends.
+/// It is the first for which these are found, from the seed on.
+pub fn typical_run(seed: u64) -> (Vec<u8>, Vec<u16>) {
+    let goal = Goal {
+        steer: Steer::Meet,
+        most: 40,
+        halt: None,
+    };
+    let found = (seed..).find_map(|seed| {
+        let file = typical(seed);
+        let choices = schedule(&mut Rng::new(seed, 0), &file, goal);
+        let will_do = choices.len() == 80 && sends_in(&file, &choices) >= 4;
+        will_do.then_some((file, choices))
+    });
+    found.expect("some file will do")
 }
 
 /// A file, and choices that lead to 64 threads of which no two can meet.

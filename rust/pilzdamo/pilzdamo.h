@@ -1,0 +1,127 @@
+/*
+ * The engine's functions for C and C++. Link with libengine.a, which
+ * `rt staticlib engine` writes to target/staticlib; it needs memcpy and memset.
+ *
+ * What is asked of the caller is memory that is there, and nothing more:
+ *
+ * - A pointer and the length behind it name that many bytes, words (uint16_t) or
+ *   records (pilzdamo_thread), and the pointer is aligned for them. Any length will
+ *   do. No pointer may be null; with a length of 0 any other will do.
+ * - What is lent to be written has no byte in common with anything else that is
+ *   lent in the same call. Nobody else writes during the call what is lent, or
+ *   reads what is lent to be written.
+ *
+ * The bytes and words themselves may be anything. Every call ends; none keeps a
+ * pointer, allocates, or has a memory of the last one, so that calls may be made
+ * from several threads at once.
+ *
+ * A refusal is a number from 1 to 20 and a place, which goes by the number: 0 for 1
+ * to 5, 16 and 17; for 6 the first word of a record, from 0; for 7 a session, for 8
+ * to 15 a node, from 1 (0 for a starting mask, with 14); for 18 to 20, and in a run
+ * for 11 to 13 too, a choice, from 1. Where nothing is refused both are 0.
+ */
+#ifndef PILZDAMO_H
+#define PILZDAMO_H
+
+#include <stddef.h>
+#include <stdint.h>
+
+#ifdef __cplusplus
+extern "C" {
+#endif
+
+/* The least bytes of the output of pilzdamo_place: those of the largest file. */
+#define PILZDAMO_ROOM 6874
+/* The least bytes of the output of pilzdamo_run: those of the largest state. */
+#define PILZDAMO_RUN_ROOM 1800
+/* The records that are lent to pilzdamo_choose, no more and no less. */
+#define PILZDAMO_RECORDS 64
+/* The words that are lent beside them, no more and no less. */
+#define PILZDAMO_BESIDE 130
+
+/* A refusal, or 0 and 0. */
+typedef struct {
+    uint16_t number;
+    uint16_t place;
+} pilzdamo_verdict;
+
+/* A refusal, or 0 and 0 with the placed file's length in bytes and its on steps. */
+typedef struct {
+    uint16_t number;
+    uint16_t place;
+    uint16_t length;
+    uint16_t on_steps;
+} pilzdamo_placed;
+
+/* A refusal, or 0 and 0 with the two threads that can meet; 0 and 0 for none. */
+typedef struct {
+    uint16_t number;
+    uint16_t place;
+    uint16_t sender;
+    uint16_t receiver;
+} pilzdamo_ready_pair;
+
+/* A thread's record in a lent list. */
+typedef struct {
+    uint16_t user;    /* the user of its session */
+    uint16_t node;    /* the node at which it stands */
+    uint16_t mask;    /* its active roles: bit i-1 stands for role i */
+    uint16_t vars[8]; /* its variables, 0 where nothing is bound */
+} pilzdamo_thread;
+
+/* Judges a clinic file by refusals 1 to 10. */
+pilzdamo_verdict pilzdamo_read(const uint8_t *file, size_t file_len);
+
+/* Judges a clinic file by refusals 1 to 13. */
+pilzdamo_verdict pilzdamo_check(const uint8_t *file, size_t file_len);
+
+/*
+ * Places the roles of a clinic file: refusals 17, 1 to 10, 14 to 16. Where none is
+ * answered the placed file is written at the start of out, and nothing past its
+ * length; otherwise nothing is written. out has PILZDAMO_ROOM bytes or more.
+ */
+pilzdamo_placed pilzdamo_place(const uint8_t *file, size_t file_len,
+                               uint8_t *out, size_t out_len);
+
+/*
+ * Runs a clinic file through a list of choices, two words each: a thread and its
+ * partner, 0 where it steps alone. Refusals 17, 1 to 10, and then that of the choice
+ * which halts the run, with its number from 1 as place. out has PILZDAMO_RUN_ROOM
+ * bytes or more.
+ *
+ * Nothing is written for 17 and 1 to 10. Otherwise the state after the last choice
+ * that was done is written at the start of out, and nothing past it, in words with
+ * the low byte first: choices done, the refusal or 0, threads, made channels; for
+ * each made channel its owner and kind; for each thread its user, node, mask, the
+ * number of roles in it, and its eight variables.
+ */
+pilzdamo_verdict pilzdamo_run(const uint8_t *file, size_t file_len,
+                              const uint16_t *choices, size_t words,
+                              uint8_t *out, size_t out_len);
+
+/*
+ * The lowest sender, and the lowest receiver that can meet it, in the state to which
+ * a list of choices leads. The refusals are those of pilzdamo_run.
+ */
+pilzdamo_ready_pair pilzdamo_ready(const uint8_t *file, size_t file_len,
+                                   const uint16_t *choices, size_t words);
+
+/*
+ * Carries out one choice in a list of threads that is lent: PILZDAMO_RECORDS
+ * records, and beside them PILZDAMO_BESIDE words: the number of threads, which are
+ * the first records; that of the made channels; and the owner and kind of each of
+ * these. What stands past these numbers may be anything, and stays.
+ *
+ * Refusals 1 to 10; 18 at place 0 where this is no list of the file's threads; the
+ * choice's own at place 1. Where one is answered nothing is written.
+ */
+pilzdamo_verdict pilzdamo_choose(const uint8_t *file, size_t file_len,
+                                 pilzdamo_thread *threads, size_t records,
+                                 uint16_t *beside, size_t words,
+                                 uint16_t thread, uint16_t partner);
+
+#ifdef __cplusplus
+}
+#endif
+
+#endif

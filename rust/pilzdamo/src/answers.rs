@@ -1,0 +1,200 @@
+//! What the engine answers.
+
+use std::error::Error;
+use std::fmt;
+
+/// A refusal's number and place; 0 and 0 where nothing is refused.
+///
+/// What the place counts goes by the number:
+///
+/// | number | place |
+/// |---|---|
+/// | 1 to 5 | 0: the file as a whole |
+/// | 6 | the first word of the record, from 0 at the start of the file |
+/// | 7 | the session, from 1 |
+/// | 8 to 10 | the node, from 1; where a tree goes past the last node, the number of nodes and 1 |
+/// | 11 to 13 | the node; in a run the choice, from 1 |
+/// | 14 | the node, or 0 for a starting mask |
+/// | 15 | the node |
+/// | 16 | 0: the placed file would have over 1,024 nodes |
+/// | 17 | 0: an output that is too short, or a list of choices that can't be one |
+/// | 18 to 20 | the choice; 18 at 0 for a lent list that is none of the file's |
+///
+/// In [`choose`](crate::choose) the choice has number 1.
+///
+/// A refusal is an error, so that `?` can hand it on:
+///
+/// ```
+/// fn passes(file: &[u8]) -> Result<(), Box<dyn std::error::Error>> {
+///     pilzdamo::check(file).result()?;
+///     Ok(())
+/// }
+/// let file = std::fs::read("../../examples/refused/09-name.clinic")?;
+/// assert_eq!(passes(&file).unwrap_err().to_string(), "refused 9 2");
+/// # Ok::<(), std::io::Error>(())
+/// ```
+#[repr(C)]
+#[must_use]
+#[derive(Clone, Copy, Debug, PartialEq, Eq, Hash)]
+pub struct Verdict {
+    /// The refusal's number, 0 if there is none.
+    pub number: u16,
+    /// Where it stands: a word, a session, a node or a choice, as its number and
+    /// the call say.
+    pub place: u16,
+}
+
+impl Verdict {
+    /// Whether nothing is refused.
+    ///
+    /// ```
+    /// assert!(!pilzdamo::read(b"no clinic file").is_clean());
+    /// ```
+    pub fn is_clean(self) -> bool {
+        self.number == 0
+    }
+
+    /// The refusal as an error, if there is one.
+    ///
+    /// ```
+    /// let refusal = pilzdamo::check(&[]).result().unwrap_err();
+    /// assert_eq!((refusal.number, refusal.place), (1, 0));
+    /// ```
+    pub fn result(self) -> Result<(), Verdict> {
+        if self.is_clean() {
+            Ok(())
+        } else {
+            Err(self)
+        }
+    }
+}
+
+/// `clean`, or `refused N P` with number and place.
+///
+/// ```
+/// assert_eq!(pilzdamo::check(&[]).to_string(), "refused 1 0");
+/// ```
+impl fmt::Display for Verdict {
+    fn fmt(&self, out: &mut fmt::Formatter<'_>) -> fmt::Result {
+        if self.is_clean() {
+            return out.write_str("clean");
+        }
+        write!(out, "refused {} {}", self.number, self.place)
+    }
+}
+
+impl Error for Verdict {}
+
+/// What [`place`](crate::place) answers: a refusal's number and place, or the
+/// length of the placed file and its on steps. The two that don't apply are 0.
+#[repr(C)]
+#[must_use]
+#[derive(Clone, Copy, Debug, PartialEq, Eq, Hash)]
+pub struct Placed {
+    /// The refusal's number, 0 if there is none.
+    pub number: u16,
+    /// Where it stands: a word, a session or a node, as its number says.
+    pub place: u16,
+    /// How many bytes of the output hold the placed file.
+    pub length: u16,
+    /// How many nodes of it put a role on.
+    pub on_steps: u16,
+}
+
+impl Placed {
+    /// Whether the output holds a placed file.
+    ///
+    /// ```
+    /// assert!(!pilzdamo::place(&[], &mut [0; pilzdamo::ROOM]).is_placed());
+    /// ```
+    pub fn is_placed(self) -> bool {
+        self.number == 0
+    }
+
+    /// The refusal's number and place alone.
+    ///
+    /// ```
+    /// let placed = pilzdamo::place(&[], &mut [0; pilzdamo::ROOM]);
+    /// assert_eq!(placed.verdict(), pilzdamo::read(&[]));
+    /// ```
+    pub fn verdict(self) -> Verdict {
+        let Placed { number, place, .. } = self;
+        Verdict { number, place }
+    }
+}
+
+/// `placed in L bytes, on steps: S`, or `refused N P` with number and place.
+///
+/// ```
+/// let mut out = [0; pilzdamo::ROOM];
+/// assert_eq!(pilzdamo::place(&[], &mut out).to_string(), "refused 1 0");
+/// ```
+impl fmt::Display for Placed {
+    fn fmt(&self, out: &mut fmt::Formatter<'_>) -> fmt::Result {
+        if !self.is_placed() {
+            return self.verdict().fmt(out);
+        }
+        let Placed {
+            length, on_steps, ..
+        } = self;
+        write!(out, "placed in {length} bytes, on steps: {on_steps}")
+    }
+}
+
+/// What [`ready`](crate::ready) answers: a refusal's number and place, or the
+/// two threads that can meet. What doesn't apply is 0.
+#[repr(C)]
+#[must_use]
+#[derive(Clone, Copy, Debug, PartialEq, Eq, Hash)]
+pub struct Ready {
+    /// The refusal's number, 0 if there is none.
+    pub number: u16,
+    /// Where it stands: a word, a session, a node or a choice, as its number
+    /// says.
+    pub place: u16,
+    /// The sender's number in the list of threads, 0 if no pair can meet.
+    pub sender: u16,
+    /// The receiver's, 0 if no pair can meet.
+    pub receiver: u16,
+}
+
+impl Ready {
+    /// Sender and receiver, if there is such a pair.
+    ///
+    /// ```
+    /// assert_eq!(pilzdamo::ready(&[], &[]).pair(), None);
+    /// ```
+    pub fn pair(self) -> Option<(u16, u16)> {
+        (self.sender != 0).then_some((self.sender, self.receiver))
+    }
+
+    /// The refusal's number and place alone.
+    ///
+    /// ```
+    /// assert_eq!(pilzdamo::ready(&[], &[]).verdict(), pilzdamo::read(&[]));
+    /// ```
+    pub fn verdict(self) -> Verdict {
+        let Ready { number, place, .. } = self;
+        Verdict { number, place }
+    }
+}
+
+/// `thread S can send to thread R`, `no pair can meet`, or `refused N P` with
+/// number and place.
+///
+/// ```
+/// assert_eq!(pilzdamo::ready(&[], &[]).to_string(), "refused 1 0");
+/// ```
+impl fmt::Display for Ready {
+    fn fmt(&self, out: &mut fmt::Formatter<'_>) -> fmt::Result {
+        if !self.verdict().is_clean() {
+            return self.verdict().fmt(out);
+        }
+        match self.pair() {
+            Some((sender, receiver)) => {
+                write!(out, "thread {sender} can send to thread {receiver}")
+            }
+            None => out.write_str("no pair can meet"),
+        }
+    }
+}

@@ -1,0 +1,240 @@
+//! The engine's functions for Rust.
+
+use crate::raw;
+use crate::{Placed, Ready, Thread, Verdict};
+
+/// The bytes that [`place`] wants of its output: those of the largest file.
+pub const ROOM: usize = 6_874;
+
+/// The bytes that [`run`] wants of its output: those of the largest state.
+pub const RUN_ROOM: usize = 1_800;
+
+/// The records of the list that is lent to [`choose`].
+pub const RECORDS: usize = 64;
+
+/// The words that are lent to [`choose`] beside the list.
+pub const BESIDE: usize = 130;
+
+/// Judges a clinic file by refusals 1 to 10.
+///
+/// Any bytes will do, of any length. Nothing is written and nothing is kept.
+///
+/// ```
+/// let file = std::fs::read("../../examples/booking.clinic")?;
+/// assert!(pilzdamo::read(&file).is_clean());
+///
+/// // Another version is refusal 2.
+/// assert_eq!(pilzdamo::read(&[9; 26]).number, 2);
+/// # Ok::<(), std::io::Error>(())
+/// ```
+#[inline]
+pub fn read(file: &[u8]) -> Verdict {
+    raw::read(file)
+}
+
+/// Judges a clinic file by refusals 1 to 13: by those of [`read`], and then
+/// by the roles that are active at each node.
+///
+/// Any bytes will do, of any length. Nothing is written and nothing is kept.
+///
+/// ```
+/// // What is refused by 1 to 10 is refused alike.
+/// assert_eq!(pilzdamo::check(&[9; 26]), pilzdamo::read(&[9; 26]));
+///
+/// // Role 1 is put on twice and off once, and node 4 then needs it.
+/// let file = std::fs::read("../../examples/refused/13-role.clinic")?;
+/// assert!(pilzdamo::read(&file).is_clean());
+/// assert_eq!(pilzdamo::check(&file).to_string(), "refused 13 4");
+/// # Ok::<(), std::io::Error>(())
+/// ```
+#[inline]
+pub fn check(file: &[u8]) -> Verdict {
+    raw::check(file)
+}
+
+/// Places the roles of a clinic file: by refusal 17, by 1 to 10, and then by
+/// 14 to 16. If none refuses it, the placed file stands at the start of `out`.
+///
+/// Any bytes will do, of any length. `out` must have [`ROOM`] bytes or more,
+/// whatever the file. Where the answer is a refusal nothing of `out` is
+/// written, and otherwise nothing past the answer's length. [`placed`] has an
+/// output of its own.
+///
+/// ```
+/// // Role 1 may send on kind 1, role 2 on kinds 1 and 2; user 1 has both. The
+/// // session sends on a channel of kind 1 and on one of kind 2.
+/// let words = [
+///     1, 2, 2, 2, 2, 1, 3, 13, 15, 23, 25, 29, 32, // version, counts, offsets
+///     3, 0, // users
+///     1, 0, 0, 0, 3, 0, 0, 0, // roles
+///     0, 0, // kinds
+///     2, 1, 2, 2, // channels
+///     1, 0, 1, // session
+///     6, 257, 2, 6, 258, 2, 0, 0, 0u16, // nodes
+/// ];
+/// let file: Vec<u8> = words.into_iter().flat_map(u16::to_le_bytes).collect();
+/// assert_eq!(file, std::fs::read("../../examples/booking.clinic")?);
+/// let mut out = [0; pilzdamo::ROOM];
+/// let placed = pilzdamo::place(&file, &mut out);
+/// assert_eq!(placed.to_string(), "placed in 94 bytes, on steps: 1");
+///
+/// // Role 2 is on from before the first send to behind the second.
+/// let nodes: [u16; 15] = [7, 2, 0, 6, 257, 2, 6, 258, 2, 8, 2, 0, 0, 0, 0];
+/// assert_eq!(out[64..94], nodes.map(u16::to_le_bytes).concat());
+/// assert!(pilzdamo::check(&out[..94]).is_clean());
+/// # Ok::<(), std::io::Error>(())
+/// ```
+#[inline]
+pub fn place(file: &[u8], out: &mut [u8]) -> Placed {
+    raw::place(file, out)
+}
+
+/// [`place`] with an output of its own: the placed file and its on steps.
+///
+/// ```
+/// let file = std::fs::read("../../examples/transfer.clinic")?;
+/// let (placed, on_steps) = pilzdamo::placed(&file)?;
+/// assert_eq!(on_steps, 3);
+///
+/// // What is placed can't be placed again: node 2 puts a role on.
+/// let refusal = pilzdamo::placed(&placed).unwrap_err();
+/// assert_eq!(refusal.to_string(), "refused 14 2");
+/// # Ok::<(), Box<dyn std::error::Error>>(())
+/// ```
+pub fn placed(file: &[u8]) -> Result<(Vec<u8>, u16), Verdict> {
+    let mut out = vec![0; ROOM];
+    let placed = place(file, &mut out);
+    placed.verdict().result()?;
+    out.truncate(placed.length.into());
+    Ok((out, placed.on_steps))
+}
+
+/// Runs a clinic file through a list of choices, two words each: a thread and
+/// its partner, 0 where it steps alone. Refusal 17 comes first, then 1 to 10,
+/// and then the choices up to the first that is refused.
+///
+/// Any bytes and any words will do, of any length. `out` must have [`RUN_ROOM`]
+/// bytes or more. A refusal before the choices leaves it as it was. Otherwise
+/// the state after the last choice that was done stands at its start, also
+/// where a choice is refused; the answer's place is then that choice's number,
+/// from 1. Nothing past the state is written.
+///
+/// The state has these words, low byte first: choices done, the refusal or 0,
+/// the number of threads, that of the channels made; for each of those its owner
+/// and kind; for each thread its user, node, mask of active roles, the number of
+/// these, and its eight variables. [`State::of`](crate::State::of) reads them.
+///
+/// ```
+/// // Role 1 may send on kind 1, role 2 may receive; user 1 has role 1, user 2
+/// // has role 2 and channel 1. Each has a session, in which its role is active.
+/// let words = [
+///     1, 2, 2, 1, 1, 2, 4, 13, 15, 23, 24, 26, 32, // version, counts, offsets
+///     1, 2, // users
+///     1, 0, 0, 0, 0, 0, 1, 0, // roles
+///     0, // kinds
+///     2, 1, // channels
+///     1, 1, 1, 2, 2, 3, // sessions
+///     6, 257, 1, 0, 0, 0, 5, 257, 0, 0, 0, 0u16, // nodes
+/// ];
+/// let file: Vec<u8> = words.into_iter().flat_map(u16::to_le_bytes).collect();
+/// let mut out = [0; pilzdamo::RUN_ROOM];
+///
+/// // Thread 1 sends to thread 2 and ends. The other is then thread 1.
+/// assert!(pilzdamo::run(&file, &[1, 2, 1, 0], &mut out).is_clean());
+/// let state: [u16; 16] = [2, 0, 1, 0, 2, 4, 2, 1, 1, 0, 0, 0, 0, 0, 0, 0];
+/// assert_eq!(out[..32], state.map(u16::to_le_bytes).concat());
+///
+/// // There is no thread 3: the run halts at its second choice.
+/// let verdict = pilzdamo::run(&file, &[1, 2, 3, 0], &mut out);
+/// assert_eq!(verdict.to_string(), "refused 18 2");
+/// assert_eq!(out[..8], [1, 0, 18, 0, 2, 0, 0, 0]);
+/// ```
+#[inline]
+pub fn run(file: &[u8], choices: &[u16], out: &mut [u8]) -> Verdict {
+    raw::run(file, choices, out)
+}
+
+/// The ready pair of the state to which a list of choices leads, by the
+/// refusals of [`run`]: the lowest sender, then the lowest receiver that can
+/// meet it.
+///
+/// Any bytes and any words will do, of any length. As there is no output, 17
+/// comes for the list alone: an odd number of words, or over 65,535 choices.
+/// Nothing is written and nothing is kept.
+///
+/// ```
+/// # let words = [
+/// #     1, 2, 2, 1, 1, 2, 4, 13, 15, 23, 24, 26, 32, 1, 2, 1, 0, 0, 0, 0, 0, 1, 0, 0, 2, 1,
+/// #     1, 1, 1, 2, 2, 3, 6, 257, 1, 0, 0, 0, 5, 257, 0, 0, 0, 0u16,
+/// # ];
+/// # let file: Vec<u8> = words.into_iter().flat_map(u16::to_le_bytes).collect();
+/// // The file of `run`'s example.
+/// let ready = |choices: &[u16]| pilzdamo::ready(&file, choices);
+/// assert_eq!(ready(&[]).pair(), Some((1, 2)));
+/// assert_eq!(ready(&[1, 2]).to_string(), "no pair can meet");
+/// assert_eq!(ready(&[1, 2, 3, 0]).to_string(), "refused 18 2");
+/// ```
+#[inline]
+pub fn ready(file: &[u8], choices: &[u16]) -> Ready {
+    raw::ready(file, choices)
+}
+
+/// Carries out one choice in a list of threads that is lent: thread `thread`
+/// steps, alone if `partner` is 0. From a state of a [`run`] it gives the run's
+/// next state. A [`Desk`](crate::Desk) keeps such a list.
+///
+/// `threads` must have [`RECORDS`] records, and `beside` [`BESIDE`] words: the
+/// number of threads, which are the first records, that of the made channels, and
+/// the owner and kind of each made channel. What stands past these numbers may be
+/// anything.
+///
+/// Refusals 1 to 10 come first, then 18 at place 0 for anything wrong with what
+/// is lent, and then the refusal of the choice itself, at place 1. Any bytes and
+/// any words will do, of any length. A choice that is refused leaves everything
+/// as it was. One that is done changes what it must and nothing else; where a
+/// thread ends, the last of the old list stays behind the new one.
+///
+/// ```
+/// # let words = [
+/// #     1, 2, 2, 1, 1, 2, 4, 13, 15, 23, 24, 26, 32, 1, 2, 1, 0, 0, 0, 0, 0, 1, 0, 0, 2, 1,
+/// #     1, 1, 1, 2, 2, 3, 6, 257, 1, 0, 0, 0, 5, 257, 0, 0, 0, 0u16,
+/// # ];
+/// # let file: Vec<u8> = words.into_iter().flat_map(u16::to_le_bytes).collect();
+/// use pilzdamo::{choose, Thread, BESIDE, RECORDS};
+///
+/// // The file of `run`'s example, with a thread at the start of each session.
+/// let mut threads = [Thread::default(); RECORDS];
+/// threads[0] = Thread { user: 1, node: 1, mask: 1, ..Thread::default() };
+/// threads[1] = Thread { user: 2, node: 3, mask: 2, ..Thread::default() };
+/// let mut beside = [0; BESIDE];
+/// beside[0] = 2;
+///
+/// // Thread 1 sends to thread 2.
+/// assert!(choose(&file, &mut threads, &mut beside, 1, 2).is_clean());
+/// assert_eq!(threads[0].node, 2);
+/// assert_eq!((threads[1].node, threads[1].vars[0]), (4, 1));
+///
+/// // It ends. The other is then thread 1, and its old record stays.
+/// let last = threads[1];
+/// assert!(choose(&file, &mut threads, &mut beside, 1, 0).is_clean());
+/// assert_eq!((beside[0], threads[0], threads[1]), (1, last, last));
+///
+/// // There is no thread 2 now.
+/// let verdict = choose(&file, &mut threads, &mut beside, 2, 0);
+/// assert_eq!(verdict.to_string(), "refused 18 1");
+///
+/// // User 2 has no role 1.
+/// threads[0].mask = 1;
+/// let verdict = choose(&file, &mut threads, &mut beside, 1, 0);
+/// assert_eq!(verdict.to_string(), "refused 18 0");
+/// ```
+#[inline]
+pub fn choose(
+    file: &[u8],
+    threads: &mut [Thread],
+    beside: &mut [u16],
+    thread: u16,
+    partner: u16,
+) -> Verdict {
+    raw::choose(file, threads, beside, thread, partner)
+}

@@ -1,0 +1,115 @@
+//! The engine's functions, and a safe call to each. No other module has unsafe
+//! code.
+//!
+//! Of every function it is proved that, during the call, it reads only what the
+//! pointers and lengths name, writes only what is lent by a pointer to `mut`, and
+//! ends; it keeps no pointer.
+
+use crate::{Placed, Ready, Thread, Verdict};
+
+extern "C" {
+    fn pilzdamo_read(file: *const u8, len: usize) -> Verdict;
+    fn pilzdamo_check(file: *const u8, len: usize) -> Verdict;
+    fn pilzdamo_place(file: *const u8, len: usize, out: *mut u8, out_len: usize) -> Placed;
+    fn pilzdamo_run(
+        file: *const u8,
+        len: usize,
+        choices: *const u16,
+        words: usize,
+        out: *mut u8,
+        out_len: usize,
+    ) -> Verdict;
+    fn pilzdamo_ready(file: *const u8, len: usize, choices: *const u16, words: usize) -> Ready;
+    fn pilzdamo_choose(
+        file: *const u8,
+        len: usize,
+        threads: *mut Thread,
+        records: usize,
+        beside: *mut u16,
+        words: usize,
+        thread: u16,
+        partner: u16,
+    ) -> Verdict;
+}
+
+// Words and nothing between them: what is answered, and a record that is lent.
+const _: () = {
+    assert!(size_of::<Verdict>() == 2 * 2);
+    assert!(size_of::<Placed>() == 2 * 4);
+    assert!(size_of::<Ready>() == 2 * 4);
+    assert!(size_of::<Thread>() == 2 * 11);
+};
+
+#[inline]
+pub fn read(file: &[u8]) -> Verdict {
+    // SAFETY: the engine only reads the `len` bytes from `file` on, during the
+    // call; a slice vouches for them, also where there are none.
+    unsafe { pilzdamo_read(file.as_ptr(), file.len()) }
+}
+
+#[inline]
+pub fn check(file: &[u8]) -> Verdict {
+    // SAFETY: as in `read`.
+    unsafe { pilzdamo_check(file.as_ptr(), file.len()) }
+}
+
+#[inline]
+pub fn place(file: &[u8], out: &mut [u8]) -> Placed {
+    // SAFETY: the engine only reads the `len` bytes from `file` on, and only
+    // reads and writes the `out_len` bytes from `out` on, during the call. The
+    // slices vouch for them, and that no byte is in both.
+    unsafe { pilzdamo_place(file.as_ptr(), file.len(), out.as_mut_ptr(), out.len()) }
+}
+
+#[inline]
+pub fn run(file: &[u8], choices: &[u16], out: &mut [u8]) -> Verdict {
+    // SAFETY: the engine only reads the `len` bytes from `file` on and the
+    // `words` words from `choices` on, and only reads and writes the `out_len`
+    // bytes from `out` on, during the call. The slices vouch for them, and that
+    // nothing of `out` is in the other two.
+    unsafe {
+        pilzdamo_run(
+            file.as_ptr(),
+            file.len(),
+            choices.as_ptr(),
+            choices.len(),
+            out.as_mut_ptr(),
+            out.len(),
+        )
+    }
+}
+
+#[inline]
+pub fn ready(file: &[u8], choices: &[u16]) -> Ready {
+    // SAFETY: the engine only reads the `len` bytes from `file` on and the
+    // `words` words from `choices` on, during the call; the slices vouch for
+    // them.
+    unsafe { pilzdamo_ready(file.as_ptr(), file.len(), choices.as_ptr(), choices.len()) }
+}
+
+#[inline]
+pub fn choose(
+    file: &[u8],
+    threads: &mut [Thread],
+    beside: &mut [u16],
+    thread: u16,
+    partner: u16,
+) -> Verdict {
+    // SAFETY: the engine only reads the `len` bytes from `file` on, and only
+    // reads and writes the `records` records from `threads` on and the `words`
+    // words from `beside` on, during the call. The slices vouch for them, and that
+    // no two of the three have a byte in common. A record has no padding, and any
+    // words in it make a thread.
+    unsafe {
+        pilzdamo_choose(
+            file.as_ptr(),
+            file.len(),
+            threads.as_mut_ptr(),
+            threads.len(),
+            beside.as_mut_ptr(),
+            beside.len(),
+            thread,
+            partner,
+        )
+    }
+}

@@ -1,0 +1,159 @@
+/* Calls each of the engine's functions and prints what it answers. The argument
+ * is the folder of the example files. */
+#include "pilzdamo.h"
+
+#include <stdio.h>
+#include <stdlib.h>
+#include <string.h>
+
+/* A file of the examples, and its length. */
+typedef struct {
+    uint8_t bytes[PILZDAMO_ROOM];
+    size_t len;
+} clinic;
+
+static clinic example(const char *folder, const char *name) {
+    clinic file;
+    char path[4096];
+    FILE *stream;
+    snprintf(path, sizeof path, "%s/%s", folder, name);
+    stream = fopen(path, "rb");
+    if (stream == NULL) {
+        perror(path);
+        exit(1);
+    }
+    file.len = fread(file.bytes, 1, sizeof file.bytes, stream);
+    fclose(stream);
+    return file;
+}
+
+static void print(const char *call, pilzdamo_verdict verdict) {
+    if (verdict.number == 0) {
+        printf("%s: clean\n", call);
+    } else {
+        printf("%s: refused %d %d\n", call, verdict.number, verdict.place);
+    }
+}
+
+/* Word `at` of a file or a state. */
+static uint16_t word_at(const uint8_t *bytes, size_t at) {
+    return (uint16_t)(bytes[2 * at] | bytes[2 * at + 1] << 8);
+}
+
+static void print_placed(const char *call, pilzdamo_placed placed) {
+    printf("%s: refusal %d %d, %d bytes, on steps: %d\n", call, placed.number,
+           placed.place, placed.length, placed.on_steps);
+}
+
+/* The booking is placed, and can't be placed again. The bytes past it stay. */
+static void booking(const char *folder) {
+    clinic file = example(folder, "booking.clinic");
+    uint8_t out[PILZDAMO_ROOM], other[PILZDAMO_ROOM];
+    pilzdamo_placed placed;
+    size_t at;
+    memset(out, 0xab, sizeof out);
+    print("read the booking", pilzdamo_read(file.bytes, file.len));
+    print("check it", pilzdamo_check(file.bytes, file.len));
+    placed = pilzdamo_place(file.bytes, file.len, out, sizeof out);
+    print_placed("place it", placed);
+    printf("its nodes:");
+    for (at = 32; 2 * at < placed.length; at++) {
+        printf(" %d", word_at(out, at));
+    }
+    printf("\nbehind it: %x\n", out[placed.length]);
+    print("check what is placed", pilzdamo_check(out, placed.length));
+    print_placed("place it again",
+                 pilzdamo_place(out, placed.length, other, sizeof other));
+    print_placed("place it in less",
+                 pilzdamo_place(file.bytes, file.len, other, sizeof other - 1));
+}
+
+/* What a run wrote. */
+static void print_state(const uint8_t *state) {
+    size_t made = word_at(state, 3), i;
+    printf("choices done: %d, refusal: %d\n", word_at(state, 0), word_at(state, 1));
+    for (i = 0; i < word_at(state, 2); i++) {
+        size_t at = 4 + 2 * made + 12 * i;
+        printf("thread %d: user %d, node %d, mask %d, roles %d, first variable %d\n",
+               (int)i + 1, word_at(state, at), word_at(state, at + 1),
+               word_at(state, at + 2), word_at(state, at + 3), word_at(state, at + 4));
+    }
+}
+
+/* Both schedulers read bed 4, in a run and choice by choice. */
+static void both_read(const char *folder) {
+    static const uint16_t choices[] = {3, 0, 4, 0, 5, 0, 6, 0, 3, 4, 1, 0,
+                                       4, 1, 1, 0, 4, 5, 2, 0, 5, 2, 2, 0};
+    const size_t words = sizeof choices / sizeof *choices;
+    static pilzdamo_thread threads[PILZDAMO_RECORDS];
+    static uint16_t beside[PILZDAMO_BESIDE];
+    uint8_t out[PILZDAMO_RUN_ROOM], start[PILZDAMO_RUN_ROOM];
+    clinic cut = example(folder, "spring/cut.clinic");
+    pilzdamo_ready_pair pair;
+    size_t i, j;
+
+    print("run", pilzdamo_run(cut.bytes, cut.len, choices, words, out, sizeof out));
+    print_state(out);
+    pair = pilzdamo_ready(cut.bytes, cut.len, choices, 8);
+    printf("ready after 4 choices: refusal %d %d, %d sends to %d\n", pair.number,
+           pair.place, pair.sender, pair.receiver);
+
+    /* The start is what a run without choices writes. */
+    print("start", pilzdamo_run(cut.bytes, cut.len, choices, 0, start, sizeof start));
+    beside[0] = word_at(start, 2);
+    for (i = 0; i < beside[0]; i++) {
+        threads[i].user = word_at(start, 4 + 12 * i);
+        threads[i].node = word_at(start, 4 + 12 * i + 1);
+        threads[i].mask = word_at(start, 4 + 12 * i + 2);
+        for (j = 0; j < 8; j++) {
+            threads[i].vars[j] = word_at(start, 4 + 12 * i + 4 + j);
+        }
+    }
+    for (i = 0; i < words; i += 2) {
+        pilzdamo_verdict verdict =
+            pilzdamo_choose(cut.bytes, cut.len, threads, PILZDAMO_RECORDS, beside,
+                            PILZDAMO_BESIDE, choices[i], choices[i + 1]);
+        if (verdict.number != 0) {
+            print("choose", verdict);
+        }
+    }
+    printf("chosen: %d threads, nodes %d and %d, first variables %d and %d\n", beside[0],
+           threads[0].node, threads[1].node, threads[0].vars[0], threads[1].vars[0]);
+    print("choose no thread",
+          pilzdamo_choose(cut.bytes, cut.len, threads, PILZDAMO_RECORDS, beside,
+                          PILZDAMO_BESIDE, 7, 0));
+    print("lend too little",
+          pilzdamo_choose(cut.bytes, cut.len, threads, PILZDAMO_RECORDS - 1, beside,
+                          PILZDAMO_BESIDE, 1, 0));
+}
+
+/* Refusals with their places. */
+static void refusals(const char *folder) {
+    static const uint16_t odd[] = {2, 0, 2}, unequal[] = {2, 0, 1, 0};
+    uint8_t out[PILZDAMO_RUN_ROOM], any = 0;
+    clinic file = example(folder, "refused/06-record.clinic");
+    print("record", pilzdamo_read(file.bytes, file.len));
+    file = example(folder, "refused/13-role.clinic");
+    print("role", pilzdamo_check(file.bytes, file.len));
+    print("no bytes", pilzdamo_check(&any, 0));
+    file = example(folder, "refused/choices.clinic");
+    print("odd", pilzdamo_run(file.bytes, file.len, odd, 3, out, sizeof out));
+    print("unequal", pilzdamo_run(file.bytes, file.len, unequal, 4, out, sizeof out));
+    print_state(out);
+}
+
+int main(int argc, char **argv) {
+    if (argc != 2) {
+        fprintf(stderr, "the folder of the examples is wanted\n");
+        return 2;
+    }
+    printf("sizes: %d %d %d %d\n", (int)sizeof(pilzdamo_verdict),
+           (int)sizeof(pilzdamo_placed), (int)sizeof(pilzdamo_ready_pair),
+           (int)sizeof(pilzdamo_thread));
+    printf("rooms: %d %d %d %d\n", PILZDAMO_ROOM, PILZDAMO_RUN_ROOM, PILZDAMO_RECORDS,
+           PILZDAMO_BESIDE);
+    booking(argv[1]);
+    both_read(argv[1]);
+    refusals(argv[1]);
+    return 0;
+}

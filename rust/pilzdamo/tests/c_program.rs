@@ -1,0 +1,76 @@
+//! The header, tried by a C program: what it prints.
+
+use pilzdamo::{Placed, Ready, Thread, Verdict, BESIDE, RECORDS, ROOM, RUN_ROOM};
+use std::process::{Command, Output};
+
+const FOLDER: &str = env!("CARGO_MANIFEST_DIR");
+const PROGRAM: &str = concat!(env!("CARGO_TARGET_TMPDIR"), "/desk");
+
+/// What the program prints after sizes and rooms.
+const PRINTED: &str = "\
+read the booking: clean
+check it: refused 13 1
+place it: refusal 0 0, 94 bytes, on steps: 1
+its nodes: 7 2 0 6 257 2 6 258 2 8 2 0 0 0 0
+behind it: ab
+check what is placed: clean
+place it again: refusal 14 1, 0 bytes, on steps: 0
+place it in less: refusal 17 0, 0 bytes, on steps: 0
+run: clean
+choices done: 12, refusal: 0
+thread 1: user 1, node 4, mask 0, roles 0, first variable 4
+thread 2: user 2, node 11, mask 0, roles 0, first variable 4
+thread 3: user 3, node 17, mask 4, roles 1, first variable 0
+thread 4: user 3, node 23, mask 4, roles 1, first variable 4
+thread 5: user 3, node 28, mask 4, roles 1, first variable 4
+thread 6: user 3, node 32, mask 4, roles 1, first variable 0
+ready after 4 choices: refusal 0 0, 3 sends to 4
+start: clean
+chosen: 6 threads, nodes 4 and 11, first variables 4 and 4
+choose no thread: refused 18 1
+lend too little: refused 18 0
+record: refused 6 27
+role: refused 13 4
+no bytes: refused 1 0
+odd: refused 17 0
+unequal: refused 19 2
+choices done: 1, refusal: 19
+thread 1: user 1, node 1, mask 0, roles 0, first variable 0
+thread 2: user 1, node 3, mask 0, roles 0, first variable 0
+thread 3: user 1, node 4, mask 0, roles 0, first variable 0
+";
+
+/// Runs a command that must succeed.
+fn succeed(command: &mut Command) -> Output {
+    let output = command.output().expect("it starts");
+    let said = String::from_utf8_lossy(&output.stderr);
+    assert!(output.status.success(), "{command:?}: {said}");
+    output
+}
+
+#[test]
+fn a_c_program_calls_the_engine() {
+    succeed(
+        Command::new("cc")
+            .current_dir(FOLDER)
+            .args(["-std=c99", "-Wall", "-Wextra", "-Werror", "-pedantic"])
+            .args(["-I.", "tests/c/desk.c", env!("PILZDAMO_ARCHIVE")])
+            .args(["-o", PROGRAM]),
+    );
+    let examples = format!("{FOLDER}/../../examples");
+    let output = succeed(Command::new(PROGRAM).arg(examples));
+    let sizes = [
+        size_of::<Verdict>(),
+        size_of::<Placed>(),
+        size_of::<Ready>(),
+        size_of::<Thread>(),
+    ];
+    let line = |name: &str, numbers: [usize; 4]| {
+        let [one, two, three, four] = numbers;
+        format!("{name}: {one} {two} {three} {four}\n")
+    };
+    let sizes = line("sizes", sizes);
+    let rooms = line("rooms", [ROOM, RUN_ROOM, RECORDS, BESIDE]);
+    let printed = String::from_utf8_lossy(&output.stdout);
+    assert_eq!(printed, sizes + &rooms + PRINTED);
+}

@@ -1,0 +1,121 @@
+//! A desk that goes on choice by choice is in the states of the run.
+
+use pilzdamo::{Channel, Desk, State, Thread, RUN_ROOM};
+use std::fs;
+
+fn example(name: &str) -> Vec<u8> {
+    let path = format!("{}/../../examples/{name}", env!("CARGO_MANIFEST_DIR"));
+    fs::read(path).expect("an example")
+}
+
+/// The numbers of a list of choices in text.
+fn choices(name: &str) -> Vec<u16> {
+    let text = String::from_utf8(example(name)).expect("text");
+    let lines = text.lines().flat_map(|line| line.split('#').next());
+    let words = lines.flat_map(str::split_whitespace);
+    words.map(|word| word.parse().expect("a number")).collect()
+}
+
+fn placed(name: &str) -> Vec<u8> {
+    let (file, _) = pilzdamo::placed(&example(name)).expect("it can be placed");
+    file
+}
+
+fn state(file: &[u8], choices: &[u16]) -> State {
+    let mut out = [0; RUN_ROOM];
+    let _ = pilzdamo::run(file, choices, &mut out);
+    State::of(&out).expect("a state")
+}
+
+/// What is compared of a desk and a state.
+fn held(desk: &Desk) -> (Vec<Thread>, Vec<Channel>) {
+    (desk.threads().to_vec(), desk.made().collect())
+}
+
+/// Goes through the list up to the choice that is refused, if there is one, and
+/// gives its refusal and place.
+fn go_through(file: &[u8], choices: &[u16]) -> Option<(u16, usize)> {
+    let mut desk = Desk::start(file).expect("a file to run");
+    for (done, &[thread, partner]) in choices.as_chunks().0.iter().enumerate() {
+        let before = state(file, &choices[..2 * done]);
+        assert_eq!(held(&desk), (before.threads, before.made));
+        if let Err(refusal) = desk.choose(file, thread, partner) {
+            let halted = state(file, choices);
+            assert_eq!(
+                (usize::from(halted.done), halted.refusal),
+                (done, refusal.number)
+            );
+            assert_eq!(held(&desk), (halted.threads, halted.made));
+            let whole = Desk::after(file, choices).expect_err("it halts");
+            assert_eq!(usize::from(whole.place), done + 1);
+            return Some((refusal.number, done + 1));
+        }
+    }
+    let whole = Desk::after(file, choices).expect("all are done");
+    assert_eq!(held(&desk), held(&whole));
+    None
+}
+
+#[test]
+fn the_examples_choice_by_choice() {
+    let cut = example("spring/cut.clinic");
+    let bare = placed("spring/bare.clinic");
+    for (file, list) in [
+        (&placed("transfer.clinic"), "transfer.choices"),
+        (&cut, "spring/cut-both-read.choices"),
+        (&cut, "spring/cut-both-write.choices"),
+        (&cut, "spring/cut-one-by-one.choices"),
+        (&bare, "spring/placed-both-read.choices"),
+        (&bare, "spring/placed-one-by-one.choices"),
+    ] {
+        assert_eq!(go_through(file, &choices(list)), None, "{list}");
+    }
+}
+
+#[test]
+fn the_refused_examples_choice_by_choice() {
+    let file = example("refused/choices.clinic");
+    for (list, halt) in [
+        ("refused/18-thread.choices", (18, 1)),
+        ("refused/19-unequal.choices", (19, 2)),
+        ("refused/20-thread.choices", (20, 63)),
+    ] {
+        assert_eq!(go_through(&file, &choices(list)), Some(halt), "{list}");
+    }
+}
+
+#[test]
+fn made_channels() {
+    let file = placed("transfer.clinic");
+    let desk = Desk::after(&file, &choices("transfer.choices")).expect("all are done");
+    let made: Vec<_> = desk.made().map(|made| (made.owner, made.kind)).collect();
+    assert_eq!(made, [(1, 2), (2, 2)]);
+    assert_eq!(desk.made().len(), 2);
+}
+
+/// 17 and 1 to 10 come before there is a desk.
+#[test]
+fn no_desk() {
+    let refused = |file: &[u8], choices: &[u16]| {
+        let refusal = Desk::after(file, choices).expect_err("no desk");
+        (refusal.number, refusal.place)
+    };
+    let file = example("refused/choices.clinic");
+    assert_eq!(refused(&file, &choices("refused/17-odd.choices")), (17, 0));
+    assert_eq!(refused(&example("refused/08-tree.clinic"), &[]), (8, 1));
+    assert_eq!(refused(&[], &[]), (1, 0));
+}
+
+#[test]
+fn no_state() {
+    let file = placed("transfer.clinic");
+    let mut out = [0; RUN_ROOM];
+    assert!(pilzdamo::run(&file, &choices("transfer.choices"), &mut out).is_clean());
+    // Six threads and two made channels.
+    let length = 2 * (4 + 2 * 2 + 12 * 6);
+    assert_eq!(State::of(&out[..length]), State::of(&out));
+    for short in 0..length {
+        assert_eq!(State::of(&out[..short]), None, "{short} bytes");
+    }
+    assert!(State::of(&[0; 8]).is_some_and(|state| state.threads.is_empty()));
+}

@@ -1,0 +1,179 @@
+//! What is timed: a question to both, with its input.
+
+use crate::timing::{Samples, Times, ROUNDS};
+use second::{Ready, Verdict, ROOM, RUN_ROOM};
+use std::hint::black_box;
+use trials::{Dealt, Lent, Lists};
+
+/// A question and what it is asked of.
+#[derive(Clone)]
+pub enum Input {
+    Read(Vec<u8>),
+    Check(Vec<u8>),
+    Place {
+        file: Vec<u8>,
+        /// What it is refused with, 0 if it is placed.
+        number: u16,
+    },
+    /// A run to the end of its list.
+    Run {
+        file: Vec<u8>,
+        choices: Vec<u16>,
+    },
+    /// A ready pair that isn't there.
+    Ready {
+        file: Vec<u8>,
+        choices: Vec<u16>,
+    },
+    /// A send that is done.
+    Choose(Lent),
+}
+
+/// A row of a table.
+pub struct Case {
+    pub name: String,
+    pub input: Input,
+    /// The calls of a sample.
+    pub calls: u32,
+}
+
+impl Case {
+    pub fn new(name: impl Into<String>, input: Input, calls: u32) -> Case {
+        let name = name.into();
+        Case { name, input, calls }
+    }
+
+    pub fn file(&self) -> &[u8] {
+        match &self.input {
+            Input::Read(file) | Input::Check(file) => file,
+            Input::Place { file, .. } | Input::Run { file, .. } => file,
+            Input::Ready { file, .. } | Input::Choose(Lent { file, .. }) => file,
+        }
+    }
+
+    /// Both answer the same, and what is due. Gives the bytes that are written.
+    pub fn agree(&self) -> Vec<u8> {
+        let name = &self.name;
+        match &self.input {
+            Input::Read(file) | Input::Check(file) => {
+                assert_eq!(trials::agreed(file, name), (0, 0));
+                Vec::new()
+            }
+            Input::Place { file, number } => {
+                let (placed, mut out) = trials::agreed_placing(file, &[0; ROOM], name);
+                assert_eq!(placed.number, *number, "{name}");
+                out.truncate(placed.length.into());
+                out
+            }
+            Input::Run { file, choices } => {
+                let dealt = Dealt {
+                    file: file.clone(),
+                    choices: choices.clone(),
+                    before: vec![0; RUN_ROOM],
+                };
+                let (verdict, out) = trials::agreed_run(&dealt, name);
+                assert_eq!(verdict, Verdict::CLEAN, "{name}");
+                out
+            }
+            Input::Ready { file, choices } => {
+                let none = Ready::pair(0, 0);
+                assert_eq!(trials::engine_ready(file, choices), none, "{name}");
+                assert_eq!(second::ready(file, choices), none, "{name}");
+                Vec::new()
+            }
+            Input::Choose(Lent {
+                file,
+                lists,
+                choice,
+            }) => {
+                let (verdict, _) = trials::agreed_choice(file, lists, *choice, name);
+                assert_eq!(verdict, Verdict::CLEAN, "{name}");
+                Vec::new()
+            }
+        }
+    }
+
+    /// Times both for a round.
+    pub fn time(&self, samples: &mut Samples) {
+        match &self.input {
+            Input::Read(file) => samples.take(
+                self.calls,
+                || pilzdamo::read(black_box(file)),
+                || second::read_names(black_box(file)),
+            ),
+            Input::Check(file) => samples.take(
+                self.calls,
+                || pilzdamo::check(black_box(file)),
+                || second::check(black_box(file)),
+            ),
+            Input::Place { file, .. } => {
+                let (mut out, mut of_second) = (vec![0; ROOM], vec![0; ROOM]);
+                samples.take(
+                    self.calls,
+                    || pilzdamo::place(black_box(file), black_box(&mut out)),
+                    || second::place(black_box(file), black_box(&mut of_second)),
+                );
+            }
+            Input::Run { file, choices } => {
+                let input = || (black_box(&file[..]), black_box(&choices[..]));
+                let (mut out, mut of_second) = (vec![0; RUN_ROOM], vec![0; RUN_ROOM]);
+                let engine = || {
+                    let (file, choices) = input();
+                    pilzdamo::run(file, choices, black_box(&mut out))
+                };
+                let second = || {
+                    let (file, choices) = input();
+                    second::run(file, choices, black_box(&mut of_second))
+                };
+                samples.take(self.calls, engine, second);
+            }
+            Input::Ready { file, choices } => samples.take(
+                self.calls,
+                || pilzdamo::ready(black_box(file), black_box(choices)),
+                || second::ready(black_box(file), black_box(choices)),
+            ),
+            Input::Choose(lent) => choose(lent, self.calls, samples),
+        }
+    }
+}
+
+/// Before each call the two threads that the send moves are put back; nothing
+/// else is changed by it.
+fn choose(lent: &Lent, calls: u32, samples: &mut Samples) {
+    let Lent {
+        file,
+        lists,
+        choice,
+    } = lent;
+    let [thread, partner] = *choice;
+    let moved = choice.map(|number| usize::from(number) - 1);
+    let records: Vec<_> = lists.threads.iter().map(trials::to_engine).collect();
+    let (mut threads, mut beside) = (records.clone(), lists.beside.clone());
+    let engine = || {
+        for at in moved {
+            threads[at] = records[at];
+        }
+        let (threads, beside) = (black_box(&mut threads), black_box(&mut beside));
+        pilzdamo::choose(black_box(file), threads, beside, thread, partner)
+    };
+    let mut of_second = lists.clone();
+    let second = || {
+        for at in moved {
+            of_second.threads[at] = lists.threads[at];
+        }
+        let Lists { threads, beside } = black_box(&mut of_second);
+        second::choose(black_box(file), threads, beside, thread, partner)
+    };
+    samples.take(calls, engine, second);
+}
+
+/// Times all cases, round by round.
+pub fn time_all(cases: &[&Case]) -> Vec<Times> {
+    let mut all: Vec<_> = cases.iter().map(|_| Samples::default()).collect();
+    for _ in 0..ROUNDS {
+        for (case, samples) in cases.iter().zip(&mut all) {
+            case.time(samples);
+        }
+    }
+    all.into_iter().map(Samples::times).collect()
+}

@@ -1,0 +1,123 @@
+//! The inputs of the main table.
+
+use crate::case::{Case, Input};
+use second::cases::run_cases;
+use trials::Lent;
+
+type Run = (Vec<u8>, Vec<u16>);
+
+/// Files and lists, the largest there are and typical ones of 40 nodes.
+pub struct Inputs {
+    pub largest: Vec<u8>,
+    pub typical: Vec<u8>,
+    /// To be placed: a chain, and 32 sessions with forks, both with a result of
+    /// 1,024 nodes.
+    pub largest_bare: Vec<u8>,
+    pub full_bare: Vec<u8>,
+    /// Of 1,024 nodes itself, so that it is refused.
+    pub overfull_bare: Vec<u8>,
+    pub typical_bare: Vec<u8>,
+    pub largest_run: Run,
+    pub typical_run: Run,
+    pub short_run: Run,
+    pub crowded: Run,
+    pub largest_lent: Lent,
+    pub typical_lent: Lent,
+}
+
+impl Inputs {
+    pub fn new(seed: u64) -> Inputs {
+        Inputs {
+            largest: trials::largest(seed),
+            typical: trials::typical(seed),
+            largest_bare: trials::largest_bare(seed),
+            full_bare: trials::full_bare(seed),
+            overfull_bare: trials::overfull_bare(seed),
+            typical_bare: trials::typical_bare(seed),
+            largest_run: trials::largest_run(seed),
+            typical_run: trials::typical_run(seed),
+            short_run: short_run(),
+            crowded: trials::crowded(),
+            largest_lent: trials::full_lent(seed),
+            typical_lent: trials::typical_lent(seed),
+        }
+    }
+
+    /// The rows.
+    pub fn cases(&self) -> Vec<Case> {
+        let read = |file: &Vec<u8>| Input::Read(file.clone());
+        let check = |file: &Vec<u8>| Input::Check(file.clone());
+        let place = |file: &Vec<u8>, number| {
+            let file = file.clone();
+            Input::Place { file, number }
+        };
+        let run = |(file, choices): &Run| {
+            let (file, choices) = (file.clone(), choices.clone());
+            Input::Run { file, choices }
+        };
+        let (file, choices) = self.crowded.clone();
+        let ready = Input::Ready { file, choices };
+        let choose = |lent: &Lent| Input::Choose(lent.clone());
+        vec![
+            Case::new("read largest", read(&self.largest), 50),
+            Case::new("read typical", read(&self.typical), 300),
+            Case::new("check largest", check(&self.largest), 50),
+            Case::new("check typical", check(&self.typical), 300),
+            Case::new("place largest", place(&self.largest_bare, 0), 50),
+            Case::new("place full", place(&self.full_bare, 0), 50),
+            Case::new("place overfull", place(&self.overfull_bare, 16), 50),
+            Case::new("place typical", place(&self.typical_bare, 0), 300),
+            Case::new("run largest", run(&self.largest_run), 1),
+            Case::new("run typical", run(&self.typical_run), 300),
+            Case::new("run short", run(&self.short_run), 300),
+            Case::new("choose largest", choose(&self.largest_lent), 50),
+            Case::new("choose typical", choose(&self.typical_lent), 300),
+            Case::new("ready crowded", ready, 100),
+        ]
+    }
+
+    /// What the rows are, in words.
+    pub fn words(&self) -> String {
+        let run = |(file, choices): &Run| {
+            let sends = trials::sends_in(file, choices);
+            format!("{} choices, {sends} of them sends", choices.len() / 2)
+        };
+        let lent = |lent: &Lent| {
+            let [threads, made] = [0, 1].map(|at| lent.lists.beside[at]);
+            let bound = bound(lent);
+            format!("{threads} threads with {bound} variables bound, {made} made channels")
+        };
+        format!(
+            "Largest: 1,024 nodes, all counts at their largest. Typical: 40 nodes, 4 roles.\n\
+             Read: refusals 1 to 10. Check: 1 to 13.\n\
+             Place: largest is a chain of 1,022 nodes with 16 roles, placed in 1,024 with an on step;\n\
+             full has 32 sessions with forks, placed in 1,024; overfull has 1,024, and gets 16.\n\
+             Run: largest has {};\n\
+             typical has {}; short, the booking of two desks,\n\
+             has {}.\n\
+             Choose, a send in a lent list: largest has {};\n\
+             typical has {}.\n\
+             Ready, crowded: 32 choices, then 64 threads of which no two can meet.\n",
+            run(&self.largest_run),
+            run(&self.typical_run),
+            run(&self.short_run),
+            lent(&self.largest_lent),
+            lent(&self.typical_lent),
+        )
+    }
+}
+
+/// The booking of two desks, placed, and the choices that take it to its end.
+fn short_run() -> Run {
+    let mut cases = run_cases().into_iter();
+    let case = cases.find(|case| case.name == "the booking to its end");
+    let case = case.expect("a case of that name");
+    (case.file, case.choices)
+}
+
+/// How many variables of the threads that count are bound.
+fn bound(lent: &Lent) -> usize {
+    let counted = &lent.lists.threads[..lent.lists.beside[0].into()];
+    let values = counted.iter().flat_map(|thread| thread.variables);
+    values.filter(|value| *value != 0).count()
+}

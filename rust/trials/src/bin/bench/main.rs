@@ -1,0 +1,120 @@
+//! Times the engine against the second implementation, in one process: every
+//! question on its largest and on typical inputs, and how check and placing grow.
+
+mod case;
+mod growth;
+mod inputs;
+mod timing;
+
+#[cfg(test)]
+mod tests;
+
+use case::{time_all, Case};
+use growth::Row;
+use inputs::Inputs;
+use std::thread::available_parallelism;
+use timing::{Times, ROUNDS, SAMPLES};
+
+const CLEARING: &str = "\
+Clearing: outputs and lent lists are not cleared between calls. Both clear their own
+working tables in each call, and that is in their times. In choose the two threads that
+move are put back before each call, and that is in both times.
+";
+
+const GROWTH: &str = "
+Growth. Best nanoseconds a call, and the factor to the row before. Read and check: 32 nodes
+to a session. Place: a chain that needs one role; it has two nodes less than its result,
+whose nodes are given. Users, kinds and channels are at their largest in each row, and have
+their part in the time.
+";
+
+fn main() {
+    let seed = trials::seed();
+    let inputs = Inputs::new(seed);
+    let cases = inputs.cases();
+    let (by_nodes, by_roles) = (growth::by_nodes(seed), growth::by_roles(seed));
+    println!("{}\n{}\n{CLEARING}", head(), inputs.words());
+
+    let grown = by_nodes.iter().chain(&by_roles).map(|row| &row.case);
+    let all: Vec<&Case> = cases.iter().chain(grown).collect();
+    for case in &all {
+        case.agree();
+    }
+    let times = time_all(&all);
+    let (of_cases, of_growth) = times.split_at(cases.len());
+    let (of_nodes, of_roles) = of_growth.split_at(by_nodes.len());
+    print_table(&cases, of_cases);
+    println!("{GROWTH}");
+    print_growth(&by_nodes, of_nodes);
+    println!();
+    print_growth(&by_roles, of_roles);
+}
+
+/// How it is timed, and on what machine.
+fn head() -> String {
+    let cores = available_parallelism().map_or("?".to_string(), |cores| cores.to_string());
+    let about = std::fs::read_to_string("/proc/cpuinfo").unwrap_or_default();
+    let mut models = about.lines().filter(|line| line.starts_with("model name"));
+    let model = models.next().and_then(|line| line.split_once(": "));
+    let model = model.map_or("model unknown", |(_, model)| model);
+    let samples = ROUNDS * SAMPLES;
+    format!(
+        "Nanoseconds a call, of the engine and of the second implementation, in one process;\n\
+         {samples} samples each, in turns, in {ROUNDS} rounds over all rows. Ratio: engine / second.\n\
+         Machine: {model}, cores: {cores}.\n"
+    )
+}
+
+fn print_table(cases: &[Case], times: &[Times]) {
+    println!(
+        "{:<14} {:>6} {:>12} {:>9} {:>12} {:>9} {:>11} {:>13}",
+        "call",
+        "bytes",
+        "engine best",
+        "median",
+        "second best",
+        "median",
+        "best ratio",
+        "median ratio"
+    );
+    for (case, Times { engine, second }) in cases.iter().zip(times) {
+        println!(
+            "{:<14} {:>6} {:>12.0} {:>9.0} {:>12.0} {:>9.0} {:>11.2} {:>13.2}",
+            case.name,
+            case.file().len(),
+            engine.best,
+            engine.median,
+            second.best,
+            second.median,
+            engine.best / second.best,
+            engine.median / second.median,
+        );
+    }
+}
+
+fn print_growth(rows: &[Row], times: &[Times]) {
+    println!(
+        "{:<6} {:>6} {:>6} {:>9} {:>7} {:>9} {:>7} {:>7}",
+        "call", "nodes", "roles", "engine", "factor", "second", "factor", "ratio"
+    );
+    let mut before: Option<(&str, f64, f64)> = None;
+    for (row, times) in rows.iter().zip(times) {
+        let name = row.case.name.as_str();
+        let (engine, second) = (times.engine.best, times.second.best);
+        let factors = match before.filter(|before| before.0 == name) {
+            Some((_, of_engine, of_second)) => {
+                [engine / of_engine, second / of_second].map(|factor| format!("{factor:.2}"))
+            }
+            None => [String::new(), String::new()],
+        };
+        println!(
+            "{name:<6} {:>6} {:>6} {engine:>9.0} {:>7} {second:>9.0} {:>7} {:>7.2}",
+            row.nodes,
+            row.roles,
+            factors[0],
+            factors[1],
+            engine / second,
+        );
+        before = Some((name, engine, second));
+    }
+}

@@ -1,0 +1,113 @@
+//! The inputs are what the tables say of them, and both answer them alike.
+
+use crate::case::{Case, Input};
+use crate::growth::{by_nodes, by_roles, NODES, ROLES};
+use crate::inputs::Inputs;
+use second::draft::Draft;
+use second::ROOM;
+use trials::{seed, sends_in, Lent, MOST_CHOICES};
+
+fn nodes(file: &[u8]) -> usize {
+    Draft::of(file).nodes.len()
+}
+
+fn roles(file: &[u8]) -> usize {
+    Draft::of(file).roles.len()
+}
+
+#[test]
+fn both_agree() {
+    for case in Inputs::new(seed()).cases() {
+        case.agree();
+    }
+}
+
+#[test]
+fn the_largest_are_as_large_as_can_be() {
+    let inputs = Inputs::new(seed());
+    let (run, choices) = &inputs.largest_run;
+    for file in [
+        &inputs.largest,
+        &inputs.overfull_bare,
+        run,
+        &inputs.largest_lent.file,
+    ] {
+        assert_eq!(file.len(), ROOM);
+        assert_eq!((nodes(file), roles(file)), (1_024, 16));
+    }
+    assert_eq!(choices.len(), 2 * MOST_CHOICES);
+    assert!(sends_in(run, choices) > 16_000);
+    let Lent { lists, .. } = &inputs.largest_lent;
+    assert_eq!((lists.beside[0], lists.beside[1]), (64, 64));
+}
+
+#[test]
+fn what_is_placed_fills_the_output() {
+    let inputs = Inputs::new(seed());
+    for (file, nodes_before) in [
+        (&inputs.largest_bare, Some(1_022)),
+        (&inputs.full_bare, None),
+    ] {
+        assert!(nodes_before.is_none_or(|due| due == nodes(file)));
+        assert_eq!(roles(file), 16);
+        let (file, number) = (file.clone(), 0);
+        let out = Case::new("place", Input::Place { file, number }, 1).agree();
+        assert_eq!(nodes(&out), 1_024);
+    }
+    assert_eq!(Draft::of(&inputs.full_bare).sessions.len(), 32);
+}
+
+#[test]
+fn the_typical_have_40_nodes() {
+    let inputs = Inputs::new(seed());
+    let (run, choices) = &inputs.typical_run;
+    for file in [
+        &inputs.typical,
+        &inputs.typical_bare,
+        run,
+        &inputs.typical_lent.file,
+    ] {
+        assert_eq!((nodes(file), roles(file)), (40, 4));
+    }
+    assert_eq!(choices.len(), 2 * 40);
+    assert!(sends_in(run, choices) >= 4);
+}
+
+#[test]
+fn growth_has_its_counts() {
+    let (by_nodes, by_roles) = (by_nodes(seed()), by_roles(seed()));
+    for (at, row) in by_nodes.iter().enumerate() {
+        assert_eq!((row.nodes, row.roles), (NODES[at % NODES.len()], 16));
+    }
+    for (at, row) in by_roles.iter().enumerate() {
+        assert_eq!((row.nodes, row.roles), (1_024, ROLES[at % ROLES.len()]));
+    }
+    for row in by_nodes.iter().chain(&by_roles) {
+        let file = row.case.file();
+        let out = row.case.agree();
+        assert_eq!(roles(file), row.roles.into());
+        let due = usize::from(row.nodes);
+        match row.case.input {
+            Input::Place { .. } => assert_eq!((nodes(file), nodes(&out)), (due - 2, due)),
+            _ => assert_eq!(nodes(file), due),
+        }
+    }
+}
+
+/// The last row of each question has the input of the main table.
+#[test]
+fn growth_ends_with_the_largest() {
+    let inputs = Inputs::new(seed());
+    let rows = [by_nodes(seed()), by_roles(seed())].into_iter().flatten();
+    let last: Vec<_> = rows
+        .filter(|row| (row.nodes, row.roles) == (1_024, 16))
+        .collect();
+    assert_eq!(last.len(), 2 * 3);
+    for row in last {
+        let due = match row.case.input {
+            Input::Place { .. } => &inputs.largest_bare,
+            _ => &inputs.largest,
+        };
+        assert_eq!(row.case.file(), due);
+    }
+}
