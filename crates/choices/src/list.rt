@@ -73,14 +73,14 @@ fn store(threads: &mut [u16], beside: &mut [u16], i: u16, p: u16, it: Acted) -> 
 }
 
 // A thread of so many.
-pub fn is_thread(count: u16, i: u16) -> bool
+fn is_thread(count: u16, i: u16) -> bool
     ensures { λ r. ⌜ r ≡ within count i ⌝ }
 {
     (0 < i) & (i <= count)
 }
 
 // The thread to look at for the partner: the one that a choice names; where it names none, the thread itself.
-pub fn looked_at(count: u16, i: u16, p: u16) -> u16
+fn looked_at(count: u16, i: u16, p: u16) -> u16
     ensures { λ r. ⌜ r ≡ cond (within count p) p i ⌝ }
 {
     if is_thread(count, p) {
@@ -117,7 +117,7 @@ fn choose(
 }
 
 // The choices in order, two words each, up to the first that is refused.
-fn go_through(
+pub fn go_through(
     file: &[u8],
     head: Head,
     sends: &[u16],

@@ -1,69 +1,46 @@
--- The words beside a list, written from a state: those that stand there already, and those that differ.
+-- The words beside a list, copied from a table that holds a state.
 use Prim.Native.Nat.{ℕ, zero, suc, _+_, _*_, _≤_}
-use mathlib.Core.Path.{_≡_, sym, ap, ap₂, _∙_}
-use mathlib.Core.List.{List, [], _∷_, _++_, append-nil}
+use mathlib.Core.Path.{_≡_, refl, sym, ap, ap₂, _∙_}
+use mathlib.Core.List.{List, _∷_, _++_}
 use native.Mathlib.Omega.{arith}
-use lib.ListN.{getD, set}
-use lib.Seq.{sets, set-getD, set-comm, getD-set-other}
-use Rattle.steps.specs.declared.Made.{Made}
-use Rattle.steps.specs.Kept.{madeIn}
+use lib.ListN.{length, getD, take, drop}
+use lib.Seq.{sets, paste, drop-cons, length-take-le}
+use Rattle.steps.specs.Kept.{madeIn, Sized}
 use Rattle.running.specs.Run.{madeWords}
-use Rattle.choices.proofs.StateLaws.{minting}
+use Rattle.lent.proofs.RecordLaws.{sets-front}
 
--- made channels written where they stand already change nothing, and those after them are written past them
-made-again : (b d : List ℕ) (p k : ℕ) (ms : List Made) → ((j : ℕ) → p ≤ j → getD b j 0 ≡ getD d j 0)
-    → sets d p (madeWords (madeIn b p k ++ ms)) ≡ sets d (p + 2 * k) (madeWords ms)
+-- two words from a place on
+two-words : (b : List ℕ) (p : ℕ) → p + 2 ≤ length b → drop p b ≡ getD b p 0 ∷ getD b (p + 1) 0 ∷ drop (p + 2) b
+two-words b p fits =
+    let one : suc p ≡ p + 1 = omega arith in
+    let two : suc (p + 1) ≡ p + 2 = omega arith in
+    drop-cons b p 0 (omega (arith, fits))
+    ∙ ap (λ (x : List ℕ). getD b p 0 ∷ x) (ap (λ (j : ℕ). drop j b) one ∙ drop-cons b (p + 1) 0 (omega (arith, fits)) ∙ ap (λ (j : ℕ). getD b (p + 1) 0 ∷ drop j b) two)
+
+-- the made channels' words as they stand
+made-words : (b : List ℕ) (p k : ℕ) → p + 2 * k ≤ length b → take (2 * k) (drop p b) ≡ madeWords (madeIn b p k)
 unfolding madeIn madeWords
-made-again b d p zero ms h = let z : p ≡ p + 2 * 0 = omega arith in ap (λ (x : ℕ). sets d x (madeWords ms)) z
-made-again b d p (suc k) ms h =
-    let one : p + 1 ≡ suc p = omega arith in
-    let two : suc (suc p) ≡ p + 2 = omega arith in
-    let rest : p + 2 + 2 * k ≡ p + 2 * suc k = omega arith in
-    let later : List ℕ = madeWords (madeIn b (p + 2) k ++ ms) in
-    let owner : set d p (getD b p 0) ≡ d = ap (set d p) (h p (omega arith)) ∙ set-getD d p 0 in
-    let kind : set d (suc p) (getD b (p + 1) 0) ≡ d = ap (set d (suc p)) (ap (λ (x : ℕ). getD b x 0) one ∙ h (suc p) (omega arith)) ∙ set-getD d (suc p) 0 in
-    ap (λ (x : List ℕ). sets (set x (suc p) (getD b (p + 1) 0)) (suc (suc p)) later) owner
-    ∙ ap₂ (λ (x : List ℕ) (q : ℕ). sets x q later) kind two
-    ∙ made-again b d (p + 2) k ms (λ j le. h j (omega (arith, le)))
-    ∙ ap (λ (x : ℕ). sets d x (madeWords ms)) rest
+made-words b p zero fits = refl
+made-words b p (suc k) fits =
+    let more : 2 * suc k ≡ suc (suc (2 * k)) = omega arith in
+    ap₂ (λ (j : ℕ) (x : List ℕ). take j x) more (two-words b p (omega (arith, fits)))
+    ∙ ap (λ (x : List ℕ). getD b p 0 ∷ getD b (p + 1) 0 ∷ x) (made-words b (p + 2) k (omega (arith, fits)))
 
--- the counts and the made channels of the words b, with further made channels after them
-written : (b : List ℕ) (threads made : ℕ) (ms : List Made)
-    → sets b 0 (threads ∷ made ∷ madeWords (madeIn b 2 (getD b 1 0) ++ ms)) ≡ sets (set (set b 0 threads) 1 made) (2 + 2 * getD b 1 0) (madeWords ms)
-written b threads made ms =
-    made-again b (set (set b 0 threads) 1 made) 2 (getD b 1 0) ms
-    (λ j le. sym (getD-set-other (set b 0 threads) 1 j made 0 (λ e. omega (arith, le, e)) ∙ getD-set-other b 0 j threads 0 (λ e. omega (arith, le, e))))
+-- the counts and the made channels that stand in one table, copied into another
+pub beside-copied : (b d : List ℕ) → length b ≡ 130 → length d ≡ 130 → getD d 1 0 ≤ 64
+    → paste b 0 d (2 + 2 * getD d 1 0) ≡ sets b 0 (getD d 0 0 ∷ getD d 1 0 ∷ madeWords (madeIn d 2 (getD d 1 0)))
+beside-copied b d hb hd few =
+    let m : ℕ = getD d 1 0 in
+    let n : ℕ = 2 + 2 * m in
+    let more : n ≡ suc (suc (2 * m)) = omega arith in
+    let whole : take n d ≡ getD d 0 0 ∷ m ∷ madeWords (madeIn d 2 m) =
+    ap₂ (λ (j : ℕ) (x : List ℕ). take j x) more (two-words d 0 (omega (arith, hd)))
+    ∙ ap (λ (x : List ℕ). getD d 0 0 ∷ m ∷ x) (made-words d 2 m (omega (arith, hd, few))) in
+    let same : 0 + n ≡ n = omega arith in
+    ap₂ (λ (x : List ℕ) (j : ℕ). x ++ drop j b) whole same
+    ∙ sym (sets-front b (getD d 0 0 ∷ m ∷ madeWords (madeIn d 2 m)) n (ap length (sym whole) ∙ length-take-le n d (omega (arith, hd, few))) (omega (arith, hb, few)))
 
--- another count of threads
-pub beside-count : (b : List ℕ) (threads made : ℕ) → made ≡ getD b 1 0
-    → set b 0 threads ≡ sets b 0 (threads ∷ made ∷ madeWords (madeIn b 2 (getD b 1 0)))
-unfolding madeWords
-beside-count b threads made e =
-    let low : List ℕ = set b 0 threads in
-    sym (
-    ap (λ (ms : List Made). sets b 0 (threads ∷ made ∷ madeWords ms)) (sym (append-nil (madeIn b 2 (getD b 1 0))))
-    ∙ written b threads made []
-    ∙ ap (set low 1) (e ∙ sym (getD-set-other b 0 1 threads 0 (λ q. omega (arith, q))))
-    ∙ set-getD low 1 0
-    )
-
--- the counts as they are
-pub beside-same : (b : List ℕ) (threads made : ℕ) → threads ≡ getD b 0 0 → made ≡ getD b 1 0
-    → b ≡ sets b 0 (threads ∷ made ∷ madeWords (madeIn b 2 (getD b 1 0)))
-beside-same b threads made n e = sym (set-getD b 0 0) ∙ ap (set b 0) (sym n) ∙ beside-count b threads made e
-
--- one made channel more
-pub beside-made : (b : List ℕ) (threads made : ℕ) (x : Made) → threads ≡ getD b 0 0 → made ≡ getD b 1 0 + 1
-    → minting b (getD b 1 0) x ≡ sets b 0 (threads ∷ made ∷ madeWords (madeIn b 2 (getD b 1 0) ++ (x ∷ [])))
-unfolding madeWords
-beside-made b threads made x n e =
-    let m : ℕ = getD b 1 0 in
-    let o : ℕ = 2 * m + 2 in
-    let k : ℕ = 2 * m + 3 in
-    let at : o ≡ 2 + 2 * m = omega arith in
-    let next : k ≡ suc (2 + 2 * m) = omega arith in
-    sym (set-comm (set b o (x .owner)) 1 k (m + 1) (x .kind) (λ q. omega (arith, q)))
-    ∙ ap (λ (r : List ℕ). set r k (x .kind)) (sym (set-comm b 1 o (m + 1) (x .owner) (λ q. omega (arith, q))))
-    ∙ ap₂ (λ (p q : ℕ). set (set (set b 1 (m + 1)) p (x .owner)) q (x .kind)) at next
-    ∙ ap₂ (λ (r : List ℕ) (y : ℕ). set (set (set r 1 y) (2 + 2 * m) (x .owner)) (suc (2 + 2 * m)) (x .kind)) (sym (set-getD b 0 0) ∙ ap (set b 0) (sym n)) (sym e)
-    ∙ sym (written b threads made (x ∷ []))
+-- a table beside which such words are copied can hold what is lent
+pub table-sized : (w d b : List ℕ) → length w ≡ 704 → d ≡ b → length b ≡ 130 → getD b 0 0 ≤ 64 → getD b 1 0 ≤ 64 → Sized w d
+table-sized w d b words e long threads made =
+    record { words = words; beside = ap length e ∙ long; threads = omega (arith, ap (λ (x : List ℕ). getD x 0 0) e, threads); made = omega (arith, ap (λ (x : List ℕ). getD x 1 0) e, made) }

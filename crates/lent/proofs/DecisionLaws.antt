@@ -1,42 +1,35 @@
--- What a decision on the counted records comes to in every list that begins with them, answer by answer.
-use Prim.Native.Nat.{ℕ, suc, _+_, _-_, _≤_, _<_}
+-- What a decision on the counted records comes to in every list that begins with them: the run of one choice, in tables, and the records that it changes.
+use Prim.Native.Nat.{ℕ, _+_, _*_, _-_, _≤_, _<_}
 use mathlib.Core.Path.{_≡_, refl, sym, ap, ap₂, subst, _∙_}
-use mathlib.Core.Bool.{true, false, cond}
+use mathlib.Core.Bool.{Bool, true, false}
 use mathlib.Core.List.{List, [], _∷_, _++_}
 use native.Mathlib.Omega.{arith}
-use lib.ListN.{length, getD, set, take, drop, length-set, length-append, length-drop}
-use lib.Seq.{sets, paste, length-take-le, getD-take}
+use lib.ListN.{length, getD, set, take, drop, length-set, length-append, length-drop, List·getD-append}
+use lib.Seq.{sets, paste, length-take-le, getD-take, getD-set-other}
+use lib.Dec.{ltb}
+use borrow.Author.Tests.{ltb-true, ltb-false, ne-eqb, lt-ltb, le-ltb}
 use Rattle.format.specs.Answers.{fine, refused}
 use Rattle.format.specs.declared.Verdict.{Verdict}
-use Rattle.rules.specs.Names.{within}
 use Rattle.steps.specs.declared.Thread.{Thread}
-use Rattle.steps.specs.declared.Made.{Made}
-use Rattle.steps.specs.declared.Acted.{Acted}
-use Rattle.steps.specs.declared.Answer.{Answer}
-use Rattle.steps.specs.declared.Answer.the-variants as answers
 use Rattle.steps.specs.Threads.{noThread}
-use Rattle.steps.specs.Choice.{Clinic, acting, Chosen, halts, done, choice}
-use Rattle.steps.specs.Kept.{madeIn}
-use Rattle.steps.specs.Acted.{partnerOf, actedOf, outcomeBy, outcomeOf}
-use Rattle.choices.proofs.StateLaws.{made-length, minting}
-use Rattle.choices.proofs.ChoiceLaws.{within-both, looked, choice-by, choice-none}
+use Rattle.steps.specs.Choice.{Clinic, State, Chosen, halts, goes, choice}
+use Rattle.steps.specs.Kept.{threadsIn, madeIn, stateIn, Sized}
+use Rattle.choices.specs.declared.Counted.{Counted}
+use Rattle.choices.specs.Choices.{Ran, follow, run}
+use Rattle.choices.specs.Stored.{Gone}
+use Rattle.choices.proofs.TableLaws.{threads-length}
+use Rattle.choices.proofs.StateLaws.{made-length}
+use Rattle.choices.proofs.ChoiceLaws.{Told, choice-told}
+use Rattle.running.specs.Run.{madeWords}
+use Rattle.clinic.specs.File.{InCount}
+use Rattle.runs.specs.Steps as steps
+use Rattle.runs.proofs.Agree.{choice-steps}
 use Rattle.lent.specs.declared.Records.{Records}
 use Rattle.lent.specs.declared.Decided.{Decided}
 use Rattle.lent.specs.Lent.{stateOf, answered, recordsAfter, besideAfter}
-use Rattle.lent.specs.Scopes.{storedBy, Stores, Decides}
-use Rattle.lent.proofs.RecordLaws.{front-same, front-put, front-add, front-gone, part, pasted, stored-one, stored-two}
-use Rattle.lent.proofs.BesideLaws.{beside-same, beside-count, beside-made}
-
--- a decision carries out another choice that comes to the same in every such list
-decides-by : (d : Decided) (ts : List Thread) (b b′ : List ℕ) (f g : List Thread → Chosen)
-    → ((l : List Thread) → length l ≡ 64 → take (getD b 0 0) l ≡ take (getD b 0 0) ts → f l ≡ g l) → Decides d ts b b′ f → Decides d ts b b′ g
-decides-by d ts b b′ f g same (fits, does) = (
-  fits,
-  λ l long begins.
-      let (v, w, r) = does l long begins in
-      let e : f l ≡ g l = same l long begins in
-      (v ∙ ap answered e, w ∙ ap (besideAfter b) e, r ∙ ap (recordsAfter l) e),
-)
+use Rattle.lent.specs.Scopes.{storedBy, doing, runsOver, Stores, Decides}
+use Rattle.lent.proofs.RecordLaws.{runs-stored}
+use Rattle.lent.proofs.BesideLaws.{beside-copied}
 
 -- a refusal, with nothing to be stored
 abbrev pub refusal : Verdict → Records → Decided
@@ -45,214 +38,220 @@ refusal v all = record { verdict = v; records = all; from = 0; to = 0; also = 0;
 pub refusal-fits : (records : ℕ) (v : Verdict) (all : Records) → Stores records (refusal v all)
 refusal-fits records v all = (omega arith, omega arith, omega arith, omega arith, omega arith, omega arith)
 
--- a choice that is refused in every list
-halts-decides : (ts : List Thread) (b : List ℕ) (n : ℕ) (d : Decided) (all : Records) (f : List Thread → Chosen) → d ≡ refusal (refused n 1) all
-    → ((l : List Thread) → length l ≡ 64 → take (getD b 0 0) l ≡ take (getD b 0 0) ts → halts n ≡ f l) → Decides d ts b b f
-halts-decides ts b n d all f e h =
-    subst (λ (x : Decided). Decides x ts b b f) (sym e)
-    (decides-by (refusal (refused n 1) all) ts b b (λ l. halts n) f h (refusal-fits 64 (refused n 1) all, λ l long begins. (refl, refl, refl)))
+-- an index that is not past one is before it
+outside : (k n : ℕ) → (n ≤ k → ⊥) → k < n
+outside k n h = go (ltb k n) refl
+  where
+    go : (b : Bool) → ltb k n ≡ b → k < n
+    go true e = ltb-true k n e
+    go false e = absurd (h (ltb-false k n e))
 
--- done, with two runs of records to be stored
-abbrev runs : Records → ℕ → ℕ → ℕ → ℕ → Decided
-runs w from to also end = record { verdict = fine; records = w; from = from; to = to; also = also; end = end }
+-- the list ts with the threads v first
+abbrev over : List Thread → List Thread → Records
+over ts v = record { threads = sets ts 0 v }
 
-runs-fit : (w : Records) (from to also end : ℕ) → from ≤ to → to ≤ 64 → also ≤ end → end ≤ 64 → Stores 64 (runs w from to also end)
-runs-fit w from to also end a b c e = (a, b, b, c, e, e)
+-- the runs by numbers and records that are known
+pub runs-known : (ts : List Thread) (w : List ℕ) (d : Decided) (next : Records) (n m i p n′ m′ i′ p′ : ℕ) → d ≡ runsOver next n m i p → next ≡ over ts (threadsIn w 0 m)
+    → n ≡ n′ → m ≡ m′ → i ≡ i′ → p ≡ p′ → d ≡ runsOver (over ts (threadsIn w 0 m′)) n′ m′ i′ p′
+runs-known ts w d next n m i p n′ m′ i′ p′ ed er en em ei ep =
+    ed ∙ ap (λ (x : Records). runsOver x n m i p) er ∙ (λ j. runsOver (over ts (threadsIn w 0 (em j))) (en j) (em j) (ei j) (ep j))
 
--- records that hold those threads
-abbrev holding : List Thread → Records
-holding ts = record { threads = ts }
+-- the runs that are stored, in a list of 64 of which n are counted
+module _ (ts l : List Thread) (n : ℕ) (whole : length ts ≡ 64) (all : length l ≡ 64) (few : n ≤ 64) where
+  -- a decision that makes the list begin with the threads v
+  abbrev Right : List Thread → Decided → Type 0
+  Right v d = (d .verdict ≡ fine) × Stores 64 d × (storedBy l d ≡ sets l 0 v)
 
-module _ (ts : List Thread) (b : List ℕ) (i p : ℕ) (it : Acted) (long : length ts ≡ 64) (few : getD b 0 0 ≤ 64) (pos : 0 < i) (le : i ≤ getD b 0 0) where
-  abbrev n : ℕ
-  n = getD b 0 0
+  counted : length (take n l) ≡ n
+  counted = length-take-le n l (omega (arith, all, few))
 
-  abbrev m : ℕ
-  m = getD b 1 0
+  -- two runs within v, outside of which the list has v's records already
+  by-runs : (v : List Thread) (m from to also end : ℕ) → length v ≡ m → m ≤ 64 → from ≤ to → to ≤ m → also ≤ end → end ≤ m
+      → ((k : ℕ) → k < m → (from ≤ k → k < to → ⊥) → (also ≤ k → k < end → ⊥) → getD v k noThread ≡ getD l k noThread)
+      → Right v (doing (over ts v) from to also end)
+  by-runs v m from to also end e h h1 h2 h3 h4 same = (
+    refl,
+    (h1, omega (arith, h2, h), omega (arith, h2, h), h3, omega (arith, h4, h), omega (arith, h4, h)),
+    runs-stored l ts v from to also end noThread (all ∙ sym whole) (omega (arith, e, h, all)) h1 (omega (arith, e, h2)) h3 (omega (arith, e, h4))
+        (λ k lt off out. sym (same k (omega (arith, lt, e)) off out)),
+  )
 
-  abbrev t : Thread
-  t = it .first
+  module _ (i : ℕ) (pos : 1 ≤ i) (le : i ≤ n) where
+    -- the counted records with one changed: elsewhere they are the list's
+    abbrev one : Thread → List Thread
+    one t = set (take n l) (i - 1) t
 
-  abbrev u : Thread
-  u = it .second
+    one-length : (t : Thread) → length (one t) ≡ n
+    one-length t = length-set (take n l) (i - 1) t ∙ counted
 
-  abbrev Done : Decided → List ℕ → Answer → Type 0
-  Done d b′ a = Decides d ts b b′ (λ l. done (stateOf l b) i p (outcomeBy a t u))
+    one-other : (t : Thread) (k : ℕ) → k < n → (i - 1 ≤ k → k < i → ⊥) → getD (one t) k noThread ≡ getD l k noThread
+    one-other t k lt off =
+        getD-set-other (take n l) (i - 1) k t noThread (λ e. off (omega (arith, e)) (omega (arith, e, pos))) ∙ getD-take n l k noThread lt
 
-  -- by the decision and the answer as they are known
-  known : (a : Answer) (d x : Decided) (b′ : List ℕ) → it .answer ≡ a → d ≡ x → Done x b′ a → Done d b′ (it .answer)
-  known a d x b′ ea ed h = subst (Done d b′) (sym ea) (subst (λ (y : Decided). Done y b′ a) (sym ed) h)
+    -- a thread changed
+    changed-right : (t : Thread) (m : ℕ) → m ≡ length (one t) → Right (one t) (runsOver (over ts (one t)) n m i 0)
+    changed-right t m e =
+        let same : m ≡ n = e ∙ one-length t in
+        let is : runsOver (over ts (one t)) n m i 0 ≡ doing (over ts (one t)) (i - 1) i 0 0 = rw (le-ltb m n (omega (arith, same)), le-ltb n m (omega (arith, same))) in
+        subst (Right (one t)) (sym is)
+        (by-runs (one t) n (i - 1) i 0 0 (one-length t) few (omega arith) le (omega arith) (omega arith) (λ k lt off out. one-other t k lt off))
 
-  made-count : length (madeIn b 2 m) ≡ m
-  made-count = made-length b 2 m
+    -- a new last one
+    added-right : (t u : Thread) (m : ℕ) → m ≤ 64 → m ≡ length (one t ++ (u ∷ [])) → Right (one t ++ (u ∷ [])) (runsOver (over ts (one t ++ (u ∷ []))) n m i 0)
+    added-right t u m h e =
+        let v : List Thread = one t ++ (u ∷ []) in
+        let more : m ≡ n + 1 = e ∙ length-append (one t) (u ∷ []) ∙ ap (λ (k : ℕ). k + 1) (one-length t) in
+        let is : runsOver (over ts v) n m i 0 ≡ doing (over ts v) (i - 1) i n m = rw (le-ltb m n (omega (arith, more)), lt-ltb n m (omega (arith, more))) in
+        subst (Right v) (sym is)
+        (by-runs v m (i - 1) i n m (sym e) h (omega arith) (omega (arith, le, more)) (omega (arith, more)) (omega arith)
+        (λ k lt off out.
+        let inside : k < n = outside k n (λ past. out past lt) in
+        List·getD-append (one t) (u ∷ []) noThread k (omega (arith, one-length t, inside)) ∙ one-other t k inside off))
 
-  -- the thread's record to be stored; another with it; those after it moved down
-  abbrev one : Decided
-  one = runs (holding (set ts (i - 1) t)) (i - 1) (i - 1 + 1) 0 0
+    -- one removed
+    abbrev gone : List Thread
+    gone = take (i - 1) (take n l) ++ drop i (take n l)
 
-  abbrev two : ℕ → Decided
-  two j = runs (holding (set (set ts (i - 1) t) j u)) (i - 1) (i - 1 + 1) j (j + 1)
-
-  abbrev down : Decided
-  down = runs (holding (paste ts (i - 1) (drop (i - 1 + 1) ts) (n - 1 - (i - 1)))) (i - 1) (n - 1) 0 0
-
-  one-fits : Stores 64 one
-  one-fits = runs-fit (one .records) (i - 1) (i - 1 + 1) 0 0 (omega arith) (omega (arith, le, few)) (omega arith) (omega arith)
-
-  two-fits : (j : ℕ) → j < 64 → Stores 64 (two j)
-  two-fits j lt = runs-fit (two j .records) (i - 1) (i - 1 + 1) j (j + 1) (omega arith) (omega (arith, le, few)) (omega arith) (omega (arith, lt))
-
-  down-fits : Stores 64 down
-  down-fits = runs-fit (down .records) (i - 1) (n - 1) 0 0 (omega (arith, pos, le)) (omega (arith, few)) (omega arith) (omega arith)
-
-  -- in a list that begins with the counted records
-  module _ (l : List Thread) (all : length l ≡ 64) where
-    counted : length (take n l) ≡ n
-    counted = length-take-le n l (omega (arith, all, few))
-
-    -- its counted records with one changed
-    abbrev changed : List Thread
-    changed = set (take n l) (i - 1) t
-
-    changed-count : length changed ≡ n
-    changed-count = length-set (take n l) (i - 1) t ∙ counted
-
-    changed-put : set l (i - 1) t ≡ sets l 0 changed
-    changed-put =
-        sym
-        (front-put l (take n l) (i - 1) t (omega (arith, counted, pos, le)) (omega (arith, counted, all, few))
-        ∙ ap (λ (r : List Thread). set r (i - 1) t) (front-same l n (omega (arith, all, few))))
-
-    one-stored : storedBy l one ≡ sets l 0 changed
-    one-stored = stored-one l ts (i - 1) t (omega (arith, all, pos, le, few)) (omega (arith, long, pos, le, few)) ∙ changed-put
-
-    two-stored : (j : ℕ) → j < 64 → storedBy l (two j) ≡ set (sets l 0 changed) j u
-    two-stored j lt =
-        stored-two l ts (i - 1) j t u (omega (arith, all, pos, le, few)) (omega (arith, all, lt)) (omega (arith, long, pos, le, few)) (omega (arith, long, lt))
-        ∙ ap (λ (r : List Thread). set r j u) changed-put
-
-    -- with one fewer
-    gone-count : length (take (i - 1) (take n l) ++ drop i (take n l)) ≡ n - 1
-    gone-count =
+    removed-right : (m : ℕ) → m ≡ length gone → Right gone (runsOver (over ts gone) n m i 0)
+    removed-right m e =
         let low : length (take (i - 1) (take n l)) ≡ i - 1 = length-take-le (i - 1) (take n l) (omega (arith, counted, le)) in
         let high : length (drop i (take n l)) ≡ n - i = length-drop i (take n l) ∙ ap (λ (k : ℕ). k - i) counted in
-        length-append (take (i - 1) (take n l)) (drop i (take n l)) ∙ omega (arith, low, high, pos, le)
+        let fewer : m ≡ n - 1 = e ∙ length-append (take (i - 1) (take n l)) (drop i (take n l)) ∙ omega (arith, low, high, pos, le) in
+        let is : runsOver (over ts gone) n m i 0 ≡ doing (over ts gone) (i - 1) m 0 0 = rw (lt-ltb m n (omega (arith, fewer, pos, le))) in
+        subst (Right gone) (sym is)
+        (by-runs gone m (i - 1) m 0 0 (sym e) (omega (arith, fewer, few)) (omega (arith, fewer, le)) (omega arith) (omega arith) (omega arith)
+        (λ k lt off out.
+        let before : k < i - 1 = outside k (i - 1) (λ past. off past lt) in
+        List·getD-append (take (i - 1) (take n l)) (drop i (take n l)) noThread k (omega (arith, low, before))
+        ∙ getD-take (i - 1) (take n l) k noThread before
+        ∙ getD-take n l k noThread (omega (arith, before, le))))
 
-    gone-stored : take n l ≡ take n ts → storedBy l down ≡ sets l 0 (take (i - 1) (take n l) ++ drop i (take n l))
-    gone-stored begins =
-        let j : ℕ = n - 1 - (i - 1) in
-        let over : i - 1 + 1 ≡ suc (i - 1) = omega arith in
-        let back : suc (i - 1) ≡ i = omega (arith, pos) in
-        let size : j ≡ n - suc (i - 1) = omega arith in
-        let moved : take j (drop (i - 1) (down .records .threads)) ≡ drop (suc (i - 1)) (take n l) =
-        pasted ts (i - 1) (drop (i - 1 + 1) ts) j (omega (arith, long, le, few)) (omega (arith, length-drop (i - 1 + 1) ts, long, few))
-        ∙ ap₂ (λ (x y : ℕ). take x (drop y ts)) size over
-        ∙ part ts (suc (i - 1)) n (omega (arith, pos, le))
-        ∙ ap (drop (suc (i - 1))) (sym begins) in
-        front-gone l (drop (i - 1) (down .records .threads)) n (i - 1) (omega (arith, pos, le)) (omega (arith, all, few)) moved
-        ∙ ap (λ (k : ℕ). sets l 0 (take (i - 1) (take n l) ++ drop k (take n l))) back
+    -- the partner changed too
+    met-right : (p : ℕ) (t u : Thread) (m : ℕ) → 1 ≤ p → p ≤ n → m ≡ length (set (one t) (p - 1) u)
+        → Right (set (one t) (p - 1) u) (runsOver (over ts (set (one t) (p - 1) u)) n m i p)
+    met-right p t u m some inside e =
+        let v : List Thread = set (one t) (p - 1) u in
+        let is : runsOver (over ts v) n m i p ≡ doing (over ts v) (i - 1) i (p - 1) p = rw (ne-eqb p 0 (λ z. omega (arith, z, some))) in
+        subst (Right v) (sym is)
+        (by-runs v n (i - 1) i (p - 1) p (length-set (one t) (p - 1) u ∙ one-length t) few (omega arith) le (omega arith) inside
+        (λ k lt off out.
+        getD-set-other (one t) (p - 1) k u noThread (λ z. out (omega (arith, z)) (omega (arith, z, some))) ∙ one-other t k lt off))
 
-  pub refused-decided : (k : ℕ) (d : Decided) (all : Records) → it .answer ≡ answers.Refused k → d ≡ refusal (refused k 1) all → Done d b (it .answer)
-  unfolding done
-  refused-decided k d all ea ed = known (answers.Refused k) d (refusal (refused k 1) all) b ea ed (halts-decides ts b k (refusal (refused k 1) all) all _ refl (λ l whole begins. refl))
+-- a thread that steps is in count
+steps-counted : (C : Clinic) (s : State) (i p : ℕ) (s′ : State) → steps.Steps C s i p s′ → InCount (length (s .threads)) i
+steps-counted C s j p s′ (steps.on i n st e h) = st .0
+steps-counted C s j p s′ (steps.off i n st e h) = st .0
+steps-counted C s j p s′ (steps.fork i n st e l) = st .0
+steps-counted C s j p s′ (steps.repeat i n st e l) = st .0
+steps-counted C s j p s′ (steps.new i n st e l) = st .0
+steps-counted C s j p s′ (steps.compare i n st e q) = st .0
+steps-counted C s j p s′ (steps.end i n st e) = st .0
+steps-counted C s j q s′ (steps.meet i p n m st six at five x y z) = st .0
 
-  module _ (at : ℕ) (w : Records) (d : Decided) (here : at ≡ i - 1) where
-    module _ (ew : w ≡ holding (set ts at t)) where
-      is-one : d ≡ runs w at (at + 1) 0 0 → d ≡ one
-      is-one ed = ed ∙ ap₂ (λ (x : Records) (k : ℕ). runs x k (k + 1) 0 0) (ew ∙ ap (λ (k : ℕ). holding (set ts k t)) here) here
+-- the runs of a step are right
+steps-right : (C : Clinic) (ts l : List Thread) (b : List ℕ) (i p : ℕ) (s′ : State) (m : ℕ) (whole : length ts ≡ 64) (all : length l ≡ 64) (few : getD b 0 0 ≤ 64)
+    → m ≤ 64 → m ≡ length (s′ .threads) → steps.Steps C (stateOf l b) i p s′
+    → Right ts l (getD b 0 0) whole all few (s′ .threads) (runsOver (over ts (s′ .threads)) (getD b 0 0) m i p)
+steps-right C ts l b j q s′ m whole all few h e step = go j q s′ e step (inside (steps-counted C (stateOf l b) j q s′ step))
+  where
+    inside : {x : ℕ} → InCount (length (take (getD b 0 0) l)) x → InCount (getD b 0 0) x
+    inside (some, le) = (some, omega (arith, le, counted ts l (getD b 0 0) whole all few))
 
-      pub moves-decided : it .answer ≡ answers.Moves → d ≡ runs w at (at + 1) 0 0 → Done d b (it .answer)
-      unfolding done
-      moves-decided ea ed =
-          known answers.Moves d one b ea (is-one ed) (
-            one-fits,
-            λ l all begins. (refl, beside-same b (length (changed l all)) (length (madeIn b 2 m)) (changed-count l all) made-count, one-stored l all),
+    go : (i p : ℕ) (s′ : State) → m ≡ length (s′ .threads) → steps.Steps C (stateOf l b) i p s′ → InCount (getD b 0 0) i
+        → Right ts l (getD b 0 0) whole all few (s′ .threads) (runsOver (over ts (s′ .threads)) (getD b 0 0) m i p)
+    go j q s′ e (steps.on i n st t a) (some, le) = changed-right ts l (getD b 0 0) whole all few i some le _ m e
+    go j q s′ e (steps.off i n st t a) (some, le) = changed-right ts l (getD b 0 0) whole all few i some le _ m e
+    go j q s′ e (steps.fork i n st t a) (some, le) = added-right ts l (getD b 0 0) whole all few i some le _ _ m h e
+    go j q s′ e (steps.repeat i n st t a) (some, le) = added-right ts l (getD b 0 0) whole all few i some le _ _ m h e
+    go j q s′ e (steps.new i n st t a) (some, le) = changed-right ts l (getD b 0 0) whole all few i some le _ m e
+    go j q s′ e (steps.compare i n st t a) (some, le) = changed-right ts l (getD b 0 0) whole all few i some le _ m e
+    go j q s′ e (steps.end i n st t) (some, le) = removed-right ts l (getD b 0 0) whole all few i some le m e
+    go j q s′ e (steps.meet i p n r st six at five x y z) (some, le) =
+        let (first, last) = inside (at .0) in
+        met-right ts l (getD b 0 0) whole all few i some le p _ _ m first last e
+
+-- a list of two
+two-of : (l : List ℕ) → length l ≡ 2 → l ≡ getD l 0 0 ∷ getD l 1 0 ∷ []
+two-of [] e = let none : ⊥ = omega (arith, e) in absurd none
+two-of (x ∷ []) e = let none : ⊥ = omega (arith, e) in absurd none
+two-of (x ∷ y ∷ []) e = refl
+two-of (x ∷ y ∷ z ∷ l) e = let none : ⊥ = omega (arith, e) in absurd none
+
+-- the run of a list of one choice, from tables w and k that hold what is lent, has left the tables w′ and k′
+module _ (C : Clinic) (ts : List Thread) (b list w k w′ k′ : List ℕ) (g : Counted) (pair : length list ≡ 2) (size : Sized w k) (same : k ≡ b)
+    (laid : threadsIn w 0 (getD b 0 0) ≡ take (getD b 0 0) ts) (gone-by : Gone (run C (stateIn w k) list) g w′ k′) where
+  abbrev i : ℕ
+  i = getD list 0 0
+
+  abbrev p : ℕ
+  p = getD list 1 0
+
+  abbrev Chooses : Decided → List ℕ → Type 0
+  Chooses d b′ = Decides d ts b b′ (λ l. choice C (stateOf l b) i p)
+
+  -- the run is that one choice
+  abbrev Went : Chosen → Type 0
+  Went x = Gone (follow (stateOf ts b) x (λ s. record { count = 0; refusal = 0; state = s })) g w′ k′
+
+  went : Went (choice C (stateOf ts b) i p)
+  unfolding run
+  went =
+      let begin : stateIn w k ≡ stateOf ts b = ap (stateIn w) same ∙ ap (λ (x : List Thread). record { threads = x; made = madeIn b 2 (getD b 1 0) }) laid in
+      subst (λ (R : Ran). Gone R g w′ k′) (ap₂ (run C) begin (two-of list pair)) gone-by
+
+  -- every list that begins with the counted records holds the same state
+  chosen-same : (l : List Thread) (x : Chosen) → take (getD b 0 0) l ≡ take (getD b 0 0) ts → choice C (stateOf ts b) i p ≡ x → choice C (stateOf l b) i p ≡ x
+  chosen-same l x begins e = ap (λ (r : List Thread). choice C (record { threads = r; made = madeIn b 2 (getD b 1 0) }) i p) begins ∙ e
+
+  -- refused
+  pub refused-decided : (d : Decided) (all : Records) → (g .refusal ≡ 0 → ⊥) → d ≡ refusal (refused (g .refusal) 1) all → Chooses d b
+  refused-decided d all loud e = go (choice C (stateOf ts b) i p) refl went
+    where
+      go : (x : Chosen) → choice C (stateOf ts b) i p ≡ x → Went x → Chooses d b
+      go (halts n) q (r, left, z) =
+          let number : g .refusal ≡ n = ap (λ (y : Counted). y .refusal) r in
+          subst (λ (y : Decided). Chooses y b) (sym e) (
+            refusal-fits 64 (refused (g .refusal) 1) all,
+            λ l long begins.
+                let h : halts n ≡ choice C (stateOf l b) i p = sym (chosen-same l (halts n) begins q) in
+                (ap (λ (j : ℕ). refused j 1) number ∙ ap answered h, ap (besideAfter b) h, ap (recordsAfter l) h),
           )
+      go (goes s) q (r, left, z) = absurd (loud (ap (λ (y : Counted). y .refusal) r))
 
-      pub makes-decided : (x : Made) (b′ : List ℕ) → it .answer ≡ answers.Makes x → b′ ≡ minting b m x → d ≡ runs w at (at + 1) 0 0 → Done d b′ (it .answer)
-      unfolding done
-      makes-decided x b′ ea eb ed =
-          let more : length (madeIn b 2 m ++ (x ∷ [])) ≡ m + 1 = length-append (madeIn b 2 m) (x ∷ []) ∙ ap (λ (k : ℕ). k + 1) made-count in
-          known (answers.Makes x) d one b′ ea (is-one ed) (
-            one-fits,
-            λ l all begins. (refl, eb ∙ beside-made b (length (changed l all)) (length (madeIn b 2 m ++ (x ∷ []))) x (changed-count l all) more, one-stored l all),
-          )
+  module _ (quiet : g .refusal ≡ 0) where
+    -- done: the state after it stands in the tables
+    chosen : choice C (stateOf ts b) i p ≡ goes (stateIn w′ k′)
+    chosen = go (choice C (stateOf ts b) i p) refl (choice-told C (stateOf ts b) i p) went
+      where
+        go : (x : Chosen) → choice C (stateOf ts b) i p ≡ x → Told x → Went x → choice C (stateOf ts b) i p ≡ goes (stateIn w′ k′)
+        go (halts n) q told (r, left, z) = absurd (told (sym (ap (λ (y : Counted). y .refusal) r) ∙ quiet))
+        go (goes s) q told (r, left, z) = q ∙ ap goes (sym left)
 
-    module _ (v : Records) (to : ℕ) (ew : w ≡ holding (set ts at t)) (ev : v ≡ holding (set (w .threads) to u)) (ed : d ≡ runs v at (at + 1) to (to + 1)) where
-      is-two : (j : ℕ) → to ≡ j → d ≡ two j
-      is-two j there =
-          ed
-          ∙ ap (λ (x : Records). runs x at (at + 1) to (to + 1)) (ev ∙ ap (λ (x : Records). holding (set (x .threads) to u)) ew)
-          ∙ ap₂ (λ (k q : ℕ). runs (holding (set (set ts k t) q u)) k (k + 1) q (q + 1)) here there
+    -- the thread chosen is in count
+    pub done-thread : 0 < i
+    done-thread = steps-counted C (stateOf ts b) i p (stateIn w′ k′) (choice-steps C (stateOf ts b) i p (stateIn w′ k′) chosen) .0
 
-      pub adds-decided : it .answer ≡ answers.Adds → to ≡ n → n < 64 → Done d (set b 0 (n + 1)) (it .answer)
-      unfolding done
-      adds-decided ea there room =
-          known answers.Adds d (two n) (set b 0 (n + 1)) ea (is-two n there) (
-            two-fits n room,
-            λ l all begins.
-                let more : n + 1 ≡ length (changed l all ++ (u ∷ [])) = sym (length-append (changed l all) (u ∷ []) ∙ ap (λ (k : ℕ). k + 1) (changed-count l all)) in (
-                  refl,
-                  ap (set b 0) more ∙ beside-count b (length (changed l all ++ (u ∷ []))) (length (madeIn b 2 m)) made-count,
-                  two-stored l all n room ∙ sym (front-add l (changed l all) n u (changed-count l all)),
-                ),
-          )
-
-      pub meets-decided : it .answer ≡ answers.Meets → to ≡ p - 1 → 0 < p → p ≤ n → Done d b (it .answer)
-      unfolding done
-      meets-decided ea there some inside =
-          known answers.Meets d (two (p - 1)) b ea (is-two (p - 1) there) (
-            two-fits (p - 1) (omega (arith, some, inside, few)),
-            λ l all begins.
-                let size : length (set (changed l all) (p - 1) u) ≡ n = length-set (changed l all) (p - 1) u ∙ changed-count l all in (
-                  refl,
-                  beside-same b (length (set (changed l all) (p - 1) u)) (length (madeIn b 2 m)) size made-count,
-                  two-stored l all (p - 1) (omega (arith, some, inside, few))
-                      ∙ sym (front-put l (changed l all) (p - 1) u (omega (arith, changed-count l all, some, inside)) (omega (arith, changed-count l all, all, few))),
-                ),
-          )
-
-    pub ends-decided : (count : ℕ) → it .answer ≡ answers.Ends → count ≡ n → w .threads ≡ paste ts at (drop (at + 1) ts) (count - 1 - at)
-        → d ≡ runs w at (count - 1) 0 0 → Done d (set b 0 (n - 1)) (it .answer)
-    unfolding done
-    ends-decided count ea size ew ed =
-        let is-down : d ≡ down =
-        ed
-        ∙ ap (λ (x : List Thread). runs (holding x) at (count - 1) 0 0) ew
-        ∙ ap₂ (λ (k c : ℕ). runs (holding (paste ts k (drop (k + 1) ts) (c - 1 - k))) k (c - 1) 0 0) here size in
-        known answers.Ends d down (set b 0 (n - 1)) ea is-down (
-          down-fits,
-          λ l all begins. (
-            refl,
-            ap (set b 0) (sym (gone-count l all)) ∙ beside-count b (length (take (i - 1) (take n l) ++ drop i (take n l))) (length (madeIn b 2 m)) made-count,
-            gone-stored l all begins,
-          ),
+    -- the words and the runs of records stored from the tables
+    pub done-decided : (d : Decided) (b′ : List ℕ) → length ts ≡ 64
+        → (d ≡ runsOver (over ts (threadsIn w′ 0 (getD k′ 0 0))) (getD b 0 0) (getD k′ 0 0) i p) × (b′ ≡ paste b 0 k′ (2 + 2 * getD k′ 1 0)) → Chooses d b′
+    done-decided d b′ whole (ed, eb) =
+        let s : State = stateIn w′ k′ in
+        let z : Sized w′ k′ = gone-by .2 in
+        let few : getD b 0 0 ≤ 64 = subst (λ (x : List ℕ). getD x 0 0 ≤ 64) same (size .threads) in
+        let words : length b ≡ 130 = ap length (sym same) ∙ size .beside in
+        let right : (l : List Thread) (all : length l ≡ 64) → take (getD b 0 0) l ≡ take (getD b 0 0) ts
+        → Right ts l (getD b 0 0) whole all few (s .threads) (runsOver (over ts (s .threads)) (getD b 0 0) (getD k′ 0 0) i p) =
+        λ l all begins.
+        steps-right C ts l b i p s (getD k′ 0 0) whole all few (z .threads) (sym (threads-length w′ 0 (getD k′ 0 0)))
+        (choice-steps C (stateOf l b) i p s (chosen-same l (goes s) begins chosen)) in
+        subst (λ (x : Decided). Chooses x b′) (sym ed) (
+          right ts whole refl .1,
+          λ l all begins.
+              let h : goes s ≡ choice C (stateOf l b) i p = sym (chosen-same l (goes s) begins chosen) in (
+                right l all begins .0 ∙ ap answered h,
+                eb ∙ beside-copied b k′ words (z .beside) (z .made)
+                    ∙ ap₂ (λ (x y : ℕ). sets b 0 (x ∷ y ∷ madeWords (s .made))) (sym (threads-length w′ 0 (getD k′ 0 0))) (sym (made-length k′ 2 (getD k′ 1 0)))
+                    ∙ ap (besideAfter b) h,
+                right l all begins .2 ∙ ap (recordsAfter l) h,
+              ),
         )
-
--- a counted record, read from the list
-counted-read : (ts l : List Thread) (n k : ℕ) → k < n → take n l ≡ take n ts → getD ts k noThread ≡ getD (take n l) k noThread
-counted-read ts l n k lt begins = sym (ap (λ (r : List Thread). getD r k noThread) begins ∙ getD-take n ts k noThread lt)
-
--- the choice itself: of a thread of the list, by the records read for it and for its partner, and of no thread
-module _ (C : Clinic) (ts : List Thread) (b : List ℕ) (i p : ℕ) (d : Decided) (b′ : List ℕ) (few : getD b 0 0 ≤ 64) where
-  abbrev Chooses : Type 0
-  Chooses = Decides d ts b b′ (λ l. choice C (stateOf l b) i p)
-
-  pub chosen-decided : (own other : Thread) (it : Acted) (q at to : ℕ) → it ≡ actedOf (acting C (getD b 0 0) (madeIn b 2 (getD b 1 0)) own (partnerOf (getD b 0 0) p other))
-      → within (getD b 0 0) i ≡ true → q ≡ cond (within (getD b 0 0) p) p i → at ≡ i - 1 → own ≡ getD ts at noThread → to ≡ q - 1 → other ≡ getD ts to noThread
-      → Decides d ts b b′ (λ l. done (stateOf l b) i p (outcomeOf it)) → Chooses
-  chosen-decided own other it q at to acted inside eq here mine there theirs does =
-      let n : ℕ = getD b 0 0 in
-      let first = within-both n i inside in
-      let second = looked n i p q inside eq in
-      decides-by d ts b b′ (λ l. done (stateOf l b) i p (outcomeOf it)) (λ l. choice C (stateOf l b) i p)
-      (λ l all begins.
-      choice-by C b p own other it acted (take n l) (length-take-le n l (omega (arith, all, few))) i q at to inside eq
-      here (mine ∙ counted-read ts l n at (omega (arith, here, first .0, first .1)) begins)
-      there (theirs ∙ counted-read ts l n to (omega (arith, there, second .0, second .1)) begins)) does
-
-  pub none-decided : (all : Records) → within (getD b 0 0) i ≡ false → d ≡ refusal (refused 18 1) all → b′ ≡ b → Chooses
-  none-decided all outside e same =
-      subst (λ (x : List ℕ). Decides d ts b x (λ l. choice C (stateOf l b) i p)) (sym same)
-      (halts-decides ts b 18 d all (λ l. choice C (stateOf l b) i p) e
-      (λ l whole begins. sym (choice-none C (stateOf l b) (getD b 0 0) i p (length-take-le (getD b 0 0) l (omega (arith, whole, few))) outside)))

@@ -7,6 +7,7 @@ use mathlib.Core.List.{List, [], _∷_, _++_, map}
 use lib.Dec.{eqb, leb, ltb}
 use lib.ListN.{length, getD, take, drop}
 use lib.Seq.{paste}
+use Rattle.format.specs.Answers.{fine}
 use Rattle.format.specs.Words.{wordAt}
 use Rattle.format.specs.declared.Head.{Head}
 use Rattle.format.specs.declared.Node.{Node}
@@ -16,6 +17,7 @@ use Rattle.rules.specs.Rules.{Context}
 use Rattle.rules.specs.Checking.{nodesIn}
 use Rattle.clinic.specs.Lists.{All}
 use Rattle.steps.specs.declared.Thread.{Thread}
+use Rattle.lent.specs.declared.Records.{Records}
 use Rattle.lent.specs.declared.Decided.{Decided}
 use Rattle.steps.specs.Choice.{Chosen}
 use Rattle.lent.specs.Lent.{contextAt, sizesFit, answered, recordsAfter, besideAfter}
@@ -88,6 +90,17 @@ storing l ts a e = paste l a (drop a ts) (e - a)
 -- a list after the records that a decision changes are stored in it
 abbrev pub storedBy : List Thread → Decided → List Thread
 storedBy l d = storing (storing l (d .records .threads) (d .from) (d .to)) (d .records .threads) (d .also) (d .end)
+
+-- done, with two runs of records to be stored
+abbrev pub doing : Records → ℕ → ℕ → ℕ → ℕ → Decided
+doing w from to also end = record { verdict = fine; records = w; from = from; to = to; also = also; end = end }
+
+-- the records that a choice of thread i with partner p changes, by the counts of threads before it and after it: the thread's and the partner's; those
+-- from the thread's on where one has ended; the thread's and a new last one; or the thread's alone
+abbrev pub runsOver : Records → ℕ → ℕ → ℕ → ℕ → Decided
+runsOver w before after i p =
+    cond (eqb p 0) (cond (ltb after before) (doing w (i - 1) after 0 0) (cond (ltb before after) (doing w (i - 1) i before after) (doing w (i - 1) i 0 0)))
+    (doing w (i - 1) i (p - 1) p)
 
 -- both runs of records lie in a list of so many, and in the 64 of the decision
 abbrev pub Stores : ℕ → Decided → Type 0

@@ -1,51 +1,88 @@
-use mathlib.Core.Path.{ap, _∙_}
-use lib.ListN.{length}
+use Prim.Native.Nat.{ℕ}
+use mathlib.Core.Path.{_≡_, ap, subst, _∙_}
+use lib.ListN.{length, take}
 use Rattle.rules.specs.declared.Way.the-variants.{Sends, Receives}
 use Rattle.rules.specs.Schema.{schemaOf}
 use Rattle.rules.proofs.GrantLaws.{grants-filled, grants-length, granting}
+use Rattle.steps.specs.Kept.{threadsIn}
+use Rattle.lent.proofs.RecordLaws.{copied-whole}
+use Rattle.lent.proofs.BesideLaws.{table-sized}
 use borrow.Author.Needs.{needs}
 use Rattle.lent.proofs.choosing.choose_with.Statement.{statement}
 use Rattle.lent.proofs.choosing.choose_with.Tie as tie
 use Rattle.lent.proofs.choosing.choose_with.Reads as reads
 use Rattle.lent.proofs.choosing.choose_with.Lts as lts
+use Rattle.format.proofs.words.wide.Reads as wide-reads
 use Rattle.lent.proofs.choosing.choose_by.Reads as choose-by-reads
+use Rattle.lent.proofs.choosing.copy_words.Reads as copy-words-reads
+use Rattle.lent.proofs.choosing.lay_records.Reads as lay-records-reads
 use Rattle.rules.proofs.grants.fill_grants.Reads as fill-grants-reads
 
--- src/choosing.rt:169:5
+-- src/choosing.rt:185:5
 fill-grants-requires : tie.Need-fill-grants-requires
 fill-grants-requires c κs = search needs
 
--- src/choosing.rt:170:5
+-- src/choosing.rt:186:27
+slice-read-wide : tie.Need-slice-read-wide
+slice-read-wide c = search needs
+
+-- src/choosing.rt:186:22
+wide-requires : tie.Need-wide-requires
+wide-requires c κs = search needs
+
+-- src/choosing.rt:186:5
+lay-records-requires : tie.Need-lay-records-requires
+lay-records-requires c κs = search needs
+
+-- src/choosing.rt:187:5
+copy-words-requires : tie.Need-copy-words-requires
+copy-words-requires c κs = search needs
+
+-- src/choosing.rt:188:5
 choose-by-requires : tie.Need-choose-by-requires
 choose-by-requires c κs =
-    let s = c .before .before .before .before .before .before .before .before .before .before .before .before .before .before in
+    let s = c .before .before .before .before .before .before .before .before .before .before .before .before .before .before .before .before .before .before .before .before .before .before .before .before .before .before .before .before .before .before in
     let a = s .args in
     let q = s .pre in
     let D = schemaOf (a .file .now) (a .head) in
-    let filled = c .before .before .before .before .before .before .before .fill-grants .ensures in
+    let filled = c .before .before .before .before .before .before .before .before .before .before .before .before .before .before .before .before .before .before .before .before .fill-grants .ensures in
     let one = grants-filled D Sends _ (length (a .sends .now)) (filled .0) in
-    let other = grants-filled D Receives _ (length (a .receives .now)) (filled .1) in (
+    let other = grants-filled D Receives _ (length (a .receives .now)) (filled .1) in
+    let lay = c .before .before .before .before .before .before .before .before .before .before .before .before .lay-records in
+    let laid = lay .ensures in
+    let copied = c .before .before .before .before .before .before .before .copy-words .ensures in
+    let count = c .before .before .before .before .before .before .before .before .before .before .before .before .before .before .wide .ensures .0 in
+    let same = copied ∙ copied-whole (a .kept .now) (a .beside .now) 130 (q .7) (q .8) in (
       q .0,
       granting D Sends _ one (ap length (filled .0) ∙ grants-length D Sends (D .roles) 0 (length (a .sends .now)) ∙ q .1) (filled .2),
       granting D Receives _ other (ap length (filled .1) ∙ grants-length D Receives (D .roles) 0 (length (a .receives .now)) ∙ q .2) (filled .3),
       q .5,
-      q .6,
-      q .7,
+      table-sized _ _ (a .beside .now) (laid .0) same (q .8) (q .9) (q .10),
+      same,
+      subst (λ (n : ℕ). threadsIn (lay .last .1 .1 .0) 0 n ≡ take n (a .all .threads)) count (laid .1),
     )
 
--- src/choosing.rt:155:1
+-- src/choosing.rt:168:1
 same-length : tie.Need-same-length
-same-length c = search needs
+same-length c = c .before .before .before .before .before .before .before .before .before .before .before .before .before .before .before .before .before .before .before .before .before .before .before .before .before .before .sends .given
 
--- src/choosing.rt:155:1
+-- src/choosing.rt:168:1
 same-length-2 : tie.Need-same-length-2
-same-length-2 c = search needs
+same-length-2 c = c .before .before .before .before .before .before .before .before .before .before .before .before .before .before .before .before .before .before .before .before .before .before .before .before .receives .given
 
--- src/choosing.rt:155:1
+-- src/choosing.rt:168:1
 same-length-3 : tie.Need-same-length-3
 same-length-3 c = search needs
 
--- src/choosing.rt:155:1
+-- src/choosing.rt:168:1
+same-length-4 : tie.Need-same-length-4
+same-length-4 c = search needs
+
+-- src/choosing.rt:168:1
+same-length-5 : tie.Need-same-length-5
+same-length-5 c = search needs
+
+-- src/choosing.rt:168:1
 returns : tie.Need-returns
 returns c = search needs
 
@@ -54,8 +91,14 @@ choose-with-spec =
     tie.close
     (tie.spec
     fill-grants-requires
+    slice-read-wide
+    wide-requires
+    lay-records-requires
+    copy-words-requires
     choose-by-requires
     same-length
     same-length-2
     same-length-3
+    same-length-4
+    same-length-5
     returns)
