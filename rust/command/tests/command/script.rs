@@ -8,11 +8,17 @@ use std::process::Command;
 use std::thread::sleep;
 use std::time::Duration;
 
-/// Says what rt says, and writes a library.
+/// Says what rt says where it proves, and writes a library where it is to.
 const RT: &str = "#!/bin/sh
-echo called >>rt.calls
-echo 'fn masks::with: proved'
-echo 'rt: masks proved (3 s)' >&2
+if [ \"$1 $2\" = 'check engine' ]; then
+    echo called >>rt.calls
+    echo 'fn masks::with: proved'
+    echo 'rt: masks proved (3 s)' >&2
+    echo 'rt: engine proved (9 s)' >&2
+    echo 'rt: ok, 2 crates proved'
+    exit
+fi
+[ \"$1 $2\" = 'staticlib engine' ] || exit 2
 mkdir -p target/staticlib
 echo engine >target/staticlib/libengine.a
 echo 'rt: target/staticlib/libengine.a has the functions of engine'
@@ -153,8 +159,8 @@ fn builds_once_and_is_silent_then() {
     assert!(lines[0].starts_with("pilzdamo: proving and building the engine: "));
     let due_lines = [
         "pilzdamo: crate 1 of 2: masks proved (3 s)",
-        "pilzdamo: crate 2 of 2: the engine itself, from here",
-        "pilzdamo: target/staticlib/libengine.a has the functions of engine",
+        "pilzdamo: crate 2 of 2: engine proved (9 s)",
+        "pilzdamo: writing the engine's library",
         "pilzdamo: building the command: some seconds",
         "   Compiling command",
     ];
@@ -231,7 +237,7 @@ fn a_build_that_fails() {
     assert_eq!((said.status, said.out.as_str()), (2, ""));
     assert!(said.err.contains("masks NOT PROVED"), "{}", said.err);
     assert!(
-        said.err.contains("the engine could not be built"),
+        said.err.contains("the engine could not be proved"),
         "{}",
         said.err
     );
