@@ -1,11 +1,12 @@
 -- The whole check, put together from the answers for the head, for what follows it, and for the rules.
-use Prim.Native.Nat.{ℕ, _<_}
-use mathlib.Core.Path.{_≡_, refl, sym, ap, subst, _∙_}
+use Prim.Native.Nat.{ℕ}
+use mathlib.Core.Path.{_≡_, refl}
 use mathlib.Core.Bool.{Bool, true, false, cond}
 use mathlib.Core.List.{List}
 use native.Mathlib.Omega.{arith}
 use lib.Dec.{eqb}
 use borrow.Author.Tests.{eq-eqb, ne-eqb}
+use Rattle.format.specs.Contents.{Contents, contentsAt}
 use Rattle.format.specs.Answers.{fine, refused, orElse}
 use Rattle.format.specs.Header.{headAt, headOf}
 use Rattle.format.specs.declared.Verdict.{Verdict}
@@ -13,9 +14,8 @@ use Rattle.format.specs.declared.Head.{Head}
 use Rattle.format.specs.declared.HeadAnswer.the-variants.{Fine, Refused}
 use Rattle.format.proofs.HeadLaws.{headed, head-number}
 use Rattle.reading.proofs.LongLaws.{Stands, stands-judged}
-use Rattle.reading.specs.Reading.{after, bodyAnswer, reading}
+use Rattle.reading.specs.Reading.{bodyAnswer, reading}
 use Rattle.rules.specs.Checking.{namesAnswer, rolesAnswer, judgement}
-use Rattle.rules.specs.declared.Judged.{Judged}
 use Rattle.checking.specs.Check.{readingNames, checking, judgedBody, surveyed}
 use Rattle.rules.specs.Candidates.{candidatesIn}
 use lib.Seq.{sets}
@@ -47,26 +47,26 @@ module _ (f : List ℕ) where
     same : h ≡ headAt f
     same = headed f h e .1
 
-    pub names-judged : readingNames f ≡ judgedBody f h .names
+    pub names-judged : readingNames f ≡ judgedBody h (contentsAt f h) .names
     unfolding readingNames reading
     names-judged = rw (e, ← same)
 
-    pub check-judged : checking f ≡ orElse (judgedBody f h .names) (judgedBody f h .roles)
+    pub check-judged : checking f ≡ orElse (judgedBody h (contentsAt f h) .names) (judgedBody h (contentsAt f h) .roles)
     unfolding checking reading
-    check-judged = rw (e, ← same) (in-order (bodyAnswer f h) (namesAnswer f h) (rolesAnswer f h))
+    check-judged = rw (e, ← same) (in-order (bodyAnswer h (contentsAt f h)) (namesAnswer (contentsAt f h)) (rolesAnswer (contentsAt f h)))
 
-  module _ (h : Head) where
-    pub body-refuses : (bodyAnswer f h .number ≡ 0 → ⊥) → judgedBody f h ≡ record { names = bodyAnswer f h; roles = fine }
-    body-refuses l = rw (ne-eqb (bodyAnswer f h .number) 0 l) (rw (ne-eqb (bodyAnswer f h .number) 0 l))
+module _ (h : Head) (C : Contents) where
+  pub body-refuses : (bodyAnswer h C .number ≡ 0 → ⊥) → judgedBody h C ≡ record { names = bodyAnswer h C; roles = fine }
+  body-refuses l = rw (ne-eqb (bodyAnswer h C .number) 0 l) (rw (ne-eqb (bodyAnswer h C .number) 0 l))
 
-    pub body-passes : bodyAnswer f h .number ≡ 0 → judgedBody f h ≡ judgement f h
-    body-passes q = rw (eq-eqb (bodyAnswer f h .number) 0 q)
+  pub body-passes : bodyAnswer h C .number ≡ 0 → judgedBody h C ≡ judgement C
+  body-passes q = rw (eq-eqb (bodyAnswer h C .number) 0 q)
 
-    pub table-stays : (old : List ℕ) → (bodyAnswer f h .number ≡ 0 → ⊥) → surveyed f h old ≡ old
-    table-stays old l = rw (ne-eqb (bodyAnswer f h .number) 0 l)
+  pub table-stays : (old : List ℕ) → (bodyAnswer h C .number ≡ 0 → ⊥) → surveyed h C old ≡ old
+  table-stays old l = rw (ne-eqb (bodyAnswer h C .number) 0 l)
 
-    pub table-filled : (old : List ℕ) → bodyAnswer f h .number ≡ 0 → surveyed f h old ≡ sets old 1 (candidatesIn f h)
-    table-filled old q = rw (eq-eqb (bodyAnswer f h .number) 0 q)
+  pub table-filled : (old : List ℕ) → bodyAnswer h C .number ≡ 0 → surveyed h C old ≡ sets old 1 (candidatesIn C)
+  table-filled old q = rw (eq-eqb (bodyAnswer h C .number) 0 q)
 
 -- what a caller keeps of a long input has the check's answer on the whole
 pub stands-check : (kept input : List ℕ) → Stands kept input → checking kept ≡ checking input

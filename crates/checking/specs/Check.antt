@@ -5,7 +5,7 @@ use mathlib.Core.Bool.{cond}
 use lib.Dec.{eqb}
 use lib.Seq.{sets}
 use Rattle.format.specs.Answers.{fine, orElse}
-use Rattle.format.specs.Header.{headAt}
+use Rattle.format.specs.Contents.{Contents, contentsOf}
 use Rattle.format.specs.declared.Verdict.{Verdict}
 use Rattle.format.specs.declared.Head.{Head}
 use Rattle.rules.specs.declared.Judged.{Judged}
@@ -15,18 +15,18 @@ use Rattle.rules.specs.Candidates.{candidatesIn}
 
 -- 1 to 10
 unfoldable pub readingNames : List ℕ → Verdict
-readingNames f = orElse (reading f) (namesAnswer f (headAt f))
+readingNames f = orElse (reading f) (namesAnswer (contentsOf f))
 
 -- 1 to 13
 unfoldable pub checking : List ℕ → Verdict
-checking f = orElse (reading f) (orElse (namesAnswer f (headAt f)) (rolesAnswer f (headAt f)))
+checking f = orElse (reading f) (orElse (namesAnswer (contentsOf f)) (rolesAnswer (contentsOf f)))
 
 -- what follows the head: 6 to 10, and 11 to 13 where nothing of 6 to 10 is refused
-abbrev pub judgedBody : List ℕ → Head → Judged
-judgedBody f h =
-    let names : Verdict = orElse (bodyAnswer f h) (namesAnswer f h) in
-    record { names = names; roles = cond (eqb (names .number) 0) (rolesAnswer f h) fine }
+abbrev pub judgedBody : Head → Contents → Judged
+judgedBody h C =
+    let names : Verdict = orElse (bodyAnswer h C) (namesAnswer C) in
+    record { names = names; roles = cond (eqb (names .number) 0) (rolesAnswer C) fine }
 
 -- the table of candidates after that: unchanged where 6 to 8 refuse
-abbrev pub surveyed : List ℕ → Head → List ℕ → List ℕ
-surveyed f h old = cond (eqb (bodyAnswer f h .number) 0) (sets old 1 (candidatesIn f h)) old
+abbrev pub surveyed : Head → Contents → List ℕ → List ℕ
+surveyed h C old = cond (eqb (bodyAnswer h C .number) 0) (sets old 1 (candidatesIn C)) old

@@ -12,6 +12,7 @@ ghost use lib.ListN.{length};
 ghost use lib.Seq.{sets};
 ghost use Rattle.format.specs.Answers.{orElse};
 ghost use Rattle.format.specs.Header.{Laid};
+ghost use Rattle.format.specs.Contents.{contentsAt};
 ghost use Rattle.reading.specs.Reading.{bodyAnswer};
 ghost use Rattle.rules.specs.Checking.{namesAnswer};
 ghost use Rattle.rules.specs.Candidates.{candidatesIn};
@@ -20,8 +21,8 @@ ghost use Rattle.checking.specs.Check.{readingNames, checking, judgedBod
 // What follows the head: 6 to 10 in `names`; 11 to 13 in `roles`, where nothing of 6 to 10 is refused. Where 6 to 8 refuse nothing, each node's
 // candidates are stored in the table from index 1 on, as far as 9 and 10 refuse nothing.
 fn judge_body(file: &[u8], head: Head, table: &mut [u16]) -> Judged
-    requires { ⌜ Laid head × (length (now table) ≡ 1025) ⌝ }
-    ensures { λ r. ⌜ (r ≡ judgedBody (now (file .entry)) head) × (now (table .exit) ≡ surveyed (now (file .entry)) head (now (table .entry))) ⌝ }
+    requires { ⌜ Laid (now file) head × (length (now table) ≡ 1025) ⌝ }
+    ensures { λ r. ⌜ (r ≡ judgedBody head (contentsAt (now (file .entry)) head)) × (now (table .exit) ≡ surveyed head (contentsAt (now (file .entry)) head) (now (table .entry))) ⌝ }
 {
     let first = reading::body(file, head);
     if first.number != 0 {
@@ -38,9 +39,9 @@ fn judge_body(file: &[u8], head: Head, table: &mut [u16]) -> Judged
 
 // What placing needs of the pass: the first of 6 to 10, and where there is none each node's candidates in the table.
 pub fn survey(file: &[u8], head: Head, roles: &mut [u16]) -> Verdict
-    requires { ⌜ Laid head × (length (now roles) ≡ 1025) ⌝ }
-    ensures { λ r. ⌜ (r ≡ orElse (bodyAnswer (now (file .entry)) head) (namesAnswer (now (file .entry)) head))
-        × (now (roles .exit) ≡ cond (eqb (bodyAnswer (now (file .entry)) head .number) 0) (sets (now (roles .entry)) 1 (candidatesIn (now (file .entry)) head)) (now (roles .entry))) ⌝ }
+    requires { ⌜ Laid (now file) head × (length (now roles) ≡ 1025) ⌝ }
+    ensures { λ r. ⌜ (r ≡ orElse (bodyAnswer head (contentsAt (now (file .entry)) head)) (namesAnswer (contentsAt (now (file .entry)) head)))
+        × (now (roles .exit) ≡ cond (eqb (bodyAnswer head (contentsAt (now (file .entry)) head) .number) 0) (sets (now (roles .entry)) 1 (candidatesIn (contentsAt (now (file .entry)) head))) (now (roles .entry))) ⌝ }
 {
     judge_body(file, head, roles).names
 }

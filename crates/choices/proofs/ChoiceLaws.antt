@@ -1,15 +1,16 @@
 -- What a choice comes to: no refusal is 0, there is room for what it adds, and the partner that it moves is a thread.
 use Prim.Native.Nat.{ℕ, zero, suc, _+_, _*_, _-_, _≤_, _<_}
 use mathlib.Core.Path.{_≡_, refl, sym, ap, ap₂, subst, _∙_}
-use mathlib.Core.Bool.{Bool, true, false, cond, _&&_, false≢true}
+use mathlib.Core.Bool.{Bool, true, false, cond, _&&_}
 use mathlib.Core.List.{List}
 use native.Mathlib.Omega.{arith}
 use lib.Dec.{eqb, leb, ltb}
 use lib.ListN.{length, getD}
 use borrow.Author.Tests.{eqb-false, leb-true, ltb-true, lt-ltb}
 use Rattle.masks.specs.Mask.{has}
+use Rattle.format.specs.Contents.{inCount}
 use Rattle.format.specs.declared.Node.{Node}
-use Rattle.rules.specs.Names.{within}
+use Rattle.format.proofs.ContentsLaws.{in-count}
 use Rattle.rules.specs.declared.Way.the-variants.{Sends, Receives}
 use Rattle.steps.specs.declared.Thread.{Thread}
 use Rattle.steps.specs.declared.Made.{Made}
@@ -47,14 +48,6 @@ positive : (p : ℕ) → (p ≡ 0 → ⊥) → 0 < p
 positive zero h = absurd (h refl)
 positive (suc p) h = omega arith
 
-pub within-both : (n i : ℕ) → within n i ≡ true → (0 < i) × (i ≤ n)
-within-both n i e = go (ltb 0 i) (leb i n) refl refl e
-  where
-    go : (b1 b2 : Bool) → ltb 0 i ≡ b1 → leb i n ≡ b2 → (b1 && b2) ≡ true → (0 < i) × (i ≤ n)
-    go true true e1 e2 h = (ltb-true 0 i e1, leb-true i n e2)
-    go true false e1 e2 h = absurd (false≢true h)
-    go false b2 e1 e2 h = absurd (false≢true h)
-
 meeting-fair : (n m p : ℕ) (C : Clinic) (made : List Made) (t : Thread) (a : Node) (r : Thread) (b : Node) → 0 < p → p ≤ n → Fair n m p (meeting C made t a r b)
 unfolding meeting
 meeting-fair n m p C made t a r b pos le =
@@ -69,7 +62,7 @@ sending-fair n m p C made t a r true b2 e1 e2 = some 17
 sending-fair n m p C made t a r false false e1 e2 = some 17
 sending-fair n m p C made t a r false true e1 e2 =
     let apart : p ≡ 0 → ⊥ = eqb-false p 0 e1 in
-    either (Fair n m p) (within (C .nodes) (r .node) && eqb (C .node (r .node) .tag) 5) _ _
+    either (Fair n m p) (inCount (C .nodes) (r .node) && eqb (C .node (r .node) .tag) 5) _ _
     (λ q. meeting-fair n m p C made t a r (C .node (r .node)) (positive p apart) (leb-true p n e2))
     (λ q. some 17)
 
@@ -94,7 +87,7 @@ acting-fair : (n p : ℕ) (C : Clinic) (made : List Made) (t r : Thread) → Fai
 unfolding acting
 acting-fair n p C made t r =
     let P : Outcome → Type 0 = Fair n (length made) p in
-    either P (within (C .nodes) (t .node)) _ _
+    either P (inCount (C .nodes) (t .node)) _ _
     (λ e. either P (eqb (C .node (t .node) .tag) 6) _ _ (λ e6. sending-fair n (length made) p C made t (C .node (t .node)) r (eqb p 0) (leb p n) refl refl)
     (λ e6. either P (eqb (C .node (t .node) .tag) 5) _ _ (λ e5. some 17)
     (λ e5. alone-fair n (length made) p (partnerOf n p r) _ (lone-fair n (length made) p C t (C .node (t .node))))))
@@ -133,23 +126,23 @@ done-told n m s i p (Meets q) h = tt
 
 pub choice-told : (C : Clinic) (s : State) (i p : ℕ) → Told (choice C s i p)
 unfolding choice
-choice-told C s i p = go (within (length (s .threads)) i)
+choice-told C s i p = go (inCount (length (s .threads)) i)
   where
     go : (b : Bool) → Told (cond b (done s i p (acting C (length (s .threads)) (s .made) (threadAt s i) (partnerAt s p))) (halts 18))
     go true = done-told (length (s .threads)) (length (s .made)) s i p _ (acting-fair (length (s .threads)) p C (s .made) (threadAt s i) (threadAt s p))
     go false = some 17
 
 -- the thread looked at for the partner is a thread; it is the partner where the choice names one
-pub looked : (n i p q : ℕ) → within n i ≡ true → q ≡ cond (within n p) p i → (0 < q) × (q ≤ n)
-looked n i p q h e = go (within n p) refl e
+pub looked : (n i p q : ℕ) → inCount n i ≡ true → q ≡ cond (inCount n p) p i → (0 < q) × (q ≤ n)
+looked n i p q h e = go (inCount n p) refl e
   where
-    go : (x : Bool) → within n p ≡ x → q ≡ cond x p i → (0 < q) × (q ≤ n)
-    go true w f = subst (λ (k : ℕ). (0 < k) × (k ≤ n)) (sym f) (within-both n p w)
-    go false w f = subst (λ (k : ℕ). (0 < k) × (k ≤ n)) (sym f) (within-both n i h)
+    go : (x : Bool) → inCount n p ≡ x → q ≡ cond x p i → (0 < q) × (q ≤ n)
+    go true w f = subst (λ (k : ℕ). (0 < k) × (k ≤ n)) (sym f) (in-count n p w)
+    go false w f = subst (λ (k : ℕ). (0 < k) × (k ≤ n)) (sym f) (in-count n i h)
 
-partner-read : (ts : List Thread) (n i p q at to : ℕ) (own other : Thread) → q ≡ cond (within n p) p i → at ≡ i - 1 → own ≡ getD ts at noThread → to ≡ q - 1
-    → other ≡ getD ts to noThread → other ≡ cond (within n p) (getD ts (p - 1) noThread) own
-partner-read ts n i p q at to own other e a mine b theirs = go (within n p) e
+partner-read : (ts : List Thread) (n i p q at to : ℕ) (own other : Thread) → q ≡ cond (inCount n p) p i → at ≡ i - 1 → own ≡ getD ts at noThread → to ≡ q - 1
+    → other ≡ getD ts to noThread → other ≡ cond (inCount n p) (getD ts (p - 1) noThread) own
+partner-read ts n i p q at to own other e a mine b theirs = go (inCount n p) e
   where
     go : (x : Bool) → q ≡ cond x p i → other ≡ cond x (getD ts (p - 1) noThread) own
     go true f = theirs ∙ ap (λ (k : ℕ). getD ts k noThread) (b ∙ ap (λ (k : ℕ). k - 1) f)
@@ -169,28 +162,28 @@ module _ (C : Clinic) (b : List ℕ) (p : ℕ) (own other : Thread) (it : Acted)
     abbrev s : State
     s = record { threads = ts; made = madeIn b 2 (getD b 1 0) }
 
-    partner-same : other ≡ cond (within (getD b 0 0) p) (threadAt s p) own → (b1 b2 : Bool) → eqb p 0 ≡ b1 → leb p (getD b 0 0) ≡ b2
+    partner-same : other ≡ cond (inCount (getD b 0 0) p) (threadAt s p) own → (b1 b2 : Bool) → eqb p 0 ≡ b1 → leb p (getD b 0 0) ≡ b2
         → cond b1 Alone (cond b2 (With other) Missing) ≡ cond b1 Alone (cond b2 (With (threadAt s p)) Missing)
     partner-same e true b2 e1 e2 = refl
     partner-same e false false e1 e2 = refl
     partner-same e false true e1 e2 = ap With (e ∙ (rw (lt-ltb 0 p (positive p (eqb-false p 0 e1)), e2)))
 
-    pub choice-by : (i q at to : ℕ) → within (getD b 0 0) i ≡ true → q ≡ cond (within (getD b 0 0) p) p i → at ≡ i - 1 → own ≡ getD ts at noThread
+    pub choice-by : (i q at to : ℕ) → inCount (getD b 0 0) i ≡ true → q ≡ cond (inCount (getD b 0 0) p) p i → at ≡ i - 1 → own ≡ getD ts at noThread
         → to ≡ q - 1 → other ≡ getD ts to noThread → done s i p (outcomeOf it) ≡ choice C s i p
     unfolding choice
     choice-by i q at to inside e a mine there theirs =
         let n : ℕ = getD b 0 0 in
         let read : own ≡ threadAt s i = mine ∙ ap (λ (k : ℕ). getD ts k noThread) a in
-        let other-read : other ≡ cond (within n p) (threadAt s p) own = partner-read ts n i p q at to own other e a mine there theirs in
+        let other-read : other ≡ cond (inCount n p) (threadAt s p) own = partner-read ts n i p q at to own other e a mine there theirs in
         let partner : partnerOf n p other ≡ partnerOf n p (threadAt s p) = partner-same other-read (eqb p 0) (leb p n) refl refl in
         let o : outcomeOf it ≡ acting C n (s .made) (threadAt s i) (partnerOf n p (threadAt s p)) =
         ap outcomeOf acted ∙ back _ ∙ ap₂ (acting C n (s .made)) read partner in
-        let whole : within (length ts) i ≡ true = ap (λ (k : ℕ). within k i) long ∙ inside in
+        let whole : inCount (length ts) i ≡ true = ap (λ (k : ℕ). inCount k i) long ∙ inside in
         ap (done s i p) (o ∙ ap (λ (k : ℕ). acting C k (s .made) (threadAt s i) (partnerOf k p (threadAt s p))) (sym long)) ∙ sym (rw whole)
 
-pub choice-none : (C : Clinic) (s : State) (n i p : ℕ) → length (s .threads) ≡ n → within n i ≡ false → choice C s i p ≡ halts 18
+pub choice-none : (C : Clinic) (s : State) (n i p : ℕ) → length (s .threads) ≡ n → inCount n i ≡ false → choice C s i p ≡ halts 18
 unfolding choice
-choice-none C s n i p long outside = let whole : within (length (s .threads)) i ≡ false = ap (λ (k : ℕ). within k i) long ∙ outside in rw whole
+choice-none C s n i p long outside = let whole : inCount (length (s .threads)) i ≡ false = ap (λ (k : ℕ). inCount k i) long ∙ outside in rw whole
 
 -- a thread of the words of a table is one of the threads in it
 pub thread-read : (w : List ℕ) (n at : ℕ) (t : Thread) → at < n → t ≡ threadIn w (11 * at) → t ≡ getD (threadsIn w 0 n) at noThread

@@ -1,12 +1,13 @@
 -- A run: its start in the tables, and what is left of it after some choices.
-use Prim.Native.Nat.{ℕ, zero, suc, _+_, _*_, _-_, _/_, _≤_, _<_}
+use Prim.Native.Nat.{ℕ, suc, _+_, _*_, _-_, _/_, _≤_, _<_}
 use mathlib.Core.Path.{_≡_, sym, ap, ap₂, _∙_}
-use mathlib.Core.List.{List, [], _∷_, _++_}
+use mathlib.Core.List.{List, [], _∷_, _++_, append-assoc, append-nil}
 use native.Mathlib.Omega.{arith}
 use lib.ListN.{length, getD, set, drop, length-set, length-drop}
 use lib.Seq.{drop-cons, getD-set-same, getD-set-other}
-use Rattle.format.specs.Words.{wordAt}
-use Rattle.format.specs.declared.Head.{Head}
+use Rattle.format.specs.Contents.{Contents, item, noSession}
+use Rattle.format.specs.declared.Session.{Session}
+use Rattle.format.proofs.ContentsLaws.{from-item, none-past}
 use Rattle.steps.specs.declared.Thread.{Thread}
 use Rattle.steps.specs.Threads.{zeros}
 use Rattle.steps.specs.Choice.{Clinic, State, Chosen, halts, goes, choice}
@@ -80,39 +81,34 @@ gone R k w b c r e q z = (
   z,
 )
 
--- the start: a session more
-pub from-more : (f : List ℕ) (p k : ℕ)
-    → threadsFrom f p (suc k) ≡ threadsFrom f p k ++ (record { user = wordAt f (p + 3 * k); node = wordAt f (p + 3 * k + 2); mask = wordAt f (p + 3 * k + 1); vars = zeros } ∷ [])
-unfolding threadsFrom
-from-more f p zero =
-    let e : p ≡ p + 3 * 0 = omega arith in
-    ap (λ (x : ℕ). record { user = wordAt f x; node = wordAt f (x + 2); mask = wordAt f (x + 1); vars = zeros } ∷ []) e
-from-more f p (suc k) =
-    let e : p + 3 + 3 * k ≡ p + 3 * suc k = omega arith in
-    ap (λ (ts : List Thread). record { user = wordAt f p; node = wordAt f (p + 2); mask = wordAt f (p + 1); vars = zeros } ∷ ts)
-    (from-more f (p + 3) k ∙ ap (λ (x : ℕ). threadsFrom f (p + 3) k ++ (record { user = wordAt f x; node = wordAt f (x + 2); mask = wordAt f (x + 1); vars = zeros } ∷ [])) e)
+-- the start: the threads of the first sessions stand in the table, and those of the others follow
+abbrev pub Opened : List Session → List ℕ → ℕ → Type 0
+Opened ss w i = threadsIn w 0 i ++ threadsFrom (drop i ss) ≡ threadsFrom ss
 
-pub open-more : (f : List ℕ) (p : ℕ) (w v : List ℕ) (i : ℕ) (t : Thread) → 11 * i + 11 ≤ length w
-    → t ≡ record { user = wordAt f (p + 3 * i); node = wordAt f (p + 3 * i + 2); mask = wordAt f (p + 3 * i + 1); vars = zeros } → (v ≡ stored w (11 * i) t) × (length (t .vars) ≡ 8)
-    → threadsIn w 0 i ≡ threadsFrom f p i → threadsIn v 0 (i + 1) ≡ threadsFrom f p (i + 1)
-open-more f p w v i t fits is put have =
-    let one : suc i ≡ i + 1 = omega arith in
-    ap (λ (x : List ℕ). threadsIn x 0 (i + 1)) (put .0)
-    ∙ threads-add w i t fits (put .1)
-    ∙ ap₂ (λ (ts : List Thread) (x : Thread). ts ++ (x ∷ [])) have is
-    ∙ sym (from-more f p i)
-    ∙ ap (threadsFrom f p) one
+pub open-more : (ss : List Session) (w v : List ℕ) (i : ℕ) (t : Thread) → 11 * i + 11 ≤ length w → i < length ss
+    → let s = item noSession ss (i + 1) in t ≡ record { user = s .user; node = s .root; mask = s .mask; vars = zeros } → (v ≡ stored w (11 * i) t) × (length (t .vars) ≡ 8)
+    → Opened ss w i → Opened ss v (i + 1)
+unfolding threadsFrom
+open-more ss w v i t fits lt is put have =
+    let one : i + 1 - 1 ≡ i = omega arith in
+    let turn : drop i ss ≡ item noSession ss (i + 1) ∷ drop (i + 1) ss = rw one at (from-item noSession ss (i + 1) (omega arith) (omega arith)) in
+    ap (λ (x : List ℕ). threadsIn x 0 (i + 1) ++ threadsFrom (drop (i + 1) ss)) (put .0)
+    ∙ ap (λ (ts : List Thread). ts ++ threadsFrom (drop (i + 1) ss)) (threads-add w i t fits (put .1))
+    ∙ append-assoc (threadsIn w 0 i) (t ∷ []) (threadsFrom (drop (i + 1) ss))
+    ∙ ap (λ (x : Thread). threadsIn w 0 i ++ (x ∷ threadsFrom (drop (i + 1) ss))) is
+    ∙ ap (λ (l : List Session). threadsIn w 0 i ++ threadsFrom l) (sym turn)
+    ∙ have
 
 -- the counts are written beside
-pub open-state : (f : List ℕ) (h : Head) (w b : List ℕ) (n : ℕ) → length w ≡ 704 → length b ≡ 130 → n ≤ 32 → n ≡ h .count .sessions
-    → threadsIn w 0 n ≡ threadsFrom f (h .at .sessions) n → (stateIn w (set (set b 0 n) 1 0) ≡ start f h) × Sized w (set (set b 0 n) 1 0)
-unfolding madeIn
-open-state f h w b n words long few e have =
+pub open-state : (C : Contents) (w b : List ℕ) (n : ℕ) → length w ≡ 704 → length b ≡ 130 → n ≤ 32 → length (C .sessions) ≡ n → Opened (C .sessions) w n
+    → (stateIn w (set (set b 0 n) 1 0) ≡ start C) × Sized w (set (set b 0 n) 1 0)
+unfolding madeIn threadsFrom
+open-state C w b n words long few e have =
     let d : List ℕ = set (set b 0 n) 1 0 in
     let count : getD d 0 0 ≡ n = getD-set-other (set b 0 n) 1 0 0 0 (λ q. omega (arith, q)) ∙ getD-set-same b 0 n 0 (omega (arith, long)) in
-    let none : getD d 1 0 ≡ 0 = getD-set-same (set b 0 n) 1 0 0 (omega (arith, long, length-set b 0 n)) in (
-      ap₂ (λ (k m : ℕ). record { threads = threadsIn w 0 k; made = madeIn d 2 m }) count none
-          ∙ ap (λ (ts : List Thread). record { threads = ts; made = [] }) (have ∙ ap (threadsFrom f (h .at .sessions)) e),
+    let none : getD d 1 0 ≡ 0 = getD-set-same (set b 0 n) 1 0 0 (omega (arith, long, length-set b 0 n)) in
+    let all : threadsIn w 0 n ≡ threadsFrom (C .sessions) = sym (append-nil (threadsIn w 0 n)) ∙ ap (λ (l : List Session). threadsIn w 0 n ++ threadsFrom l) (sym (none-past (C .sessions) n (omega (arith, e)))) ∙ have in (
+      ap₂ (λ (k m : ℕ). record { threads = threadsIn w 0 k; made = madeIn d 2 m }) count none ∙ ap (λ (ts : List Thread). record { threads = ts; made = [] }) all,
       record {
         words = words;
         beside = length-set (set b 0 n) 1 0 ∙ length-set b 0 n ∙ long;

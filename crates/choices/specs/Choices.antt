@@ -1,20 +1,19 @@
 -- Lists of choices: the start, and the choices in order up to the first that is refused.
-use Prim.Native.Nat.{ℕ, zero, suc, _+_}
+use Prim.Native.Nat.{ℕ, suc}
 use mathlib.Core.List.{List, [], _∷_}
-use Rattle.format.specs.Words.{wordAt}
-use Rattle.format.specs.Header.{headAt}
-use Rattle.format.specs.declared.Head.{Head}
+use Rattle.format.specs.Contents.{Contents, contentsOf}
+use Rattle.format.specs.declared.Session.{Session}
 use Rattle.steps.specs.declared.Thread.{Thread}
 use Rattle.steps.specs.Threads.{zeros}
 use Rattle.steps.specs.Choice.{Clinic, clinicOf, State, Chosen, halts, goes, choice}
 
 -- one thread for each session, in order, at its root, with the session's mask, nothing bound and no channel made
-unfoldable pub threadsFrom : List ℕ → ℕ → ℕ → List Thread
-threadsFrom f p zero = []
-threadsFrom f p (suc k) = record { user = wordAt f p; node = wordAt f (p + 2); mask = wordAt f (p + 1); vars = zeros } ∷ threadsFrom f (p + 3) k
+unfoldable pub threadsFrom : List Session → List Thread
+threadsFrom [] = []
+threadsFrom (s ∷ ss) = record { user = s .user; node = s .root; mask = s .mask; vars = zeros } ∷ threadsFrom ss
 
-abbrev pub start : List ℕ → Head → State
-start f h = record { threads = threadsFrom f (h .at .sessions) (h .count .sessions); made = [] }
+abbrev pub start : Contents → State
+start C = record { threads = threadsFrom (C .sessions); made = [] }
 
 -- choices done, the refusal (0 if none), the state
 pub record Ran : Type 0 where
@@ -34,4 +33,4 @@ run C s (i ∷ p ∷ ws) = follow s (choice C s i p) (λ s′. run C s′ ws)
 
 -- the run of a file through a list
 abbrev pub ranOf : List ℕ → List ℕ → Ran
-ranOf f ws = run (clinicOf f (headAt f)) (start f (headAt f)) ws
+ranOf f ws = run (clinicOf (contentsOf f)) (start (contentsOf f)) ws

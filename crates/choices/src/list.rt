@@ -7,6 +7,7 @@ use super::state::remove_thread;
 use super::state::thread_at;
 use format::Head;
 use format::Session;
+use format::sections::in_count;
 use format::sections::session;
 use format::words::narrow;
 use format::words::wide;
@@ -20,8 +21,8 @@ ghost use mathlib.Core.Bool.{cond};
 ghost use Prim.Native.Nat.{_+_, _*_, _-_, _≤_, _<_};
 ghost use lib.ListN.{length, getD, replicate};
 ghost use Rattle.format.specs.Header.{Laid};
+ghost use Rattle.format.specs.Contents.{inCount, contentsAt};
 ghost use Rattle.rules.specs.Schema.{schemaOf};
-ghost use Rattle.rules.specs.Names.{within};
 ghost use Rattle.rules.specs.Kept.{Granting};
 ghost use Rattle.rules.specs.declared.Way.the-variants.{Sends, Receives};
 ghost use Rattle.steps.specs.Choice.{clinicOf, done, choice};
@@ -72,18 +73,11 @@ fn store(threads: &mut [u16], beside: &mut [u16], i: u16, p: u16, it: Acted) -> 
     }
 }
 
-// A thread of so many.
-fn is_thread(count: u16, i: u16) -> bool
-    ensures { λ r. ⌜ r ≡ within count i ⌝ }
-{
-    (0 < i) & (i <= count)
-}
-
 // The thread to look at for the partner: the one that a choice names; where it names none, the thread itself.
 fn looked_at(count: u16, i: u16, p: u16) -> u16
-    ensures { λ r. ⌜ r ≡ cond (within count p) p i ⌝ }
+    ensures { λ r. ⌜ r ≡ cond (inCount count p) p i ⌝ }
 {
-    if is_thread(count, p) {
+    if in_count(count, p) {
         return p;
     }
     i
@@ -100,13 +94,13 @@ fn choose(
     i: u16,
     p: u16,
 ) -> u16
-    requires { ⌜ Laid head × Granting (schemaOf (now file) head) Sends (now sends) × Granting (schemaOf (now file) head) Receives (now receives) × Sized (now threads) (now beside) ⌝ }
-    ensures { λ r. ⌜ Carried (choice (clinicOf (now (file .entry)) head) (stateIn (now (threads .entry)) (now (beside .entry))) i p) r
+    requires { ⌜ Laid (now file) head × Granting (schemaOf (contentsAt (now file) head)) Sends (now sends) × Granting (schemaOf (contentsAt (now file) head)) Receives (now receives) × Sized (now threads) (now beside) ⌝ }
+    ensures { λ r. ⌜ Carried (choice (clinicOf (contentsAt (now (file .entry)) head)) (stateIn (now (threads .entry)) (now (beside .entry))) i p) r
         (stateIn (now (threads .entry)) (now (beside .entry))) (stateIn (now (threads .exit)) (now (beside .exit)))
         × Sized (now (threads .exit)) (now (beside .exit)) ⌝ }
 {
     let count = beside[0];
-    if !is_thread(count, i) {
+    if !in_count(count, i) {
         return 18;
     }
     let own = thread_at(threads, wide(i - 1));
@@ -126,9 +120,9 @@ pub fn go_through(
     threads: &mut [u16],
     beside: &mut [u16],
 ) -> Counted
-    requires { ⌜ Laid head × Granting (schemaOf (now file) head) Sends (now sends) × Granting (schemaOf (now file) head) Receives (now receives)
+    requires { ⌜ Laid (now file) head × Granting (schemaOf (contentsAt (now file) head)) Sends (now sends) × Granting (schemaOf (contentsAt (now file) head)) Receives (now receives)
         × (length (now choices) ≤ 131070) × Sized (now threads) (now beside) ⌝ }
-    ensures { λ r. ⌜ Gone (run (clinicOf (now (file .entry)) head) (stateIn (now (threads .entry)) (now (beside .entry))) (now (choices .entry))) r (now (threads .exit)) (now (beside .exit)) ⌝ }
+    ensures { λ r. ⌜ Gone (run (clinicOf (contentsAt (now (file .entry)) head)) (stateIn (now (threads .entry)) (now (beside .entry))) (now (choices .entry))) r (now (threads .exit)) (now (beside .exit)) ⌝ }
 {
     let n = choices.len() / 2;
     let mut k: usize = 0;
@@ -164,8 +158,8 @@ fn opened(it: Session) -> Thread
 
 // One thread for each session, in order, and no channel made.
 fn open_threads(file: &[u8], head: Head, threads: &mut [u16], beside: &mut [u16])
-    requires { ⌜ Laid head × (length (now threads) ≡ 704) × (length (now beside) ≡ 130) ⌝ }
-    ensures { λ r. ⌜ (stateIn (now (threads .exit)) (now (beside .exit)) ≡ start (now (file .entry)) head) × Sized (now (threads .exit)) (now (beside .exit)) ⌝ }
+    requires { ⌜ Laid (now file) head × (length (now threads) ≡ 704) × (length (now beside) ≡ 130) ⌝ }
+    ensures { λ r. ⌜ (stateIn (now (threads .exit)) (now (beside .exit)) ≡ start (contentsAt (now (file .entry)) head)) × Sized (now (threads .exit)) (now (beside .exit)) ⌝ }
 {
     let sessions = head.count.sessions;
     let n = wide(sessions);
@@ -189,9 +183,9 @@ fn run_by(
     threads: &mut [u16],
     beside: &mut [u16],
 ) -> Counted
-    requires { ⌜ Laid head × (length (now sends) ≡ 33) × (length (now receives) ≡ 33) × (now sends ≡ replicate (length (now sends)) 0) × (now receives ≡ replicate (length (now receives)) 0)
+    requires { ⌜ Laid (now file) head × (length (now sends) ≡ 33) × (length (now receives) ≡ 33) × (now sends ≡ replicate (length (now sends)) 0) × (now receives ≡ replicate (length (now receives)) 0)
         × (length (now choices) ≤ 131070) × (length (now threads) ≡ 704) × (length (now beside) ≡ 130) ⌝ }
-    ensures { λ r. ⌜ Gone (run (clinicOf (now (file .entry)) head) (start (now (file .entry)) head) (now (choices .entry))) r (now (threads .exit)) (now (beside .exit)) ⌝ }
+    ensures { λ r. ⌜ Gone (run (clinicOf (contentsAt (now (file .entry)) head)) (start (contentsAt (now (file .entry)) head)) (now (choices .entry))) r (now (threads .exit)) (now (beside .exit)) ⌝ }
 {
     fill_grants(file, head, sends, receives);
     open_threads(file, head, threads, beside);
@@ -206,8 +200,8 @@ pub fn run_list(
     threads: &mut [u16],
     beside: &mut [u16],
 ) -> Counted
-    requires { ⌜ Laid head × (length (now choices) ≤ 131070) × (length (now threads) ≡ 704) × (length (now beside) ≡ 130) ⌝ }
-    ensures { λ r. ⌜ Gone (run (clinicOf (now (file .entry)) head) (start (now (file .entry)) head) (now (choices .entry))) r (now (threads .exit)) (now (beside .exit)) ⌝ }
+    requires { ⌜ Laid (now file) head × (length (now choices) ≤ 131070) × (length (now threads) ≡ 704) × (length (now beside) ≡ 130) ⌝ }
+    ensures { λ r. ⌜ Gone (run (clinicOf (contentsAt (now (file .entry)) head)) (start (contentsAt (now (file .entry)) head)) (now (choices .entry))) r (now (threads .exit)) (now (beside .exit)) ⌝ }
 {
     let mut sends = [0u16; 33];
     let mut receives = [0u16; 33];

@@ -18,6 +18,9 @@ pub all-both : {A : Type 0} (P Q : A → Type 0) (xs : List A) → All P xs → 
 all-both P Q [] h k = tt
 all-both P Q (x ∷ xs) h k = ((h .0, k .0), all-both P Q xs (h .1) (k .1))
 
+pub all-and : {A : Type 0} (P Q : A → Type 0) (xs : List A) → (All P xs × All Q xs) ↔ All (λ x. P x × Q x) xs
+all-and P Q xs = (λ (h, k). all-both P Q xs h k, λ h. (all-map (λ x p. p .0) xs h, all-map (λ x p. p .1) xs h))
+
 pub all-append : {A : Type 0} (P : A → Type 0) (xs ys : List A) → All P xs → All P ys → All P (xs ++ ys)
 all-append P [] ys h k = k
 all-append P (x ∷ xs) ys h k = (h .0, all-append P xs ys (h .1) k)

@@ -4,9 +4,8 @@ use mathlib.Core.Path.{_≡_, refl}
 use mathlib.Core.List.{List, [], _∷_}
 use native.Mathlib.Omega.{arith}
 use lib.ListN.{length, getD}
-use Rattle.format.specs.Words.{wordAt}
+use Rattle.format.specs.Words.{wordAt, bytesOf}
 use Rattle.clinic.specs.Lists.{All}
-use Rattle.clinic.specs.File.{bytesOf}
 
 abbrev pub Byte : ℕ → Type 0
 Byte b = b < 256

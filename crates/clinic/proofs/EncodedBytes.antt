@@ -6,19 +6,21 @@ use native.Mathlib.Omega.{arith}
 use lib.ListN.{length}
 use Rattle.masks.specs.Mask.{NamesOnly}
 use Rattle.masks.proofs.Bounds.{namesOnly-iff, namesOnly-lt}
+use Rattle.format.specs.Header.{headWords}
+use Rattle.format.specs.Writing.{headFor, fileWords, encoded}
 use Rattle.format.specs.declared.Role.{Role}
 use Rattle.format.specs.declared.Node.{Node}
 use Rattle.clinic.specs.Lists.{All}
 use Rattle.clinic.specs.Tree.{past, flatten, Worded}
-use Rattle.clinic.specs.File.{Routine, File, WellFormed, nodesOf, headWords, wordsOf, encode}
+use Rattle.clinic.specs.File.{Routine, File, WellFormed, nodesOf, rooted, contentsFor, encode}
 use Rattle.clinic.proofs.TreeEnds.{past-length}
 use Rattle.clinic.proofs.WordedTrees.{WordsFit, worded-nodes}
 use Rattle.clinic.proofs.Bytes.{Byte, Word, small-bytes}
 use Rattle.clinic.proofs.Rows.{cat}
-use Rattle.clinic.proofs.Tables.{oneRow, roleRow, channelRow, sessionRow, nodeRow, headWordsOf, tableWords}
+use Rattle.clinic.proofs.SectionRows.{oneRow, roleRow, channelRow, sessionRow, nodeRow, rowWords, file-rows}
 use Rattle.clinic.proofs.AllLaws.{all-map, all-append, all-get}
 use Rattle.clinic.proofs.RecordsJudged.{Seated}
-use Rattle.clinic.proofs.FileTables.{treesOf, seats, length-seats, all-trees, tablesOf, words-tables}
+use Rattle.clinic.proofs.FileContents.{treesOf, length-rooted, all-trees}
 
 -- every one is a word; a record, so that the list is found from it
 record Small (l : List ℕ) : Type 0 where
@@ -37,13 +39,13 @@ mask-lt : (k n m : ℕ) → n ≤ k → NamesOnly n m → m < 2 ^ k
 mask-lt k n m l h = namesOnly-lt k m .0 (namesOnly-iff k m .1 (λ x p. let b : x ≤ n = h x p in omega arith))
 
 -- a root is at most the number after the last node
-small-seats : (at : ℕ) (ss : List Routine) → at + length (flatten at (treesOf ss)) ≤ 1025
-    → All (λ (s : Routine). (s .user < 65536) × (s .mask < 65536)) ss → All (λ s. All Word (sessionRow s)) (seats at ss)
-unfolding seats flatten
-small-seats at [] l h = tt
-small-seats at (s ∷ ss) l h =
+small-rooted : (at : ℕ) (ss : List Routine) → at + length (flatten at (treesOf ss)) ≤ 1025
+    → All (λ (s : Routine). (s .user < 65536) × (s .mask < 65536)) ss → All (λ s. All Word (sessionRow s)) (rooted at ss)
+unfolding rooted flatten
+small-rooted at [] l h = tt
+small-rooted at (s ∷ ss) l h =
     let e = past-length at (s .tree) (flatten (past at (s .tree)) (treesOf ss)) in
-    ((h .0 .0, (h .0 .1, (omega arith, tt))), small-seats (past at (s .tree)) ss (omega arith) (h .1))
+    ((h .0 .0, (h .0 .1, (omega arith, tt))), small-rooted (past at (s .tree)) ss (omega arith) (h .1))
 
 module _ (F : File) (w : WellFormed F) where
   small-mask : (m : ℕ) → NamesOnly (length (F .roles)) m → Word m
@@ -71,13 +73,11 @@ module _ (F : File) (w : WellFormed F) where
       let few = w .few-nodes in
       all-map small-node (nodesOf F) (worded-nodes 1 (treesOf (F .sessions)) worded (omega arith))
 
-  small-head : Small (headWordsOf (tablesOf F))
-  unfolding headWords
-  small-head = record { words = omega (arith, length-seats 1 (F .sessions)) }
+  small-head : Small (headWords (headFor (contentsFor F)))
+  small-head = record { words = omega (arith, length-rooted 1 (F .sessions)) }
 
-  small-table : Small (tableWords (tablesOf F))
-  unfolding tableWords
-  small-table =
+  small-file : Small (rowWords (contentsFor F))
+  small-file =
       let few = w .few-nodes in
       let few-users = w .few-users in
       let few-kinds = w .few-kinds in
@@ -85,11 +85,11 @@ module _ (F : File) (w : WellFormed F) where
       let roles = small-cat roleRow (F .roles) (all-map small-role (F .roles) (w .roles-fit)) in
       let kinds = small-cat oneRow (F .kinds) (all-map (λ k h. omega arith) (F .kinds) (w .kinds-fit)) in
       let channels = small-cat channelRow (F .channels) (all-map (λ c h. omega arith) (F .channels) (w .channels-fit)) in
-      let sessions = small-cat sessionRow (seats 1 (F .sessions)) (small-seats 1 (F .sessions) (omega arith) (all-map small-user (F .sessions) (w .sessions-fit))) in
+      let sessions = small-cat sessionRow (rooted 1 (F .sessions)) (small-rooted 1 (F .sessions) (omega arith) (all-map small-user (F .sessions) (w .sessions-fit))) in
       let nodes = small-cat nodeRow (nodesOf F) small-nodes in
       small-append small-head (small-append users (small-append roles (small-append kinds (small-append channels (small-append sessions nodes)))))
 
   -- so that `sound` speaks of every file that `complete` does
   pub encode-bytes : All Byte (encode F)
-  unfolding encode
-  encode-bytes = small-bytes (wordsOf F) (subst (All Word) (sym (words-tables F)) (small-table .words))
+  unfolding encode encoded
+  encode-bytes = small-bytes (fileWords (contentsFor F)) (subst (All Word) (sym (file-rows (contentsFor F))) (small-file .words))

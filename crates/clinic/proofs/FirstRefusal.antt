@@ -1,5 +1,5 @@
 -- Reading gives the first refusal in the paper's order: the least number that objects to the file, and its lowest place.
-use Prim.Native.Nat.{ℕ, suc, _+_, _*_, _%_, _≤_, _<_}
+use Prim.Native.Nat.{ℕ, suc, _%_, _≤_, _<_}
 use mathlib.Core.Path.{_≡_, refl, sym}
 use mathlib.Core.Logic.{_⊎_, inl, inr, _≢_, _↔_}
 use mathlib.Core.Bool.{Bool, true, false, cond, false≢true}
@@ -10,16 +10,38 @@ use lib.Dec.{eqb, ltb}
 use borrow.Author.Tests.{eqb-true, eqb-false, ltb-true, ltb-false}
 use Rattle.format.specs.Words.{wordAt}
 use Rattle.format.specs.Answers.{fine, refused}
-use Rattle.format.specs.Header.{sixAt, headAt, from5, from4, from3, from2, headOf}
-use Rattle.reading.specs.Reading.{after, reading}
-use Rattle.format.specs.declared.Verdict.{Verdict}
+use Rattle.format.specs.Contents.{Contents, contentsAt, contentsOf}
+use Rattle.format.specs.Header.{sixAt, headAt, lengthFor, Laid, from5, from4, from3, from2, headOf}
+use Rattle.tables.specs.Records.{recordsAnswer}
+use Rattle.trees.specs.Shape.{shapeAnswer}
+use Rattle.reading.specs.Reading.{bodyAnswer, after, reading}
+use Rattle.format.specs.declared.Head.{Head}
 use Rattle.format.specs.declared.HeadAnswer.{HeadAnswer}
 use Rattle.format.specs.declared.HeadAnswer.the-variants.{Fine, Refused}
 use Rattle.format.proofs.BoolLaws.{eq-iff}
 use Rattle.format.proofs.HeadLaws.{counts-iff, offsets-iff, laid-iff}
-use Rattle.clinic.specs.Refusals.{Counted, BackToBack, Refusable, short, odd, version, count, offset, size, misnamed, misseated, misshapen, Before, First}
-use Rattle.clinic.proofs.Firsts.{Both, first-map, first-fine}
-use Rattle.clinic.proofs.BodyFirst.{BadBody, body-first, from-six}
+use Rattle.clinic.specs.Order.{First}
+use Rattle.clinic.specs.Refusals.{Counted, BackToBack, Refusable, short, odd, version, count, offset, size, misnamed, misseated, misshapen, readingOrder}
+use Rattle.clinic.proofs.FirstLaws.{Both, number-of, lowest, first-zero, first-clear, first-map, first-none, first-some, first-or}
+use Rattle.clinic.proofs.Standing.{rootsIn, roots-due}
+use Rattle.clinic.proofs.RecordsFirst.{BadRecord, records-first, record-number}
+use Rattle.clinic.proofs.ShapeFirst.{BadShape, shape-first}
+
+-- what 6 to 8 object to
+abbrev BadBody : Head → Contents → ℕ → ℕ → Type 0
+BadBody h C = Both (BadRecord h C) (BadShape (C .nodes) (rootsIn (C .sessions)))
+
+from-six : (h : Head) (C : Contents) (n p : ℕ) → BadBody h C n p → 6 ≤ n
+from-six h C n p (inl r) = record-number h C n p r .0
+from-six h C n p (inr s) = omega (arith, s .0)
+
+body-first : (f : List ℕ) (h : Head) → Laid f h → First readingOrder (BadBody h (contentsAt f h)) (bodyAnswer h (contentsAt f h))
+unfolding shapeAnswer
+body-first f h L =
+    let C : Contents = contentsAt f h in
+    first-or readingOrder (BadRecord h C) (BadShape (C .nodes) (rootsIn (C .sessions))) (recordsAnswer h C) (shapeAnswer C)
+    (λ n p r. omega (arith, record-number h C n p r)) (λ n p m q r s. inl (omega (arith, record-number h C n p r, s .0))) (records-first h C f L refl)
+    (λ _. rw (roots-due (C .sessions)) (shape-first (C .nodes) (rootsIn (C .sessions))))
 
 -- a refusal of the head, at place 0
 abbrev OfHead : ℕ → Type 0 → ℕ → ℕ → Type 0
@@ -33,30 +55,20 @@ head-later : (k : ℕ) (O : Type 0) (Q : ℕ → ℕ → Type 0) → Later (suc 
 head-later k O Q l n p (inl h) = omega (arith, h .0)
 head-later k O Q l n p (inr q) = omega (arith, l n p q)
 
-refuse : (k : ℕ) (O : Type 0) (Q : ℕ → ℕ → Type 0) → Later (suc k) Q → O → First (Both (OfHead k O) Q) (refused k 0)
-refuse k O Q l o = inr (k, 0, refl, inl (refl, refl, o), least)
-  where
-    least : (m q : ℕ) → Both (OfHead k O) Q m q → Before k 0 m q
-    least m q (inl h) = inr (sym (h .0), omega arith)
-    least m q (inr r) = inl (l m q r)
-
-accept : (k : ℕ) (O : Type 0) (Q : ℕ → ℕ → Type 0) (v : Verdict) → (O → ⊥) → First Q v → First (Both (OfHead k O) Q) v
-accept k O Q v o = first-map Q (Both (OfHead k O) Q) v (λ n p. inr) back
-  where
-    back : (n p : ℕ) → Both (OfHead k O) Q n p → Q n p
-    back n p (inl h) = absurd (o (h .2))
-    back n p (inr q) = q
+refuse : (k : ℕ) (O : Type 0) (Q : ℕ → ℕ → Type 0) → Later (suc k) Q → O → First readingOrder (Both (OfHead k O) Q) (refused k 0)
+refuse k O Q l o =
+    first-some readingOrder (OfHead k O) Q k 0 ((refl, refl, o), λ m q h. lowest readingOrder k 0 m q (sym (h .0)) (omega arith)) (λ m q r. inl (l m q r))
 
 -- one stage of the head: the test is P, and its refusal objects that P does not hold
-stage : (f : List ℕ) (k : ℕ) (P : Type 0) (Q : ℕ → ℕ → Type 0) (b : Bool) (x : HeadAnswer) → Later (suc k) Q → (b ≡ true) ↔ P → (P → First Q (after f x))
-    → First (Both (OfHead k (P → ⊥)) Q) (after f (cond b x (Refused k)))
-stage f k P Q true x l t go = let p = t .0 refl in accept k (P → ⊥) Q (after f x) (λ o. o p) (go p)
+stage : (f : List ℕ) (k : ℕ) (P : Type 0) (Q : ℕ → ℕ → Type 0) (b : Bool) (x : HeadAnswer) → Later (suc k) Q → (b ≡ true) ↔ P → (P → First readingOrder Q (after f x))
+    → First readingOrder (Both (OfHead k (P → ⊥)) Q) (after f (cond b x (Refused k)))
+stage f k P Q true x l t go = let p = t .0 refl in first-none readingOrder (OfHead k (P → ⊥)) Q (after f x) (λ n q h. h .2 p) (go p)
 stage f k P Q false x l t go = refuse k (P → ⊥) Q l (λ p. false≢true (t .1 p))
 
 module _ (f : List ℕ) where
   -- what the refusals from a number on object to
   abbrev From5 : ℕ → ℕ → Type 0
-  From5 = Both (OfHead 5 (length f ≢ 2 * (headAt f .at .nodes + 3 * headAt f .count .nodes))) (BadBody f (headAt f))
+  From5 = Both (OfHead 5 (length f ≢ lengthFor (headAt f .at .nodes) (headAt f .count .nodes))) (BadBody (headAt f) (contentsOf f))
 
   abbrev From4 : ℕ → ℕ → Type 0
   From4 = Both (OfHead 4 (BackToBack (sixAt f 1) (sixAt f 7) → ⊥)) From5
@@ -71,7 +83,7 @@ module _ (f : List ℕ) where
   From1 = Both (OfHead 1 ((length f < 26) ⊎ (length f % 2 ≡ 1))) From2
 
   later5 : Later 5 From5
-  later5 = head-later 5 _ (BadBody f (headAt f)) (from-six f (headAt f))
+  later5 = head-later 5 _ (BadBody (headAt f) (contentsOf f)) (from-six (headAt f) (contentsOf f))
 
   later4 : Later 4 From4
   later4 = head-later 4 _ From5 later5
@@ -82,37 +94,38 @@ module _ (f : List ℕ) where
   later2 : Later 2 From2
   later2 = head-later 2 _ From3 later3
 
-  first5 : Counted (sixAt f 1) → BackToBack (sixAt f 1) (sixAt f 7) → First From5 (after f (from5 f))
+  first5 : Counted (sixAt f 1) → BackToBack (sixAt f 1) (sixAt f 7) → First readingOrder From5 (after f (from5 f))
   unfolding from5
-  first5 c b = stage f 5 _ (BadBody f (headAt f)) _ (Fine (headAt f)) (from-six f (headAt f)) (eq-iff _ _) (λ e. body-first f (headAt f) (laid-iff (headAt f) .0 (counts-iff (sixAt f 1) .1 c, offsets-iff (sixAt f 1) (sixAt f 7) .1 b)))
+  first5 c b = stage f 5 _ (BadBody (headAt f) (contentsOf f)) _ (Fine (headAt f)) (from-six (headAt f) (contentsOf f)) (eq-iff _ _)
+      (λ e. body-first f (headAt f) (laid-iff f (headAt f) .0 (counts-iff (sixAt f 1) .1 c, offsets-iff (sixAt f 1) (sixAt f 7) .1 b, e)))
 
-  first4 : Counted (sixAt f 1) → First From4 (after f (from4 f))
+  first4 : Counted (sixAt f 1) → First readingOrder From4 (after f (from4 f))
   unfolding from4
   first4 c = stage f 4 _ From5 _ (from5 f) later5 (offsets-iff (sixAt f 1) (sixAt f 7)) (first5 c)
 
-  first3 : First From3 (after f (from3 f))
+  first3 : First readingOrder From3 (after f (from3 f))
   unfolding from3
   first3 = stage f 3 _ From4 _ (from4 f) later4 (counts-iff (sixAt f 1)) first4
 
-  first2 : First From2 (after f (from2 f))
+  first2 : First readingOrder From2 (after f (from2 f))
   unfolding from2
   first2 = stage f 2 _ From3 _ (from3 f) later3 (eq-iff (wordAt f 0) 1) (λ e. first3)
 
-  first1 : First From1 (reading f)
+  first1 : First readingOrder From1 (reading f)
   unfolding reading headOf
   first1 = go (ltb (length f) 26) refl (eqb (length f % 2) 1) refl
     where
       O : Type 0
       O = (length f < 26) ⊎ (length f % 2 ≡ 1)
 
-      none : 26 ≤ length f → (length f % 2 ≡ 1 → ⊥) → O → ⊥
-      none a b (inl l) = omega arith
-      none a b (inr e) = b e
+      none : 26 ≤ length f → (length f % 2 ≡ 1 → ⊥) → (n p : ℕ) → OfHead 1 O n p → ⊥
+      none a b n p (_, _, inl l) = omega arith
+      none a b n p (_, _, inr e) = b e
 
-      go : (a : Bool) → ltb (length f) 26 ≡ a → (b : Bool) → eqb (length f % 2) 1 ≡ b → First From1 (after f (cond a (Refused 1) (cond b (Refused 1) (from2 f))))
+      go : (a : Bool) → ltb (length f) 26 ≡ a → (b : Bool) → eqb (length f % 2) 1 ≡ b → First readingOrder From1 (after f (cond a (Refused 1) (cond b (Refused 1) (from2 f))))
       go true d b e = refuse 1 O From2 later2 (inl (ltb-true (length f) 26 d))
       go false d true e = refuse 1 O From2 later2 (inr (eqb-true (length f % 2) 1 e))
-      go false d false e = accept 1 O From2 (after f (from2 f)) (none (ltb-false (length f) 26 d) (eqb-false (length f % 2) 1 e)) first2
+      go false d false e = first-none readingOrder (OfHead 1 O) From2 (after f (from2 f)) (none (ltb-false (length f) 26 d) (eqb-false (length f % 2) 1 e)) first2
 
   to-refusable : (n p : ℕ) → From1 n p → Refusable f n p
   to-refusable n p (inl (a, b, inl l)) = short a b l
@@ -137,16 +150,24 @@ module _ (f : List ℕ) where
   of-refusable n p (misshapen a m) = inr (inr (inr (inr (inr (inr (a, m))))))
 
 -- the answer of reading is the first refusal, or nothing refuses the file
-pub first-refusal : (f : List ℕ) → First (Refusable f) (reading f)
-first-refusal f = first-map (From1 f) (Refusable f) (reading f) (to-refusable f) (of-refusable f) (first1 f)
+pub first-refusal : (f : List ℕ) → First readingOrder (Refusable f) (reading f)
+first-refusal f = first-map readingOrder (From1 f) (Refusable f) (reading f) (to-refusable f) (of-refusable f) (first1 f)
+
+pub refusable-number : (f : List ℕ) (n p : ℕ) → Refusable f n p → (1 ≤ n) × (n ≤ 8)
+refusable-number f n p (short a b l) = omega arith
+refusable-number f n p (odd a b e) = omega arith
+refusable-number f n p (version a b o) = omega arith
+refusable-number f n p (count a b o) = omega arith
+refusable-number f n p (offset a b o) = omega arith
+refusable-number f n p (size a b o) = omega arith
+refusable-number f n p (misnamed a m) = omega arith
+refusable-number f n p (misseated a m) = omega arith
+refusable-number f n p (misshapen a m) = omega arith
+
+-- an answer of number 0 is fine, and nothing refuses the file
+pub reading-zero : (f : List ℕ) → reading f .number ≡ 0 → (reading f ≡ fine) × ((n p : ℕ) → Refusable f n p → ⊥)
+reading-zero f = first-zero readingOrder (Refusable f) (reading f) (λ n p r. refusable-number f n p r .0) (first-refusal f)
 
 -- a file is read exactly when nothing refuses it
 pub reading-fine : (f : List ℕ) → (reading f ≡ fine) ↔ ((n p : ℕ) → Refusable f n p → ⊥)
-reading-fine f = (first-fine (Refusable f) (reading f) pos (first-refusal f), λ none. back none (first-refusal f))
-  where
-    pos : (n p : ℕ) → Refusable f n p → 1 ≤ n
-    pos n p r = head-later 1 _ (From2 f) (later2 f) n p (of-refusable f n p r)
-
-    back : ((n p : ℕ) → Refusable f n p → ⊥) → First (Refusable f) (reading f) → reading f ≡ fine
-    back none (inl (e, h)) = e
-    back none (inr (n, p, e, r, low)) = absurd (none n p r)
+reading-fine f = (λ e. reading-zero f (number-of e) .1, first-clear readingOrder (Refusable f) (reading f) (first-refusal f))

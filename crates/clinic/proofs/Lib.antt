@@ -6,20 +6,21 @@ pub mod TreeNodes
 pub mod ShapeComplete
 pub mod ShapeSound
 pub mod WordedTrees
--- Sections as tables: their words and bytes, and where they stand in a file
+-- Sections as words: what their records are written as, and where they stand in a file
 pub mod AllLaws
 pub mod Bytes
 pub mod Rows
-pub mod Tables
-pub mod Roots
+pub mod SectionRows
 pub mod Places
 pub mod WholeFile
--- Reading and encoding are inverse: what reading judges of tables, and of files (sound, complete, single, encode-bytes)
+-- Reading and encoding are inverse: what reading judges of contents, and of files (contents-back, contents-held, sound, complete, single, encode-bytes)
 pub mod RecordsJudged
-pub mod TablesJudged
-pub mod FileTables
+pub mod ContentsJudged
+pub mod FileContents
 pub mod Exact
 pub mod EncodedBytes
+-- The first refusal in an order
+pub mod FirstLaws
 -- Refusal 8 is of the first misshapen place (shape-first)
 pub mod FollowedEnds
 pub mod StackDue
@@ -28,8 +29,6 @@ pub mod TagTests
 pub mod NodesObjected
 pub mod ShapeFirst
 -- The answer of reading is the first refusal in the paper's order (first-refusal, reading-fine)
-pub mod Firsts
 pub mod RecordsObjected
 pub mod RecordsFirst
-pub mod BodyFirst
 pub mod FirstRefusal

@@ -9,7 +9,7 @@ use lib.Seq.{drop-length}
 use lib.Dec.{eqb, leb, ltb}
 use borrow.Author.Tests.{eqb-true, eqb-false, leb-true, leb-false, ltb-false, not-false}
 use Rattle.trees.specs.Ends.{top}
-use Rattle.trees.specs.Shape.{boundOf, rootFits, used, unusedFit, secondFits, roomFor, nodeFits}
+use Rattle.trees.specs.Shape.{boundOf, rootFits, used, unusedFit, secondFits, variableFits, nodeFits}
 use Rattle.format.specs.declared.Node.{Node}
 use Rattle.trees.specs.declared.Due.{Due}
 use Rattle.trees.specs.declared.Due.the-variants.{Root, Below}
@@ -87,7 +87,7 @@ module _ (ns : List Node) (roots : List ℕ) where
       let q = or-fails _ _ (p .1) in
       second e c (eqb-true (n .tag) 1 (not-false _ (p .0))) (ends-follow ns (suc i) e (omega arith) refl (eqb-false e 0 (q .0))) (eqb-false (n .f1) e (q .1))
 
-  bad-room : (i : ℕ) (d : Due) → InCount (length ns) i → IsDue ns roots i d → roomFor (nth ns i) d ≡ false → Misshapen ns roots i
+  bad-room : (i : ℕ) (d : Due) → InCount (length ns) i → IsDue ns roots i d → variableFits (nth ns i) d ≡ false → Misshapen ns roots i
   bad-room i d c h f =
       let n = nth ns i in
       let p = or-fails _ _ f in

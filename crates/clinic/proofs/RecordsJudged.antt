@@ -1,136 +1,129 @@
--- The records of tables against the refusals 6 and 7: none is refused where every record names only what exists, and only there.
-use Prim.Native.Nat.{ℕ, _+_, _*_, _-_, _≤_, _<_}
+-- Records against the refusals 6 and 7: none is refused where every record names only what exists, and only there.
+use Prim.Native.Nat.{ℕ, zero, suc, _-_, _≤_}
 use mathlib.Core.Path.{_≡_, refl, ap, _∙_, subst}
 use mathlib.Core.Logic.{_↔_, Iff·trans, Iff·and}
 use mathlib.Core.Bool.{Bool, true, _&&_}
-use mathlib.Core.List.{List, _++_}
+use mathlib.Core.List.{List, [], _∷_}
 use native.Mathlib.Omega.{arith}
-use lib.ListN.{length, getD, List·getD-append}
+use lib.ListN.{length, getD}
 use lib.Dec.{leb}
 use Rattle.masks.specs.Mask.{namesOnly, NamesOnly, within, Within}
 use Rattle.masks.proofs.Bounds.{namesOnly-iff, within-iff}
-use Rattle.format.specs.Words.{wordAt}
-use Rattle.format.specs.Answers.{orElse}
-use Rattle.format.specs.Sections.{userRoles}
-use Rattle.tables.specs.Records.{inCount, recordFits, refusalOf, sectionAnswer, recordsAnswer}
+use Rattle.format.specs.Contents.{Contents, tabled, inCount, item, noRole, noChannel, noSession}
+use Rattle.format.specs.Answers.{firstOf}
+use Rattle.tables.specs.Records.{recordFits, refusalOf, sectionAnswer, recordsAnswer}
 use Rattle.format.specs.declared.Head.{Head}
 use Rattle.format.specs.declared.Verdict.{Verdict}
 use Rattle.format.specs.declared.Role.{Role}
 use Rattle.format.specs.declared.Channel.{Channel}
 use Rattle.format.specs.declared.Session.{Session}
-use Rattle.format.specs.declared.Section.{Section}
 use Rattle.format.specs.declared.Section.the-variants.{Users, Roles, Kinds, Channels, Sessions}
 use Rattle.format.proofs.BoolLaws.{le-iff, and-iff}
-use Rattle.format.proofs.AnswerLaws.{Quiet, both-quiet}
-use Rattle.tables.proofs.RecordLaws.{inCount-iff}
+use Rattle.format.proofs.AnswerLaws.{first-quiet}
+use Rattle.format.proofs.ContentsLaws.{inCount-iff, item-get, tabled-same}
 use Rattle.clinic.specs.Lists.{All}
 use Rattle.clinic.specs.File.{InCount}
 use Rattle.clinic.proofs.AllLaws.{all-iff}
-use Rattle.clinic.proofs.Rows.{section-quiet}
-use Rattle.clinic.proofs.Tables.{Tables, oneRow, roleRow, channelRow, sessionRow, roleAt, channelAt, sessionAt}
-use Rattle.clinic.proofs.Tables.{cat-one, one-back, role-back, channel-back, session-back, tableBytes, headFor}
-use Rattle.clinic.proofs.Places.{places}
+use Rattle.clinic.proofs.FirstLaws.{both-zero}
+
+module _ {A : Type 0} (z : A) where
+  shift : (g : ℕ → A) (i k : ℕ) → tabled g (suc i) k ≡ tabled (λ n. g (suc n)) i k
+  unfolding tabled
+  shift g i zero = refl
+  shift g i (suc k) = ap {B = List A} (λ l. g (suc i) ∷ l) (shift g (suc i) k)
+
+  -- the items of a list are the list
+  pub all-items : (xs : List A) → tabled (item z xs) 1 (length xs) ≡ xs
+  unfolding tabled item
+  all-items [] = refl
+  all-items (x ∷ xs) =
+      let same : (n : ℕ) → 1 ≤ n → item z (x ∷ xs) (suc n) ≡ item z xs n = go in
+      ap {B = List A} (λ l. x ∷ l) (shift (item z (x ∷ xs)) 1 (length xs) ∙ tabled-same _ (item z xs) 1 (length xs) (λ n p q. same n p) ∙ all-items xs)
+    where
+      go : (n : ℕ) → 1 ≤ n → getD (x ∷ xs) n z ≡ item z xs n
+      go zero p = let no : ⊥ = omega arith in absurd no
+      go (suc n) p = refl
+
+  module _ (test : A → Bool) (refusal : ℕ → Verdict) (some : (n : ℕ) → 1 ≤ refusal n .number) where
+    all-from : (g : ℕ → A) (i k : ℕ) → (firstOf (λ n. test (g n)) refusal i k .number ≡ 0) ↔ All (λ x. test x ≡ true) (tabled g i k)
+    unfolding firstOf tabled
+    all-from g i zero = (λ e. tt, λ e. refl)
+    all-from g i (suc k) =
+        let one = first-quiet (λ n. test (g n)) refusal some i k in
+        let rest = all-from g (suc i) k in
+        (λ e. (one .0 e .0, rest .0 (one .0 e .1)), λ a. one .1 (a .0, rest .1 (a .1)))
+
+    -- a section is not refused where every record fits, and only there
+    pub section-iff : (xs : List A) → (firstOf (λ n. test (item z xs n)) refusal 1 (length xs) .number ≡ 0) ↔ All (λ x. test x ≡ true) xs
+    section-iff xs =
+        subst (λ (l : List A). (firstOf (λ n. test (item z xs n)) refusal 1 (length xs) .number ≡ 0) ↔ All (λ x. test x ≡ true) l) (all-items xs)
+        (all-from (item z xs) 1 (length xs))
 
 -- a session's user exists, and its starting roles are assigned to that user
 abbrev pub Seated : List ℕ → ℕ → ℕ → Type 0
 Seated users user mask = InCount (length users) user × Within mask (getD users (user - 1) 0)
 
 -- records that name only what exists
-pub record RecordsFit (T : Tables) : Type 0 where
-  pub users-fit : All (λ m. NamesOnly (length (T .roles)) m) (T .users)
-  pub roles-fit : All (λ r. NamesOnly (length (T .kinds)) (r .sends) × NamesOnly (length (T .kinds)) (r .receives)) (T .roles)
-  pub kinds-fit : All (λ k. k ≤ length (T .kinds)) (T .kinds)
-  pub channels-fit : All (λ c. InCount (length (T .users)) (c .owner) × InCount (length (T .kinds)) (c .kind .0)) (T .channels)
-  pub sessions-fit : All (λ s. Seated (T .users) (s .user) (s .mask)) (T .sessions)
+pub record RecordsFit (C : Contents) : Type 0 where
+  pub users-fit : All (λ m. NamesOnly (length (C .roles)) m) (C .users)
+  pub roles-fit : All (λ r. NamesOnly (length (C .kinds)) (r .sends) × NamesOnly (length (C .kinds)) (r .receives)) (C .roles)
+  pub kinds-fit : All (λ k. k ≤ length (C .kinds)) (C .kinds)
+  pub channels-fit : All (λ c. InCount (length (C .users)) (c .owner) × InCount (length (C .kinds)) (c .kind .0)) (C .channels)
+  pub sessions-fit : All (λ s. Seated (C .users) (s .user) (s .mask)) (C .sessions)
 
-module _ (T : Tables) where
-  abbrev file : List ℕ
-  file = tableBytes T
+module _ (h : Head) (C : Contents) where
+  abbrev users : ℕ
+  users = length (C .users)
 
-  abbrev head : Head
-  head = headFor T
+  abbrev kinds : ℕ
+  kinds = length (C .kinds)
 
-  abbrev answer : Section → Verdict
-  answer s = sectionAnswer file head s
-
-  users-quiet : Quiet (answer Users) ↔ All (λ m. NamesOnly (length (T .roles)) m) (T .users)
+  users-iff : (sectionAnswer h C Users .number ≡ 0) ↔ All (λ m. NamesOnly (length (C .roles)) m) (C .users)
   unfolding sectionAnswer recordFits
-  users-quiet =
-      let (post, at) = places T .users in
-      let test : ℕ → Bool = namesOnly (length (T .roles)) in
-      Iff·trans
-      (section-quiet oneRow 1 (λ x. refl) file (wordAt file) (one-back file) test (refusalOf head Users) (λ n. omega arith) (head .at .users) (T .users) post at)
-      (all-iff (T .users) (namesOnly-iff (length (T .roles))))
+  users-iff =
+      Iff·trans (section-iff 0 (namesOnly (length (C .roles))) (refusalOf h Users) (λ n. omega arith) (C .users))
+      (all-iff (C .users) (namesOnly-iff (length (C .roles))))
 
-  roles-quiet : Quiet (answer Roles) ↔ All (λ r. NamesOnly (length (T .kinds)) (r .sends) × NamesOnly (length (T .kinds)) (r .receives)) (T .roles)
+  roles-iff : (sectionAnswer h C Roles .number ≡ 0) ↔ All (λ r. NamesOnly kinds (r .sends) × NamesOnly kinds (r .receives)) (C .roles)
   unfolding sectionAnswer recordFits
-  roles-quiet =
-      let (post, at) = places T .roles in
-      let k : ℕ = length (T .kinds) in
-      let test : Role → Bool = (λ r. namesOnly k (r .sends) && namesOnly k (r .receives)) in
-      Iff·trans
-      (section-quiet roleRow 4 (λ x. refl) file (roleAt file) (role-back file) test (refusalOf head Roles) (λ n. omega arith) (head .at .roles) (T .roles) post at)
-      (all-iff (T .roles)
-      (λ r. and-iff (namesOnly-iff k (r .sends)) (λ p. namesOnly-iff k (r .receives))))
+  roles-iff =
+      let test : Role → Bool = (λ r. namesOnly kinds (r .sends) && namesOnly kinds (r .receives)) in
+      Iff·trans (section-iff noRole test (refusalOf h Roles) (λ n. omega arith) (C .roles))
+      (all-iff (C .roles) (λ r. and-iff (namesOnly-iff kinds (r .sends)) (λ p. namesOnly-iff kinds (r .receives))))
 
-  kinds-quiet : Quiet (answer Kinds) ↔ All (λ k. k ≤ length (T .kinds)) (T .kinds)
+  kinds-iff : (sectionAnswer h C Kinds .number ≡ 0) ↔ All (λ k. k ≤ kinds) (C .kinds)
   unfolding sectionAnswer recordFits
-  kinds-quiet =
-      let (post, at) = places T .kinds in
-      let n : ℕ = length (T .kinds) in
-      let test : ℕ → Bool = (λ k. leb k n) in
-      Iff·trans
-      (section-quiet oneRow 1 (λ x. refl) file (wordAt file) (one-back file) test (refusalOf head Kinds) (λ n. omega arith) (head .at .kinds) (T .kinds) post at)
-      (all-iff (T .kinds) (λ k. le-iff k n))
+  kinds-iff =
+      Iff·trans (section-iff 0 (λ k. leb k kinds) (refusalOf h Kinds) (λ n. omega arith) (C .kinds)) (all-iff (C .kinds) (λ k. le-iff k kinds))
 
-  channels-quiet : Quiet (answer Channels) ↔ All (λ c. InCount (length (T .users)) (c .owner) × InCount (length (T .kinds)) (c .kind .0)) (T .channels)
+  channels-iff : (sectionAnswer h C Channels .number ≡ 0) ↔ All (λ c. InCount users (c .owner) × InCount kinds (c .kind .0)) (C .channels)
   unfolding sectionAnswer recordFits
-  channels-quiet =
-      let (post, at) = places T .channels in
-      let u : ℕ = length (T .users) in
-      let k : ℕ = length (T .kinds) in
-      let test : Channel → Bool = (λ c. inCount u (c .owner) && inCount k (c .kind .0)) in
-      Iff·trans
-      (section-quiet channelRow 2 (λ x. refl) file (channelAt file) (channel-back file) test (refusalOf head Channels) (λ n. omega arith)
-      (head .at .channels) (T .channels) post at)
-      (all-iff (T .channels) (λ c. and-iff (inCount-iff u (c .owner)) (λ p. inCount-iff k (c .kind .0))))
+  channels-iff =
+      let test : Channel → Bool = (λ c. inCount users (c .owner) && inCount kinds (c .kind .0)) in
+      Iff·trans (section-iff noChannel test (refusalOf h Channels) (λ n. omega arith) (C .channels))
+      (all-iff (C .channels) (λ c. and-iff (inCount-iff users (c .owner)) (λ p. inCount-iff kinds (c .kind .0))))
 
   -- the roles assigned to a user that exists
-  assigned : (x : ℕ) → InCount (length (T .users)) x → userRoles file head x ≡ getD (T .users) (x - 1) 0
-  assigned x e =
-      let (post, at) = places T .users in
-      let place : 13 + 1 * (x - 1) ≡ 13 + (x - 1) = omega arith in
-      let there : x - 1 < length (T .users) = omega arith in
-      ap (wordAt file) place ∙ at (x - 1) ∙ ap (λ (l : List ℕ). getD (l ++ post) (x - 1) 0) (cat-one (T .users))
-      ∙ List·getD-append (T .users) post 0 (x - 1) there
+  assigned-iff : (x m : ℕ) → InCount users x → (within m (item 0 (C .users) x) ≡ true) ↔ Within m (getD (C .users) (x - 1) 0)
+  assigned-iff x m e =
+      subst (λ (all : ℕ). (within m (item 0 (C .users) x) ≡ true) ↔ Within m all) (item-get 0 (C .users) x (e .0)) (within-iff m (item 0 (C .users) x))
 
-  assigned-iff : (x m : ℕ) → InCount (length (T .users)) x → (within m (userRoles file head x) ≡ true) ↔ Within m (getD (T .users) (x - 1) 0)
-  assigned-iff x m e = subst (λ (all : ℕ). (within m (userRoles file head x) ≡ true) ↔ Within m all) (assigned x e) (within-iff m (userRoles file head x))
-
-  sessions-quiet : Quiet (answer Sessions) ↔ All (λ s. Seated (T .users) (s .user) (s .mask)) (T .sessions)
+  sessions-iff : (sectionAnswer h C Sessions .number ≡ 0) ↔ All (λ s. Seated (C .users) (s .user) (s .mask)) (C .sessions)
   unfolding sectionAnswer recordFits
-  sessions-quiet =
-      let (post, at) = places T .sessions in
-      let u : ℕ = length (T .users) in
-      let test : Session → Bool = (λ s. inCount u (s .user) && within (s .mask) (userRoles file head (s .user))) in
-      Iff·trans
-      (section-quiet sessionRow 3 (λ x. refl) file (sessionAt file) (session-back file) test (refusalOf head Sessions) (λ n. omega arith)
-      (head .at .sessions) (T .sessions) post at)
-      (all-iff (T .sessions)
-      (λ s. and-iff (inCount-iff u (s .user)) (assigned-iff (s .user) (s .mask))))
+  sessions-iff =
+      let test : Session → Bool = (λ s. inCount users (s .user) && within (s .mask) (item 0 (C .users) (s .user))) in
+      Iff·trans (section-iff noSession test (refusalOf h Sessions) (λ n. omega arith) (C .sessions))
+      (all-iff (C .sessions) (λ s. and-iff (inCount-iff users (s .user)) (assigned-iff (s .user) (s .mask))))
 
-  both : (v w : Verdict) → Quiet (orElse v w) ↔ (Quiet v × Quiet w)
-  both v w = both-quiet Quiet v w (λ q. q)
-
-  pub records-quiet : Quiet (recordsAnswer (tableBytes T) (headFor T)) ↔ RecordsFit T
+  pub records-iff : (recordsAnswer h C .number ≡ 0) ↔ RecordsFit C
   unfolding recordsAnswer
-  records-quiet =
-      let from-channels = Iff·trans (both _ _) (Iff·and channels-quiet sessions-quiet) in
-      let from-kinds = Iff·trans (both _ _) (Iff·and kinds-quiet from-channels) in
-      let from-roles = Iff·trans (both _ _) (Iff·and roles-quiet from-kinds) in
-      let all = Iff·trans (both _ _) (Iff·and users-quiet from-roles) in (
-        λ q.
-            let (users, (roles, (kinds, (channels, sessions)))) = all .0 q in
+  records-iff =
+      let from-channels = Iff·trans (both-zero _ _) (Iff·and channels-iff sessions-iff) in
+      let from-kinds = Iff·trans (both-zero _ _) (Iff·and kinds-iff from-channels) in
+      let from-roles = Iff·trans (both-zero _ _) (Iff·and roles-iff from-kinds) in
+      let all = Iff·trans (both-zero _ _) (Iff·and users-iff from-roles) in (
+        λ z.
+            let (users, (roles, (kinds, (channels, sessions)))) = all .0 z in
             record { users-fit = users; roles-fit = roles; kinds-fit = kinds; channels-fit = channels; sessions-fit = sessions },
         λ t. all .1 (t .users-fit, (t .roles-fit, (t .kinds-fit, (t .channels-fit, t .sessions-fit)))),
       )

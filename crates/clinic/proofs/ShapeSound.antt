@@ -6,7 +6,7 @@ use mathlib.Core.List.{List, [], _∷_, map}
 use native.Mathlib.Omega.{arith}
 use Rattle.format.specs.Answers.{fine, refused}
 use Rattle.trees.specs.Ends.{top, following}
-use Rattle.trees.specs.Shape.{boundOf, rootFits, secondFits, roomFor, nodeFits, onward, shapeFrom}
+use Rattle.trees.specs.Shape.{boundOf, rootFits, secondFits, variableFits, nodeFits, onward, shapeFrom}
 use Rattle.format.specs.declared.Verdict.{Verdict}
 use Rattle.format.specs.declared.Node.{Node}
 use Rattle.trees.specs.declared.Due.{Due}
@@ -42,7 +42,7 @@ due-fork i k d ns st r s h = go (h .0) (h .1) (h .2)
         let k′ : k ≡ past (suc i) a = second-iff (nodeOf k forks) (past (suc i) a) refl l .0 (rw f at s) in
         (fork a b ∷ ts, ap₂ (λ (x : ℕ) (m : List Node). nodeOf x forks ∷ m) k′ e, (r, omega arith, q .2 .2))
 
-due-step : (i : ℕ) (o : Step) (d : Due) (ns : List Node) (st : List Due) → rootFits i d ≡ true → roomFor (stepNode o) d ≡ true
+due-step : (i : ℕ) (o : Step) (d : Due) (ns : List Node) (st : List Due) → rootFits i d ≡ true → variableFits (stepNode o) d ≡ true
     → TreesDue (suc i) ns (Below (boundOf d + binders o) ∷ st) → TreesDue i (stepNode o ∷ ns) (d ∷ st)
 unfolding flatten write past height
 due-step i o d ns st r m h = go (h .0) (h .1) (h .2)

@@ -1,15 +1,25 @@
 -- Trees one after the other against what is due: each root word is the number of its root, and no path binds a ninth variable.
 use Prim.Native.Nat.{ℕ, _-_, _≤_}
-use mathlib.Core.Path.{_≡_, refl, ap₂}
+use mathlib.Core.Path.{_≡_, refl, ap, ap₂}
 use mathlib.Core.Bool.{true}
 use mathlib.Core.List.{List, [], _∷_, map}
 use native.Mathlib.Omega.{arith}
 use borrow.Author.Tests.{eqb-true, eq-eqb}
-use Rattle.trees.specs.Shape.{boundOf, rootFits}
+use Rattle.trees.specs.Shape.{boundOf, rootFits, roots}
+use Rattle.format.specs.declared.Session.{Session}
 use Rattle.trees.specs.declared.Due.{Due}
 use Rattle.trees.specs.declared.Due.the-variants.{Root}
 use Rattle.clinic.specs.Lists.{All}
 use Rattle.clinic.specs.Tree.{Tree, past, height}
+
+-- the sessions' root words, which are what is due at the start
+abbrev pub rootsIn : List Session → List ℕ
+rootsIn ss = map (λ (s : Session). s .root) ss
+
+pub roots-due : (ss : List Session) → roots ss ≡ map Root (rootsIn ss)
+unfolding roots
+roots-due [] = refl
+roots-due (s ∷ ss) = ap {B = List Due} (λ l. Root (s .root) ∷ l) (roots-due ss)
 
 -- where each of some trees begins
 unfoldable pub rootsOf : ℕ → List Tree → List ℕ

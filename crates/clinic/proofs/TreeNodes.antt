@@ -6,7 +6,7 @@ use mathlib.Core.List.{List, _∷_}
 use native.Mathlib.Omega.{arith}
 use native.Mathlib.Nat.{add-zero}
 use borrow.Author.Tests.{ltb-true, lt-ltb}
-use Rattle.trees.specs.Shape.{boundOf, rootFits, roomFor, onward}
+use Rattle.trees.specs.Shape.{boundOf, rootFits, variableFits, onward}
 use Rattle.trees.specs.declared.Due.{Due}
 use Rattle.trees.specs.declared.Due.the-variants.{Below}
 use Rattle.trees.proofs.FitsLaws.{Fitting}
@@ -21,7 +21,7 @@ step-fits i (compare a b) d e r l = (r, omega arith, refl, refl, refl)
 step-fits i (receive c) d e r l = (r, omega arith, refl, refl, lt-ltb (boundOf d) 8 (omega arith))
 step-fits i (send c v) d e r l = (r, omega arith, refl, refl, refl)
 
-pub step-room : (s : Step) (d : Due) (h : ℕ) → roomFor (stepNode s) d ≡ true → h ≤ 8 - (boundOf d + binders s) → binders s + h ≤ 8 - boundOf d
+pub step-room : (s : Step) (d : Due) (h : ℕ) → variableFits (stepNode s) d ≡ true → h ≤ 8 - (boundOf d + binders s) → binders s + h ≤ 8 - boundOf d
 step-room repeat d h r l = omega arith
 step-room (new k) d h r l = omega (arith, ltb-true (boundOf d) 8 r)
 step-room (compare a b) d h r l = omega arith

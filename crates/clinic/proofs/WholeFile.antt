@@ -1,46 +1,51 @@
--- A file whose head is not refused is the bytes of the tables that are read from it.
+-- A file whose head is not refused is the bytes of what is read from it.
 use Prim.Native.Nat.{ℕ, suc, _+_, _*_, _/_, _%_}
 use mathlib.Core.Path.{_≡_, refl, sym, ap, ap₂, _∙_}
 use mathlib.Core.List.{List, [], _∷_, _++_}
 use native.Mathlib.Omega.{arith}
 use lib.ListN.{length}
-use Rattle.format.specs.Words.{wordAt, wideAt}
-use Rattle.format.specs.Header.{headAt, Laid}
-use Rattle.format.specs.Sections.{nodeAt}
+use Rattle.format.specs.Words.{wordAt, wideAt, bytesOf}
+use Rattle.format.specs.Header.{headAt, headWords, Laid}
+use Rattle.format.specs.Sections.{nodeAt, wordsFrom}
+use Rattle.format.specs.Contents.{contentsAt, contentsOf}
+use Rattle.format.specs.Writing.{headFor, encoded}
 use Rattle.format.specs.declared.Head.{Head}
 use Rattle.format.specs.declared.Six.{Six}
 use Rattle.format.proofs.HeadLaws.{Headed}
+use Rattle.format.proofs.ContentsLaws.{users-held, roles-held, kinds-held, channels-held, sessions-held, nodes-held}
 use Rattle.clinic.specs.Lists.{All}
-use Rattle.clinic.specs.File.{headWords, bytesOf}
 use Rattle.clinic.proofs.Bytes.{Byte, Word, length-bytesOf, paired, small-words}
-use Rattle.clinic.proofs.Rows.{holds-all, holds-words, wordsFrom, words-joined, length-rows, rows-words}
-use Rattle.clinic.proofs.Tables.{oneRow, roleRow, channelRow, sessionRow, nodeRow, roleAt, channelAt, sessionAt}
-use Rattle.clinic.proofs.Tables.{headWordsOf, tableWords, tableBytes, tablesAt}
+use Rattle.clinic.proofs.Rows.{holds-all, holds-words, words-joined, rows-words}
+use Rattle.clinic.proofs.SectionRows.{oneRow, roleRow, channelRow, sessionRow, nodeRow, roleAt, channelAt, sessionAt, rowWords, file-rows}
 
-head-words : (f : List ℕ) → Headed f
-    → headWords (wordAt f 1) (wordAt f 2) (wordAt f 3) (wordAt f 4) (wordAt f 5) (wordAt f 6) ≡ wordsFrom f 0 13
-unfolding headWords wordsFrom
-head-words f d =
-    let l : Laid (headAt f) = d .laid in
-    let e0 : 1 ≡ wordAt f 0 = sym (d .version) in
-    let e7 : 13 ≡ wordAt f 7 = sym (l .users-at) in
-    let e8 : 13 + wordAt f 1 ≡ wordAt f 8 = sym (l .roles-at) in
-    let e9 : 13 + wordAt f 1 + 4 * wordAt f 2 ≡ wordAt f 9 = ap (λ (x : ℕ). x + 4 * wordAt f 2) e8 ∙ sym (l .kinds-at) in
-    let e10 : 13 + wordAt f 1 + 4 * wordAt f 2 + wordAt f 3 ≡ wordAt f 10 = ap (λ (x : ℕ). x + wordAt f 3) e9 ∙ sym (l .channels-at) in
-    let e11 : 13 + wordAt f 1 + 4 * wordAt f 2 + wordAt f 3 + 2 * wordAt f 4 ≡ wordAt f 11 = ap (λ (x : ℕ). x + 2 * wordAt f 4) e10 ∙ sym (l .sessions-at) in
-    let e12 : 13 + wordAt f 1 + 4 * wordAt f 2 + wordAt f 3 + 2 * wordAt f 4 + 3 * wordAt f 5 ≡ wordAt f 12 = ap (λ (x : ℕ). x + 3 * wordAt f 5) e11 ∙ sym (l .nodes-at) in
-    λ i. e0 i ∷ wordAt f 1 ∷ wordAt f 2 ∷ wordAt f 3 ∷ wordAt f 4 ∷ wordAt f 5 ∷ wordAt f 6 ∷ e7 i ∷ e8 i ∷ e9 i ∷ e10 i ∷ e11 i ∷ e12 i ∷ []
+-- the head that the contents read have is the file's own
+same-head : (f : List ℕ) → Headed f → headFor (contentsOf f) ≡ headAt f
+same-head f d =
+    let h : Head = headAt f in
+    let l : Laid f h = d .laid in
+    let u = users-held f h in
+    let r = roles-held f h in
+    let k = kinds-held f h in
+    let c = channels-held f h in
+    let s = sessions-held f h in
+    let n = nodes-held f h in
+    let H : Head = headFor (contentsOf f) in
+    let version : 1 ≡ h .version = sym (d .version) in
+    let a7 : H .at .users ≡ h .at .users = omega arith in
+    let a8 : H .at .roles ≡ h .at .roles = omega arith in
+    let a9 : H .at .kinds ≡ h .at .kinds = omega arith in
+    let a10 : H .at .channels ≡ h .at .channels = omega arith in
+    let a11 : H .at .sessions ≡ h .at .sessions = omega arith in
+    let a12 : H .at .nodes ≡ h .at .nodes = omega arith in
+    λ i. record {
+      version = version i;
+      count = record { users = u i; roles = r i; kinds = k i; channels = c i; sessions = s i; nodes = n i };
+      at = record { users = a7 i; roles = a8 i; kinds = a9 i; channels = a10 i; sessions = a11 i; nodes = a12 i };
+    }
 
--- the tables read have as many records as the head counts
-counted : (f : List ℕ) (h : Head) → headWordsOf (tablesAt f h) ≡ headWords (h .count .users) (h .count .roles) (h .count .kinds) (h .count .channels) (h .count .sessions) (h .count .nodes)
-counted f h =
-    let users = length-rows (wordAt f) 1 (h .at .users) (h .count .users) in
-    let roles = length-rows (roleAt f) 4 (h .at .roles) (h .count .roles) in
-    let kinds = length-rows (wordAt f) 1 (h .at .kinds) (h .count .kinds) in
-    let channels = length-rows (channelAt f) 2 (h .at .channels) (h .count .channels) in
-    let sessions = length-rows (sessionAt f) 3 (h .at .sessions) (h .count .sessions) in
-    let nodes = length-rows (nodeAt f) 3 (h .at .nodes) (h .count .nodes) in
-    λ i. headWords (users i) (roles i) (kinds i) (channels i) (sessions i) (nodes i)
+head-words : (f : List ℕ) → headWords (headAt f) ≡ wordsFrom f 0 13
+unfolding wordsFrom
+head-words f = refl
 
 -- words, then what stands after them
 join : (f : List ℕ) (p a q b : ℕ) (k l : List ℕ) → p + a ≡ q → k ≡ wordsFrom f p a → l ≡ wordsFrom f q b → k ++ l ≡ wordsFrom f p (a + b)
@@ -79,24 +84,24 @@ triple-words f p =
     rw (one, two)
 
 module _ (f : List ℕ) (d : Headed f) (bytes : All Byte f) where
-  -- section after section, the tables' words are the file's
-  tables-words : tableWords (tablesAt f (headAt f)) ≡ wordsFrom f 0 (wordAt f 12 + 3 * wordAt f 6)
-  unfolding tableWords
-  tables-words =
-      let l : Laid (headAt f) = d .laid in
+  -- section after section, the words of what is read are the file's
+  contents-words : rowWords (contentsOf f) ≡ wordsFrom f 0 (wordAt f 12 + 3 * wordAt f 6)
+  unfolding contentsAt
+  contents-words =
+      let l : Laid f (headAt f) = d .laid in
       let n : Six = headAt f .count in
       let at : Six = headAt f .at in
       let small = small-words f bytes in
-      let users = rows-words oneRow 1 (λ x. refl) f (wordAt f) (one-words f) (at .users) (n .users) in
-      let roles = rows-words roleRow 4 (λ x. refl) f (roleAt f) (role-words f small) (at .roles) (n .roles) in
-      let kinds = rows-words oneRow 1 (λ x. refl) f (wordAt f) (one-words f) (at .kinds) (n .kinds) in
-      let channels = rows-words channelRow 2 (λ x. refl) f (channelAt f) (channel-words f) (at .channels) (n .channels) in
-      let sessions = rows-words sessionRow 3 (λ x. refl) f (sessionAt f) (triple-words f) (at .sessions) (n .sessions) in
-      let nodes = rows-words nodeRow 3 (λ x. refl) f (nodeAt f) (triple-words f) (at .nodes) (n .nodes) in
+      let users = rows-words oneRow 1 (λ x. refl) f (wordAt f) (at .users) (one-words f) (n .users) in
+      let roles = rows-words roleRow 4 (λ x. refl) f (roleAt f) (at .roles) (role-words f small) (n .roles) in
+      let kinds = rows-words oneRow 1 (λ x. refl) f (wordAt f) (at .kinds) (one-words f) (n .kinds) in
+      let channels = rows-words channelRow 2 (λ x. refl) f (channelAt f) (at .channels) (channel-words f) (n .channels) in
+      let sessions = rows-words sessionRow 3 (λ x. refl) f (sessionAt f) (at .sessions) (triple-words f) (n .sessions) in
+      let nodes = rows-words nodeRow 3 (λ x. refl) f (nodeAt f) (at .nodes) (triple-words f) (n .nodes) in
       let past-users : at .users + 1 * n .users ≡ at .roles = omega arith in
       let past-kinds : at .kinds + 1 * n .kinds ≡ at .channels = omega arith in
       let end : 13 + (1 * n .users + (4 * n .roles + (1 * n .kinds + (2 * n .channels + (3 * n .sessions + 3 * n .nodes))))) ≡ wordAt f 12 + 3 * wordAt f 6 = omega arith in
-      join f 0 13 (at .users) _ _ _ (sym (l .users-at)) (counted f (headAt f) ∙ head-words f d)
+      join f 0 13 (at .users) _ _ _ (sym (l .users-at)) (ap headWords (same-head f d) ∙ head-words f)
       (join f (at .users) (1 * n .users) (at .roles) _ _ _ past-users users
       (join f (at .roles) (4 * n .roles) (at .kinds) _ _ _ (sym (l .kinds-at)) roles
       (join f (at .kinds) (1 * n .kinds) (at .channels) _ _ _ past-kinds kinds
@@ -105,10 +110,11 @@ module _ (f : List ℕ) (d : Headed f) (bytes : All Byte f) where
       ∙ ap (wordsFrom f 0) end
 
   -- read, then written, gives the bytes back
-  pub bytes-back : tableBytes (tablesAt f (headAt f)) ≡ f
-  unfolding tableBytes
+  pub bytes-back : encoded (contentsOf f) ≡ f
+  unfolding encoded
   bytes-back =
-      let (ws, e) = paired f (omega (arith, d .size)) bytes in
-      let len : wordAt f 12 + 3 * wordAt f 6 ≡ length ws = omega (arith, d .size, ap length e, length-bytesOf ws) in
+      let l : Laid f (headAt f) = d .laid in
+      let (ws, e) = paired f (omega arith) bytes in
+      let len : wordAt f 12 + 3 * wordAt f 6 ≡ length ws = omega (arith, ap length e, length-bytesOf ws) in
       let all : wordsFrom (bytesOf ws) 0 (length ws) ≡ ws = holds-words (bytesOf ws) 0 ws (holds-all ws) in
-      ap bytesOf (tables-words ∙ ap (wordsFrom f 0) len ∙ ap (λ (g : List ℕ). wordsFrom g 0 (length ws)) (sym e) ∙ all) ∙ e
+      ap bytesOf (file-rows (contentsOf f) ∙ contents-words ∙ ap (wordsFrom f 0) len ∙ ap (λ (g : List ℕ). wordsFrom g 0 (length ws)) (sym e) ∙ all) ∙ e

@@ -1,12 +1,13 @@
 -- The clinic file as data, when it is well formed, and its bytes.
-use Prim.Native.Nat.{ℕ, _+_, _*_, _-_, _/_, _%_, _≤_}
-use mathlib.Core.List.{List, [], _∷_, _++_, map}
+use Prim.Native.Nat.{ℕ, _-_, _≤_}
+use mathlib.Core.List.{List, [], _∷_, map}
 use lib.ListN.{length, getD}
-unfoldable pub use Rattle.format.specs.Words.{bytesOf}
-unfoldable pub use Rattle.format.specs.Sections.{nodeWords}
+use Rattle.format.specs.Contents.{Contents}
+use Rattle.format.specs.Writing.{encoded}
 use Rattle.masks.specs.Mask.{NamesOnly, Within}
 use Rattle.format.specs.declared.Role.{Role}
 use Rattle.format.specs.declared.Channel.{Channel}
+use Rattle.format.specs.declared.Session.{Session}
 use Rattle.format.specs.declared.Node.{Node}
 use Rattle.clinic.specs.Lists.{All}
 use Rattle.clinic.specs.Tree.{Tree, past, flatten, height, Worded}
@@ -48,38 +49,22 @@ pub record WellFormed (F : File) : Type 0 where
   pub sessions-fit : All (λ s. InCount (length (F .users)) (s .user) × Within (s .mask) (getD (F .users) (s .user - 1) 0)) (F .sessions)
   pub trees-fit : All (λ s. (height (s .tree) ≤ 8) × Worded (s .tree)) (F .sessions)
 
--- The words of a file, in order.
+-- the sessions' records: session 1's root is 1, and each root follows the tree before it
+unfoldable pub rooted : ℕ → List Routine → List Session
+rooted at [] = []
+rooted at (s ∷ ss) = record { user = s .user; mask = s .mask; root = at } ∷ rooted (past at (s .tree)) ss
 
-unfoldable pub roleWords : List Role → List ℕ
-roleWords [] = []
-roleWords (r ∷ rs) = r .sends % 65536 ∷ r .sends / 65536 ∷ r .receives % 65536 ∷ r .receives / 65536 ∷ roleWords rs
+-- what the file holds: its trees as nodes
+abbrev pub contentsFor : File → Contents
+contentsFor F = record {
+  users = F .users;
+  roles = F .roles;
+  kinds = F .kinds;
+  channels = F .channels;
+  sessions = rooted 1 (F .sessions);
+  nodes = nodesOf F;
+}
 
-unfoldable pub channelWords : List Channel → List ℕ
-channelWords [] = []
-channelWords (c ∷ cs) = c .owner ∷ c .kind .0 ∷ channelWords cs
-
--- session 1's root is 1, and each root follows the tree before it
-unfoldable pub sessionWords : ℕ → List Routine → List ℕ
-sessionWords at [] = []
-sessionWords at (s ∷ ss) = s .user ∷ s .mask ∷ at ∷ sessionWords (past at (s .tree)) ss
-
--- the version, the six counts, and the offsets of the six sections, back to back
-unfoldable pub headWords : ℕ → ℕ → ℕ → ℕ → ℕ → ℕ → List ℕ
-headWords users roles kinds channels sessions nodes =
-    1 ∷ users ∷ roles ∷ kinds ∷ channels ∷ sessions ∷ nodes
-    ∷ 13
-    ∷ (13 + users)
-    ∷ (13 + users + 4 * roles)
-    ∷ (13 + users + 4 * roles + kinds)
-    ∷ (13 + users + 4 * roles + kinds + 2 * channels)
-    ∷ (13 + users + 4 * roles + kinds + 2 * channels + 3 * sessions)
-    ∷ []
-
-unfoldable pub wordsOf : File → List ℕ
-wordsOf F =
-    headWords (length (F .users)) (length (F .roles)) (length (F .kinds)) (length (F .channels)) (length (F .sessions)) (length (nodesOf F))
-    ++ F .users ++ roleWords (F .roles) ++ F .kinds ++ channelWords (F .channels) ++ sessionWords 1 (F .sessions) ++ nodeWords (nodesOf F)
-
--- each word low byte first
+-- its bytes
 unfoldable pub encode : File → List ℕ
-encode F = bytesOf (wordsOf F)
+encode F = encoded (contentsFor F)

@@ -1,4 +1,5 @@
 pub mod Lists
 pub mod Tree
 pub mod File
+pub mod Order
 pub mod Refusals

@@ -1,22 +1,23 @@
 -- What each of the refusals 1 to 8 objects to, and where, in the words of the paper.
-use Prim.Native.Nat.{ℕ, zero, suc, _+_, _*_, _-_, _%_, _≤_, _<_}
+use Prim.Native.Nat.{ℕ, suc, _+_, _*_, _-_, _%_, _≤_, _<_}
 use mathlib.Core.Path.{_≡_}
 use mathlib.Core.Logic.{_⊎_, _≢_}
 use mathlib.Core.Bool.{true, false}
-use mathlib.Core.List.{List, [], _∷_}
+use mathlib.Core.List.{List, map}
 use lib.ListN.{length, getD}
 use Rattle.masks.specs.Mask.{has}
 use Rattle.format.specs.Words.{wordAt}
-use Rattle.format.specs.Answers.{fine, refused}
-use Rattle.format.specs.Header.{sixAt, headAt}
-use Rattle.format.specs.Sections.{placeOf, userRoles, roleOf, carried, channelOf, sessionOf, nodesFrom}
+use Rattle.format.specs.Header.{sixAt, headAt, lengthFor}
+use Rattle.format.specs.Sections.{placeOf}
+use Rattle.format.specs.Contents.{Contents, item, noRole, noChannel, noSession, contentsOf}
 use Rattle.trees.specs.Shape.{boundBelow}
-use Rattle.format.specs.declared.Verdict.{Verdict}
 use Rattle.format.specs.declared.Six.{Six}
 use Rattle.format.specs.declared.Head.{Head}
+use Rattle.format.specs.declared.Session.{Session}
 use Rattle.format.specs.declared.Node.{Node}
 use Rattle.format.specs.declared.Section.the-variants.{Users, Roles, Kinds, Channels}
 use Rattle.clinic.specs.File.{InCount}
+use Rattle.clinic.specs.Order.{Order}
 
 -- every count is in range
 abbrev pub Counted : Six → Type 0
@@ -29,19 +30,19 @@ BackToBack n at =
     × (at .sessions ≡ at .channels + 2 * n .channels) × (at .nodes ≡ at .sessions + 3 * n .sessions)
 
 -- 6: a user, role, kind or channel record names an item that the counts don't have; the place is the record's offset
-pub data Misnamed (f : List ℕ) (h : Head) (p : ℕ) : Type 0 where
-  user : (n x : ℕ) → InCount (h .count .users) n → has (userRoles f h n) x ≡ true → h .count .roles < x → p ≡ placeOf h Users n → Misnamed f h p
-  sends : (n x : ℕ) → InCount (h .count .roles) n → has (roleOf f h n .sends) x ≡ true → h .count .kinds < x → p ≡ placeOf h Roles n → Misnamed f h p
-  receives : (n x : ℕ) → InCount (h .count .roles) n → has (roleOf f h n .receives) x ≡ true → h .count .kinds < x → p ≡ placeOf h Roles n → Misnamed f h p
-  kind : (n : ℕ) → InCount (h .count .kinds) n → h .count .kinds < carried f h n → p ≡ placeOf h Kinds n → Misnamed f h p
-  owner : (n : ℕ) → InCount (h .count .channels) n → (InCount (h .count .users) (channelOf f h n .owner) → ⊥) → p ≡ placeOf h Channels n → Misnamed f h p
-  kind-of : (n : ℕ) → InCount (h .count .channels) n → (InCount (h .count .kinds) (channelOf f h n .kind .0) → ⊥) → p ≡ placeOf h Channels n → Misnamed f h p
+pub data Misnamed (h : Head) (C : Contents) (p : ℕ) : Type 0 where
+  user : (n x : ℕ) → InCount (length (C .users)) n → has (item 0 (C .users) n) x ≡ true → length (C .roles) < x → p ≡ placeOf h Users n → Misnamed h C p
+  sends : (n x : ℕ) → InCount (length (C .roles)) n → has (item noRole (C .roles) n .sends) x ≡ true → length (C .kinds) < x → p ≡ placeOf h Roles n → Misnamed h C p
+  receives : (n x : ℕ) → InCount (length (C .roles)) n → has (item noRole (C .roles) n .receives) x ≡ true → length (C .kinds) < x → p ≡ placeOf h Roles n → Misnamed h C p
+  kind : (n : ℕ) → InCount (length (C .kinds)) n → length (C .kinds) < item 0 (C .kinds) n → p ≡ placeOf h Kinds n → Misnamed h C p
+  owner : (n : ℕ) → InCount (length (C .channels)) n → (InCount (length (C .users)) (item noChannel (C .channels) n .owner) → ⊥) → p ≡ placeOf h Channels n → Misnamed h C p
+  kind-of : (n : ℕ) → InCount (length (C .channels)) n → (InCount (length (C .kinds)) (item noChannel (C .channels) n .kind .0) → ⊥) → p ≡ placeOf h Channels n → Misnamed h C p
 
 -- 7: no such user, a starting role not assigned; the place is the session
-pub data Misseated (f : List ℕ) (h : Head) (p : ℕ) : Type 0 where
-  no-user : InCount (h .count .sessions) p → (InCount (h .count .users) (sessionOf f h p .user) → ⊥) → Misseated f h p
-  not-assigned : (x : ℕ) → InCount (h .count .sessions) p → InCount (h .count .users) (sessionOf f h p .user) → has (sessionOf f h p .mask) x ≡ true
-      → has (userRoles f h (sessionOf f h p .user)) x ≡ false → Misseated f h p
+pub data Misseated (C : Contents) (p : ℕ) : Type 0 where
+  no-user : InCount (length (C .sessions)) p → (InCount (length (C .users)) (item noSession (C .sessions) p .user) → ⊥) → Misseated C p
+  not-assigned : (x : ℕ) → InCount (length (C .sessions)) p → InCount (length (C .users)) (item noSession (C .sessions) p .user)
+      → has (item noSession (C .sessions) p .mask) x ≡ true → has (item 0 (C .users) (item noSession (C .sessions) p .user)) x ≡ false → Misseated C p
 
 -- the node of a number in a list numbered from 1
 abbrev pub nth : List Node → ℕ → Node
@@ -81,11 +82,6 @@ pub data Misshapen (ns : List Node) (roots : List ℕ) (p : ℕ) : Type 0 where
   left-over : Begins ns (suc (length roots)) p → InCount (length ns) p → Misshapen ns roots p
   ninth : (b : ℕ) → Reached ns (length roots) p b → 8 ≤ b → InCount (length ns) p → (nth ns p .tag ≡ 3) ⊎ (nth ns p .tag ≡ 5) → Misshapen ns roots p
 
--- the root words of a file's sessions
-unfoldable pub rootWords : List ℕ → ℕ → ℕ → List ℕ
-rootWords f p zero = []
-rootWords f p (suc k) = wordAt f (p + 2) ∷ rootWords f (p + 3) k
-
 -- a refusal's number and place hold of a file
 pub data Refusable (f : List ℕ) (n p : ℕ) : Type 0 where
   short : n ≡ 1 → p ≡ 0 → length f < 26 → Refusable f n p
@@ -93,18 +89,11 @@ pub data Refusable (f : List ℕ) (n p : ℕ) : Type 0 where
   version : n ≡ 2 → p ≡ 0 → wordAt f 0 ≢ 1 → Refusable f n p
   count : n ≡ 3 → p ≡ 0 → (Counted (sixAt f 1) → ⊥) → Refusable f n p
   offset : n ≡ 4 → p ≡ 0 → (BackToBack (sixAt f 1) (sixAt f 7) → ⊥) → Refusable f n p
-  size : n ≡ 5 → p ≡ 0 → length f ≢ 2 * (headAt f .at .nodes + 3 * headAt f .count .nodes) → Refusable f n p
-  misnamed : n ≡ 6 → Misnamed f (headAt f) p → Refusable f n p
-  misseated : n ≡ 7 → Misseated f (headAt f) p → Refusable f n p
-  misshapen : n ≡ 8 → Misshapen (nodesFrom f (headAt f .at .nodes) (headAt f .count .nodes)) (rootWords f (headAt f .at .sessions) (headAt f .count .sessions)) p
-      → Refusable f n p
+  size : n ≡ 5 → p ≡ 0 → length f ≢ lengthFor (headAt f .at .nodes) (headAt f .count .nodes) → Refusable f n p
+  misnamed : n ≡ 6 → Misnamed (headAt f) (contentsOf f) p → Refusable f n p
+  misseated : n ≡ 7 → Misseated (contentsOf f) p → Refusable f n p
+  misshapen : n ≡ 8 → Misshapen (contentsOf f .nodes) (map (λ (s : Session). s .root) (contentsOf f .sessions)) p → Refusable f n p
 
--- the order of refusals: by number, and within a number the lowest place first
-abbrev pub Before : ℕ → ℕ → ℕ → ℕ → Type 0
-Before n p m q = (n < m) ⊎ ((n ≡ m) × (p ≤ q))
-
--- the answer is the first in that order of the refusals that hold, and refuses nothing where none does
-abbrev pub First : (ℕ → ℕ → Type 0) → Verdict → Type 0
-First R v =
-    ((v ≡ fine) × ((n p : ℕ) → R n p → ⊥))
-    ⊎ ((n : ℕ) × (p : ℕ) × (v ≡ refused n p) × R n p × ((m q : ℕ) → R m q → Before n p m q))
+-- the order: by number, and within a number the lowest place first
+abbrev pub readingOrder : Order
+readingOrder = record { stage = λ n. n; turn = λ n. n }

@@ -1,3 +1,4 @@
+pub mod SameContents
 pub mod Promises
 -- walks by hand: calls of covered functions, calls that lend a list again, the records of a list
 pub mod Again

@@ -9,22 +9,22 @@ use mathlib.Core.Bool.{true, cond}
 use mathlib.Core.List.{List, [], _∷_, _++_}
 use lib.Dec.{eqb}
 use lib.ListN.{length, getD, take, drop}
+use Rattle.format.specs.Contents.{Contents, contentsOf}
 use Rattle.format.specs.Answers.{fine, refused}
-use Rattle.format.specs.Header.{headAt}
+use Rattle.format.specs.Header.{headAt, roomFor}
 use Rattle.reading.specs.Reading.{reading}
 use Rattle.clinic.specs.Lists.{All}
 use Rattle.clinic.specs.File.{InCount, File, WellFormed, encode}
-use Rattle.clinic.specs.Refusals.{Refusable, First}
+use Rattle.clinic.specs.Order.{First}
+use Rattle.clinic.specs.Refusals.{Refusable, readingOrder}
 use Rattle.checking.specs.Check.{readingNames, checking}
-use Rattle.typing.specs.Typing.{Obeys}
-use Rattle.typing.specs.Kinding.{Named}
-use Rattle.typing.specs.Faults.{Objection, Soonest}
+use Rattle.typing.specs.Typing.{WellKinded, Obeys}
+use Rattle.typing.specs.Faults.{Objection, checkOrder}
 use Rattle.rules.specs.Schema.{Schema}
 use Rattle.clinic.specs.Tree.{Tree}
 use Rattle.clinic.specs.Refusals.{nth}
 use Rattle.placing.specs.Placing.{placing, noPlace, placedBytes, placedOver}
-use Rattle.placement.specs.Placement.{onSteps, onStepsOf, Placement}
-use Rattle.placement.specs.ByRoles.{PlacementByRoles}
+use Rattle.placement.specs.Placement.{onSteps, onStepsOf, Placement, PlacementByRoles}
 use Rattle.placement.specs.Placed.{labels, placedTree, Throughout}
 use Rattle.placement.specs.Promised.{WellPlaced, Clean, SomeMask, IsSwitch, Unserved, Lowest, Unrefused, NoPlacement, PlacedWith}
 use Rattle.placement.specs.Cases.{Shown, cases}
@@ -56,6 +56,8 @@ use Rattle.runs.proofs.RunSafe.{run-kept, next-free, run-safe, placed-safe, pla
 use Rattle.lent.proofs.LendableLaws.{eighteen-zero, ten-first, past-ten-one}
 use Rattle.lent.proofs.LentRuns.{kept-lendable, lent-next, whole-run, lent-again}
 use Rattle.lent.proofs.Unchanged.{refused-unchanged, past-kept}
+use Rattle.engine.specs.Alike.{Alike}
+use Rattle.engine.proofs.SameContents.{alike}
 use Rattle.clinic.proofs.Exact.{sound, complete, single}
 use Rattle.clinic.proofs.EncodedBytes.{encode-bytes}
 use Rattle.clinic.proofs.FirstRefusal.{first-refusal}
@@ -66,7 +68,7 @@ pub checks-exactly : (f : List ℕ) → All (λ b. b < 256) f → (checking f �
 checks-exactly = check-exact
 
 -- "a file that meets refusals 1 to 10 clean": well formed, with names and kinds by rules 1 to 4.
-pub names-exactly : (f : List ℕ) → All (λ b. b < 256) f → (readingNames f ≡ fine) ↔ ((F : File) × WellFormed F × (encode F ≡ f) × Named F)
+pub names-exactly : (f : List ℕ) → All (λ b. b < 256) f → (readingNames f ≡ fine) ↔ ((F : File) × WellFormed F × (encode F ≡ f) × WellKinded F)
 names-exactly = names-exact
 
 -- The format alone: none of 1 to 8 is refused exactly when the bytes are the encoding of a well formed file.
@@ -82,13 +84,13 @@ file-bytes = encode-bytes
 
 -- "Order: .. 1 to 8 by number, lowest place first. Then 9 and 10 together, by node, 9 first. Checking: 11 to 13 by node." The refusal answered is the first that the file gives
 -- cause for, and none is answered where it gives none: of all of them, of 1 to 10, and of 1 to 8.
-pub first-of-check : (f : List ℕ) → Soonest (Objection f) (checking f)
+pub first-of-check : (f : List ℕ) → First checkOrder (Objection f) (checking f)
 first-of-check = check-first
 
-pub first-of-names : (f : List ℕ) → Soonest (λ n p. Objection f n p × (n ≤ 10)) (readingNames f)
+pub first-of-names : (f : List ℕ) → First checkOrder (λ n p. Objection f n p × (n ≤ 10)) (readingNames f)
 first-of-names = names-first
 
-pub first-in-order : (f : List ℕ) → First (Refusable f) (reading f)
+pub first-in-order : (f : List ℕ) → First readingOrder (Refusable f) (reading f)
 first-in-order = first-refusal
 
 -- A program that keeps only the start of a long input answers for the whole of it.
@@ -132,16 +134,16 @@ pub placed-otherwise : (f : List ℕ) → All (λ b. b < 256) f → (room : ℕ)
 placed-otherwise = placed-exactly
 
 -- "Order: 17, then 1 to 8 by number .. 9 and 10 together .. Placing: 14 (masks before nodes), 15, 16, each at its lowest node."
-pub no-room : (f : List ℕ) (room : ℕ) → (placing f room ≡ noPlace 17 0) ↔ (room < 6874)
+pub no-room : (f : List ℕ) (room : ℕ) → (placing f room ≡ noPlace 17 0) ↔ (room < roomFor f)
 no-room = seventeen-exactly
 
-pub names-come-first : (f : List ℕ) (room n p : ℕ) → 1 ≤ n → n ≤ 10 → (placing f room ≡ noPlace n p) ↔ ((6874 ≤ room) × (readingNames f ≡ refused n p))
+pub names-come-first : (f : List ℕ) (room n p : ℕ) → 1 ≤ n → n ≤ 10 → (placing f room ≡ noPlace n p) ↔ ((roomFor f ≤ room) × (readingNames f ≡ refused n p))
 names-come-first = ten-exactly
 
-pub masks-before-nodes : (f : List ℕ) → All (λ b. b < 256) f → (room : ℕ) → (placing f room ≡ noPlace 14 0) ↔ (Clean f room × SomeMask f)
+pub masks-before-nodes : (f : List ℕ) → All (λ b. b < 256) f → (room : ℕ) → (placing f room ≡ noPlace 14 0) ↔ (Clean f room × SomeMask (contentsOf f))
 masks-before-nodes = fourteen-masks
 
-pub lowest-unserved : (f : List ℕ) → All (λ b. b < 256) f → (room p : ℕ) → (placing f room ≡ noPlace 15 p) ↔ (Unrefused f room × Lowest (Unserved f) p)
+pub lowest-unserved : (f : List ℕ) → All (λ b. b < 256) f → (room p : ℕ) → (placing f room ≡ noPlace 15 p) ↔ (Unrefused f room × Lowest (Unserved (contentsOf f)) p)
 lowest-unserved = fifteen-place
 
 -- "Output bytes past that length keep what they held", and "nothing is written" where anything is refused.
@@ -182,10 +184,10 @@ run-ends = run-whole
 
 -- In every state of a run of a file that 1 to 10 let through each thread's node is in count, its user that of its session, its mask the active set of rule 5 at that node and within the
 -- user's roles, each variable of rule 1's kind there, and 0 where none is bound; the variable that a binder takes, the first 0 of the eight, is the next on the path.
-pub states-of-runs : (f : List ℕ) → readingNames f ≡ fine → (ws : List ℕ) → Kept f (ranOf f ws .state)
+pub states-of-runs : (f : List ℕ) → readingNames f ≡ fine → (ws : List ℕ) → Kept (contentsOf f) (ranOf f ws .state)
 states-of-runs = run-kept
 
-pub next-variable : (f : List ℕ) {s : State} → Kept f s → (i : ℕ) → InCount (length (s .threads)) i → (c : Context) → Reaches f (threadAt s i) c
+pub next-variable : (C : Contents) {s : State} → Kept C s → (i : ℕ) → InCount (length (s .threads)) i → (c : Context) → Reaches C (threadAt s i) c
     → firstFree (threadAt s i .vars) ≡ length (c .vars)
 next-variable = next-free
 
@@ -223,7 +225,7 @@ no-pair-exactly = ready-none
 
 -- The live desk's list. "Another number of records, a count above 64, a made channel's owner or kind out of count, or in a counted thread a node out of count, a user not that of the node's session, a role in
 -- the mask not assigned to that user, or a variable not of the kind that rule 1 gives it at that node (0 where none is bound), is 18 at place 0": exactly where the file passes 1 to 10 and what is lent is not `Lendable`.
-pub lent-exactly : (f : List ℕ) (l : List Thread) → All Eight l → (b : List ℕ) (i p : ℕ) → (choosing f l b i p ≡ refused 18 0) ↔ ((readingNames f ≡ fine) × (Lendable f l b → ⊥))
+pub lent-exactly : (f : List ℕ) (l : List Thread) → All Eight l → (b : List ℕ) (i p : ℕ) → (choosing f l b i p ≡ refused 18 0) ↔ ((readingNames f ≡ fine) × (Lendable (contentsOf f) l b → ⊥))
 lent-exactly = eighteen-zero
 
 -- "the file is judged by 1 to 10 first", and "the choice itself has place 1": what a choice in the state that is lent is refused with.
@@ -231,7 +233,7 @@ pub file-first : (f : List ℕ) (l : List Thread) (b : List ℕ) (i p n q : ℕ)
 file-first = ten-first
 
 pub choice-has-place-one : (f : List ℕ) (l : List Thread) (b : List ℕ) (i p n : ℕ) → 10 < n
-    → (choosing f l b i p ≡ refused n 1) ↔ ((lending f l b ≡ fine) × (choice (clinicOf f (headAt f)) (stateOf l b) i p ≡ halts n))
+    → (choosing f l b i p ≡ refused n 1) ↔ ((lending f l b ≡ fine) × (choice (clinicOf (contentsOf f)) (stateOf l b) i p ≡ halts n))
 choice-has-place-one = past-ten-one
 
 -- "from a state of a run it gives the run's next state": a state of a run is never 18 at place 0; a choice in it leaves the list holding the state of the run with that choice more, or is refused at place 1 as
@@ -244,7 +246,7 @@ pub next-of-run : (f : List ℕ) → readingNames f ≡ fine → (ws : List ℕ)
     × (choosing f l b i p ≡ cond (eqb (ranOf f (ws ++ (i ∷ p ∷ [])) .refusal) 0) fine (refused (ranOf f (ws ++ (i ∷ p ∷ [])) .refusal) 1))
 next-of-run = lent-next
 
-pub run-in-turn : (f : List ℕ) → readingNames f ≡ fine → (ws : List ℕ) (l : List Thread) (b : List ℕ) → Lends l b (start f (headAt f))
+pub run-in-turn : (f : List ℕ) → readingNames f ≡ fine → (ws : List ℕ) (l : List Thread) (b : List ℕ) → Lends l b (start (contentsOf f))
     → Lends (inTurn f l b ws .records) (inTurn f l b ws .beside) (ranOf f ws .state)
     × (inTurn f l b ws .answer ≡ cond (eqb (ranOf f ws .refusal) 0) fine (refused (ranOf f ws .refusal) 1))
 run-in-turn = whole-run
@@ -266,3 +268,7 @@ past-the-count = past-kept
 -- "Starred cases belong to the proved set .. shown on the definitions through one theorem about their list."
 pub starred-cases : All Shown cases
 starred-cases = starred
+
+-- What a file holds decides: two files that 1 to 8 answer alike, whose nodes begin at the same word and that hold the same have the same answers and outputs, for every caller.
+pub same-contents : (f g : List ℕ) → reading f ≡ reading g → headAt f .at .nodes ≡ headAt g .at .nodes → contentsOf f ≡ contentsOf g → Alike f g
+same-contents = alike

@@ -1,5 +1,5 @@
 -- Runs of stores of words, the switches of a group, and the turns that a table holds.
-use Prim.Native.Nat.{ℕ, zero, suc, _+_, _*_, _-_, _/_, _%_, _≤_, _<_}
+use Prim.Native.Nat.{ℕ, zero, suc, _+_, _*_, _-_, _≤_, _<_}
 use mathlib.Core.Path.{_≡_, refl, sym, ap, ap₂, _∙_}
 use mathlib.Core.List.{List, [], _∷_, _++_, map, append-assoc}
 use mathlib.Core.Bool.{Bool, true, false, cond, not, _&&_}
@@ -7,24 +7,25 @@ use mir.Val.{boolByte}
 use native.Mathlib.Omega.{arith}
 use native.Mathlib.Numerals.{add-one}
 use lib.Dec.{eqb, eqb·suc-zero}
-use lib.ListN.{length, getD, take, drop, set, length-append}
-use lib.Seq.{sets, drop-cons}
-use Rattle.format.specs.Words.{wordAt, bytesOf}
+use lib.ListN.{length, getD, take, drop, set, length-append, length-drop, length-map}
+use lib.Seq.{sets, drop-cons, length-take-le}
+use Rattle.format.specs.Words.{bytesOf}
 use Rattle.format.specs.Header.{Laid, headWords}
-use Rattle.format.specs.Sections.{nodeAt, wordsFrom, nodeWords, nodesFrom}
+use Rattle.format.specs.Contents.{Contents, item, noSession, noNode, contentsAt}
+use Rattle.format.specs.Writing.{headFor, sessionWords, nodeWords, tableWords, fileWords, encoded}
+use Rattle.format.specs.declared.Six.{Six}
 use Rattle.format.specs.declared.Head.{Head}
+use Rattle.format.specs.declared.Session.{Session}
 use Rattle.format.specs.declared.Node.{Node}
+use Rattle.format.proofs.ContentsLaws.{none-past, users-held, roles-held, kinds-held, channels-held, sessions-held, nodes-held}
+use Rattle.format.proofs.PutRuns.{puts-join, puts-then}
+use Rattle.format.proofs.WriteLaws.{session-words-length, node-words-length, table-words-length, node-words-append}
 use Rattle.states.specs.declared.Turn.{Turn}
 use Rattle.states.specs.States.{unpacked}
-use Rattle.groups.specs.Groups.{switchTo, offs, ons, before, sizeOf, sizesOf, onOf, onsOf, startsFrom, moved, groupsFrom, sessionsFrom, withNodes, placedWords, turnsIn}
+use Rattle.states.proofs.PassLaws.{next-item}
+use Rattle.groups.specs.Groups.{switchTo, offs, ons, before, sizeOf, sizesOf, onOf, onsOf, startsFrom, moved, groupsFrom, rerooted, sessionsFrom, withNodes, placedContents, turnsIn}
 use Rattle.groups.specs.Switches.{switches}
-use Rattle.format.proofs.PutRuns.{sets-join, bytes-append, bytes-length, puts-join, puts-then}
-use Rattle.groups.proofs.GroupLaws.{words-length, sessions-length, node-words-length}
-
-node-words-append : (ms ns : List Node) → nodeWords (ms ++ ns) ≡ nodeWords ms ++ nodeWords ns
-unfolding nodeWords
-node-words-append [] ns = refl
-node-words-append (m ∷ ms) ns = rw (node-words-append ms ns)
+use Rattle.groups.proofs.GroupLaws.{groups-length, sessions-length}
 
 -- what stands before a node, one at a time
 abbrev pub off : Turn → List Node
@@ -90,6 +91,10 @@ pub turns-all : (table : List ℕ) (n : ℕ) → turnsAfter table 0 n ≡ turnsI
 unfolding turnsAfter turnsIn
 turns-all table n = let z : n - 0 ≡ n = omega arith in rw z
 
+pub turns-counted : (table : List ℕ) (n : ℕ) → n < length table → length (turnsIn table n) ≡ n
+unfolding turnsIn
+turns-counted table n h = length-map (take n (drop 1 table)) unpacked ∙ length-take-le n (drop 1 table) (omega (arith, length-drop 1 table))
+
 pub turns-more : (table : List ℕ) (i n : ℕ) → i < n → n < length table → turnsAfter table i n ≡ unpacked (getD table (i + 1) 0) ∷ turnsAfter table (i + 1) n
 unfolding turnsAfter
 turns-more table i n h k =
@@ -100,59 +105,48 @@ pub turns-none : (table : List ℕ) (i n : ℕ) → n ≤ i → turnsAfter table
 unfolding turnsAfter
 turns-none table i n h = let z : n - i ≡ 0 = omega arith in rw z
 
--- a group: two switches, then the node
-pub moved-words : (f starts : List ℕ) (p tag x f1 f2 : ℕ) → tag ≡ wordAt f p → x ≡ wordAt f (p + 1) → f1 ≡ cond (eqb tag 1) (getD starts x 0) x → f2 ≡ wordAt f (p + 2)
-    → tag ∷ f1 ∷ f2 ∷ [] ≡ nodeWords (moved starts (nodeAt f p) ∷ [])
-unfolding nodeWords
-moved-words f starts p tag x f1 f2 et ex e1 e2 = rw (e1, et, ex, e2)
+-- nodes after nodes, by their numbers
+nodes-then : (base : ℕ) (l m q : List ℕ) (i j : ℕ) (ms ns : List Node) → 1 ≤ i → j ≡ i + length ms
+    → m ≡ sets l (2 * (base + 3 * (i - 1))) (bytesOf (nodeWords ms)) → q ≡ sets m (2 * (base + 3 * (j - 1))) (bytesOf (nodeWords ns))
+    → q ≡ sets l (2 * (base + 3 * (i - 1))) (bytesOf (nodeWords (ms ++ ns)))
+nodes-then base l m q i j ms ns one k em eq =
+    puts-then l m q (base + 3 * (i - 1)) (base + 3 * (j - 1)) (nodeWords ms) (nodeWords ns) em (omega (arith, one, k, node-words-length ms)) eq
+    ∙ ap (λ (ws : List ℕ). sets l (2 * (base + 3 * (i - 1))) (bytesOf ws)) (sym (node-words-append ms ns))
 
-pub group-put : (l m q out : List ℕ) (at after next : ℕ) (t : Turn) (n : Node) (ws : List ℕ)
-    → after ≡ at + 3 * length (off t) → m ≡ sets l (2 * at) (bytesOf (nodeWords (off t)))
-    → next ≡ after + 3 * length (on t) → q ≡ sets m (2 * after) (bytesOf (nodeWords (on t)))
-    → ws ≡ nodeWords (n ∷ []) → out ≡ sets q (2 * next) (bytesOf ws) → out ≡ sets l (2 * at) (bytesOf (nodeWords (before t ++ n ∷ [])))
-group-put l m q out at after next t n ws ea em en eq ew eo =
-    let one : List ℕ = nodeWords (off t) in
-    let two : List ℕ = nodeWords (on t) in
-    let both : length (one ++ two) ≡ length one + length two = length-append one two in
-    let done : q ≡ sets l (2 * at) (bytesOf (one ++ two)) = puts-then l m q at after one two em (omega (arith, ea, node-words-length (off t))) eq in
-    let words : nodeWords (before t ++ n ∷ []) ≡ one ++ two ++ ws =
-    rw (before-switches t, node-words-append (off t ++ on t) (n ∷ []), node-words-append (off t) (on t), ew) in
-    puts-then l q out at next (one ++ two) ws done (omega (arith, both, ea, en, node-words-length (off t), node-words-length (on t))) eo
-    ∙ ap (λ (xs : List ℕ). sets l (2 * at) (bytesOf xs)) (sym words)
+-- a group: two switches, then the node
+pub group-put : (base : ℕ) (l m q out : List ℕ) (at after next : ℕ) (t : Turn) (n : Node) → 1 ≤ at
+    → after ≡ at + length (off t) → m ≡ sets l (2 * (base + 3 * (at - 1))) (bytesOf (nodeWords (off t)))
+    → next ≡ after + length (on t) → q ≡ sets m (2 * (base + 3 * (after - 1))) (bytesOf (nodeWords (on t)))
+    → out ≡ sets q (2 * (base + 3 * (next - 1))) (bytesOf (nodeWords (n ∷ []))) → out ≡ sets l (2 * (base + 3 * (at - 1))) (bytesOf (nodeWords (before t ++ n ∷ [])))
+group-put base l m q out at after next t n one ea em en eq eo =
+    let both = nodes-then base l m q at after (off t) (on t) one ea em eq in
+    nodes-then base l q out at next (off t ++ on t) (n ∷ []) one (omega (arith, ea, en, length-append (off t) (on t))) both eo
+    ∙ ap (λ (ns : List Node). sets l (2 * (base + 3 * (at - 1))) (bytesOf (nodeWords (ns ++ n ∷ [])))) (sym (before-switches t))
 
 -- a turn of a loop that puts words: those still to come, from where they go
 pub puts-turn : (l m whole : List ℕ) (i j : ℕ) (vs ws all : List ℕ) → m ≡ sets l (2 * i) (bytesOf vs) → j ≡ i + length vs → all ≡ vs ++ ws
     → sets l (2 * i) (bytesOf all) ≡ whole → sets m (2 * j) (bytesOf ws) ≡ whole
 puts-turn l m whole i j vs ws all e k a h = puts-join l m i j vs ws e k ∙ ap (λ (x : List ℕ). sets l (2 * i) (bytesOf x)) (sym a) ∙ h
 
--- the words of the groups after i
-abbrev pub groupsAfter : List ℕ → ℕ → ℕ → List ℕ → List ℕ → ℕ → List ℕ
-groupsAfter f base n turns starts i = nodeWords (groupsFrom starts (nodesFrom f (base + 3 * i) (n - i)) (turnsAfter turns i n))
+-- the groups after i
+abbrev pub groupsAfter : List Node → ℕ → List ℕ → List ℕ → ℕ → List Node
+groupsAfter ns n turns starts i = groupsFrom starts (drop i ns) (turnsAfter turns i n)
 
-pub groups-all : (f : List ℕ) (base n : ℕ) (turns starts : List ℕ)
-    → groupsAfter f base n turns starts 0 ≡ nodeWords (groupsFrom starts (nodesFrom f base n) (turnsIn turns n))
-groups-all f base n turns starts =
-    let z : base + 3 * 0 ≡ base = omega arith in
-    let k : n - 0 ≡ n = omega arith in
-    rw (z, k, turns-all turns n)
+pub groups-all : (ns : List Node) (n : ℕ) (turns starts : List ℕ) → groupsAfter ns n turns starts 0 ≡ groupsFrom starts ns (turnsIn turns n)
+groups-all ns n turns starts = ap (groupsFrom starts ns) (turns-all turns n)
 
-pub groups-more : (f : List ℕ) (base n : ℕ) (turns starts : List ℕ) (i : ℕ) → i < n → n < length turns
-    → groupsAfter f base n turns starts i
-    ≡ nodeWords (before (unpacked (getD turns (i + 1) 0)) ++ moved starts (nodeAt f (base + 3 * i)) ∷ []) ++ groupsAfter f base n turns starts (i + 1)
-unfolding groupsFrom nodesFrom
-groups-more f base n turns starts i h k =
+groups-more : (ns : List Node) (n : ℕ) (turns starts : List ℕ) (i : ℕ) → i < n → n ≡ length ns → n < length turns
+    → groupsAfter ns n turns starts i ≡ (before (unpacked (getD turns (i + 1) 0)) ++ moved starts (item noNode ns (i + 1)) ∷ []) ++ groupsAfter ns n turns starts (i + 1)
+unfolding groupsFrom
+groups-more ns n turns starts i h e k =
     let t : Turn = unpacked (getD turns (i + 1) 0) in
-    let m : Node = moved starts (nodeAt f (base + 3 * i)) in
-    let c : n - i ≡ suc (n - (i + 1)) = omega arith in
-    let z : base + 3 * i + 3 ≡ base + 3 * (i + 1) = omega arith in
-    let later : List Node = groupsFrom starts (nodesFrom f (base + 3 * (i + 1)) (n - (i + 1))) (turnsAfter turns (i + 1) n) in
-    let first : groupsFrom starts (nodesFrom f (base + 3 * i) (n - i)) (turnsAfter turns i n) ≡ before t ++ m ∷ [] ++ later =
-    rw (turns-more turns i n h k, c, z) (sym (append-assoc (before t) (m ∷ []) later)) in
-    ap nodeWords first ∙ node-words-append (before t ++ m ∷ []) later
+    let m : Node = moved starts (item noNode ns (i + 1)) in
+    ap₂ (groupsFrom starts) (next-item noNode ns i (omega arith)) (turns-more turns i n h k)
+    ∙ sym (append-assoc (before t) (m ∷ []) (groupsAfter ns n turns starts (i + 1)))
 
-pub groups-none : (f : List ℕ) (base n : ℕ) (turns starts : List ℕ) (i : ℕ) → n ≤ i → groupsAfter f base n turns starts i ≡ []
-unfolding groupsFrom nodesFrom nodeWords
-groups-none f base n turns starts i h = let z : n - i ≡ 0 = omega arith in rw z
+pub groups-none : (ns : List Node) (n : ℕ) (turns starts : List ℕ) (i : ℕ) → length ns ≤ i → nodeWords (groupsAfter ns n turns starts i) ≡ []
+unfolding groupsFrom nodeWords
+groups-none ns n turns starts i h = ap (λ (xs : List Node). nodeWords (groupsFrom starts xs (turnsAfter turns i n))) (none-past ns i h)
 
 pub sizes-more : (turns : List ℕ) (i n : ℕ) → i < n → n < length turns
     → sizesOf (turnsAfter turns i n) ≡ sizeOf (unpacked (getD turns (i + 1) 0)) + sizesOf (turnsAfter turns (i + 1) n)
@@ -164,73 +158,35 @@ pub ons-more : (turns : List ℕ) (i n : ℕ) → i < n → n < length turns
 unfolding onsOf
 ons-more turns i n h k = rw (turns-more turns i n h k)
 
-pub sessions-more : (starts f : List ℕ) (base n i : ℕ) → i < n
-    → sessionsFrom starts f (base + 3 * i) (n - i)
-    ≡ (wordAt f (base + 3 * i) ∷ wordAt f (base + 3 * i + 1) ∷ getD starts (wordAt f (base + 3 * i + 2)) 0 ∷ []) ++ sessionsFrom starts f (base + 3 * (i + 1)) (n - (i + 1))
-unfolding sessionsFrom
-sessions-more starts f base n i h =
-    let c : n - i ≡ suc (n - (i + 1)) = omega arith in
-    let z : base + 3 * i + 3 ≡ base + 3 * (i + 1) = omega arith in
-    rw (c, z)
-
--- bytes as they are
-pub bytes-more : (l m f whole : List ℕ) (i end : ℕ) → i < end → i < length f → m ≡ set l i (getD f i 0)
-    → sets l i (take (end - i) (drop i f)) ≡ whole → sets m (i + 1) (take (end - (i + 1)) (drop (i + 1) f)) ≡ whole
-bytes-more l m f whole i end h k e inv =
-    let c : end - i ≡ suc (end - (i + 1)) = omega arith in
-    rw (e, add-one i) (rw (drop-cons f i 0 k, c, add-one i) at inv)
-
-bytes-words : (f : List ℕ) (p k : ℕ) → ((x : ℕ) → getD f x 0 < 256) → 2 * (p + k) ≤ length f → take (2 * k) (drop (2 * p) f) ≡ bytesOf (wordsFrom f p k)
-unfolding bytesOf wordsFrom
-bytes-words f p zero b h = refl
-bytes-words f p (suc k) b h =
-    let two : 2 * suc k ≡ suc (suc (2 * k)) = omega arith in
-    let next : suc (suc (2 * p)) ≡ 2 * suc p = omega arith in
-    let low : wordAt f p % 256 ≡ getD f (2 * p) 0 = omega (arith, b (2 * p)) in
-    let high : wordAt f p / 256 ≡ getD f (2 * p + 1) 0 = omega (arith, b (2 * p)) in
-    rw (two, drop-cons f (2 * p) 0 (omega arith), drop-cons f (suc (2 * p)) 0 (omega arith), next, low, high, add-one (2 * p), bytes-words f (suc p) k b (omega arith))
-
--- all of them, once there was one to read
-pub bytes-all : (l l₀ f : List ℕ) (p q i : ℕ) → p ≤ q → i ≡ 2 * q → 2 * q ≤ length f → (2 * p < i → (x : ℕ) → getD f x 0 < 256)
-    → sets l i (take (2 * q - i) (drop i f)) ≡ sets l₀ (2 * p) (take (2 * q - 2 * p) (drop (2 * p) f)) → l ≡ sets l₀ (2 * p) (bytesOf (wordsFrom f p (q - p)))
-unfolding bytesOf wordsFrom
-bytes-all l l₀ f p q i h e len b inv = go (q - p) refl
-  where
-    z : 2 * q - i ≡ 0
-    z = omega (arith, e)
-
-    go : (k : ℕ) → q - p ≡ k → l ≡ sets l₀ (2 * p) (bytesOf (wordsFrom f p (q - p)))
-    go zero c = let w : 2 * q - 2 * p ≡ 0 = omega (arith, c) in rw c (rw (z, w) at inv)
-    go (suc k) c =
-        let w : 2 * q - 2 * p ≡ 2 * suc k = omega (arith, c) in
-        rw (c, ← bytes-words f p (suc k) (b (omega (arith, c, e))) (omega (arith, c, len))) (rw (z, w) at inv)
-
 -- a turn of each loop
-pub groups-turn : (f turns starts l m whole : List ℕ) (base n i at next : ℕ) → i < n → n < length turns
-    → next ≡ at + 3 * sizeOf (unpacked (getD turns (i + 1) 0))
-    → m ≡ sets l (2 * at) (bytesOf (nodeWords (before (unpacked (getD turns (i + 1) 0)) ++ moved starts (nodeAt f (base + 3 * i)) ∷ [])))
-    → sets l (2 * at) (bytesOf (groupsAfter f base n turns starts i)) ≡ whole → sets m (2 * next) (bytesOf (groupsAfter f base n turns starts (i + 1))) ≡ whole
-groups-turn f turns starts l m whole base n i at next h k e em inv =
+pub groups-turn : (ns : List Node) (turns starts l m whole : List ℕ) (base n i at next : ℕ) → i < n → n ≡ length ns → n < length turns → 1 ≤ at
+    → next ≡ at + sizeOf (unpacked (getD turns (i + 1) 0))
+    → m ≡ sets l (2 * (base + 3 * (at - 1))) (bytesOf (nodeWords (before (unpacked (getD turns (i + 1) 0)) ++ moved starts (item noNode ns (i + 1)) ∷ [])))
+    → sets l (2 * (base + 3 * (at - 1))) (bytesOf (nodeWords (groupsAfter ns n turns starts i))) ≡ whole
+    → sets m (2 * (base + 3 * (next - 1))) (bytesOf (nodeWords (groupsAfter ns n turns starts (i + 1)))) ≡ whole
+groups-turn ns turns starts l m whole base n i at next h e k one step em inv =
     let t : Turn = unpacked (getD turns (i + 1) 0) in
-    let ns : List Node = before t ++ moved starts (nodeAt f (base + 3 * i)) ∷ [] in
-    let size : length ns ≡ length (before t) + 1 = length-append (before t) (moved starts (nodeAt f (base + 3 * i)) ∷ []) in
-    puts-turn l m whole at next (nodeWords ns) (groupsAfter f base n turns starts (i + 1)) (groupsAfter f base n turns starts i) em
-    (omega (arith, e, size, node-words-length ns)) (groups-more f base n turns starts i h k) inv
+    let group : List Node = before t ++ moved starts (item noNode ns (i + 1)) ∷ [] in
+    let size : length group ≡ length (before t) + 1 = length-append (before t) (moved starts (item noNode ns (i + 1)) ∷ []) in
+    puts-turn l m whole (base + 3 * (at - 1)) (base + 3 * (next - 1)) (nodeWords group) (nodeWords (groupsAfter ns n turns starts (i + 1))) (nodeWords (groupsAfter ns n turns starts i)) em
+    (omega (arith, one, step, size, node-words-length group))
+    (ap nodeWords (groups-more ns n turns starts i h e k) ∙ node-words-append group (groupsAfter ns n turns starts (i + 1))) inv
 
-pub sessions-turn : (f starts l m whole : List ℕ) (base n i user mask old root : ℕ) → i < n
-    → user ≡ wordAt f (base + 3 * i) → mask ≡ wordAt f (base + 3 * i + 1) → old ≡ wordAt f (base + 3 * i + 2) → root ≡ getD starts old 0
-    → m ≡ sets l (2 * (base + 3 * i)) (bytesOf (user ∷ mask ∷ root ∷ []))
-    → sets l (2 * (base + 3 * i)) (bytesOf (sessionsFrom starts f (base + 3 * i) (n - i))) ≡ whole
-    → sets m (2 * (base + 3 * (i + 1))) (bytesOf (sessionsFrom starts f (base + 3 * (i + 1)) (n - (i + 1)))) ≡ whole
-sessions-turn f starts l m whole base n i user mask old root h eu em eo er e inv =
-    let ws : List ℕ = wordAt f (base + 3 * i) ∷ wordAt f (base + 3 * i + 1) ∷ getD starts (wordAt f (base + 3 * i + 2)) 0 ∷ [] in
-    let same : user ∷ mask ∷ root ∷ [] ≡ ws = rw (er, eu, em, eo) in
-    puts-turn l m whole (base + 3 * i) (base + 3 * (i + 1)) ws (sessionsFrom starts f (base + 3 * (i + 1)) (n - (i + 1))) (sessionsFrom starts f (base + 3 * i) (n - i))
-    (e ∙ ap (λ (x : List ℕ). sets l (2 * (base + 3 * i)) (bytesOf x)) same) (omega arith) (sessions-more starts f base n i h) inv
+pub sessions-turn : (ss : List Session) (starts l m whole : List ℕ) (base i : ℕ) → i < length ss
+    → m ≡ sets l (2 * (base + 3 * (i + 1 - 1))) (bytesOf (sessionWords (rerooted starts (item noSession ss (i + 1)) ∷ [])))
+    → sets l (2 * (base + 3 * i)) (bytesOf (sessionWords (sessionsFrom starts (drop i ss)))) ≡ whole
+    → sets m (2 * (base + 3 * (i + 1))) (bytesOf (sessionWords (sessionsFrom starts (drop (i + 1) ss)))) ≡ whole
+unfolding sessionsFrom sessionWords
+sessions-turn ss starts l m whole base i h e inv =
+    let here : i + 1 - 1 ≡ i = omega arith in
+    let one : List ℕ = sessionWords (rerooted starts (item noSession ss (i + 1)) ∷ []) in
+    puts-turn l m whole (base + 3 * i) (base + 3 * (i + 1)) one (sessionWords (sessionsFrom starts (drop (i + 1) ss))) (sessionWords (sessionsFrom starts (drop i ss)))
+    (e ∙ ap (λ (k : ℕ). sets l (2 * (base + 3 * k)) (bytesOf one)) here) (omega arith)
+    (ap (λ (xs : List Session). sessionWords (sessionsFrom starts xs)) (next-item noSession ss i h)) inv
 
-pub sessions-none : (starts f : List ℕ) (p n i : ℕ) → n ≤ i → sessionsFrom starts f p (n - i) ≡ []
-unfolding sessionsFrom
-sessions-none starts f p n i h = let z : n - i ≡ 0 = omega arith in rw z
+pub sessions-none : (ss : List Session) (starts : List ℕ) (i : ℕ) → length ss ≤ i → sessionWords (sessionsFrom starts (drop i ss)) ≡ []
+unfolding sessionsFrom sessionWords
+sessions-none ss starts i h = ap (λ (xs : List Session). sessionWords (sessionsFrom starts xs)) (none-past ss i h)
 
 pub starts-turn : (turns l whole : List ℕ) (i n at step : ℕ) → i < n → n < length turns → step ≡ sizeOf (unpacked (getD turns (i + 1) 0))
     → sets l (i + 1) (startsFrom at (turnsAfter turns i n)) ≡ whole
@@ -251,34 +207,47 @@ pub sums-end : (turns : List ℕ) (i n : ℕ) → n ≤ i → (sizesOf (turnsAft
 unfolding sizesOf onsOf
 sums-end turns i n h = rw (turns-none turns i n h) (refl, refl)
 
--- the head, then the other parts of a file
-pub head-put : (l l1 l2 l3 l4 l5 : List ℕ) (h : Head)
-    → l1 ≡ sets l 0 (bytesOf (h .version ∷ [])) → l2 ≡ sets l1 2 (bytesOf (h .count .users ∷ h .count .roles ∷ h .count .kinds ∷ []))
-    → l3 ≡ sets l2 8 (bytesOf (h .count .channels ∷ h .count .sessions ∷ h .count .nodes ∷ [])) → l4 ≡ sets l3 14 (bytesOf (h .at .users ∷ h .at .roles ∷ h .at .kinds ∷ []))
-    → l5 ≡ sets l4 20 (bytesOf (h .at .channels ∷ h .at .sessions ∷ h .at .nodes ∷ [])) → l5 ≡ sets l 0 (bytesOf (headWords h))
-unfolding bytesOf
-head-put l l1 l2 l3 l4 l5 h e1 e2 e3 e4 e5 = rw (e5, e4, e3, e2, e1)
+-- a laid head of version 1 is the one that its contents have, and no offset depends on the nodes
+six : {a b c d e g a′ b′ c′ d′ e′ g′ : ℕ} → a ≡ a′ → b ≡ b′ → c ≡ c′ → d ≡ d′ → e ≡ e′ → g ≡ g′
+    → _≡_ {A = Six} (record { users = a; roles = b; kinds = c; channels = d; sessions = e; nodes = g }) (record { users = a′; roles = b′; kinds = c′; channels = d′; sessions = e′; nodes = g′ })
+six ea eb ec ed ee eg = rw (ea, eb, ec, ed, ee, eg)
 
-pub file-put : (f turns starts : List ℕ) (h : Head) (nodes end at count base n : ℕ) (l l1 l2 l3 l4 : List ℕ) → Laid h
-    → nodes ≡ sizesOf (turnsIn turns (h .count .nodes)) → end ≡ h .at .sessions → at ≡ h .at .sessions → count ≡ h .count .sessions → base ≡ h .at .nodes → n ≡ h .count .nodes
-    → l1 ≡ sets l 0 (bytesOf (headWords (withNodes h nodes))) → l2 ≡ sets l1 26 (bytesOf (wordsFrom f 13 (end - 13))) → l3 ≡ sets l2 (2 * at) (bytesOf (sessionsFrom starts f at count))
-    → l4 ≡ sets l3 (2 * base) (bytesOf (nodeWords (groupsFrom starts (nodesFrom f base n) (turnsIn turns n))))
-    → l4 ≡ sets l 0 (bytesOf (placedWords f h (turnsIn turns (h .count .nodes)) starts))
-unfolding placedWords
-file-put f turns starts h nodes end at count base n l l1 l2 l3 l4 d en ee ea ec eb ek e1 e2 e3 e4 =
-    let head : List ℕ = headWords (withNodes h (sizesOf (turnsIn turns (h .count .nodes)))) in
-    let words : List ℕ = wordsFrom f 13 (h .at .sessions - 13) in
-    let sessions : List ℕ = sessionsFrom starts f (h .at .sessions) (h .count .sessions) in
-    let groups : List ℕ = nodeWords (groupsFrom starts (nodesFrom f (h .at .nodes) (h .count .nodes)) (turnsIn turns (h .count .nodes))) in
-    let p1 : l1 ≡ sets l 0 (bytesOf head) = e1 ∙ ap (λ (k : ℕ). sets l 0 (bytesOf (headWords (withNodes h k)))) en in
-    let p2 : l2 ≡ sets l1 (2 * 13) (bytesOf words) = e2 ∙ ap (λ (k : ℕ). sets l1 26 (bytesOf (wordsFrom f 13 (k - 13)))) ee in
-    let q2 : l2 ≡ sets l 0 (bytesOf (head ++ words)) = puts-then l l1 l2 0 13 head words p1 refl p2 in
-    let p3 : l3 ≡ sets l2 (2 * h .at .sessions) (bytesOf sessions) = e3 ∙ ap₂ (λ (k c : ℕ). sets l2 (2 * k) (bytesOf (sessionsFrom starts f k c))) ea ec in
-    let size2 : length (head ++ words) ≡ 13 + length words = length-append head words in
-    let long2 : length words ≡ h .at .sessions - 13 = words-length f 13 (h .at .sessions - 13) in
-    let q3 : l3 ≡ sets l 0 (bytesOf (head ++ words ++ sessions)) = puts-then l l2 l3 0 (h .at .sessions) (head ++ words) sessions q2 (omega (arith, d, size2, long2)) p3 in
-    let p4 : l4 ≡ sets l3 (2 * h .at .nodes) (bytesOf groups) =
-    e4 ∙ ap₂ (λ (b k : ℕ). sets l3 (2 * b) (bytesOf (nodeWords (groupsFrom starts (nodesFrom f b k) (turnsIn turns k))))) eb ek in
-    let size3 : length (head ++ words ++ sessions) ≡ length (head ++ words) + length sessions = length-append (head ++ words) sessions in
-    let long3 : length sessions ≡ 3 * h .count .sessions = sessions-length starts f (h .at .sessions) (h .count .sessions) in
-    puts-then l l3 l4 0 (h .at .nodes) (head ++ words ++ sessions) groups q3 (omega (arith, d, size2, size3, long2, long3)) p4
+head-placed : (f : List ℕ) (h : Head) (ts : List Turn) (starts : List ℕ) → Laid f h → h .version ≡ 1 → length ts ≡ h .count .nodes
+    → withNodes h (sizesOf ts) ≡ headFor (placedContents (contentsAt f h) ts starts)
+head-placed f h ts starts l v e =
+    let C : Contents = contentsAt f h in
+    let u = users-held f h in
+    let r = roles-held f h in
+    let k = kinds-held f h in
+    let c = channels-held f h in
+    let s : length (sessionsFrom starts (C .sessions)) ≡ h .count .sessions = sessions-length starts (C .sessions) ∙ sessions-held f h in
+    let n : length (groupsFrom starts (C .nodes) ts) ≡ sizesOf ts = groups-length starts (C .nodes) ts (nodes-held f h ∙ sym e) in
+    whole v (six (sym u) (sym r) (sym k) (sym c) (sym s) (sym n))
+    (six (l .users-at) (omega (arith, u)) (omega (arith, u, r)) (omega (arith, u, r, k)) (omega (arith, u, r, k, c)) (omega (arith, u, r, k, c, s)))
+  where
+    whole : {x y : ℕ} {n m a b : Six} → x ≡ y → n ≡ m → a ≡ b → _≡_ {A = Head} (record { version = x; count = n; at = a }) (record { version = y; count = m; at = b })
+    whole ex en ea = rw (ex, en, ea)
+
+pub file-put : (f : List ℕ) (h : Head) (ts : List Turn) (starts l l1 l2 l3 l4 : List ℕ) → Laid f h → h .version ≡ 1 → length ts ≡ h .count .nodes
+    → l1 ≡ sets l 0 (bytesOf (headWords (withNodes h (sizesOf ts)))) → l2 ≡ sets l1 (2 * h .at .users) (bytesOf (tableWords (contentsAt f h)))
+    → l3 ≡ sets l2 (2 * h .at .sessions) (bytesOf (sessionWords (sessionsFrom starts (contentsAt f h .sessions))))
+    → l4 ≡ sets l3 (2 * h .at .nodes) (bytesOf (nodeWords (groupsFrom starts (contentsAt f h .nodes) ts)))
+    → l4 ≡ sets l 0 (encoded (placedContents (contentsAt f h) ts starts))
+unfolding encoded fileWords tableWords
+file-put f h ts starts l l1 l2 l3 l4 d v e e1 e2 e3 e4 =
+    let C : Contents = contentsAt f h in
+    let head : List ℕ = headWords (withNodes h (sizesOf ts)) in
+    let tables : List ℕ = tableWords C in
+    let sessions : List ℕ = sessionWords (sessionsFrom starts (C .sessions)) in
+    let nodes : List ℕ = nodeWords (groupsFrom starts (C .nodes) ts) in
+    let size2 : length tables ≡ h .at .sessions - 13 = omega (arith, d, table-words-length C, users-held f h, roles-held f h, kinds-held f h, channels-held f h) in
+    let size3 : length sessions ≡ 3 * h .count .sessions =
+    session-words-length (sessionsFrom starts (C .sessions)) ∙ ap (λ (k : ℕ). 3 * k) (sessions-length starts (C .sessions) ∙ sessions-held f h) in
+    let q2 : l2 ≡ sets l 0 (bytesOf (head ++ tables)) = puts-then l l1 l2 0 (h .at .users) head tables e1 (omega (arith, d)) e2 in
+    let two : length (head ++ tables) ≡ 13 + length tables = length-append head tables in
+    let q3 : l3 ≡ sets l 0 (bytesOf ((head ++ tables) ++ sessions)) =
+    puts-then l l2 l3 0 (h .at .sessions) (head ++ tables) sessions q2 (omega (arith, d, two, size2)) e3 in
+    let three : length ((head ++ tables) ++ sessions) ≡ length (head ++ tables) + length sessions = length-append (head ++ tables) sessions in
+    puts-then l l3 l4 0 (h .at .nodes) ((head ++ tables) ++ sessions) nodes q3 (omega (arith, d, two, three, size2, size3)) e4
+    ∙ ap (λ (ws : List ℕ). sets l 0 (bytesOf ws)) (append-assoc (head ++ tables) sessions nodes ∙ append-assoc head tables (sessions ++ nodes))
+    ∙ ap (λ (x : Head). sets l 0 (bytesOf (headWords x ++ (tables ++ (sessions ++ nodes))))) (head-placed f h ts starts d v e)

@@ -4,11 +4,10 @@ use mathlib.Core.List.{List, [], _∷_, _++_, map}
 use mathlib.Core.Bool.{Bool, true, false, cond}
 use lib.Dec.{eqb}
 use lib.ListN.{length, getD, take, drop}
-use Rattle.format.specs.Words.{wordAt, bytesOf}
-use Rattle.format.specs.Header.{headWords}
-use Rattle.format.specs.Sections.{wordsFrom, nodeWords, nodesFrom}
+use Rattle.format.specs.Contents.{Contents}
 use Rattle.format.specs.declared.Six.{Six}
 use Rattle.format.specs.declared.Head.{Head}
+use Rattle.format.specs.declared.Session.{Session}
 use Rattle.format.specs.declared.Node.{Node}
 use Rattle.states.specs.declared.Turn.{Turn}
 use Rattle.states.specs.States.{unpacked}
@@ -63,10 +62,13 @@ groupsFrom starts [] ts = []
 groupsFrom starts (n ∷ ns) [] = []
 groupsFrom starts (n ∷ ns) (t ∷ ts) = before t ++ moved starts n ∷ groupsFrom starts ns ts
 
--- the sessions' words: each root has a new number
-unfoldable pub sessionsFrom : List ℕ → List ℕ → ℕ → ℕ → List ℕ
-sessionsFrom starts f p zero = []
-sessionsFrom starts f p (suc k) = wordAt f p ∷ wordAt f (p + 1) ∷ getD starts (wordAt f (p + 2)) 0 ∷ sessionsFrom starts f (p + 3) k
+-- the sessions: each root has a new number
+abbrev pub rerooted : List ℕ → Session → Session
+rerooted starts s = record { user = s .user; mask = s .mask; root = getD starts (s .root) 0 }
+
+unfoldable pub sessionsFrom : List ℕ → List Session → List Session
+sessionsFrom starts [] = []
+sessionsFrom starts (s ∷ ss) = rerooted starts s ∷ sessionsFrom starts ss
 
 -- a head with another number of nodes: no section stands after them
 abbrev pub withNodes : Head → ℕ → Head
@@ -83,11 +85,16 @@ withNodes h n = record {
   at = h .at;
 }
 
--- the whole file with a new count of nodes and new node numbers
-unfoldable pub placedWords : List ℕ → Head → List Turn → List ℕ → List ℕ
-placedWords f h ts starts =
-    headWords (withNodes h (sizesOf ts)) ++ wordsFrom f 13 (h .at .sessions - 13) ++ sessionsFrom starts f (h .at .sessions) (h .count .sessions)
-    ++ nodeWords (groupsFrom starts (nodesFrom f (h .at .nodes) (h .count .nodes)) ts)
+-- the whole file with new nodes and new node numbers: tables, users and masks stay
+abbrev pub placedContents : Contents → List Turn → List ℕ → Contents
+placedContents C ts starts = record {
+  users = C .users;
+  roles = C .roles;
+  kinds = C .kinds;
+  channels = C .channels;
+  sessions = sessionsFrom starts (C .sessions);
+  nodes = groupsFrom starts (C .nodes) ts;
+}
 
 -- the turns of so many nodes, as a table holds them from 1 on
 unfoldable pub turnsIn : List ℕ → ℕ → List Turn

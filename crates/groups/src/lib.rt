@@ -1,19 +1,29 @@
 // The placed file: where each node's group starts, and its words.
 use format::Head;
-use format::words::inner_word;
-use format::words::put_word;
+use format::Node;
+use format::Session;
+use format::Six;
+use format::sections::node;
+use format::sections::session;
 use format::words::wide;
+use format::writing::put_head;
+use format::writing::put_node;
+use format::writing::put_session;
+use format::writing::put_tables;
 ghost use mathlib.Core.Path.{_≡_};
 ghost use mathlib.Core.Bool.{cond};
 ghost use mathlib.Core.List.{[], _∷_, _++_};
-ghost use Prim.Native.Nat.{_+_, _*_, _-_, _≤_};
+ghost use Prim.Native.Nat.{_+_, _*_, _-_, _≤_, _<_};
 ghost use lib.ListN.{length, getD};
 ghost use lib.Seq.{sets};
 ghost use Rattle.format.specs.Words.{bytesOf};
-ghost use Rattle.format.specs.Header.{Laid, headWords};
-ghost use Rattle.format.specs.Sections.{wordsFrom, nodeAt, nodesFrom, nodeWords};
+ghost use Rattle.format.specs.Header.{Laid, roomFor};
+ghost use Rattle.format.specs.Sections.{placeOf};
+ghost use Rattle.format.specs.Contents.{item, noNode, contentsAt};
+ghost use Rattle.format.specs.Writing.{sessionWords, nodeWords, encoded};
+ghost use Rattle.format.specs.declared.Section.the-variants.{Sessions, Nodes};
 ghost use Rattle.states.specs.States.{unpacked};
-ghost use Rattle.groups.specs.Groups.{before, sizeOf, sizesOf, onsOf, startsFrom, moved, groupsFrom, sessionsFrom, withNodes, placedWords, turnsIn};
+ghost use Rattle.groups.specs.Groups.{before, sizeOf, sizesOf, onsOf, startsFrom, moved, groupsFrom, sessionsFrom, withNodes, placedContents, turnsIn};
 ghost use Rattle.groups.specs.Switches.{switches};
 
 // How many nodes the groups have, and how many of them switch a role on.
@@ -62,20 +72,11 @@ fn renamed(starts: &[u16], names: bool, n: u16) -> u16
     0
 }
 
-// Three words: a node's, a session's, or half of what the head has for the sections.
-fn put_three(out: &mut [u8], at: usize, first: u16, second: u16, third: u16)
-    requires { ⌜ 2 * at + 6 ≤ length (now out) ⌝ }
-    ensures { λ r. ⌜ now (out .exit) ≡ sets (now (out .entry)) (2 * at) (bytesOf (first ∷ second ∷ third ∷ [])) ⌝ }
-{
-    put_word(out, at, first);
-    put_word(out, at + 1, second);
-    put_word(out, at + 2, third);
-}
-
-// The node that switches a role, where the states differ and it is one; the place after it.
-fn put_switch(out: &mut [u8], at: usize, tag: u16, from: u16, to: u16, role: u16) -> usize
-    requires { ⌜ 2 * (at + 3 * length (switches tag from to role)) ≤ length (now out) ⌝ }
-    ensures { λ r. ⌜ (r ≡ at + 3 * length (switches tag from to role)) × (now (out .exit) ≡ sets (now (out .entry)) (2 * at) (bytesOf (nodeWords (switches tag from to role)))) ⌝ }
+// The node that switches a role, where the states differ and it is one; the number after it.
+fn put_switch(out: &mut [u8], head: Head, at: u16, tag: u16, from: u16, to: u16, role: u16) -> u16
+    requires { ⌜ (0 < at) × (at + length (switches tag from to role) ≤ 1025) × (2 * placeOf head Nodes (at + length (switches tag from to role)) ≤ length (now out)) ⌝ }
+    ensures { λ r. ⌜ (r ≡ at + length (switches tag from to role))
+        × (now (out .exit) ≡ sets (now (out .entry)) (2 * placeOf head Nodes at) (bytesOf (nodeWords (switches tag from to role)))) ⌝ }
 {
     if from == to {
         return at;
@@ -83,103 +84,110 @@ fn put_switch(out: &mut [u8], at: usize, tag: u16, from: u16, to: u16, role: u16
     if role == 0 {
         return at;
     }
-    put_three(out, at, tag, role, 0);
-    at + 3
+    put_node(
+        out,
+        head,
+        at,
+        Node {
+            tag,
+            f1: role,
+            f2: 0,
+        },
+    );
+    at + 1
 }
 
-// The group of the node whose words start at a place; the place after it.
-fn put_group(
-    file: &[u8],
-    node: usize,
-    turn: u16,
-    starts: &[u16],
-    out: &mut [u8],
-    at: usize,
-) -> usize
-    requires { ⌜ (2 * node + 6 ≤ length (now file)) × (2 * (at + 3 * sizeOf (unpacked turn)) ≤ length (now out)) ⌝ }
-    ensures { λ r. ⌜ (r ≡ at + 3 * sizeOf (unpacked turn))
-        × (now (out .exit) ≡ sets (now (out .entry)) (2 * at) (bytesOf (nodeWords (before (unpacked turn) ++ moved (now (starts .entry)) (nodeAt (now (file .entry)) node) ∷ [])))) ⌝ }
+// The group of a node, from a number on; the number after it.
+fn put_group(out: &mut [u8], head: Head, at: u16, turn: u16, it: Node, starts: &[u16]) -> u16
+    requires { ⌜ (0 < at) × (at + sizeOf (unpacked turn) ≤ 1025) × (2 * placeOf head Nodes (at + sizeOf (unpacked turn)) ≤ length (now out)) ⌝ }
+    ensures { λ r. ⌜ (r ≡ at + sizeOf (unpacked turn))
+        × (now (out .exit) ≡ sets (now (out .entry)) (2 * placeOf head Nodes at) (bytesOf (nodeWords (before (unpacked turn) ++ moved (now (starts .entry)) it ∷ [])))) ⌝ }
 {
     let from = turn % 256;
     let to = turn / 256;
-    let off = put_switch(out, at, 8, from, to, from);
-    let on = put_switch(out, off, 7, from, to, to);
-    let tag = inner_word(file, node);
-    let f1 = renamed(starts, tag == 1, inner_word(file, node + 1));
-    put_three(out, on, tag, f1, inner_word(file, node + 2));
-    on + 3
+    let off = put_switch(out, head, at, 8, from, to, from);
+    let on = put_switch(out, head, off, 7, from, to, to);
+    let f1 = renamed(starts, it.tag == 1, it.f1);
+    put_node(
+        out,
+        head,
+        on,
+        Node {
+            tag: it.tag,
+            f1,
+            f2: it.f2,
+        },
+    );
+    on + 1
 }
 
-// The groups of all the nodes, from where the nodes stand on.
-fn put_groups(file: &[u8], base: usize, nodes: usize, turns: &[u16], starts: &[u16], out: &mut [u8])
-    requires { ⌜ (nodes ≤ 1024) × (2 * (base + 3 * nodes) ≤ length (now file)) × (length (now turns) ≡ 1025) × (2 * (base + 3 * sizesOf (turnsIn (now turns) nodes)) ≤ length (now out)) ⌝ }
-    ensures { λ r. ⌜ now (out .exit) ≡ sets (now (out .entry)) (2 * base) (bytesOf (nodeWords (groupsFrom (now (starts .entry)) (nodesFrom (now (file .entry)) base nodes) (turnsIn (now (turns .entry)) nodes)))) ⌝ }
+// The groups of all the nodes.
+fn put_groups(file: &[u8], head: Head, turns: &[u16], starts: &[u16], out: &mut [u8])
+    requires { ⌜ Laid (now file) head × (length (now turns) ≡ 1025) × (sizesOf (turnsIn (now turns) (head .count .nodes)) ≤ 1024)
+        × (2 * placeOf head Nodes (1 + sizesOf (turnsIn (now turns) (head .count .nodes))) ≤ length (now out)) ⌝ }
+    ensures { λ r. ⌜ now (out .exit) ≡ sets (now (out .entry)) (2 * head .at .nodes)
+        (bytesOf (nodeWords (groupsFrom (now (starts .entry)) (contentsAt (now (file .entry)) head .nodes) (turnsIn (now (turns .entry)) (head .count .nodes))))) ⌝ }
 {
-    let mut at = base;
-    let mut i: usize = 0;
-    while i < nodes {
-        at = put_group(file, base + 3 * i, turns[i + 1], starts, out, at);
-        i += 1;
+    let nodes = head.count.nodes;
+    let mut at: u16 = 1;
+    let mut n: u16 = 0;
+    while n < nodes {
+        n += 1;
+        at = put_group(out, head, at, turns[wide(n)], node(file, head, n), starts);
     }
 }
 
 // The sessions, each with its root's new number.
-fn put_sessions(file: &[u8], base: usize, sessions: usize, starts: &[u16], out: &mut [u8])
-    requires { ⌜ (sessions ≤ 32) × (2 * (base + 3 * sessions) ≤ length (now file)) × (2 * (base + 3 * sessions) ≤ length (now out)) ⌝ }
-    ensures { λ r. ⌜ now (out .exit) ≡ sets (now (out .entry)) (2 * base) (bytesOf (sessionsFrom (now (starts .entry)) (now (file .entry)) base sessions)) ⌝ }
+fn put_sessions(file: &[u8], head: Head, starts: &[u16], out: &mut [u8])
+    requires { ⌜ Laid (now file) head × (2 * head .at .nodes ≤ length (now out)) ⌝ }
+    ensures { λ r. ⌜ now (out .exit) ≡ sets (now (out .entry)) (2 * head .at .sessions) (bytesOf (sessionWords (sessionsFrom (now (starts .entry)) (contentsAt (now (file .entry)) head .sessions)))) ⌝ }
 {
-    let mut i: usize = 0;
-    while i < sessions {
-        let at = base + 3 * i;
-        let root = renamed(starts, true, inner_word(file, at + 2));
-        put_three(
+    let sessions = head.count.sessions;
+    let mut n: u16 = 0;
+    while n < sessions {
+        n += 1;
+        let it = session(file, head, n);
+        put_session(
             out,
-            at,
-            inner_word(file, at),
-            inner_word(file, at + 1),
-            root,
+            head,
+            n,
+            Session {
+                user: it.user,
+                mask: it.mask,
+                root: renamed(starts, true, it.root),
+            },
         );
-        i += 1;
     }
 }
 
-// The words between two places, as they are.
-fn put_words(file: &[u8], from: usize, to: usize, out: &mut [u8])
-    requires { ⌜ (from ≤ to) × (2 * to ≤ length (now file)) × (2 * to ≤ length (now out)) ⌝ }
-    ensures { λ r. ⌜ now (out .exit) ≡ sets (now (out .entry)) (2 * from) (bytesOf (wordsFrom (now (file .entry)) from (to - from))) ⌝ }
-{
-    let end = 2 * to;
-    let mut i = 2 * from;
-    while i < end {
-        out[i] = file[i];
-        i += 1;
-    }
-}
-
-// The head, with another number of nodes.
-fn put_head(out: &mut [u8], head: Head, nodes: u16)
-    requires { ⌜ 26 ≤ length (now out) ⌝ }
-    ensures { λ r. ⌜ now (out .exit) ≡ sets (now (out .entry)) 0 (bytesOf (headWords (withNodes head nodes))) ⌝ }
+// A head with another number of nodes: no section stands after them.
+fn with_nodes(head: Head, nodes: u16) -> Head
+    ensures { λ r. ⌜ r ≡ withNodes head nodes ⌝ }
 {
     let n = head.count;
     let at = head.at;
-    put_word(out, 0, head.version);
-    put_three(out, 1, n.users, n.roles, n.kinds);
-    put_three(out, 4, n.channels, n.sessions, nodes);
-    put_three(out, 7, at.users, at.roles, at.kinds);
-    put_three(out, 10, at.channels, at.sessions, at.nodes);
+    Head {
+        version: head.version,
+        count: Six {
+            users: n.users,
+            roles: n.roles,
+            kinds: n.kinds,
+            channels: n.channels,
+            sessions: n.sessions,
+            nodes,
+        },
+        at,
+    }
 }
 
-// The placed file, from the head on. Every other byte stays.
+// The placed file. Every other byte stays.
 pub fn put_file(file: &[u8], head: Head, turns: &[u16], starts: &[u16], nodes: u16, out: &mut [u8])
-    requires { ⌜ Laid head × (length (now file) ≡ 2 * (head .at .nodes + 3 * head .count .nodes)) × (length (now turns) ≡ 1025) × (length (now starts) ≡ 1025)
-        × (nodes ≡ sizesOf (turnsIn (now turns) (head .count .nodes))) × (nodes ≤ 1024) × (6874 ≤ length (now out)) ⌝ }
-    ensures { λ r. ⌜ now (out .exit) ≡ sets (now (out .entry)) 0 (bytesOf (placedWords (now (file .entry)) head (turnsIn (now (turns .entry)) (head .count .nodes)) (now (starts .entry)))) ⌝ }
+    requires { ⌜ Laid (now file) head × (head .version ≡ 1) × (length (now turns) ≡ 1025) × (length (now starts) ≡ 1025)
+        × (nodes ≡ sizesOf (turnsIn (now turns) (head .count .nodes))) × (nodes ≤ 1024) × (roomFor (now file) ≤ length (now out)) ⌝ }
+    ensures { λ r. ⌜ now (out .exit) ≡ sets (now (out .entry)) 0 (encoded (placedContents (contentsAt (now (file .entry)) head) (turnsIn (now (turns .entry)) (head .count .nodes)) (now (starts .entry)))) ⌝ }
 {
-    let n = head.count;
-    let at = head.at;
-    put_head(out, head, nodes);
-    put_words(file, 13, wide(at.sessions), out);
-    put_sessions(file, wide(at.sessions), wide(n.sessions), starts, out);
-    put_groups(file, wide(at.nodes), wide(n.nodes), turns, starts, out);
+    put_head(out, with_nodes(head, nodes));
+    put_tables(file, head, out);
+    put_sessions(file, head, starts, out);
+    put_groups(file, head, turns, starts, out);
 }

@@ -6,9 +6,9 @@ use mathlib.Core.List.{List, [], _∷_, map}
 use native.Mathlib.Omega.{arith}
 use lib.Dec.{eqb}
 use lib.ListN.{length, getD, drop, length-drop, length-map}
+use Rattle.format.specs.Contents.{Contents, contentsOf}
 use Rattle.format.specs.Answers.{fine}
-use Rattle.format.specs.Header.{headAt}
-use Rattle.format.specs.declared.Head.{Head}
+use Rattle.format.specs.declared.Session.{Session}
 use Rattle.format.specs.declared.Node.{Node}
 use Rattle.trees.specs.Shape.{onward}
 use Rattle.trees.specs.declared.Due.{Due}
@@ -16,16 +16,17 @@ use Rattle.trees.specs.declared.Due.the-variants.{Root}
 use Rattle.checking.specs.Check.{readingNames}
 use Rattle.rules.specs.Schema.{Schema, schemaOf}
 use Rattle.rules.specs.Rules.{Context, after}
-use Rattle.rules.specs.Checking.{openings, nodesIn}
+use Rattle.rules.specs.Checking.{openings}
 use Rattle.clinic.specs.File.{InCount}
-use Rattle.clinic.specs.Refusals.{nth, Misshapen, left-over, rootWords, misshapen}
+use Rattle.clinic.specs.Refusals.{nth, Misshapen, left-over, misshapen}
+use Rattle.clinic.proofs.Standing.{rootsIn}
 use Rattle.clinic.proofs.FollowedEnds.{at-node}
 use Rattle.clinic.proofs.DueChain.{Chain as DueChain, chain-start as due-start, chain-step as due-step}
 use Rattle.typing.specs.Faults.{nowhere, InContext}
 use Rattle.typing.proofs.ContextStack.{reached-stack}
 use Rattle.typing.proofs.ContextChain.{Chain, chain-start, chain-step}
-use Rattle.runs.proofs.ReachedNodes.{low-tag}
-use Rattle.runs.proofs.FileNodes.{nodes-length, openings-length, roots-length, refusable-none, StandsIn}
+use Rattle.clinic.proofs.ShapeFirst.{low-tag}
+use Rattle.runs.proofs.FileNodes.{openings-length, refusable-none, StandsIn}
 use Rattle.lent.specs.Lent.{contextsFrom, contextAt}
 
 -- as many trees are due after a node as contexts wait
@@ -84,46 +85,41 @@ context-single D ns os j c d r q =
     ap (λ (w : List Context). getD w 0 c) (sym s ∙ t)
 
 module _ (f : List ℕ) (clean : readingNames f ≡ fine) where
-  abbrev head : Head
-  head = headAt f
+  abbrev C : Contents
+  C = contentsOf f
 
   abbrev D : Schema
-  D = schemaOf f head
+  D = schemaOf C
 
   abbrev ns : List Node
-  ns = nodesIn f head
+  ns = C .nodes
 
   abbrev os : List Context
-  os = openings f head
-
-  abbrev roots : List ℕ
-  roots = rootWords f (head .at .sessions) (head .count .sessions)
+  os = openings C
 
   -- what holds at the end, and of each node where it holds after it
   pub along-nodes : (P : ℕ → List Node → List Context → Type 0) → ((i : ℕ) (st : List Context) → P i [] st)
-      → ((i : ℕ) (c : Context) (l : List Node) (st : List Context) → StandsIn f i c → P (suc i) l (after D c (nth ns i) st) → P i (nth ns i ∷ l) (c ∷ st))
+      → ((i : ℕ) (c : Context) (l : List Node) (st : List Context) → StandsIn (contentsOf f) i c → P (suc i) l (after D c (nth ns i) st) → P i (nth ns i ∷ l) (c ∷ st))
       → P 1 ns os
   along-nodes P stop pass =
-      along D ns os roots (λ p m. refusable-none f clean 8 p (misshapen refl m)) P stop (λ i c l st n h. pass i c l st (n, h))
-      (openings-length f (head .at .sessions) (head .count .sessions) ∙ sym (roots-length f (head .at .sessions) (head .count .sessions)))
+      along D ns os (rootsIn (C .sessions)) (λ p m. refusable-none f clean 8 p (misshapen refl m)) P stop (λ i c l st n h. pass i c l st (n, h))
+      (openings-length (C .sessions) ∙ sym (length-map (C .sessions) (λ (s : Session). s .root)))
 
   -- each node has a context
-  pub contexts-length : length (contextsFrom D ns os) ≡ head .count .nodes
+  pub contexts-length : length (contextsFrom D ns os) ≡ length ns
   unfolding contextsFrom
-  contexts-length =
-      along-nodes (λ i l st. length (contextsFrom D l st) ≡ length l) (λ i st. refl) (λ i c l st h r. ap suc r)
-      ∙ nodes-length f (head .at .nodes) (head .count .nodes)
+  contexts-length = along-nodes (λ i l st. length (contextsFrom D l st) ≡ length l) (λ i st. refl) (λ i c l st h r. ap suc r)
 
   -- in which it is reached
-  pub contexts-at : (j : ℕ) → InCount (head .count .nodes) j → InContext D ns os j (contextAt f head j)
+  pub contexts-at : (j : ℕ) → InCount (length ns) j → InContext D ns os j (contextAt C j)
   unfolding contextsFrom
   contexts-at j n =
       let e : 1 + (j - 1) ≡ j = omega arith in
-      subst (λ (k : ℕ). InContext D ns os k (contextAt f head j)) e
+      subst (λ (k : ℕ). InContext D ns os k (contextAt C j)) e
       (along-nodes (λ i l st. (k : ℕ) → k < length l → InContext D ns os (i + k) (getD (contextsFrom D l st) k nowhere)) (λ i st k l. absurd (omega arith)) pass (j - 1)
-      (omega (arith, nodes-length f (head .at .nodes) (head .count .nodes))))
+      (omega arith))
     where
-      pass : (i : ℕ) (c : Context) (l : List Node) (st : List Context) → StandsIn f i c
+      pass : (i : ℕ) (c : Context) (l : List Node) (st : List Context) → StandsIn (contentsOf f) i c
           → ((k : ℕ) → k < length l → InContext D ns os (suc i + k) (getD (contextsFrom D l (after D c (nth ns i) st)) k nowhere))
           → (k : ℕ) → k < length (nth ns i ∷ l) → InContext D ns os (i + k) (getD (contextsFrom D (nth ns i ∷ l) (c ∷ st)) k nowhere)
       pass i c l st h r zero q = let e : i ≡ i + 0 = omega arith in subst (λ (m : ℕ). InContext D ns os m c) e (h .1)
@@ -132,5 +128,5 @@ module _ (f : List ℕ) (clean : readingNames f ≡ fine) where
           subst (λ (m : ℕ). InContext D ns os m (getD (contextsFrom D l (after D c (nth ns i) st)) k nowhere)) e (r k (omega arith))
 
   -- and in no other
-  pub one-context : (j : ℕ) (c : Context) → InCount (head .count .nodes) j → InContext D ns os j c → contextAt f head j ≡ c
-  one-context j c n h = context-single D ns os j (contextAt f head j) c (contexts-at j n) h
+  pub one-context : (j : ℕ) (c : Context) → InCount (length ns) j → InContext D ns os j c → contextAt C j ≡ c
+  one-context j c n h = context-single D ns os j (contextAt C j) c (contexts-at j n) h

@@ -9,12 +9,13 @@ use lib.Dec.{eqb, leb, ltb}
 use lib.ListN.{length, getD, take, drop, drop-of-length-le}
 use lib.Seq.{sets, drop-cons, length-sets, length-take-le, getD-take}
 use borrow.Author.Tests.{eq-eqb, ne-eqb, lt-ltb, le-ltb, le-leb, lt-leb}
-use Rattle.masks.specs.Mask.{within as withinMask}
+use Rattle.masks.specs.Mask.{within}
+use Rattle.format.specs.Contents.{Contents, inCount, contentsAt}
 use Rattle.format.specs.Answers.{fine}
 use Rattle.format.specs.Header.{headAt}
 use Rattle.format.specs.declared.Head.{Head}
 use Rattle.rules.specs.Schema.{Schema, schemaOf}
-use Rattle.rules.specs.Names.{unbound, within, isUser}
+use Rattle.rules.specs.Names.{unbound}
 use Rattle.rules.specs.Rules.{Context}
 use Rattle.checking.specs.Check.{readingNames}
 use Rattle.steps.specs.declared.Thread.{Thread}
@@ -54,45 +55,45 @@ made-at b p (suc n) zero h = let e : p ≡ 2 * 0 + p = omega arith in ap (madeAt
 made-at b p (suc n) (suc i) h = let e : 2 * i + (p + 2) ≡ 2 * suc i + p = omega arith in made-at b (p + 2) n i (omega arith) ∙ ap (madeAt b) e
 
 -- one of them by its two words, owner and kind, and no more of them
-module _ (D : Schema) (b : List ℕ) (n k : ℕ) where
+module _ (D : Schema) (b : List ℕ) (n k u q : ℕ) (users : D .users ≡ u) (kinds : D .kinds ≡ q) where
   abbrev made-from : ℕ → Bool
   made-from i = every (madeFits D) (drop i (madeIn b 2 n))
 
-  made-step : k < n → made-from k ≡ ((within (D .users) (getD b (2 * k + 2) 0) && within (D .kinds) (getD b (2 * k + 3) 0)) && made-from (k + 1))
+  made-step : k < n → made-from k ≡ ((inCount u (getD b (2 * k + 2) 0) && inCount q (getD b (2 * k + 3) 0)) && made-from (k + 1))
   unfolding madeFits
   made-step h =
       let e : 2 * k + 2 + 1 ≡ 2 * k + 3 = omega arith in
-      every-step (madeFits D) (madeIn b 2 n) k noMade (omega (arith, length-made b 2 n)) ∙ rw (made-at b 2 n k h, e)
+      every-step (madeFits D) (madeIn b 2 n) k noMade (omega (arith, length-made b 2 n)) ∙ rw (made-at b 2 n k h, e, users, kinds)
 
-  pub made-owner : k < n → within (D .users) (getD b (2 * k + 2) 0) ≡ false → made-from k ≡ false
+  pub made-owner : k < n → inCount u (getD b (2 * k + 2) 0) ≡ false → made-from k ≡ false
   made-owner h e = made-step h ∙ rw e
 
-  pub made-kind : k < n → within (D .users) (getD b (2 * k + 2) 0) ≡ true → within (D .kinds) (getD b (2 * k + 3) 0) ≡ false → made-from k ≡ false
+  pub made-kind : k < n → inCount u (getD b (2 * k + 2) 0) ≡ true → inCount q (getD b (2 * k + 3) 0) ≡ false → made-from k ≡ false
   made-kind h e g = made-step h ∙ rw (e, g)
 
-  pub made-fits : k < n → within (D .users) (getD b (2 * k + 2) 0) ≡ true → within (D .kinds) (getD b (2 * k + 3) 0) ≡ true → made-from k ≡ made-from (k + 1)
+  pub made-fits : k < n → inCount u (getD b (2 * k + 2) 0) ≡ true → inCount q (getD b (2 * k + 3) 0) ≡ true → made-from k ≡ made-from (k + 1)
   made-fits h e g = made-step h ∙ rw (e, g)
 
   pub made-done : n ≤ k → made-from k ≡ true
   made-done h = every-done (madeFits D) (madeIn b 2 n) k (omega (arith, length-made b 2 n))
 
 -- what may be a value: a user, a channel of the file, a made channel
-module _ (D : Schema) (made : List Made) (v : ℕ) where
-  pub value-user : isUser D v ≡ true → true ≡ isValue D made v
+module _ (D : Schema) (made : List Made) (v u c : ℕ) (users : D .users ≡ u) (channels : D .channels ≡ c) where
+  pub value-user : inCount u v ≡ true → true ≡ isValue D made v
   unfolding isValue
-  value-user e = rw e
+  value-user e = rw (users, e)
 
-  pub value-low : isUser D v ≡ false → v ≤ 256 → false ≡ isValue D made v
+  pub value-low : inCount u v ≡ false → v ≤ 256 → false ≡ isValue D made v
   unfolding isValue
-  value-low e h = rw (e, le-ltb 256 v h, le-ltb 384 v (omega arith))
+  value-low e h = rw (users, e, le-ltb 256 v h, le-ltb 384 v (omega arith))
 
-  pub value-channel : isUser D v ≡ false → 256 < v → v ≤ 256 + D .channels → true ≡ isValue D made v
+  pub value-channel : inCount u v ≡ false → 256 < v → v ≤ 256 + c → true ≡ isValue D made v
   unfolding isValue
-  value-channel e h l = rw (e, lt-ltb 256 v h, le-leb v (256 + D .channels) l)
+  value-channel e h l = rw (users, channels, e, lt-ltb 256 v h, le-leb v (256 + c) l)
 
-  pub value-made : (n : ℕ) → length made ≡ n → isUser D v ≡ false → 256 < v → 256 + D .channels < v → (ltb 384 v && leb v (384 + n)) ≡ isValue D made v
+  pub value-made : (n : ℕ) → length made ≡ n → inCount u v ≡ false → 256 < v → 256 + c < v → (ltb 384 v && leb v (384 + n)) ≡ isValue D made v
   unfolding isValue
-  value-made n m e h l = rw (e, lt-ltb 256 v h, lt-leb v (256 + D .channels) l, m)
+  value-made n m e h l = rw (users, channels, e, lt-ltb 256 v h, lt-leb v (256 + c) l, m)
 
 -- a thread's variables in a context that is kept as w: a bound one, one that is not bound, and no more of them
 module _ (D : Schema) (made : List Made) (vs : List ℕ) (c : Context) (w : ℕ) (its : w ≡ scopeOf c) (narrow : Narrow c) (k : ℕ) where
@@ -126,35 +127,35 @@ module _ (D : Schema) (made : List Made) (vs : List ℕ) (c : Context) (w : ℕ)
       rw (drop-of-length-le (c .vars) all, drop-of-length-le vs l)
 
 -- a thread: at no node in count; and at one, by a table that has what its node asks
-pub thread-nowhere : (f : List ℕ) (h : Head) (made : List Made) (t : Thread) → within (h .count .nodes) (t .node) ≡ false → false ≡ threadFits f h made t
+pub thread-nowhere : (C : Contents) (made : List Made) (t : Thread) → inCount (length (C .nodes)) (t .node) ≡ false → false ≡ threadFits C made t
 unfolding threadFits
-thread-nowhere f h made t e = rw e
+thread-nowhere C made t e = rw e
 
-module _ (f : List ℕ) (h : Head) (made : List Made) (t : Thread) (table : List ℕ) (j : ℕ) (its : Scoped f h table) (at : j ≡ t .node)
-    (node : within (h .count .nodes) (t .node) ≡ true) where
-  kept : (getD table j 0 ≡ scopeOf (contextAt f h (t .node))) × Narrow (contextAt f h (t .node))
+module _ (C : Contents) (made : List Made) (t : Thread) (table : List ℕ) (j : ℕ) (its : Scoped C table) (at : j ≡ t .node)
+    (node : inCount (length (C .nodes)) (t .node) ≡ true) where
+  kept : (getD table j 0 ≡ scopeOf (contextAt C (t .node))) × Narrow (contextAt C (t .node))
   kept = let q = its (t .node) node in (ap (λ (i : ℕ). getD table i 0) at ∙ q .0, q .1)
 
-  user : userIn (getD table j 0) ≡ contextAt f h (t .node) .user
-  user = user-in (contextAt f h (t .node)) (getD table j 0) (kept .0) (kept .1)
+  user : userIn (getD table j 0) ≡ contextAt C (t .node) .user
+  user = user-in (contextAt C (t .node)) (getD table j 0) (kept .0) (kept .1)
 
-  pub thread-user : (t .user ≡ userIn (getD table j 0) → ⊥) → false ≡ threadFits f h made t
+  pub thread-user : (t .user ≡ userIn (getD table j 0) → ⊥) → false ≡ threadFits C made t
   unfolding threadFits
-  thread-user d = rw (node, ne-eqb (t .user) (contextAt f h (t .node) .user) (λ e. d (e ∙ sym user)))
+  thread-user d = rw (node, ne-eqb (t .user) (contextAt C (t .node) .user) (λ e. d (e ∙ sym user)))
 
-  pub thread-mask : t .user ≡ userIn (getD table j 0) → withinMask (t .mask) (schemaOf f h .assigned (t .user)) ≡ false → false ≡ threadFits f h made t
+  pub thread-mask : t .user ≡ userIn (getD table j 0) → within (t .mask) (schemaOf C .assigned (t .user)) ≡ false → false ≡ threadFits C made t
   unfolding threadFits
-  thread-mask e m = rw (node, eq-eqb (t .user) (contextAt f h (t .node) .user) (e ∙ user), m)
+  thread-mask e m = rw (node, eq-eqb (t .user) (contextAt C (t .node) .user) (e ∙ user), m)
 
-  pub thread-vars : (r : Bool) → t .user ≡ userIn (getD table j 0) → withinMask (t .mask) (schemaOf f h .assigned (t .user)) ≡ true
-      → ((c : Context) → getD table j 0 ≡ scopeOf c → Narrow c → r ≡ varsFit (schemaOf f h) made (c .vars) (t .vars)) → r ≡ threadFits f h made t
+  pub thread-vars : (r : Bool) → t .user ≡ userIn (getD table j 0) → within (t .mask) (schemaOf C .assigned (t .user)) ≡ true
+      → ((c : Context) → getD table j 0 ≡ scopeOf c → Narrow c → r ≡ varsFit (schemaOf C) made (c .vars) (t .vars)) → r ≡ threadFits C made t
   unfolding threadFits
   thread-vars r e m v =
-      rw (node, eq-eqb (t .user) (contextAt f h (t .node) .user) (e ∙ user), m) (v (contextAt f h (t .node)) (kept .0) (kept .1))
+      rw (node, eq-eqb (t .user) (contextAt C (t .node) .user) (e ∙ user), m) (v (contextAt C (t .node)) (kept .0) (kept .1))
 
 -- a table that was filled
-pub filled-scoped : (f : List ℕ) (h : Head) (t l : List ℕ) → h ≡ headAt f → readingNames f ≡ fine → length t ≡ 1025 → l ≡ sets t 1 (scopesIn f h)
-    → (length l ≡ 1025) × Scoped f h l
+pub filled-scoped : (f : List ℕ) (h : Head) (t l : List ℕ) → h ≡ headAt f → readingNames f ≡ fine → length t ≡ 1025 → l ≡ sets t 1 (scopesIn (contentsAt f h))
+    → (length l ≡ 1025) × Scoped (contentsAt f h) l
 filled-scoped f h t l e clean long its =
-    let all : Scoped f h (sets t 1 (scopesIn f h)) = subst (λ (x : Head). Scoped f x (sets t 1 (scopesIn f x))) (sym e) (scoped f clean t long) in
-    (ap length its ∙ length-sets t 1 (scopesIn f h) ∙ long, subst (λ (x : List ℕ). Scoped f h x) (sym its) all)
+    let all : Scoped (contentsAt f h) (sets t 1 (scopesIn (contentsAt f h))) = subst (λ (x : Head). Scoped (contentsAt f x) (sets t 1 (scopesIn (contentsAt f x)))) (sym e) (scoped f clean t long) in
+    (ap length its ∙ length-sets t 1 (scopesIn (contentsAt f h)) ∙ long, subst (Scoped (contentsAt f h)) (sym its) all)

@@ -10,15 +10,15 @@ use lib.ListN.{length, getD, take}
 use borrow.Author.Tests.{eqb-true, eq-eqb, lt-ltb, le-leb}
 use Rattle.masks.specs.Mask.{Within}
 use Rattle.masks.proofs.Bounds.{within-iff}
+use Rattle.format.specs.Contents.{contentsOf}
 use Rattle.format.specs.Answers.{fine, refused}
-use Rattle.format.specs.Header.{headAt}
 use Rattle.format.specs.declared.Node.{Node}
 use Rattle.format.proofs.BoolLaws.{eq-iff, and-iff, or-resolve}
-use Rattle.tables.proofs.RecordLaws.{inCount-iff}
+use Rattle.format.proofs.ContentsLaws.{inCount-iff}
 use Rattle.rules.specs.Schema.{Schema, schemaOf}
 use Rattle.rules.specs.Names.{Bound, isUser, isChannel}
 use Rattle.rules.specs.Rules.{Context, bind, activate, childOf}
-use Rattle.rules.specs.Checking.{openingsFrom, openings, nodesIn}
+use Rattle.rules.specs.Checking.{openings}
 use Rattle.rules.proofs.NameLaws.{between}
 use Rattle.checking.specs.Check.{readingNames}
 use Rattle.clinic.specs.Lists.{All}
@@ -29,10 +29,11 @@ use Rattle.typing.specs.Faults.{nowhere, InContext, root, child, first-child, s
 use Rattle.steps.specs.declared.Thread.{Thread}
 use Rattle.steps.specs.declared.Made.{Made}
 use Rattle.steps.specs.Choice.{clinicOf, kindHeld, State, halts, goes, choice}
-use Rattle.placement.proofs.AnswerStages.{Among, none, some, number-of, names-among}
+use Rattle.clinic.proofs.FirstLaws.{number-of}
+use Rattle.placement.proofs.AnswerStages.{Among, none, some, names-among}
 use Rattle.runs.specs.Keeps.{HasValue, a-user, a-channel, a-made, Held, Fits, Reaches, Formed}
 use Rattle.runs.proofs.HeldValues.{Apart, kind-held}
-use Rattle.runs.proofs.FileNodes.{apart, nodes-length}
+use Rattle.runs.proofs.FileNodes.{apart}
 use Rattle.lent.specs.Lent.{contextAt, isValue, varsFit, threadFits, madeFits, every, stateOf, sizesFit, mayBeLent, lending, chosenIn, choosing}
 use Rattle.lent.specs.Lendable.{Lendable, Eight}
 use Rattle.lent.proofs.SizeLaws.{sizes-true}
@@ -112,65 +113,56 @@ all-take P (suc n) (x ∷ xs) h = (h .0, all-take P n xs (h .1))
 
 module _ (f : List ℕ) (clean : readingNames f ≡ fine) where
   abbrev D : Schema
-  D = schemaOf f (headAt f)
+  D = schemaOf (contentsOf f)
 
   abbrev ns : List Node
-  ns = nodesIn f (headAt f)
+  ns = contentsOf f .nodes
 
   abbrev os : List Context
-  os = openings f (headAt f)
+  os = openings (contentsOf f)
 
   -- Threads.
 
-  -- a node in count is one of those read
-  node-counted : (j : ℕ) → InCount (headAt f .count .nodes) j → InCount (length ns) j
-  node-counted j n = (n .0, omega (arith, nodes-length f (headAt f .at .nodes) (headAt f .count .nodes)))
-
-  -- and back
-  counted-node : (j : ℕ) → InCount (length ns) j → InCount (headAt f .count .nodes) j
-  counted-node j n = (n .0, omega (arith, nodes-length f (headAt f .at .nodes) (headAt f .count .nodes)))
-
   -- what is asked of a thread
   abbrev Lent : List Made → Thread → Type 0
-  Lent made t = (c : Context) × Reaches f t c × Fits D made c t
+  Lent made t = (c : Context) × Reaches (contentsOf f) t c × Fits D made c t
 
   abbrev here : Thread → Context
-  here t = contextAt f (headAt f) (t .node)
+  here t = contextAt (contentsOf f) (t .node)
 
   -- what is tested of a thread
   tested-iff : (made : List Made) (t : Thread)
-      → (threadFits f (headAt f) made t ≡ true)
-      ↔ (InCount (headAt f .count .nodes) (t .node)
+      → (threadFits (contentsOf f) made t ≡ true)
+      ↔ (InCount (length ns) (t .node)
       × ((t .user ≡ here t .user) × (Within (t .mask) (D .assigned (t .user)) × Held D made (here t .vars) (t .vars))))
   unfolding threadFits
   tested-iff made t =
-      and-iff (inCount-iff (headAt f .count .nodes) (t .node)) (λ n. and-iff (eq-iff (t .user) (here t .user))
+      and-iff (inCount-iff (length ns) (t .node)) (λ n. and-iff (eq-iff (t .user) (here t .user))
       (λ u. and-iff (within-iff (t .mask) (D .assigned (t .user))) (λ m. held-iff D (apart f clean) made (here t .vars) (t .vars))))
 
   -- a thread that passes the test is as asked
-  thread-lent : (made : List Made) (t : Thread) → Eight t → threadFits f (headAt f) made t ≡ true → Lent made t
+  thread-lent : (made : List Made) (t : Thread) → Eight t → threadFits (contentsOf f) made t ≡ true → Lent made t
   thread-lent made t eight e =
       let (n, (u, (m, v))) = tested-iff made t .0 e in
       let at = contexts-at f clean (t .node) n in (
         here t,
-        (node-counted (t .node) n, at),
+        (n, at),
         record { user = u; counted = subst (InCount (D .users)) (sym u) (counted-context f clean at .0); mask = m; eight = eight; vars = v },
       )
 
   -- and one that is as asked passes it
-  lent-thread : (made : List Made) (t : Thread) → Lent made t → threadFits f (headAt f) made t ≡ true
+  lent-thread : (made : List Made) (t : Thread) → Lent made t → threadFits (contentsOf f) made t ≡ true
   lent-thread made t (c, (n, at), F) =
-      let there = counted-node (t .node) n in
-      let same : c ≡ here t = sym (one-context f clean (t .node) c there at) in
+      let same : c ≡ here t = sym (one-context f clean (t .node) c n at) in
       tested-iff made t .1
-      (there, (F .user ∙ ap (λ (x : Context). x .user) same, (F .mask, subst (λ (x : Context). Held D made (x .vars) (t .vars)) same (F .vars))))
+      (n, (F .user ∙ ap (λ (x : Context). x .user) same, (F .mask, subst (λ (x : Context). Held D made (x .vars) (t .vars)) same (F .vars))))
 
   module _ (l : List Thread) (b : List ℕ) where
     abbrev made : List Made
     made = stateOf l b .made
 
     -- what may be lent is judged so
-    pub lendable-judged : Lendable f l b → mayBeLent f (headAt f) l b ≡ true
+    pub lendable-judged : Lendable (contentsOf f) l b → mayBeLent (contentsOf f) l b ≡ true
     unfolding mayBeLent
     lendable-judged L =
         rw (
@@ -179,16 +171,16 @@ module _ (f : List ℕ) (clean : readingNames f ≡ fine) where
           le-leb (getD b 0 0) 64 (L .few-threads),
           le-leb (getD b 1 0) 64 (L .few-made),
           every-iff (madeFits D) made .1 (all-map (λ m. formed-iff D m .1) made (L .made)),
-          every-iff (threadFits f (headAt f) made) (stateOf l b .threads) .1 (all-map (lent-thread made) (stateOf l b .threads) (L .threads)),
+          every-iff (threadFits (contentsOf f) made) (stateOf l b .threads) .1 (all-map (lent-thread made) (stateOf l b .threads) (L .threads)),
         )
 
     -- and what is judged so may be lent
-    pub judged-lendable : All Eight l → mayBeLent f (headAt f) l b ≡ true → Lendable f l b
+    pub judged-lendable : All Eight l → mayBeLent (contentsOf f) l b ≡ true → Lendable (contentsOf f) l b
     unfolding mayBeLent
     judged-lendable eights h =
         let (sizes, rest) = and-eq-true-iff (sizesFit (length l) b) _ .0 h in
         let (words, records, threads, few) = sizes-true (length l) b sizes in
-        let (formed, fit) = and-eq-true-iff (every (madeFits D) made) (every (threadFits f (headAt f) made) (stateOf l b .threads)) .0 rest in
+        let (formed, fit) = and-eq-true-iff (every (madeFits D) made) (every (threadFits (contentsOf f) made) (stateOf l b .threads)) .0 rest in
         record {
           records = records;
           words = words;
@@ -196,32 +188,32 @@ module _ (f : List ℕ) (clean : readingNames f ≡ fine) where
           few-made = few;
           made = all-map (λ m. formed-iff D m .0) made (every-iff (madeFits D) made .0 formed);
           threads = all-map (λ t (e, z). thread-lent made t e z) (stateOf l b .threads)
-              (all-both Eight (λ t. threadFits f (headAt f) made t ≡ true) (stateOf l b .threads) (all-take Eight (getD b 0 0) l eights)
-              (every-iff (threadFits f (headAt f) made) (stateOf l b .threads) .0 fit));
+              (all-both Eight (λ t. threadFits (contentsOf f) made t ≡ true) (stateOf l b .threads) (all-take Eight (getD b 0 0) l eights)
+              (every-iff (threadFits (contentsOf f) made) (stateOf l b .threads) .0 fit));
         }
 
 -- The test is what the paper says may be lent.
 pub lendable-exactly : (f : List ℕ) → readingNames f ≡ fine → (l : List Thread) → All Eight l → (b : List ℕ)
-    → (mayBeLent f (headAt f) l b ≡ true) ↔ Lendable f l b
+    → (mayBeLent (contentsOf f) l b ≡ true) ↔ Lendable (contentsOf f) l b
 lendable-exactly f clean l eights b = (judged-lendable f clean l b eights, lendable-judged f clean l b)
 
 -- Which answer comes where.
 
 -- 18 at place 0: the file passes 1 to 10, and what is lent may not be.
 pub eighteen-zero : (f : List ℕ) (l : List Thread) → All Eight l → (b : List ℕ) (i p : ℕ)
-    → (choosing f l b i p ≡ refused 18 0) ↔ ((readingNames f ≡ fine) × (Lendable f l b → ⊥))
+    → (choosing f l b i p ≡ refused 18 0) ↔ ((readingNames f ≡ fine) × (Lendable (contentsOf f) l b → ⊥))
 eighteen-zero f l eights b i p = (to (of-choice f l b i p), from (of-choice f l b i p))
   where
-    unlent : readingNames f ≡ fine → lending f l b ≡ fine → Lendable f l b
+    unlent : readingNames f ≡ fine → lending f l b ≡ fine → Lendable (contentsOf f) l b
     unlent clean h = judged-lendable f clean l b eights (lending-fine f l b .0 h .1)
 
-    to : OfChoice f l b i p → choosing f l b i p ≡ refused 18 0 → (readingNames f ≡ fine) × (Lendable f l b → ⊥)
+    to : OfChoice f l b i p → choosing f l b i p ≡ refused 18 0 → (readingNames f ≡ fine) × (Lendable (contentsOf f) l b → ⊥)
     to (unread n q low high e h S) z = absurd (omega (arith, high, number-of (sym (S .answer) ∙ z)))
     to (unfit e h k S) z = (e, λ L. false≢true (sym h ∙ lendable-judged f e l b L))
     to (halted n over e h S) z = absurd (omega (arith, place-of (sym (S .answer) ∙ z)))
     to (carried s e h S) z = absurd (omega (arith, number-of (sym (S .answer) ∙ z)))
 
-    from : OfChoice f l b i p → (readingNames f ≡ fine) × (Lendable f l b → ⊥) → choosing f l b i p ≡ refused 18 0
+    from : OfChoice f l b i p → (readingNames f ≡ fine) × (Lendable (contentsOf f) l b → ⊥) → choosing f l b i p ≡ refused 18 0
     from (unread n q low high e h S) (clean, never) = absurd (omega (arith, low, number-of (sym e ∙ clean)))
     from (unfit e h k S) (clean, never) = S .answer
     from (halted n over e h S) (clean, never) = absurd (never (unlent clean e))
@@ -247,7 +239,7 @@ ten-first f l b i p n q low high = (to (of-choice f l b i p), from (of-choice f 
 module _ (f : List ℕ) (l : List Thread) (b : List ℕ) (i p : ℕ) where
   -- where the file is not refused so, a refusal at place 1 is the choice's
   of-choice-alone : (n : ℕ) → (readingNames f ≡ refused n 1 → ⊥)
-      → (choosing f l b i p ≡ refused n 1) ↔ ((lending f l b ≡ fine) × (choice (clinicOf f (headAt f)) (stateOf l b) i p ≡ halts n))
+      → (choosing f l b i p ≡ refused n 1) ↔ ((lending f l b ≡ fine) × (choice (clinicOf (contentsOf f)) (stateOf l b) i p ≡ halts n))
   unfolding choosing
   of-choice-alone n never = (to (of-choice f l b i p), λ (e, h). rw (e, h))
     where
@@ -258,14 +250,14 @@ module _ (f : List ℕ) (l : List Thread) (b : List ℕ) (i p : ℕ) where
       to (carried s e h S) z = absurd (omega (arith, place-of (sym (S .answer) ∙ z)))
 
   -- A choice's own refusal has place 1: where nothing refuses before it, such a refusal is exactly the choice's.
-  pub choice-at-one : (n : ℕ) → lending f l b ≡ fine → (choosing f l b i p ≡ refused n 1) ↔ (choice (clinicOf f (headAt f)) (stateOf l b) i p ≡ halts n)
+  pub choice-at-one : (n : ℕ) → lending f l b ≡ fine → (choosing f l b i p ≡ refused n 1) ↔ (choice (clinicOf (contentsOf f)) (stateOf l b) i p ≡ halts n)
   choice-at-one n e =
       let alone = of-choice-alone n (λ z. omega (arith, place-of (sym (lending-fine f l b .0 e .0) ∙ z))) in
       (λ z. alone .0 z .1, λ h. alone .1 (e, h))
 
   -- With a number over 10, nothing else is refused at place 1.
   pub past-ten-one : (n : ℕ) → 10 < n
-      → (choosing f l b i p ≡ refused n 1) ↔ ((lending f l b ≡ fine) × (choice (clinicOf f (headAt f)) (stateOf l b) i p ≡ halts n))
+      → (choosing f l b i p ≡ refused n 1) ↔ ((lending f l b ≡ fine) × (choice (clinicOf (contentsOf f)) (stateOf l b) i p ≡ halts n))
   past-ten-one n over = of-choice-alone n (never (names-among f))
     where
       never : Among 1 10 (readingNames f) → readingNames f ≡ refused n 1 → ⊥
@@ -273,7 +265,7 @@ module _ (f : List ℕ) (l : List Thread) (b : List ℕ) (i p : ℕ) where
       never (some low high) z = omega (arith, over, high, number-of z)
 
   -- Nothing is refused exactly where the choice is carried out in what may be lent.
-  pub choosing-fine : (choosing f l b i p ≡ fine) ↔ ((lending f l b ≡ fine) × ((s : State) × (choice (clinicOf f (headAt f)) (stateOf l b) i p ≡ goes s)))
+  pub choosing-fine : (choosing f l b i p ≡ fine) ↔ ((lending f l b ≡ fine) × ((s : State) × (choice (clinicOf (contentsOf f)) (stateOf l b) i p ≡ goes s)))
   unfolding choosing
   choosing-fine = (to (of-choice f l b i p), λ (e, (s, h)). rw (e, h))
     where

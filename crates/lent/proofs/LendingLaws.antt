@@ -7,6 +7,7 @@ use native.Mathlib.Omega.{arith}
 use lib.Dec.{eqb}
 use lib.ListN.{length, getD, take}
 use borrow.Author.Tests.{ne-eqb}
+use Rattle.format.specs.Contents.{contentsAt, contentsOf}
 use Rattle.format.specs.Answers.{fine, refused, orElse}
 use Rattle.format.specs.Header.{headAt}
 use Rattle.format.specs.declared.Verdict.{Verdict}
@@ -57,14 +58,14 @@ module _ (f : List ℕ) (records : ℕ) (ts : List Thread) (b : List ℕ) (i p :
   -- 1 to 10
   pub names-give : (v : Verdict) (d : Decided) (all : Records) → v ≡ readingNames f → (v .number ≡ 0 → ⊥) → d ≡ refusal v all → Gives d b
   unfolding lending
-  names-give v d all e loud = refusal-gives v d all loud (λ l long begins. ap (λ (x : Verdict). orElse x (cond (mayBeLent f (headAt f) l b) fine (refused 18 0))) (sym e) ∙ loud-first v _ loud)
+  names-give v d all e loud = refusal-gives v d all loud (λ l long begins. ap (λ (x : Verdict). orElse x (cond (mayBeLent (contentsOf f) l b) fine (refused 18 0))) (sym e) ∙ loud-first v _ loud)
 
   module _ (clean : readingNames f ≡ fine) where
-    lending-by : (l : List Thread) (x : Bool) → mayBeLent f (headAt f) l b ≡ x → lending f l b ≡ cond x fine (refused 18 0)
+    lending-by : (l : List Thread) (x : Bool) → mayBeLent (contentsOf f) l b ≡ x → lending f l b ≡ cond x fine (refused 18 0)
     unfolding lending
     lending-by l x e = rw (clean, e)
 
-    unlent-gives : (d : Decided) (all : Records) → ((l : List Thread) → length l ≡ records → Begins l → mayBeLent f (headAt f) l b ≡ false) → d ≡ refusal (refused 18 0) all → Gives d b
+    unlent-gives : (d : Decided) (all : Records) → ((l : List Thread) → length l ≡ records → Begins l → mayBeLent (contentsOf f) l b ≡ false) → d ≡ refusal (refused 18 0) all → Gives d b
     unlent-gives d all unfit = refusal-gives (refused 18 0) d all (λ q. omega (arith, q)) (λ l long begins. lending-by l false (unfit l long begins))
 
     -- wrong sizes
@@ -75,23 +76,23 @@ module _ (f : List ℕ) (records : ℕ) (ts : List Thread) (b : List ℕ) (i p :
     module _ (h : Head) (head : h ≡ headAt f) (fit : sizesFit records b ≡ true) where
       -- what is judged of the counted records
       abbrev judged : Bool
-      judged = every (madeFits (schemaOf f h)) (madeIn b 2 (getD b 1 0)) && every (threadFits f h (madeIn b 2 (getD b 1 0))) (take (getD b 0 0) ts)
+      judged = every (madeFits (schemaOf (contentsAt f h))) (madeIn b 2 (getD b 1 0)) && every (threadFits (contentsAt f h) (madeIn b 2 (getD b 1 0))) (take (getD b 0 0) ts)
 
       begins-counted : (l : List Thread) → Begins l → take (getD b 0 0) l ≡ take (getD b 0 0) ts
       begins-counted l begins = subst (λ (x : Bool). take (cond x (getD b 0 0) 0) l ≡ take (cond x (getD b 0 0) 0) ts) fit begins
 
-      judged-so : (l : List Thread) → length l ≡ records → Begins l → (x : Bool) → judged ≡ x → mayBeLent f (headAt f) l b ≡ x
+      judged-so : (l : List Thread) → length l ≡ records → Begins l → (x : Bool) → judged ≡ x → mayBeLent (contentsOf f) l b ≡ x
       unfolding mayBeLent
-      judged-so l long begins x e = subst (λ (g : Head). mayBeLent f g l b ≡ x) head (rw (long, fit, begins-counted l begins) e)
+      judged-so l long begins x e = subst (λ (g : Head). mayBeLent (contentsAt f g) l b ≡ x) head (rw (long, fit, begins-counted l begins) e)
 
       pub judged-give : (x : Bool) (d : Decided) (all : Records) → x ≡ judged → x ≡ false → d ≡ refusal (refused 18 0) all → Gives d b
       judged-give x d all e unfit = unlent-gives d all (λ l long begins. judged-so l long begins false (sym e ∙ unfit))
 
       -- a choice in what may be lent
-      pub choice-gives : (x : Bool) (d : Decided) (b′ : List ℕ) → x ≡ judged → x ≡ true → Decides d ts b b′ (λ l. choice (clinicOf f h) (stateOf l b) i p) → Gives d b′
+      pub choice-gives : (x : Bool) (d : Decided) (b′ : List ℕ) → x ≡ judged → x ≡ true → Decides d ts b b′ (λ l. choice (clinicOf (contentsAt f h)) (stateOf l b) i p) → Gives d b′
       unfolding choosing recordsOver besideOver
       choice-gives x d b′ e fits does =
-          let (stores, carries) = subst (λ (g : Head). Decides d ts b b′ (λ l. choice (clinicOf f g) (stateOf l b) i p)) head does in
+          let (stores, carries) = subst (λ (g : Head). Decides d ts b b′ (λ l. choice (clinicOf (contentsAt f g)) (stateOf l b) i p)) head does in
           let (w, r, t, m) = sizes-true records b fit in (
             subst (λ (k : ℕ). Stores k d) (sym r) stores,
             λ l long begins.

@@ -6,14 +6,14 @@ use mathlib.Core.Bool.{Bool, true, false, cond}
 use mathlib.Core.List.{List}
 use native.Mathlib.Omega.{arith}
 use borrow.Author.Tests.{ne-eqb}
+use Rattle.format.specs.Contents.{contentsOf}
 use Rattle.format.specs.Answers.{fine, refused}
-use Rattle.format.specs.Header.{headAt}
 use Rattle.format.specs.declared.Verdict.{Verdict}
 use Rattle.checking.specs.Check.{readingNames}
 use Rattle.steps.specs.declared.Thread.{Thread}
 use Rattle.steps.specs.Choice.{clinicOf, State, Chosen, halts, goes}
-use Rattle.typing.proofs.Quiets.{both-fine}
-use Rattle.placement.proofs.AnswerStages.{Among, none, some, number-of, among-fine, names-among}
+use Rattle.clinic.proofs.FirstLaws.{number-of, both-fine}
+use Rattle.placement.proofs.AnswerStages.{Among, none, some, among-fine, names-among}
 use Rattle.runs.proofs.Agree.{Number, refused-number}
 use Rattle.lent.specs.Lent.{stateOf, mayBeLent, lending, answered, chosenIn, choosing, recordsAfter, besideAfter, recordsOver, besideOver}
 
@@ -30,7 +30,7 @@ pub record Leaves (f : List ℕ) (l : List Thread) (b : List ℕ) (i p : ℕ) (v
 -- what refuses, if anything does
 pub data OfChoice (f : List ℕ) (l : List Thread) (b : List ℕ) (i p : ℕ) : Type 0 where
   unread : (n q : ℕ) → 1 ≤ n → n ≤ 10 → readingNames f ≡ refused n q → lending f l b ≡ refused n q → Leaves f l b i p (refused n q) l b → OfChoice f l b i p
-  unfit : readingNames f ≡ fine → mayBeLent f (headAt f) l b ≡ false → lending f l b ≡ refused 18 0 → Leaves f l b i p (refused 18 0) l b → OfChoice f l b i p
+  unfit : readingNames f ≡ fine → mayBeLent (contentsOf f) l b ≡ false → lending f l b ≡ refused 18 0 → Leaves f l b i p (refused 18 0) l b → OfChoice f l b i p
   halted : (n : ℕ) → 10 < n → lending f l b ≡ fine → chosenIn f l b i p ≡ halts n → Leaves f l b i p (refused n 1) l b → OfChoice f l b i p
   carried : (s : State) → lending f l b ≡ fine → chosenIn f l b i p ≡ goes s → Leaves f l b i p fine (recordsAfter l (goes s)) (besideAfter b (goes s)) → OfChoice f l b i p
 
@@ -59,13 +59,13 @@ module _ (f : List ℕ) (l : List Thread) (b : List ℕ) where
   -- every choice goes one of the ways
   pub of-choice : (i p : ℕ) → OfChoice f l b i p
   unfolding lending
-  of-choice i p = go (names-among f) (mayBeLent f (headAt f) l b) refl
+  of-choice i p = go (names-among f) (mayBeLent (contentsOf f) l b) refl
     where
       chosen : lending f l b ≡ fine → (o : Chosen) → chosenIn f l b i p ≡ o → OfChoice f l b i p
-      chosen e (halts n) h = halted n (over-ten n (refused-number (clinicOf f (headAt f)) (stateOf l b) i p n h)) e h (chooses i p e (halts n) h)
+      chosen e (halts n) h = halted n (over-ten n (refused-number (clinicOf (contentsOf f)) (stateOf l b) i p n h)) e h (chooses i p e (halts n) h)
       chosen e (goes s) h = carried s e h (chooses i p e (goes s) h)
 
-      go : Among 1 10 (readingNames f) → (t : Bool) → mayBeLent f (headAt f) l b ≡ t → OfChoice f l b i p
+      go : Among 1 10 (readingNames f) → (t : Bool) → mayBeLent (contentsOf f) l b ≡ t → OfChoice f l b i p
       go (none e) true h = chosen (rw (e, h)) (chosenIn f l b i p) refl
       go (none e) false h = let z : lending f l b ≡ refused 18 0 = rw (e, h) in unfit e h z (refuses i p 18 0 (omega arith) z)
       go (some low high) t h =
@@ -91,11 +91,11 @@ module _ (f : List ℕ) (l : List Thread) (b : List ℕ) where
       go (carried s e h S) = left-has P S (after s e h)
 
   -- nothing refuses before the choice exactly where 1 to 10 let the file through and what is lent is judged to be fit
-  pub lending-fine : (lending f l b ≡ fine) ↔ ((readingNames f ≡ fine) × (mayBeLent f (headAt f) l b ≡ true))
+  pub lending-fine : (lending f l b ≡ fine) ↔ ((readingNames f ≡ fine) × (mayBeLent (contentsOf f) l b ≡ true))
   unfolding lending
   lending-fine =
-      let both = both-fine (readingNames f) (cond (mayBeLent f (headAt f) l b) fine (refused 18 0)) (among-fine 1 10 (readingNames f) (omega arith) (names-among f)) in
-      (λ h. let (e, z) = both .0 h in (e, judged (mayBeLent f (headAt f) l b) z), λ (e, h). rw (e, h))
+      let both = both-fine (readingNames f) (cond (mayBeLent (contentsOf f) l b) fine (refused 18 0)) (among-fine 1 10 (readingNames f) (omega arith) (names-among f)) in
+      (λ h. let (e, z) = both .0 h in (e, judged (mayBeLent (contentsOf f) l b) z), λ (e, h). rw (e, h))
     where
       judged : (t : Bool) → cond t fine (refused 18 0) ≡ fine → t ≡ true
       judged true z = refl

@@ -8,16 +8,16 @@ use Rattle.masks.specs.Mask.{has, with, namesOnly, within}
 use Rattle.format.specs.Words.{bytesOf}
 use Rattle.format.specs.Answers.{fine, refused, firstOf}
 use Rattle.format.specs.Header.{from2, from3, from4, from5, headOf}
-use Rattle.format.specs.Sections.{nodesFrom}
+use Rattle.format.specs.Contents.{tabled, item, contentsAt}
 use Rattle.format.specs.declared.Verdict.{Verdict}
 use Rattle.tables.specs.Records.{recordFits, sectionAnswer, recordsAnswer}
 use Rattle.trees.specs.Ends.{following}
-use Rattle.trees.specs.Shape.{nodeFits, shapeFrom, rootsFrom, shapeAnswer}
+use Rattle.trees.specs.Shape.{nodeFits, shapeFrom, roots, shapeAnswer}
 use Rattle.reading.specs.Reading.{reading}
 use Rattle.rules.specs.Schema.{permits, permittingTo}
 use Rattle.rules.specs.Names.{named, kindOf, mine}
 use Rattle.rules.specs.Rules.{namesFit, kindsFit, able, wrong, childOf}
-use Rattle.rules.specs.Checking.{firstBy, openingsFrom, namesAnswer}
+use Rattle.rules.specs.Checking.{firstBy, opened, namesAnswer}
 use Rattle.checking.specs.Check.{readingNames}
 use Rattle.steps.specs.declared.Thread.{Thread}
 use Rattle.steps.specs.Threads.{value, firstFree}
@@ -117,5 +117,5 @@ cases =
     ∷ []
 
 pub lent-cases : All Shown cases
-unfolding has with namesOnly within bytesOf firstOf from2 from3 from4 from5 headOf nodesFrom recordFits sectionAnswer recordsAnswer following nodeFits shapeFrom rootsFrom shapeAnswer reading permits permittingTo named kindOf mine namesFit kindsFit able wrong childOf firstBy openingsFrom namesAnswer readingNames value firstFree kindHeld meeting sending lone aloneOnly acting done choice madeIn madeWords contextsFrom isValue varsFit threadFits madeFits every mayBeLent lending choosing recordsOver besideOver
+unfolding has with namesOnly within bytesOf firstOf from2 from3 from4 from5 headOf tabled item contentsAt recordFits sectionAnswer recordsAnswer following nodeFits shapeFrom roots shapeAnswer reading permits permittingTo named kindOf mine namesFit kindsFit able wrong childOf firstBy opened namesAnswer readingNames value firstFree kindHeld meeting sending lone aloneOnly acting done choice madeIn madeWords contextsFrom isValue varsFit threadFits madeFits every mayBeLent lending choosing recordsOver besideOver
 lent-cases = ((refl, refl, refl), ((refl, refl, refl), ((refl, refl, refl), ((refl, refl, refl), ((refl, refl, refl), ((refl, refl, refl), ((refl, refl, refl), ((refl, refl, refl), ((refl, refl, refl), ((refl, refl, refl), ((refl, refl, refl), ((refl, refl, refl), ((refl, refl, refl), ((refl, refl, refl), ((refl, refl, refl), ((refl, refl, refl), ((refl, refl, refl), tt)))))))))))))))))

@@ -8,8 +8,8 @@ use lib.Dec.{eqb}
 use lib.ListN.{length, getD, set, take, drop, length-take}
 use lib.Seq.{take-append-seam, getD-drop, drop-drop, sets, length-sets, sets-eq}
 use borrow.Author.Tests.{ne-eqb}
+use Rattle.format.specs.Contents.{contentsOf}
 use Rattle.format.specs.Answers.{fine, refused}
-use Rattle.format.specs.Header.{headAt}
 use Rattle.format.specs.declared.Verdict.{Verdict}
 use Rattle.rules.specs.Schema.{schemaOf}
 use Rattle.rules.specs.Rules.{Context}
@@ -73,12 +73,12 @@ module _ (l : List Thread) (b : List ℕ) (records : length l ≡ 64) (words : l
 
 module _ (f : List ℕ) where
   abbrev clinic : Clinic
-  clinic = clinicOf f (headAt f)
+  clinic = clinicOf (contentsOf f)
 
   -- What may be lent is what holds in a state of a run, but for the active sets.
 
   abbrev Fit : List Made → Thread → Type 0
-  Fit made t = (c : Context) × Reaches f t c × Fits (schemaOf f (headAt f)) made c t
+  Fit made t = (c : Context) × Reaches (contentsOf f) t c × Fits (schemaOf (contentsOf f)) made c t
 
   -- a thread's active set need not be its context's
   abbrev loose : ℕ → ℕ → Type 0
@@ -88,21 +88,21 @@ module _ (f : List ℕ) where
   any n = Unit {0}
 
   -- a list that holds such a state may be lent
-  held-lendable : (K : ℕ → ℕ → Type 0) (s : State) → Invariant clinic (StandsIn f) K s → (l : List Thread) (b : List ℕ) → Lends l b s → Lendable f l b
+  held-lendable : (K : ℕ → ℕ → Type 0) (s : State) → Invariant clinic (StandsIn (contentsOf f)) K s → (l : List Thread) (b : List ℕ) → Lends l b s → Lendable (contentsOf f) l b
   held-lendable K s I l b L = record {
     records = L .records;
     words = L .words;
     few-threads = omega (arith, L .threads, I .few-threads);
     few-made = omega (arith, L .made, I .few-made);
-    made = subst (λ (x : State). All (Formed (schemaOf f (headAt f))) (x .made)) (sym (L .state)) (I .made);
+    made = subst (λ (x : State). All (Formed (schemaOf (contentsOf f))) (x .made)) (sym (L .state)) (I .made);
     threads = subst (λ (x : State). All (Fit (x .made)) (x .threads)) (sym (L .state))
-        (all-map {P = Good (schemaOf f (headAt f)) (StandsIn f) K (s .made)} {Q = Fit (s .made)} (λ t (c, a, F, k). (c, a, F)) (s .threads) (I .threads));
+        (all-map {P = Good (schemaOf (contentsOf f)) (StandsIn (contentsOf f)) K (s .made)} {Q = Fit (s .made)} (λ t (c, a, F, k). (c, a, F)) (s .threads) (I .threads));
   }
 
   -- and what may be lent holds such a state
-  lendable-held : (l : List Thread) (b : List ℕ) → Lendable f l b → Invariant clinic (StandsIn f) loose (stateOf l b)
+  lendable-held : (l : List Thread) (b : List ℕ) → Lendable (contentsOf f) l b → Invariant clinic (StandsIn (contentsOf f)) loose (stateOf l b)
   lendable-held l b L = record {
-    threads = all-map {P = Fit (stateOf l b .made)} {Q = Good (schemaOf f (headAt f)) (StandsIn f) loose (stateOf l b .made)} (λ t (c, a, F). (c, a, F, tt))
+    threads = all-map {P = Fit (stateOf l b .made)} {Q = Good (schemaOf (contentsOf f)) (StandsIn (contentsOf f)) loose (stateOf l b .made)} (λ t (c, a, F). (c, a, F, tt))
         (stateOf l b .threads) (L .threads);
     made = L .made;
     few-threads = omega (arith, length-take (getD b 0 0) l, L .few-threads);
@@ -111,12 +111,12 @@ module _ (f : List ℕ) where
 
   module _ (clean : readingNames f ≡ fine) where
     -- nothing refuses before a choice in it
-    lends-fine : (l : List Thread) (b : List ℕ) → Lendable f l b → lending f l b ≡ fine
+    lends-fine : (l : List Thread) (b : List ℕ) → Lendable (contentsOf f) l b → lending f l b ≡ fine
     lends-fine l b L = lending-fine f l b .1 (clean, lendable-judged f clean l b L)
 
     -- nor in a list that holds a state of a run
-    lends-kept : (s : State) → Kept f s → (l : List Thread) (b : List ℕ) → Lends l b s → lending f l b ≡ fine
-    lends-kept s K l b L = lends-fine l b (held-lendable _≡_ s (of-kept f s K) l b L)
+    lends-kept : (s : State) → Kept (contentsOf f) s → (l : List Thread) (b : List ℕ) → Lends l b s → lending f l b ≡ fine
+    lends-kept s K l b L = lends-fine l b (held-lendable _≡_ s (of-kept (contentsOf f) s K) l b L)
 
     -- A state of a run is never 18 at place 0.
     pub kept-lendable : (ws : List ℕ) (l : List Thread) (b : List ℕ) → Lends l b (ranOf f ws .state) → lending f l b ≡ fine
@@ -130,7 +130,7 @@ module _ (f : List ℕ) where
     next s (goes s′) = s′
 
     -- the list holds it after the choice, and the answer is the choice's
-    lent-step : (s : State) → Kept f s → (l : List Thread) (b : List ℕ) → Lends l b s → (i p : ℕ)
+    lent-step : (s : State) → Kept (contentsOf f) s → (l : List Thread) (b : List ℕ) → Lends l b s → (i p : ℕ)
         → Lends (recordsOver f l b i p) (besideOver f l b i p) (next s (choice clinic s i p)) × (choosing f l b i p ≡ answered (choice clinic s i p))
     lent-step s K l b L i p =
         let same : chosenIn f l b i p ≡ choice clinic s i p = ap (λ (x : State). choice clinic x i p) (L .state) in
@@ -139,7 +139,7 @@ module _ (f : List ℕ) where
       where
         go : (o : Chosen) → choice clinic s i p ≡ o → Lends (recordsAfter l o) (besideAfter b o) (next s o)
         go (halts n) e = L
-        go (goes s′) e = let K′ : Kept f s′ = choice-kept f clean K i p e in stored-lends l b (L .records) (L .words) s′ (K′ .few-threads) (K′ .few-made)
+        go (goes s′) e = let K′ : Kept (contentsOf f) s′ = choice-kept f clean K i p e in stored-lends l b (L .records) (L .words) s′ (K′ .few-threads) (K′ .few-made)
 
     -- Lists of choices.
 
@@ -187,7 +187,7 @@ module _ (f : List ℕ) where
     lent-next ws even z l b L i p =
         let s : State = ranOf f ws .state in
         let (holds, answer) = lent-step s (run-kept f clean ws) l b L i p in
-        let (state, refusal) = run-more (i ∷ p ∷ []) ws (start f (headAt f)) even z in
+        let (state, refusal) = run-more (i ∷ p ∷ []) ws (start (contentsOf f)) even z in
         let (after, told-so) = one-more s i p in
         (subst (Lends (recordsOver f l b i p) (besideOver f l b i p)) (after ∙ sym state) holds, answer ∙ told-so ∙ ap told (sym refusal))
 
@@ -195,7 +195,7 @@ module _ (f : List ℕ) where
     abbrev Alike : Left → Ran → Type 0
     Alike r q = Lends (r .records) (r .beside) (q .state) × (r .answer ≡ told (q .refusal))
 
-    turns-alike : (ws : List ℕ) (s : State) → Kept f s → (l : List Thread) (b : List ℕ) → Lends l b s → Alike (inTurn f l b ws) (run clinic s ws)
+    turns-alike : (ws : List ℕ) (s : State) → Kept (contentsOf f) s → (l : List Thread) (b : List ℕ) → Lends l b s → Alike (inTurn f l b ws) (run clinic s ws)
     unfolding inTurn run
     turns-alike [] s K l b L = (L, refl)
     turns-alike (i ∷ []) s K l b L = (L, refl)
@@ -204,7 +204,7 @@ module _ (f : List ℕ) where
         go (choice clinic s i p) refl holds answer (λ s′ K′ L′. turns-alike ws s′ K′ (recordsOver f l b i p) (besideOver f l b i p) L′)
       where
         go : (o : Chosen) → choice clinic s i p ≡ o → Lends (recordsOver f l b i p) (besideOver f l b i p) (next s o) → choosing f l b i p ≡ answered o
-            → ((s′ : State) → Kept f s′ → Lends (recordsOver f l b i p) (besideOver f l b i p) s′
+            → ((s′ : State) → Kept (contentsOf f) s′ → Lends (recordsOver f l b i p) (besideOver f l b i p) s′
             → Alike (inTurn f (recordsOver f l b i p) (besideOver f l b i p) ws) (run clinic s′ ws))
             → Alike (cond (eqb (choosing f l b i p .number) 0) (inTurn f (recordsOver f l b i p) (besideOver f l b i p) ws)
             (record { records = recordsOver f l b i p; beside = besideOver f l b i p; answer = choosing f l b i p })) (follow s o (λ s′. run clinic s′ ws))
@@ -212,28 +212,28 @@ module _ (f : List ℕ) where
         go (goes s′) e holds answer rec = rw answer (rec s′ (choice-kept f clean K i p e) holds)
 
     -- The choices of a list, done one after the other in a lent list that holds the start, leave in it the state of the run and answer as the run does.
-    pub whole-run : (ws : List ℕ) (l : List Thread) (b : List ℕ) → Lends l b (start f (headAt f))
+    pub whole-run : (ws : List ℕ) (l : List Thread) (b : List ℕ) → Lends l b (start (contentsOf f))
         → let r : Left = inTurn f l b ws in
         Lends (r .records) (r .beside) (ranOf f ws .state) × (r .answer ≡ cond (eqb (ranOf f ws .refusal) 0) fine (refused (ranOf f ws .refusal) 1))
-    whole-run ws l b L = turns-alike ws (start f (headAt f)) (start-kept f clean) l b L
+    whole-run ws l b L = turns-alike ws (start (contentsOf f)) (start-kept f clean) l b L
 
   -- What may be lent may be lent again.
 
   module _ (l : List Thread) (eights : All Eight l) (b : List ℕ) (fit : lending f l b ≡ fine) (i p : ℕ) where
     -- it passes the judging
-    lendable : Lendable f l b
+    lendable : Lendable (contentsOf f) l b
     lendable = let (clean, judged) = lending-fine f l b .0 fit in judged-lendable f clean l b eights judged
 
     -- a choice that is carried out leaves a state in which every thread fits its node
-    chosen-held : (s : State) → choice clinic (stateOf l b) i p ≡ goes s → Invariant clinic (StandsIn f) loose s
+    chosen-held : (s : State) → choice clinic (stateOf l b) i p ≡ goes s → Invariant clinic (StandsIn (contentsOf f)) loose s
     chosen-held s h =
-        subst (Keeps clinic (StandsIn f) loose any) h
-        (choice-keeps clinic (StandsIn f) (lawful f (lending-fine f l b .0 fit .0)) loose steady any come (stateOf l b) (lendable-held l b lendable) i p)
+        subst (Keeps clinic (StandsIn (contentsOf f)) loose any) h
+        (choice-keeps clinic (StandsIn (contentsOf f)) (lawful f (lending-fine f l b .0 fit .0)) loose steady any come (stateOf l b) (lendable-held l b lendable) i p)
       where
         steady : Steady loose
         steady = record { on = λ m n r e. tt; off = λ m n r e. tt }
 
-        come : MayCome clinic (StandsIn f) loose any
+        come : MayCome clinic (StandsIn (contentsOf f)) loose any
         come = record { no-thread = tt; unequal = tt; full = tt; role = λ j c a m h n e. tt }
 
     -- so that may be lent again
@@ -260,4 +260,4 @@ all-sets P (v ∷ vs) l i h g = all-sets P vs (set l i v) (suc i) (all-set P l i
 pub eight-again : (f : List ℕ) (l : List Thread) → All Eight l → (b : List ℕ) (i p : ℕ) → All Eight (recordsOver f l b i p)
 eight-again f l eights b i p =
     left-by f l b (λ x y. All Eight x) i p eights (λ s e h. all-sets Eight (s .threads) l 0 eights
-    (all-map {P = Good (schemaOf f (headAt f)) (StandsIn f) (loose f) (s .made)} {Q = Eight} (λ t (c, a, F, k). F .eight) (s .threads) (chosen-held f l eights b e i p s h .threads)))
+    (all-map {P = Good (schemaOf (contentsOf f)) (StandsIn (contentsOf f)) (loose f) (s .made)} {Q = Eight} (λ t (c, a, F, k). F .eight) (s .threads) (chosen-held f l eights b e i p s h .threads)))

@@ -1,36 +1,35 @@
 -- What 1 to 10 leave of the context of a node: a user and kinds in count, and eight variables at most.
-use Prim.Native.Nat.{ℕ, _-_, _≤_, _<_}
+use Prim.Native.Nat.{ℕ, zero, suc, _≤_, _<_}
 use mathlib.Core.Path.{_≡_, refl, sym, subst}
 use mathlib.Core.Logic.{_≢_, inl, inr}
-use mathlib.Core.Bool.{Bool, true, false, cond}
+use mathlib.Core.Bool.{Bool, true, false}
 use mathlib.Core.List.{List, [], _∷_}
 use native.Mathlib.Omega.{arith}
 use lib.Dec.{eqb, leb}
 use lib.ListN.{length, length-append}
 use borrow.Author.Tests.{eqb-true, eqb-false, leb-true, leb-false}
 use Rattle.masks.specs.Mask.{with, without}
+use Rattle.format.specs.Contents.{Contents, inCount, item, contentsOf}
 use Rattle.format.specs.Answers.{fine}
 use Rattle.format.specs.Header.{headAt}
-use Rattle.format.specs.Sections.{carried}
-use Rattle.format.specs.declared.Head.{Head}
 use Rattle.format.specs.declared.Node.{Node}
-use Rattle.tables.specs.Records.{inCount}
-use Rattle.tables.proofs.RecordLaws.{inCount-iff}
+use Rattle.format.proofs.ContentsLaws.{inCount-iff, users-held, kinds-held}
 use Rattle.checking.specs.Check.{readingNames}
 use Rattle.rules.specs.Schema.{Schema, schemaOf}
 use Rattle.rules.specs.Names.{kindOf}
 use Rattle.rules.specs.Rules.{Context, wrong, bind, activate, childOf}
-use Rattle.rules.specs.Checking.{openings, nodesIn}
+use Rattle.rules.specs.Checking.{openings}
 use Rattle.clinic.specs.File.{InCount}
 use Rattle.clinic.specs.Refusals.{nth, misnamed, kind, kind-of}
 use Rattle.clinic.proofs.AllLaws.{all-map}
 use Rattle.typing.specs.Faults.{InContext, root, child, first-child, second-child}
 use Rattle.typing.proofs.OperandKinds.{Ranged}
 use Rattle.typing.proofs.NameFaults.{fails-iff}
-use Rattle.typing.proofs.SameRules.{Closed, Known, known-more, kind-known}
+use Rattle.typing.proofs.KnownKinds.{Closed, Known, known-more, kind-known}
 use Rattle.runs.proofs.NodeSteps.{new-names, receive-names}
 use Rattle.runs.proofs.FileNodes.{StandsIn, refusable-none, laid, ranged, names-clear, binder-room, openings-length}
-use Rattle.runs.proofs.StartKept.{opening-get, session-seated}
+use Rattle.runs.proofs.FileNodes.{opening-get}
+use Rattle.runs.proofs.StartKept.{session-seated}
 use Rattle.lent.specs.Lent.{contextAt}
 use Rattle.lent.specs.Scopes.{Narrow}
 use Rattle.lent.proofs.ContextLaws.{contexts-at}
@@ -49,35 +48,39 @@ by-child D c n P new receive other = go (eqb (n .tag) 3) refl (eqb (n .tag) 5) r
     go false a false b false d true e = rw (a, b, d, e) (other (eqb-false (n .tag) 3 a) (eqb-false (n .tag) 5 b) (without (c .mask) (n .f1)))
     go false a false b false d false e = rw (a, b, d, e) (other (eqb-false (n .tag) 3 a) (eqb-false (n .tag) 5 b) (c .mask))
 
+-- a channel of no kind carries a plain value
+plain : (kinds : List ℕ) → item 0 kinds 0 ≡ 0
+unfolding item
+plain kinds = refl
+
 module _ (f : List ℕ) (clean : readingNames f ≡ fine) where
-  abbrev head : Head
-  head = headAt f
+  abbrev C : Contents
+  C = contentsOf f
 
   abbrev D : Schema
-  D = schemaOf f head
+  D = schemaOf C
 
   abbrev ns : List Node
-  ns = nodesIn f head
+  ns = C .nodes
 
   abbrev os : List Context
-  os = openings f head
+  os = openings C
 
   -- kinds named by channels and kinds are in count, or 0
   closed : Closed D
-  closed = record { kind = λ c n. of-channel c n (inCount (head .count .kinds) (D .kind c)) refl; carries = λ k l. of-kind k l (eqb k 0) refl }
+  closed = record { kind = λ c n. of-channel c n (inCount (D .kinds) (D .kind c)) refl; carries = of-kind }
     where
-      of-channel : (c : ℕ) → InCount (head .count .channels) c → (b : Bool) → inCount (head .count .kinds) (D .kind c) ≡ b → D .kind c ≤ head .count .kinds
-      of-channel c n true e = inCount-iff (head .count .kinds) (D .kind c) .0 e .1
-      of-channel c n false e =
-          absurd (refusable-none f clean 6 _ (misnamed refl (kind-of c n (fails-iff _ _ (inCount-iff (head .count .kinds) (D .kind c)) .0 e) refl)))
+      of-channel : (c : ℕ) → InCount (D .channels) c → (b : Bool) → inCount (D .kinds) (D .kind c) ≡ b → D .kind c ≤ D .kinds
+      of-channel c n true e = inCount-iff (D .kinds) (D .kind c) .0 e .1
+      of-channel c n false e = absurd (refusable-none f clean 6 _ (misnamed refl (kind-of c n (fails-iff _ _ (inCount-iff (D .kinds) (D .kind c)) .0 e) refl)))
 
-      carries-low : (k : ℕ) → InCount (head .count .kinds) k → (b : Bool) → leb (carried f head k) (head .count .kinds) ≡ b → carried f head k ≤ head .count .kinds
-      carries-low k n true e = leb-true (carried f head k) (head .count .kinds) e
-      carries-low k n false e = absurd (refusable-none f clean 6 _ (misnamed refl (kind k n (leb-false (carried f head k) (head .count .kinds) e) refl)))
+      carries-low : (k : ℕ) → InCount (D .kinds) k → (b : Bool) → leb (D .carries k) (D .kinds) ≡ b → D .carries k ≤ D .kinds
+      carries-low k n true e = leb-true (D .carries k) (D .kinds) e
+      carries-low k n false e = absurd (refusable-none f clean 6 _ (misnamed refl (kind k n (leb-false (D .carries k) (D .kinds) e) refl)))
 
-      of-kind : (k : ℕ) → k ≤ head .count .kinds → (b : Bool) → eqb k 0 ≡ b → cond b 0 (carried f head k) ≤ head .count .kinds
-      of-kind k l true e = omega arith
-      of-kind k l false e = carries-low k (omega (arith, eqb-false k 0 e), l) (leb (carried f head k) (head .count .kinds)) refl
+      of-kind : (k : ℕ) → k ≤ D .kinds → D .carries k ≤ D .kinds
+      of-kind zero l = omega (arith, plain (C .kinds))
+      of-kind (suc k) l = carries-low (suc k) (omega arith, l) (leb (D .carries (suc k)) (D .kinds)) refl
 
   -- user and kinds are in count, and there are eight variables at most
   abbrev pub Counted : Context → Type 0
@@ -88,7 +91,7 @@ module _ (f : List ℕ) (clean : readingNames f ≡ fine) where
   counted-bind c k fresh room l (u, b, h) = (u, omega (arith, length-append (c .vars) (record { sort = k; fresh = fresh } ∷ [])), known-more D (c .vars) k fresh h l)
 
   -- so at the only child
-  counted-child : (i : ℕ) (c : Context) → StandsIn f i c → Counted c → Counted (childOf D c (nth ns i))
+  counted-child : (i : ℕ) (c : Context) → StandsIn (contentsOf f) i c → Counted c → Counted (childOf D c (nth ns i))
   counted-child i c s (u, l, k) =
       by-child D c n Counted (λ t. counted-bind c (n .f1) true (binder-room f clean s (inl t)) (new-names D c n R clear t .1) (u, l, k))
       (λ t.
@@ -108,8 +111,8 @@ module _ (f : List ℕ) (clean : readingNames f ≡ fine) where
   -- so at every node that is reached
   pub counted-context : {i : ℕ} {c : Context} → InContext D ns os i c → Counted c
   counted-context (root {k = k} n b) =
-      let m : InCount (head .count .sessions) k = (n .0, omega (arith, openings-length f (head .at .sessions) (head .count .sessions))) in
-      subst Counted (sym (opening-get f (head .at .sessions) (head .count .sessions) (k - 1) (omega arith))) (session-seated f clean k m .0, omega arith, tt)
+      let m : InCount (length (C .sessions)) k = (n .0, omega (arith, openings-length (C .sessions))) in
+      subst Counted (sym (opening-get (C .sessions) k (n .0))) (session-seated f clean k m .0, omega arith, tt)
   counted-context (child {i = i} {c = c} n o r) = counted-child i c (n, r) (counted-context r)
   counted-context (first-child n t r) = counted-context r
   counted-context (second-child n t r h) = counted-context r
@@ -118,8 +121,12 @@ module _ (f : List ℕ) (clean : readingNames f ≡ fine) where
   pub narrow-in : {i : ℕ} {c : Context} → InContext D ns os i c → Narrow c
   narrow-in {i} {c} h =
       let (u, l, k) = counted-context h in
-      record { user = omega (arith, laid f clean .users); bound = l; kinds = all-map (λ b p. omega (arith, laid f clean .kinds)) (c .vars) k }
+      record {
+        user = omega (arith, laid f clean .users, users-held f (headAt f));
+        bound = l;
+        kinds = all-map (λ b p. omega (arith, laid f clean .kinds, kinds-held f (headAt f))) (c .vars) k;
+      }
 
   -- and every node is reached
-  pub narrow : (j : ℕ) → InCount (head .count .nodes) j → Narrow (contextAt f head j)
+  pub narrow : (j : ℕ) → InCount (length ns) j → Narrow (contextAt C j)
   narrow j n = narrow-in (contexts-at f clean j n)

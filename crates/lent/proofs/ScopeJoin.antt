@@ -1,5 +1,5 @@
 -- The numbers that the pass over the nodes stores are those of the nodes' contexts.
-use Prim.Native.Nat.{ℕ, zero, suc, _+_, _*_, _-_, _%_, _^_, _≤_, _<_}
+use Prim.Native.Nat.{ℕ, suc, _+_, _*_, _-_, _%_, _^_, _≤_, _<_}
 use mathlib.Core.Path.{_≡_, refl, ap, ap₂, _∙_, subst}
 use mathlib.Core.Bool.{Bool, true, false, cond, _||_, and-eq-true-iff}
 use mathlib.Core.List.{List, [], _∷_, _++_, map}
@@ -10,17 +10,17 @@ use lib.ListN.{length, getD, length-append, length-map, List·getD-map}
 use lib.Pow.{pow-add, pow-mono}
 use lib.Seq.{sets, getD-append-seam}
 use borrow.Author.Tests.{eqb-false, ltb-true, lt-ltb, le-ltb, ne-eqb}
+use Rattle.format.specs.Contents.{Contents, contentsOf}
 use Rattle.format.specs.Answers.{fine}
 use Rattle.format.specs.Header.{headAt}
-use Rattle.format.specs.Words.{wordAt}
-use Rattle.format.specs.declared.Head.{Head}
+use Rattle.format.specs.declared.Session.{Session}
 use Rattle.format.specs.declared.Node.{Node}
-use Rattle.tables.proofs.RecordLaws.{inCount-iff}
+use Rattle.format.proofs.ContentsLaws.{inCount-iff, nodes-held}
 use Rattle.checking.specs.Check.{readingNames}
 use Rattle.rules.specs.Schema.{Schema, schemaOf}
 use Rattle.rules.specs.Names.{Bound, unbound, isUser, isChannel, isVariable, named, kindOf}
 use Rattle.rules.specs.Rules.{Context, bind, childOf, after}
-use Rattle.rules.specs.Checking.{openingsFrom, openings, nodesIn}
+use Rattle.rules.specs.Checking.{opened, openings}
 use Rattle.clinic.specs.Lists.{All}
 use Rattle.clinic.specs.File.{InCount}
 use Rattle.clinic.specs.Refusals.{nth, OneChild}
@@ -31,7 +31,7 @@ use Rattle.choices.proofs.TableLaws.{sets-in}
 use Rattle.runs.proofs.NodeSteps.{receive-names}
 use Rattle.runs.proofs.FileNodes.{StandsIn, laid, ranged, tag-low, names-clear}
 use Rattle.lent.specs.Lent.{contextsFrom}
-use Rattle.lent.specs.Scopes.{digits, scopeOf, boundIn, kindAt, bindScope, kindNamed, childScope, afterScope, scopesFrom, openScopesFrom, scopesIn, Narrow, Scoped}
+use Rattle.lent.specs.Scopes.{digits, scopeOf, boundIn, kindAt, bindScope, kindNamed, childScope, afterScope, scopesFrom, openScopes, scopesIn, Narrow, Scoped}
 use Rattle.lent.proofs.ContextLaws.{along-nodes, contexts-length}
 use Rattle.lent.proofs.NarrowLaws.{by-child, narrow-in, narrow}
 use Rattle.lent.proofs.ScopeLaws.{kindsOf, bound-in, kind-at}
@@ -117,10 +117,10 @@ scope-child D c n names N =
     (λ p q m M. rw (ne-eqb (n .tag) 3 p, ne-eqb (n .tag) 5 q))
 
 -- the numbers of the sessions' openings
-scope-openings : (f : List ℕ) (p k : ℕ) → openScopesFrom f p k ≡ map scopeOf (openingsFrom f p k)
-unfolding openScopesFrom openingsFrom scopeOf digits
-scope-openings f p zero = refl
-scope-openings f p (suc k) = let e : wordAt f p ≡ wordAt f p + 64 * 0 + 1024 * 0 = omega arith in ap₂ _∷_ e (scope-openings f (p + 3) k)
+scope-openings : (ss : List Session) → openScopes ss ≡ map scopeOf (opened ss)
+unfolding openScopes opened scopeOf digits
+scope-openings [] = refl
+scope-openings (s ∷ ss) = let e : s .user ≡ s .user + 64 * 0 + 1024 * 0 = omega arith in ap₂ _∷_ e (scope-openings ss)
 
 -- where there is no context the number is 0
 scope-get : (cs : List Context) (k : ℕ) → getD (map scopeOf cs) k 0 ≡ scopeOf (getD cs k nowhere)
@@ -128,20 +128,20 @@ unfolding scopeOf digits
 scope-get cs k = List·getD-map scopeOf cs k nowhere
 
 module _ (f : List ℕ) (clean : readingNames f ≡ fine) where
-  abbrev head : Head
-  head = headAt f
+  abbrev C : Contents
+  C = contentsOf f
 
   abbrev D : Schema
-  D = schemaOf f head
+  D = schemaOf C
 
   abbrev ns : List Node
-  ns = nodesIn f head
+  ns = C .nodes
 
   abbrev os : List Context
-  os = openings f head
+  os = openings C
 
   -- the stack of numbers goes with the stack of contexts
-  scope-after : (i : ℕ) (c : Context) (st : List Context) → StandsIn f i c
+  scope-after : (i : ℕ) (c : Context) (st : List Context) → StandsIn (contentsOf f) i c
       → afterScope D (scopeOf c) (nth ns i) (map scopeOf st) ≡ map scopeOf (after D c (nth ns i) st)
   scope-after i c st s = go (eqb (nth ns i .tag) 0) refl (eqb (nth ns i .tag) 1) refl
     where
@@ -160,25 +160,25 @@ module _ (f : List ℕ) (clean : readingNames f ≡ fine) where
           (scope-child D c (nth ns i) names (narrow-in f clean (s .1)) (narrow-in f clean (child (s .0) o (s .1)))))
 
   -- the numbers of all nodes
-  scope-all : scopesIn f head ≡ map scopeOf (contextsFrom D ns os)
+  scope-all : scopesIn C ≡ map scopeOf (contextsFrom D ns os)
   unfolding scopesIn scopesFrom contextsFrom
   scope-all =
-      ap (scopesFrom D ns) (scope-openings f (head .at .sessions) (head .count .sessions))
+      ap (scopesFrom D ns) (scope-openings (C .sessions))
       ∙ along-nodes f clean (λ i l st. scopesFrom D l (map scopeOf st) ≡ map scopeOf (contextsFrom D l st)) (λ i st. refl)
       (λ i c l st s r. ap (λ (ws : List ℕ). scopeOf c ∷ ws) (ap (scopesFrom D l) (scope-after i c st s) ∙ r))
 
   -- a table in which they are stored has for each node that of its context
-  pub scoped : (t : List ℕ) → length t ≡ 1025 → Scoped f head (sets t 1 (scopesIn f head))
+  pub scoped : (t : List ℕ) → length t ≡ 1025 → Scoped C (sets t 1 (scopesIn C))
   scoped t e j h =
       let z : j ≡ 1 + (j - 1) = omega (arith, n .0) in
-      let read = sets-in (scopesIn f head) t 1 (j - 1) 0 (omega (arith, n, long)) (omega (arith, long, e, laid f clean .nodes)) in (
-        ap (λ (i : ℕ). getD (sets t 1 (scopesIn f head)) i 0) z ∙ read ∙ ap (λ (ws : List ℕ). getD ws (j - 1) 0) scope-all
+      let read = sets-in (scopesIn C) t 1 (j - 1) 0 (omega (arith, n, long)) (omega (arith, long, e, laid f clean .nodes, nodes-held f (headAt f))) in (
+        ap (λ (i : ℕ). getD (sets t 1 (scopesIn C)) i 0) z ∙ read ∙ ap (λ (ws : List ℕ). getD ws (j - 1) 0) scope-all
             ∙ scope-get (contextsFrom D ns os) (j - 1),
         narrow f clean j n,
       )
     where
-      n : InCount (head .count .nodes) j
-      n = inCount-iff (head .count .nodes) j .0 h
+      n : InCount (length ns) j
+      n = inCount-iff (length ns) j .0 h
 
-      long : length (scopesIn f head) ≡ head .count .nodes
+      long : length (scopesIn C) ≡ length ns
       long = ap length scope-all ∙ length-map (contextsFrom D ns os) scopeOf ∙ contexts-length f clean

@@ -7,14 +7,14 @@ use mathlib.Core.List.{List, [], _∷_}
 use native.Mathlib.Omega.{arith}
 use lib.ListN.{length, getD, set, drop, length-set}
 use lib.Seq.{getD-set-same, getD-set-other, drop-set-lt, sets, length-sets}
+use Rattle.format.specs.Contents.{contentsOf}
 use Rattle.format.specs.Answers.{fine}
-use Rattle.format.specs.Header.{headAt}
 use Rattle.steps.specs.declared.Thread.{Thread}
 use Rattle.steps.specs.Choice.{State, goes}
 use Rattle.running.specs.Run.{madeWords}
 use Rattle.lent.specs.Lent.{sizesFit, mayBeLent, lending, chosenIn, choosing, recordsAfter, besideAfter, recordsOver, besideOver}
 use Rattle.lent.proofs.SizeLaws.{sizes-true}
-use Rattle.placement.proofs.AnswerStages.{number-of}
+use Rattle.clinic.proofs.FirstLaws.{number-of}
 use Rattle.lent.proofs.LentAnswers.{OfChoice, unread, unfit, halted, carried, of-choice, left-by, lending-fine}
 use Rattle.running.proofs.PutLaws.{made-words-length}
 
@@ -33,7 +33,7 @@ getD-sets-before (v ∷ vs) l i j d h = getD-sets-before vs (set l i v) (suc i) 
 
 module _ (f : List ℕ) (l : List Thread) (b : List ℕ) (i p : ℕ) where
   -- what is judged fit to be lent has 130 words
-  sized : mayBeLent f (headAt f) l b ≡ true → length b ≡ 130
+  sized : mayBeLent (contentsOf f) l b ≡ true → length b ≡ 130
   unfolding mayBeLent
   sized h = sizes-true (length l) b (and-eq-true-iff (sizesFit (length l) b) _ .0 h .0) .0
 

@@ -6,7 +6,7 @@ use mathlib.Core.List.{List, [], _∷_}
 use lib.Dec.{eqb}
 use lib.ListN.{length, getD}
 use Rattle.format.specs.Answers.{fine}
-use Rattle.format.specs.Header.{headAt}
+use Rattle.format.specs.Contents.{Contents}
 use Rattle.format.specs.declared.Verdict.{Verdict}
 use Rattle.rules.specs.Schema.{schemaOf}
 use Rattle.rules.specs.Rules.{Context}
@@ -19,13 +19,13 @@ use Rattle.lent.specs.Lent.{stateOf, choosing, recordsOver, besideOver}
 -- 64 records, the thread count and the made channels beside them: no count above 64, each made channel's owner and kind in count, and each counted
 -- thread at a node in count, with the user of the node's session, a mask within that user's roles, and each variable of the kind that rule 1 gives it
 -- at that node, 0 where none is bound
-pub record Lendable (f : List ℕ) (l : List Thread) (b : List ℕ) : Type 0 where
+pub record Lendable (C : Contents) (l : List Thread) (b : List ℕ) : Type 0 where
   pub records : length l ≡ 64
   pub words : length b ≡ 130
   pub few-threads : getD b 0 0 ≤ 64
   pub few-made : getD b 1 0 ≤ 64
-  pub made : All (Formed (schemaOf f (headAt f))) (stateOf l b .made)
-  pub threads : All (λ (t : Thread). (c : Context) × Reaches f t c × Fits (schemaOf f (headAt f)) (stateOf l b .made) c t) (stateOf l b .threads)
+  pub made : All (Formed (schemaOf C)) (stateOf l b .made)
+  pub threads : All (λ (t : Thread). (c : Context) × Reaches C t c × Fits (schemaOf C) (stateOf l b .made) c t) (stateOf l b .threads)
 
 -- a record of a lent list is a thread with eight variables
 abbrev pub Eight : Thread → Type 0

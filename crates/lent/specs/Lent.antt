@@ -5,16 +5,15 @@ use mathlib.Core.List.{List, [], _∷_}
 use lib.Dec.{eqb, leb, ltb}
 use lib.ListN.{length, getD, take}
 use lib.Seq.{sets}
-use Rattle.masks.specs.Mask.{within as withinMask}
+use Rattle.masks.specs.Mask.{within}
 use Rattle.format.specs.Answers.{fine, refused, orElse}
-use Rattle.format.specs.Header.{headAt}
+use Rattle.format.specs.Contents.{Contents, inCount, contentsOf}
 use Rattle.format.specs.declared.Verdict.{Verdict}
-use Rattle.format.specs.declared.Head.{Head}
 use Rattle.format.specs.declared.Node.{Node}
 use Rattle.rules.specs.Schema.{Schema, schemaOf}
-use Rattle.rules.specs.Names.{Bound, within, isUser, isChannel}
+use Rattle.rules.specs.Names.{Bound, isUser, isChannel}
 use Rattle.rules.specs.Rules.{Context, after}
-use Rattle.rules.specs.Checking.{openings, nodesIn}
+use Rattle.rules.specs.Checking.{openings}
 use Rattle.checking.specs.Check.{readingNames}
 use Rattle.steps.specs.declared.Thread.{Thread}
 use Rattle.steps.specs.declared.Made.{Made}
@@ -29,8 +28,8 @@ contextsFrom D [] st = []
 contextsFrom D (n ∷ ns) [] = []
 contextsFrom D (n ∷ ns) (c ∷ st) = c ∷ contextsFrom D ns (after D c n st)
 
-abbrev pub contextAt : List ℕ → Head → ℕ → Context
-contextAt f h j = getD (contextsFrom (schemaOf f h) (nodesIn f h) (openings f h)) (j - 1) nowhere
+abbrev pub contextAt : Contents → ℕ → Context
+contextAt C j = getD (contextsFrom (schemaOf C) (C .nodes) (openings C)) (j - 1) nowhere
 
 -- a value names a user, a channel or a lent made channel
 unfoldable pub isValue : Schema → List Made → ℕ → Bool
@@ -44,15 +43,15 @@ varsFit D made [] (v ∷ vs) = eqb v 0 && varsFit D made [] vs
 varsFit D made (b ∷ bs) (v ∷ vs) = (isValue D made v && eqb (kindHeld D made v) (b .sort)) && varsFit D made bs vs
 
 -- a counted thread: its node in count, its user that of the node's session, every role in its mask assigned to that user, its variables
-unfoldable pub threadFits : List ℕ → Head → List Made → Thread → Bool
-threadFits f h made t =
-    let c : Context = contextAt f h (t .node) in
-    within (h .count .nodes) (t .node)
-    && (eqb (t .user) (c .user) && (withinMask (t .mask) (schemaOf f h .assigned (t .user)) && varsFit (schemaOf f h) made (c .vars) (t .vars)))
+unfoldable pub threadFits : Contents → List Made → Thread → Bool
+threadFits C made t =
+    let c : Context = contextAt C (t .node) in
+    inCount (length (C .nodes)) (t .node)
+    && (eqb (t .user) (c .user) && (within (t .mask) (schemaOf C .assigned (t .user)) && varsFit (schemaOf C) made (c .vars) (t .vars)))
 
 -- a made channel's owner and kind in count
 unfoldable pub madeFits : Schema → Made → Bool
-madeFits D m = within (D .users) (m .owner) && within (D .kinds) (m .kind)
+madeFits D m = inCount (D .users) (m .owner) && inCount (D .kinds) (m .kind)
 
 unfoldable pub every : {A : Type 0} → (A → Bool) → List A → Bool
 every test [] = true
@@ -67,14 +66,14 @@ abbrev pub sizesFit : ℕ → List ℕ → Bool
 sizesFit records b = eqb (length b) 130 && ((eqb records 64 && leb (getD b 0 0) 64) && leb (getD b 1 0) 64)
 
 -- what may be lent with a file that 1 to 10 let through
-unfoldable pub mayBeLent : List ℕ → Head → List Thread → List ℕ → Bool
-mayBeLent f h l b =
+unfoldable pub mayBeLent : Contents → List Thread → List ℕ → Bool
+mayBeLent C l b =
     sizesFit (length l) b
-    && (every (madeFits (schemaOf f h)) (stateOf l b .made) && every (threadFits f h (stateOf l b .made)) (stateOf l b .threads))
+    && (every (madeFits (schemaOf C)) (stateOf l b .made) && every (threadFits C (stateOf l b .made)) (stateOf l b .threads))
 
 -- what refuses before the choice: the file by 1 to 10, then what is lent, 18 at place 0
 unfoldable pub lending : List ℕ → List Thread → List ℕ → Verdict
-lending f l b = orElse (readingNames f) (cond (mayBeLent f (headAt f) l b) fine (refused 18 0))
+lending f l b = orElse (readingNames f) (cond (mayBeLent (contentsOf f) l b) fine (refused 18 0))
 
 -- the choice itself has place 1
 abbrev pub answered : Chosen → Verdict
@@ -82,7 +81,7 @@ answered (halts n) = refused n 1
 answered (goes s) = fine
 
 abbrev pub chosenIn : List ℕ → List Thread → List ℕ → ℕ → ℕ → Chosen
-chosenIn f l b i p = choice (clinicOf f (headAt f)) (stateOf l b) i p
+chosenIn f l b i p = choice (clinicOf (contentsOf f)) (stateOf l b) i p
 
 unfoldable pub choosing : List ℕ → List Thread → List ℕ → ℕ → ℕ → Verdict
 choosing f l b i p = orElse (lending f l b) (answered (chosenIn f l b i p))

@@ -1,6 +1,6 @@
 -- How code keeps what judging a thread asks of its node: the session's user and the kinds of the bound variables, as one number by node; and how it
 -- hands back the records that change.
-use Prim.Native.Nat.{ℕ, zero, suc, _+_, _*_, _-_, _/_, _%_, _^_, _≤_, _<_}
+use Prim.Native.Nat.{ℕ, _+_, _*_, _-_, _/_, _%_, _^_, _≤_, _<_}
 use mathlib.Core.Path.{_≡_}
 use mathlib.Core.Bool.{Bool, true, false, cond, _&&_}
 use mathlib.Core.List.{List, [], _∷_, _++_, map}
@@ -8,13 +8,12 @@ use lib.Dec.{eqb, leb, ltb}
 use lib.ListN.{length, getD, take, drop}
 use lib.Seq.{paste}
 use Rattle.format.specs.Answers.{fine}
-use Rattle.format.specs.Words.{wordAt}
-use Rattle.format.specs.declared.Head.{Head}
+use Rattle.format.specs.Contents.{Contents, inCount}
+use Rattle.format.specs.declared.Session.{Session}
 use Rattle.format.specs.declared.Node.{Node}
 use Rattle.rules.specs.Schema.{Schema, schemaOf}
-use Rattle.rules.specs.Names.{Bound, isUser, isChannel, within}
+use Rattle.rules.specs.Names.{Bound, isUser, isChannel}
 use Rattle.rules.specs.Rules.{Context}
-use Rattle.rules.specs.Checking.{nodesIn}
 use Rattle.clinic.specs.Lists.{All}
 use Rattle.steps.specs.declared.Thread.{Thread}
 use Rattle.lent.specs.declared.Records.{Records}
@@ -62,12 +61,12 @@ scopesFrom D (n ∷ ns) [] = []
 scopesFrom D (n ∷ ns) (w ∷ st) = w ∷ scopesFrom D ns (afterScope D w n st)
 
 -- a session begins with its user and nothing bound
-unfoldable pub openScopesFrom : List ℕ → ℕ → ℕ → List ℕ
-openScopesFrom f p zero = []
-openScopesFrom f p (suc k) = wordAt f p ∷ openScopesFrom f (p + 3) k
+unfoldable pub openScopes : List Session → List ℕ
+openScopes [] = []
+openScopes (s ∷ ss) = s .user ∷ openScopes ss
 
-unfoldable pub scopesIn : List ℕ → Head → List ℕ
-scopesIn f h = scopesFrom (schemaOf f h) (nodesIn f h) (openScopesFrom f (h .at .sessions) (h .count .sessions))
+unfoldable pub scopesIn : Contents → List ℕ
+scopesIn C = scopesFrom (schemaOf C) (C .nodes) (openScopes (C .sessions))
 
 -- what a context is in a file that 1 to 10 let through
 pub record Narrow (c : Context) : Type 0 where
@@ -76,8 +75,8 @@ pub record Narrow (c : Context) : Type 0 where
   pub kinds : All (λ (b : Bound). b .sort < 64) (c .vars)
 
 -- a table that has it for every node
-abbrev pub Scoped : List ℕ → Head → List ℕ → Type 0
-Scoped f h table = (j : ℕ) → within (h .count .nodes) j ≡ true → (getD table j 0 ≡ scopeOf (contextAt f h j)) × Narrow (contextAt f h j)
+abbrev pub Scoped : Contents → List ℕ → Type 0
+Scoped C table = (j : ℕ) → inCount (length (C .nodes)) j ≡ true → (getD table j 0 ≡ scopeOf (contextAt C j)) × Narrow (contextAt C j)
 
 -- how many records are looked at
 abbrev pub counted : ℕ → List ℕ → ℕ

@@ -13,6 +13,7 @@ ghost use Prim.Native.Nat.{_+_, _*_, _-_, _≤_, _<_};
 ghost use lib.ListN.{length, getD, take, replicate};
 ghost use lib.Seq.{sets, paste};
 ghost use Rattle.format.specs.Header.{Laid};
+ghost use Rattle.format.specs.Contents.{contentsAt};
 ghost use Rattle.rules.specs.Schema.{schemaOf};
 ghost use Rattle.rules.specs.Kept.{Granting};
 ghost use Rattle.rules.specs.declared.Way.the-variants.{Sends, Receives};
@@ -144,11 +145,11 @@ fn choose_by(
     all: Records,
     beside: &mut [u16],
 ) -> Decided
-    requires { ⌜ Laid head × Granting (schemaOf (now file) head) Sends (now sends) × Granting (schemaOf (now file) head) Receives (now receives)
+    requires { ⌜ Laid (now file) head × Granting (schemaOf (contentsAt (now file) head)) Sends (now sends) × Granting (schemaOf (contentsAt (now file) head)) Receives (now receives)
         × (length (now list) ≡ 2) × Sized (now words) (now kept) × (now kept ≡ now beside)
         × (threadsIn (now words) 0 (getD (now beside) 0 0) ≡ take (getD (now beside) 0 0) (all .threads)) ⌝ }
     ensures { λ r. ⌜ Decides r (all .threads) (now (beside .entry)) (now (beside .exit))
-        (λ l. choice (clinicOf (now (file .entry)) head) (stateOf l (now (beside .entry))) (getD (now (list .entry)) 0 0) (getD (now (list .entry)) 1 0)) ⌝ }
+        (λ l. choice (clinicOf (contentsAt (now (file .entry)) head)) (stateOf l (now (beside .entry))) (getD (now (list .entry)) 0 0) (getD (now (list .entry)) 1 0)) ⌝ }
 {
     let gone = go_through(file, head, sends, receives, list, words, kept);
     let refusal = gone.refusal;
@@ -176,11 +177,11 @@ fn choose_with(
     all: Records,
     beside: &mut [u16],
 ) -> Decided
-    requires { ⌜ Laid head × (length (now sends) ≡ 33) × (length (now receives) ≡ 33) × (now sends ≡ replicate (length (now sends)) 0) × (now receives ≡ replicate (length (now receives)) 0)
+    requires { ⌜ Laid (now file) head × (length (now sends) ≡ 33) × (length (now receives) ≡ 33) × (now sends ≡ replicate (length (now sends)) 0) × (now receives ≡ replicate (length (now receives)) 0)
         × (length (now list) ≡ 2) × (length (now words) ≡ 704) × (length (now kept) ≡ 130)
         × (length (now beside) ≡ 130) × (getD (now beside) 0 0 ≤ 64) × (getD (now beside) 1 0 ≤ 64) ⌝ }
     ensures { λ r. ⌜ Decides r (all .threads) (now (beside .entry)) (now (beside .exit))
-        (λ l. choice (clinicOf (now (file .entry)) head) (stateOf l (now (beside .entry))) (getD (now (list .entry)) 0 0) (getD (now (list .entry)) 1 0)) ⌝ }
+        (λ l. choice (clinicOf (contentsAt (now (file .entry)) head)) (stateOf l (now (beside .entry))) (getD (now (list .entry)) 0 0) (getD (now (list .entry)) 1 0)) ⌝ }
 {
     fill_grants(file, head, sends, receives);
     lay_records(all, wide(beside[0]), words);
@@ -197,8 +198,8 @@ pub fn choose_in(
     i: u16,
     p: u16,
 ) -> Decided
-    requires { ⌜ Laid head × (length (now beside) ≡ 130) × (getD (now beside) 0 0 ≤ 64) × (getD (now beside) 1 0 ≤ 64) ⌝ }
-    ensures { λ r. ⌜ Decides r (all .threads) (now (beside .entry)) (now (beside .exit)) (λ l. choice (clinicOf (now (file .entry)) head) (stateOf l (now (beside .entry))) i p) ⌝ }
+    requires { ⌜ Laid (now file) head × (length (now beside) ≡ 130) × (getD (now beside) 0 0 ≤ 64) × (getD (now beside) 1 0 ≤ 64) ⌝ }
+    ensures { λ r. ⌜ Decides r (all .threads) (now (beside .entry)) (now (beside .exit)) (λ l. choice (clinicOf (contentsAt (now (file .entry)) head)) (stateOf l (now (beside .entry))) i p) ⌝ }
 {
     let mut sends = [0u16; 33];
     let mut receives = [0u16; 33];

@@ -4,12 +4,11 @@ use super::scopes::bound_in;
 use super::scopes::fill_scopes;
 use super::scopes::kind_at;
 use format::Head;
+use format::sections::in_count;
+use format::sections::user_roles;
 use format::words::wide;
 use masks::roles_within;
-use rules::names::assigned_to;
-use rules::names::is_within;
 use steps::Thread;
-use steps::act::is_node;
 use steps::act::kind_held;
 ghost use mathlib.Core.Path.{_≡_};
 ghost use mathlib.Core.Bool.{_&&_};
@@ -19,6 +18,7 @@ ghost use lib.Dec.{eqb};
 ghost use lib.ListN.{length, getD, take};
 ghost use Rattle.format.specs.Answers.{fine};
 ghost use Rattle.format.specs.Header.{Laid, headAt};
+ghost use Rattle.format.specs.Contents.{contentsAt};
 ghost use Rattle.rules.specs.Schema.{schemaOf};
 ghost use Rattle.checking.specs.Check.{readingNames};
 ghost use Rattle.rules.specs.Rules.{Context};
@@ -31,15 +31,15 @@ ghost use Rattle.lent.specs.Scopes.{Scoped, scopeOf, Narrow};
 // The made channels' owners and kinds are in count.
 fn made_fit(head: Head, beside: &[u16]) -> bool
     requires { ⌜ (length (now beside) ≡ 130) × (getD (now beside) 1 0 ≤ 64) ⌝ }
-    ensures { λ r. ⌜ ((bytes : List ℕ) → r ≡ every (madeFits (schemaOf bytes head)) (madeIn (now (beside .entry)) 2 (getD (now (beside .entry)) 1 0))) ⌝ }
+    ensures { λ r. ⌜ ((bytes : List ℕ) → r ≡ every (madeFits (schemaOf (contentsAt bytes head))) (madeIn (now (beside .entry)) 2 (getD (now (beside .entry)) 1 0))) ⌝ }
 {
     let n = wide(beside[1]);
     let mut k: usize = 0;
     while k < n {
-        if !is_within(head.count.users, beside[2 * k + 2]) {
+        if !in_count(head.count.users, beside[2 * k + 2]) {
             return false;
         }
-        if !is_within(head.count.kinds, beside[2 * k + 3]) {
+        if !in_count(head.count.kinds, beside[2 * k + 3]) {
             return false;
         }
         k += 1;
@@ -49,10 +49,10 @@ fn made_fit(head: Head, beside: &[u16]) -> bool
 
 // A user, a channel or a made channel.
 fn is_value(head: Head, made: u16, v: u16) -> bool
-    requires { ⌜ Laid head × (made ≤ 64) ⌝ }
-    ensures { λ r. ⌜ ((bytes : List ℕ) (them : List Made) → length them ≡ made → r ≡ isValue (schemaOf bytes head) them v) ⌝ }
+    requires { ⌜ (head .count .channels ≤ 64) × (made ≤ 64) ⌝ }
+    ensures { λ r. ⌜ ((bytes : List ℕ) (them : List Made) → length them ≡ made → r ≡ isValue (schemaOf (contentsAt bytes head)) them v) ⌝ }
 {
-    if is_within(head.count.users, v) {
+    if in_count(head.count.users, v) {
         return true;
     }
     if v <= 256 {
@@ -66,9 +66,9 @@ fn is_value(head: Head, made: u16, v: u16) -> bool
 
 // A value of a kind.
 fn value_fits(file: &[u8], head: Head, beside: &[u16], kind: u16, v: u16) -> bool
-    requires { ⌜ Laid head × (length (now beside) ≡ 130) × (getD (now beside) 1 0 ≤ 64) ⌝ }
-    ensures { λ r. ⌜ r ≡ (isValue (schemaOf (now (file .entry)) head) (madeIn (now (beside .entry)) 2 (getD (now (beside .entry)) 1 0)) v
-        && eqb (kindHeld (schemaOf (now (file .entry)) head) (madeIn (now (beside .entry)) 2 (getD (now (beside .entry)) 1 0)) v) kind) ⌝ }
+    requires { ⌜ Laid (now file) head × (length (now beside) ≡ 130) × (getD (now beside) 1 0 ≤ 64) ⌝ }
+    ensures { λ r. ⌜ r ≡ (isValue (schemaOf (contentsAt (now (file .entry)) head)) (madeIn (now (beside .entry)) 2 (getD (now (beside .entry)) 1 0)) v
+        && eqb (kindHeld (schemaOf (contentsAt (now (file .entry)) head)) (madeIn (now (beside .entry)) 2 (getD (now (beside .entry)) 1 0)) v) kind) ⌝ }
 {
     if !is_value(head, beside[1], v) {
         return false;
@@ -78,9 +78,9 @@ fn value_fits(file: &[u8], head: Head, beside: &[u16], kind: u16, v: u16) -> boo
 
 // The variables of a thread at a node.
 fn vars_fit(file: &[u8], head: Head, beside: &[u16], w: u64, vars: [u16; 8]) -> bool
-    requires { ⌜ Laid head × (length (now beside) ≡ 130) × (getD (now beside) 1 0 ≤ 64) ⌝ }
+    requires { ⌜ Laid (now file) head × (length (now beside) ≡ 130) × (getD (now beside) 1 0 ≤ 64) ⌝ }
     ensures { λ r. ⌜ ((c : Context) → w ≡ scopeOf c → Narrow c
-        → r ≡ varsFit (schemaOf (now (file .entry)) head) (madeIn (now (beside .entry)) 2 (getD (now (beside .entry)) 1 0)) (c .vars) vars) ⌝ }
+        → r ≡ varsFit (schemaOf (contentsAt (now (file .entry)) head)) (madeIn (now (beside .entry)) 2 (getD (now (beside .entry)) 1 0)) (c .vars) vars) ⌝ }
 {
     let bound = bound_in(w);
     let mut k: usize = 0;
@@ -102,17 +102,17 @@ fn vars_fit(file: &[u8], head: Head, beside: &[u16], w: u64, vars: [u16; 8]) -> 
 
 // A counted thread.
 fn thread_fits(file: &[u8], head: Head, table: &[u64], beside: &[u16], t: Thread) -> bool
-    requires { ⌜ Laid head × (length (now table) ≡ 1025) × Scoped (now file) head (now table) × (length (now beside) ≡ 130) × (getD (now beside) 1 0 ≤ 64) ⌝ }
-    ensures { λ r. ⌜ r ≡ threadFits (now (file .entry)) head (madeIn (now (beside .entry)) 2 (getD (now (beside .entry)) 1 0)) t ⌝ }
+    requires { ⌜ Laid (now file) head × (length (now table) ≡ 1025) × Scoped (contentsAt (now file) head) (now table) × (length (now beside) ≡ 130) × (getD (now beside) 1 0 ≤ 64) ⌝ }
+    ensures { λ r. ⌜ r ≡ threadFits (contentsAt (now (file .entry)) head) (madeIn (now (beside .entry)) 2 (getD (now (beside .entry)) 1 0)) t ⌝ }
 {
-    if !is_node(head, t.node) {
+    if !in_count(head.count.nodes, t.node) {
         return false;
     }
     let w = table[wide(t.node)];
     if (t.user as u64) != w % 64 {
         return false;
     }
-    if !roles_within(t.mask, assigned_to(file, head, t.user)) {
+    if !roles_within(t.mask, user_roles(file, head, t.user)) {
         return false;
     }
     let vars = t.vars;
@@ -121,9 +121,9 @@ fn thread_fits(file: &[u8], head: Head, table: &[u64], beside: &[u16], t: Thread
 
 // All counted threads.
 fn threads_fit(file: &[u8], head: Head, table: &[u64], all: Records, beside: &[u16]) -> bool
-    requires { ⌜ Laid head × (length (now table) ≡ 1025) × Scoped (now file) head (now table) × (length (now beside) ≡ 130)
+    requires { ⌜ Laid (now file) head × (length (now table) ≡ 1025) × Scoped (contentsAt (now file) head) (now table) × (length (now beside) ≡ 130)
         × (getD (now beside) 0 0 ≤ 64) × (getD (now beside) 1 0 ≤ 64) ⌝ }
-    ensures { λ r. ⌜ r ≡ every (threadFits (now (file .entry)) head (madeIn (now (beside .entry)) 2 (getD (now (beside .entry)) 1 0))) (take (getD (now (beside .entry)) 0 0) (all .threads)) ⌝ }
+    ensures { λ r. ⌜ r ≡ every (threadFits (contentsAt (now (file .entry)) head) (madeIn (now (beside .entry)) 2 (getD (now (beside .entry)) 1 0))) (take (getD (now (beside .entry)) 0 0) (all .threads)) ⌝ }
 {
     let n = wide(beside[0]);
     let mut k: usize = 0;
@@ -139,9 +139,9 @@ fn threads_fit(file: &[u8], head: Head, table: &[u64], all: Records, beside: &[u
 
 // The same, with a table lent to work in.
 fn judge_by(file: &[u8], head: Head, table: &mut [u64], all: Records, beside: &[u16]) -> bool
-    requires { ⌜ Laid head × (head ≡ headAt (now file)) × (readingNames (now file) ≡ fine) × (length (now table) ≡ 1025)
+    requires { ⌜ Laid (now file) head × (head ≡ headAt (now file)) × (readingNames (now file) ≡ fine) × (length (now table) ≡ 1025)
         × (length (now beside) ≡ 130) × (getD (now beside) 0 0 ≤ 64) × (getD (now beside) 1 0 ≤ 64) ⌝ }
-    ensures { λ r. ⌜ r ≡ every (threadFits (now (file .entry)) head (madeIn (now (beside .entry)) 2 (getD (now (beside .entry)) 1 0))) (take (getD (now (beside .entry)) 0 0) (all .threads)) ⌝ }
+    ensures { λ r. ⌜ r ≡ every (threadFits (contentsAt (now (file .entry)) head) (madeIn (now (beside .entry)) 2 (getD (now (beside .entry)) 1 0))) (take (getD (now (beside .entry)) 0 0) (all .threads)) ⌝ }
 {
     fill_scopes(file, head, table);
     threads_fit(file, head, table, all, beside)
@@ -149,10 +149,10 @@ fn judge_by(file: &[u8], head: Head, table: &mut [u64], all: Records, beside: &[
 
 // Whether what is lent may be, where its sizes are right: one pass over the file and one over the threads.
 pub fn is_lendable(file: &[u8], head: Head, all: Records, beside: &[u16]) -> bool
-    requires { ⌜ Laid head × (head ≡ headAt (now file)) × (readingNames (now file) ≡ fine)
+    requires { ⌜ Laid (now file) head × (head ≡ headAt (now file)) × (readingNames (now file) ≡ fine)
         × (length (now beside) ≡ 130) × (getD (now beside) 0 0 ≤ 64) × (getD (now beside) 1 0 ≤ 64) ⌝ }
-    ensures { λ r. ⌜ r ≡ (every (madeFits (schemaOf (now (file .entry)) head)) (madeIn (now (beside .entry)) 2 (getD (now (beside .entry)) 1 0))
-        && every (threadFits (now (file .entry)) head (madeIn (now (beside .entry)) 2 (getD (now (beside .entry)) 1 0))) (take (getD (now (beside .entry)) 0 0) (all .threads))) ⌝ }
+    ensures { λ r. ⌜ r ≡ (every (madeFits (schemaOf (contentsAt (now (file .entry)) head))) (madeIn (now (beside .entry)) 2 (getD (now (beside .entry)) 1 0))
+        && every (threadFits (contentsAt (now (file .entry)) head) (madeIn (now (beside .entry)) 2 (getD (now (beside .entry)) 1 0))) (take (getD (now (beside .entry)) 0 0) (all .threads))) ⌝ }
 {
     if !made_fit(head, beside) {
         return false;

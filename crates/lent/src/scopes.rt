@@ -1,21 +1,22 @@
 // What judging a thread asks of its node, for all nodes in one pass: the session's user and the kinds of the variables bound, as one number.
 use format::Head;
 use format::Node;
+use format::sections::carries;
 use format::sections::channel;
 use format::sections::node;
 use format::sections::session;
 use format::words::narrow;
 use format::words::wide;
-use rules::names::carried_by;
 ghost use mathlib.Core.Path.{_≡_};
 ghost use mathlib.Core.List.{List};
 ghost use Prim.Native.Nat.{_≤_};
 ghost use lib.ListN.{length};
 ghost use lib.Seq.{sets};
 ghost use Rattle.format.specs.Header.{Laid};
+ghost use Rattle.format.specs.Contents.{contentsAt};
 ghost use Rattle.rules.specs.Schema.{schemaOf};
 ghost use Rattle.rules.specs.Kept.{stacked};
-ghost use Rattle.lent.specs.Scopes.{boundIn, kindAt, bindScope, kindNamed, childScope, openScopesFrom, scopesIn};
+ghost use Rattle.lent.specs.Scopes.{boundIn, kindAt, bindScope, kindNamed, childScope, openScopes, scopesIn};
 
 // How many variables are bound.
 pub fn bound_in(w: u64) -> u64
@@ -45,8 +46,8 @@ fn bind(w: u64, kind: u16) -> u64
 
 // The kind of what an operand names.
 fn kind_named(file: &[u8], head: Head, w: u64, x: u16) -> u16
-    requires { ⌜ Laid head ⌝ }
-    ensures { λ r. ⌜ r ≡ kindNamed (schemaOf (now (file .entry)) head) w x ⌝ }
+    requires { ⌜ Laid (now file) head ⌝ }
+    ensures { λ r. ⌜ r ≡ kindNamed (schemaOf (contentsAt (now (file .entry)) head)) w x ⌝ }
 {
     if x <= 256 {
         return 0;
@@ -66,22 +67,22 @@ fn kind_named(file: &[u8], head: Head, w: u64, x: u16) -> u16
 
 // What a node leaves to its only child.
 fn child_scope(file: &[u8], head: Head, w: u64, it: Node) -> u64
-    requires { ⌜ Laid head ⌝ }
-    ensures { λ r. ⌜ r ≡ childScope (schemaOf (now (file .entry)) head) w it ⌝ }
+    requires { ⌜ Laid (now file) head ⌝ }
+    ensures { λ r. ⌜ r ≡ childScope (schemaOf (contentsAt (now (file .entry)) head)) w it ⌝ }
 {
     let tag = it.tag;
     match tag {
         3 => bind(w, it.f1),
-        5 => bind(w, carried_by(file, head, kind_named(file, head, w, it.f1))),
+        5 => bind(w, carries(file, head, kind_named(file, head, w, it.f1))),
         _ => w,
     }
 }
 
 // The sessions' users on the stack, session 1's on top, and how many they are.
 fn open_scopes(file: &[u8], head: Head, stack: &mut [u64]) -> usize
-    requires { ⌜ (head .count .sessions ≤ 32) × (length (now stack) ≡ 1057) ⌝ }
+    requires { ⌜ Laid (now file) head × (length (now stack) ≡ 1057) ⌝ }
     ensures { λ r. ⌜ (r ≡ head .count .sessions) × (length (now (stack .exit)) ≡ 1057)
-        × (stacked (now (stack .exit)) r ≡ openScopesFrom (now (file .entry)) (head .at .sessions) (head .count .sessions)) ⌝ }
+        × (stacked (now (stack .exit)) r ≡ openScopes (contentsAt (now (file .entry)) head .sessions)) ⌝ }
 {
     let sessions = wide(head.count.sessions);
     let mut depth: usize = 0;
@@ -95,8 +96,8 @@ fn open_scopes(file: &[u8], head: Head, stack: &mut [u64]) -> usize
 
 // For each node in order what it is reached with, stored from index 1 on; those of the nodes that wait are on a stack.
 pub fn fill_scopes(file: &[u8], head: Head, table: &mut [u64])
-    requires { ⌜ Laid head × (length (now table) ≡ 1025) ⌝ }
-    ensures { λ r. ⌜ now (table .exit) ≡ sets (now (table .entry)) 1 (scopesIn (now (file .entry)) head) ⌝ }
+    requires { ⌜ Laid (now file) head × (length (now table) ≡ 1025) ⌝ }
+    ensures { λ r. ⌜ now (table .exit) ≡ sets (now (table .entry)) 1 (scopesIn (contentsAt (now (file .entry)) head)) ⌝ }
 {
     let mut stack = [0u64; 1057];
     let mut depth = open_scopes(file, head, &mut stack);

@@ -1,5 +1,6 @@
 // Places the clinic file on standard input: writes the placed file's bytes, or the line `refused N P` with the refusal's number and its place.
 // Where the input cannot be read, it says so on standard error and writes nothing else.
+use format::header::LARGEST;
 use format::words::wide;
 
 fn main() {
@@ -10,7 +11,7 @@ fn main() {
         return;
     }
     let kept = input.kept;
-    let mut out = [0u8; 6874];
+    let mut out = [0u8; LARGEST];
     let placed = placing::place(&buffer[..kept], &mut out);
     if placed.number != 0 {
         streams::write_refused(placed.number, placed.place);

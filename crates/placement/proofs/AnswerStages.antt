@@ -6,14 +6,13 @@ use mathlib.Core.Bool.{Bool, true, false, cond, _&&_}
 use mathlib.Core.List.{List, [], _∷_}
 use native.Mathlib.Omega.{arith}
 use lib.Dec.{eqb, leb, ltb}
+use lib.ListN.{length}
 use borrow.Author.Tests.{eqb-true, eqb-false, eq-eqb, ne-eqb, leb-true, leb-false, ltb-true, ltb-false, lt-ltb, le-ltb}
+use Rattle.format.specs.Contents.{Contents, item, noSession, noNode, contentsOf}
 use Rattle.format.specs.Answers.{fine, refused, orElse}
-use Rattle.format.specs.Header.{headAt}
-use Rattle.format.specs.Sections.{placeOf, sessionOf, nodeAt}
-use Rattle.format.specs.declared.Head.{Head}
-use Rattle.format.specs.declared.Section.the-variants.{Nodes}
+use Rattle.format.specs.Header.{headAt, roomFor}
 use Rattle.format.specs.declared.Verdict.{Verdict}
-use Rattle.format.proofs.AnswerLaws.{Quiet, quiet-first, loud-first, both-quiet}
+use Rattle.format.proofs.AnswerLaws.{quiet-first, loud-first, both-quiet}
 use Rattle.checking.specs.Check.{readingNames}
 use Rattle.states.specs.States.{Label, needs}
 use Rattle.groups.specs.Groups.{sizesOf}
@@ -32,12 +31,11 @@ use Rattle.placing.specs.Placing.{
   placedIn,
   placing,
 }
-use Rattle.clinic.proofs.Firsts.{Unfit, first-of}
-use Rattle.clinic.specs.Refusals.{First}
-use Rattle.typing.specs.Faults.{Objection, of-file, of-node, Soonest}
-use Rattle.typing.proofs.Quiets.{refusable-number, both-fine}
-use Rattle.typing.proofs.RoleFaults.{fault-number}
-use Rattle.typing.proofs.CheckFirst.{names-first}
+use Rattle.clinic.specs.Order.{Order, First}
+use Rattle.clinic.specs.Refusals.{readingOrder}
+use Rattle.clinic.proofs.FirstLaws.{number-of, both-zero, both-fine, Unfit, first-of}
+use Rattle.typing.specs.Faults.{checkOrder}
+use Rattle.typing.proofs.CheckFirst.{objection-number, names-first}
 use Rattle.placement.specs.Promised.{Clean, Unrefused}
 
 -- an answer that is fine, or refuses with one of the numbers lo to hi
@@ -45,10 +43,12 @@ pub data Among (lo hi : ℕ) (v : Verdict) : Type 0 where
   none : v ≡ fine → Among lo hi v
   some : lo ≤ v .number → v .number ≤ hi → Among lo hi v
 
-pub number-of : {v w : Verdict} → v ≡ w → v .number ≡ w .number
-number-of e = ap (λ (x : Verdict). x .number) e
+-- such is the first of refusals with those numbers
+pub first-among : (o : Order) (R : ℕ → ℕ → Type 0) (lo hi : ℕ) (v : Verdict) → ((n p : ℕ) → R n p → (lo ≤ n) × (n ≤ hi)) → First o R v → Among lo hi v
+first-among o R lo hi v within (inl (e, _)) = none e
+first-among o R lo hi v within (inr (n, p, e, (r, _))) = some (omega (arith, number-of e, within n p r)) (omega (arith, number-of e, within n p r))
 
-pub among-fine : (lo hi : ℕ) (v : Verdict) → 1 ≤ lo → Among lo hi v → Quiet v → v ≡ fine
+pub among-fine : (lo hi : ℕ) (v : Verdict) → 1 ≤ lo → Among lo hi v → v .number ≡ 0 → v ≡ fine
 among-fine lo hi v l (none e) q = e
 among-fine lo hi v l (some a b) q = absurd (omega (arith, a, l, q))
 
@@ -89,69 +89,47 @@ among-or lo x y hi v w l k a c = go (eqb (v .number) 0) refl a c
 -- The stages' numbers.
 
 pub names-among : (f : List ℕ) → Among 1 10 (readingNames f)
-names-among f = go (names-first f)
-  where
-    least : (n p : ℕ) → Objection f n p → 1 ≤ n
-    least n p (of-file r) = refusable-number f n p r .0
-    least n p (of-node c s i h) = omega (arith, fault-number _ c _ n h)
-
-    go : Soonest (λ n p. Objection f n p × (n ≤ 10)) (readingNames f) → Among 1 10 (readingNames f)
-    go (inl (e, none-there)) = none e
-    go (inr (n, p, e, (o, l), low)) = some (omega (arith, number-of e, least n p o)) (omega (arith, number-of e, l))
+names-among f = first-among checkOrder _ 1 10 (readingNames f) (λ n p (o, l). (objection-number f n p o, l)) (names-first f)
 
 -- 14 for a starting mask has place 0, and for on or off a node as place
-module _ (f : List ℕ) where
-  abbrev h : Head
-  h = headAt f
-
+module _ (C : Contents) where
   abbrev pub bareMask : ℕ → Bool
-  bareMask n = eqb (sessionOf f h n .mask) 0
+  bareMask n = eqb (item noSession (C .sessions) n .mask) 0
 
   abbrev pub lowTag : ℕ → Bool
-  lowTag n = ltb (nodeAt f (placeOf h Nodes n) .tag) 7
+  lowTag n = ltb (item noNode (C .nodes) n .tag) 7
 
   abbrev count : ℕ
-  count = h .count .sessions
+  count = length (C .sessions)
 
-  pub masks-first : First (Unfit bareMask 14 (λ n. 0) 1 count) (masksAnswer f h)
+  pub masks-first : First readingOrder (Unfit bareMask 14 (λ n. 0) 1 count) (masksAnswer C)
   unfolding masksAnswer
-  masks-first = first-of bareMask 14 (λ n. 0) (λ x y l. omega arith) 1 count
+  masks-first = first-of readingOrder bareMask 14 (λ n. 0) (λ x y l. omega arith) 1 count
 
-  pub switches-first : First (Unfit lowTag 14 (λ n. n) 1 (h .count .nodes)) (switchesAnswer f h)
+  pub switches-first : First readingOrder (Unfit lowTag 14 (λ n. n) 1 (length (C .nodes))) (switchesAnswer C)
   unfolding switchesAnswer
-  switches-first = first-of lowTag 14 (λ n. n) (λ x y l. l) 1 (h .count .nodes)
+  switches-first = first-of readingOrder lowTag 14 (λ n. n) (λ x y l. l) 1 (length (C .nodes))
 
-  pub masks-answers : (masksAnswer f h ≡ fine) ⊎ (masksAnswer f h ≡ refused 14 0)
+  pub masks-answers : (masksAnswer C ≡ fine) ⊎ (masksAnswer C ≡ refused 14 0)
   masks-answers = go masks-first
     where
-      go : First (Unfit bareMask 14 (λ n. 0) 1 count) (masksAnswer f h) → (masksAnswer f h ≡ fine) ⊎ (masksAnswer f h ≡ refused 14 0)
+      go : First readingOrder (Unfit bareMask 14 (λ n. 0) 1 count) (masksAnswer C) → (masksAnswer C ≡ fine) ⊎ (masksAnswer C ≡ refused 14 0)
       go (inl (e, clear)) = inl e
-      go (inr (n, p, e, (a, x, l, k, z, b), low)) = inr (e ∙ ap₂ refused a b)
+      go (inr (n, p, e, ((a, x, l, k, z, b), low))) = inr (e ∙ ap₂ refused a b)
 
-  pub switches-answers : (switchesAnswer f h ≡ fine) ⊎ ((p : ℕ) × (1 ≤ p) × (switchesAnswer f h ≡ refused 14 p))
+  pub switches-answers : (switchesAnswer C ≡ fine) ⊎ ((p : ℕ) × (1 ≤ p) × (switchesAnswer C ≡ refused 14 p))
   switches-answers = go switches-first
     where
-      go : First (Unfit lowTag 14 (λ n. n) 1 (h .count .nodes)) (switchesAnswer f h)
-          → (switchesAnswer f h ≡ fine) ⊎ ((p : ℕ) × (1 ≤ p) × (switchesAnswer f h ≡ refused 14 p))
+      go : First readingOrder (Unfit lowTag 14 (λ n. n) 1 (length (C .nodes))) (switchesAnswer C)
+          → (switchesAnswer C ≡ fine) ⊎ ((p : ℕ) × (1 ≤ p) × (switchesAnswer C ≡ refused 14 p))
       go (inl (e, clear)) = inl e
-      go (inr (n, p, e, (a, x, l, k, z, b), low)) = inr (p, omega arith, e ∙ ap (λ (m : ℕ). refused m p) a)
+      go (inr (n, p, e, ((a, x, l, k, z, b), low))) = inr (p, omega arith, e ∙ ap (λ (m : ℕ). refused m p) a)
 
-  fourteen : {v : Verdict} (p : ℕ) → v ≡ refused 14 p → Among 14 14 v
-  fourteen p e = some (omega (arith, number-of e)) (omega (arith, number-of e))
+  pub masks-among : Among 14 14 (masksAnswer C)
+  masks-among = first-among readingOrder _ 14 14 (masksAnswer C) (λ n p u. omega (arith, u .0)) masks-first
 
-  pub masks-among : Among 14 14 (masksAnswer f h)
-  masks-among = go masks-answers
-    where
-      go : (masksAnswer f h ≡ fine) ⊎ (masksAnswer f h ≡ refused 14 0) → Among 14 14 (masksAnswer f h)
-      go (inl e) = none e
-      go (inr e) = fourteen 0 e
-
-  pub switches-among : Among 14 14 (switchesAnswer f h)
-  switches-among = go switches-answers
-    where
-      go : (switchesAnswer f h ≡ fine) ⊎ ((p : ℕ) × (1 ≤ p) × (switchesAnswer f h ≡ refused 14 p)) → Among 14 14 (switchesAnswer f h)
-      go (inl e) = none e
-      go (inr (p, l, e)) = fourteen p e
+  pub switches-among : Among 14 14 (switchesAnswer C)
+  switches-among = first-among readingOrder _ 14 14 (switchesAnswer C) (λ n p u. omega (arith, u .0)) switches-first
 
 pub unserved-answers : (i : ℕ) (ls : List Label) → (unservedFrom i ls ≡ fine) ⊎ ((p : ℕ) × (unservedFrom i ls ≡ refused 15 p))
 unfolding unservedFrom
@@ -187,97 +165,97 @@ size-among n = go (size-answers n)
 -- The whole answer.
 
 module _ (f : List ℕ) (room : ℕ) where
-  abbrev head : Head
-  head = headAt f
+  abbrev C : Contents
+  C = contentsOf f
 
   abbrev sizes : ℕ
-  sizes = sizesOf (turnsFor f head)
+  sizes = sizesOf (turnsFor C)
 
   abbrev bare : Verdict
-  bare = orElse (masksAnswer f head) (switchesAnswer f head)
+  bare = orElse (masksAnswer C) (switchesAnswer C)
 
-  settling-among : Among 15 16 (settling (labelsIn f head))
+  settling-among : Among 15 16 (settling (labelsIn C))
   settling-among =
-      among-or 15 15 16 16 (unservedFrom 1 (labelsIn f head)) (sizeAnswer sizes) (omega arith) (omega arith) (unserved-among (labelsIn f head)) (size-among sizes)
+      among-or 15 15 16 16 (unservedFrom 1 (labelsIn C)) (sizeAnswer sizes) (omega arith) (omega arith) (unserved-among (labelsIn C)) (size-among sizes)
 
   bare-among : Among 14 14 bare
-  bare-among = among-or 14 14 14 14 (masksAnswer f head) (switchesAnswer f head) (omega arith) (omega arith) (masks-among f) (switches-among f)
+  bare-among = among-or 14 14 14 14 (masksAnswer C) (switchesAnswer C) (omega arith) (omega arith) (masks-among C) (switches-among C)
 
-  placeable-among : Among 14 16 (placeable f head)
+  placeable-among : Among 14 16 (placeable C)
   unfolding placeable
-  placeable-among = among-or 14 14 15 16 bare (settling (labelsIn f head)) (omega arith) (omega arith) bare-among settling-among
+  placeable-among = among-or 14 14 15 16 bare (settling (labelsIn C)) (omega arith) (omega arith) bare-among settling-among
 
   judging-among : Among 1 16 (judging f)
   unfolding judging
-  judging-among = among-or 1 10 14 16 (readingNames f) (placeable f head) (omega arith) (omega arith) (names-among f) placeable-among
+  judging-among = among-or 1 10 14 16 (readingNames f) (placeable C) (omega arith) (omega arith) (names-among f) placeable-among
 
   -- 17 first of all
-  pub room-stage : (placing f room ≡ noPlace 17 0) ↔ (room < 6874)
+  pub room-stage : (placing f room ≡ noPlace 17 0) ↔ (room < roomFor f)
   unfolding placing
-  room-stage = (to (ltb room 6874) refl (eqb (judging f .number) 0) refl, λ l. rw (lt-ltb room 6874 l))
+  room-stage = (to (ltb room (roomFor f)) refl (eqb (judging f .number) 0) refl, λ l. rw (lt-ltb room (roomFor f) l))
     where
-      to : (b : Bool) → ltb room 6874 ≡ b → (c : Bool) → eqb (judging f .number) 0 ≡ c
-          → cond b (noPlace 17 0) (cond c (placedIn f (headAt f)) (noPlace (judging f .number) (judging f .place))) ≡ noPlace 17 0
-          → room < 6874
-      to true e c k h = ltb-true room 6874 e
+      to : (b : Bool) → ltb room (roomFor f) ≡ b → (c : Bool) → eqb (judging f .number) 0 ≡ c
+          → cond b (noPlace 17 0) (cond c (placedIn (headAt f) C) (noPlace (judging f .number) (judging f .place))) ≡ noPlace 17 0
+          → room < roomFor f
+      to true e c k h = ltb-true room (roomFor f) e
       to false e true k h = absurd (omega (arith, ap (λ (x : Placed). x .number) h))
       to false e false k h = absurd (past-number 1 16 (judging f) 17 0 (omega arith) judging-among (ap (λ (x : Placed). refused (x .number) (x .place)) h))
 
-  pub placed-quiet : (placing f room .number ≡ 0) ↔ ((6874 ≤ room) × Quiet (judging f))
+  pub placed-zero : (placing f room .number ≡ 0) ↔ ((roomFor f ≤ room) × (judging f .number ≡ 0))
   unfolding placing
-  placed-quiet = (to (ltb room 6874) refl (eqb (judging f .number) 0) refl, λ (l, q). rw (le-ltb room 6874 l, eq-eqb (judging f .number) 0 q))
+  placed-zero = (to (ltb room (roomFor f)) refl (eqb (judging f .number) 0) refl, λ (l, q). rw (le-ltb room (roomFor f) l, eq-eqb (judging f .number) 0 q))
     where
-      to : (b : Bool) → ltb room 6874 ≡ b → (c : Bool) → eqb (judging f .number) 0 ≡ c
-          → cond b (noPlace 17 0) (cond c (placedIn f (headAt f)) (noPlace (judging f .number) (judging f .place))) .number ≡ 0
-          → (6874 ≤ room) × Quiet (judging f)
+      to : (b : Bool) → ltb room (roomFor f) ≡ b → (c : Bool) → eqb (judging f .number) 0 ≡ c
+          → cond b (noPlace 17 0) (cond c (placedIn (headAt f) C) (noPlace (judging f .number) (judging f .place))) .number ≡ 0
+          → (roomFor f ≤ room) × (judging f .number ≡ 0)
       to true e c k h = absurd (omega arith)
-      to false e true k h = (ltb-false room 6874 e, eqb-true (judging f .number) 0 k)
+      to false e true k h = (ltb-false room (roomFor f) e, eqb-true (judging f .number) 0 k)
       to false e false k h = absurd (eqb-false (judging f .number) 0 k h)
 
-  pub placed-answer : placing f room .number ≡ 0 → placing f room ≡ placedIn f (headAt f)
+  pub placed-answer : placing f room .number ≡ 0 → placing f room ≡ placedIn (headAt f) C
   unfolding placing
-  placed-answer h = let (l, q) = placed-quiet .0 h in rw (le-ltb room 6874 l, eq-eqb (judging f .number) 0 q)
+  placed-answer h = let (l, q) = placed-zero .0 h in rw (le-ltb room (roomFor f) l, eq-eqb (judging f .number) 0 q)
 
-  pub refused-judging : (n p : ℕ) → 1 ≤ n → n < 17 → (placing f room ≡ noPlace n p) ↔ ((6874 ≤ room) × (judging f ≡ refused n p))
+  pub refused-judging : (n p : ℕ) → 1 ≤ n → n < 17 → (placing f room ≡ noPlace n p) ↔ ((roomFor f ≤ room) × (judging f ≡ refused n p))
   unfolding placing
   refused-judging n p l k = (
-    to (ltb room 6874) refl (eqb (judging f .number) 0) refl,
-    λ (w, e). rw (le-ltb room 6874 w, ne-eqb (judging f .number) 0 (λ z. omega (arith, number-of e))) (ap (λ (v : Verdict). noPlace (v .number) (v .place)) e),
+    to (ltb room (roomFor f)) refl (eqb (judging f .number) 0) refl,
+    λ (w, e). rw (le-ltb room (roomFor f) w, ne-eqb (judging f .number) 0 (λ z. omega (arith, number-of e))) (ap (λ (v : Verdict). noPlace (v .number) (v .place)) e),
   )
     where
-      to : (b : Bool) → ltb room 6874 ≡ b → (c : Bool) → eqb (judging f .number) 0 ≡ c
-          → cond b (noPlace 17 0) (cond c (placedIn f (headAt f)) (noPlace (judging f .number) (judging f .place))) ≡ noPlace n p
-          → (6874 ≤ room) × (judging f ≡ refused n p)
+      to : (b : Bool) → ltb room (roomFor f) ≡ b → (c : Bool) → eqb (judging f .number) 0 ≡ c
+          → cond b (noPlace 17 0) (cond c (placedIn (headAt f) C) (noPlace (judging f .number) (judging f .place))) ≡ noPlace n p
+          → (roomFor f ≤ room) × (judging f ≡ refused n p)
       to true e c z h = absurd (omega (arith, ap (λ (x : Placed). x .number) h))
       to false e true z h = absurd (omega (arith, ap (λ (x : Placed). x .number) h))
-      to false e false z h = (ltb-false room 6874 e, ap (λ (x : Placed). refused (x .number) (x .place)) h)
+      to false e false z h = (ltb-false room (roomFor f) e, ap (λ (x : Placed). refused (x .number) (x .place)) h)
 
   -- 1 to 10
-  pub names-stage : (n p : ℕ) → 1 ≤ n → n ≤ 10 → (placing f room ≡ noPlace n p) ↔ ((6874 ≤ room) × (readingNames f ≡ refused n p))
+  pub names-stage : (n p : ℕ) → 1 ≤ n → n ≤ 10 → (placing f room ≡ noPlace n p) ↔ ((roomFor f ≤ room) × (readingNames f ≡ refused n p))
   unfolding judging
   names-stage n p l k =
       let whole = refused-judging n p l (omega arith) in
-      let named = first-stage 14 16 (readingNames f) (placeable f head) n p l (omega arith) placeable-among in
+      let named = first-stage 14 16 (readingNames f) (placeable C) n p l (omega arith) placeable-among in
       (λ h. let (w, j) = whole .0 h in (w, named .0 j), λ (w, e). whole .1 (w, named .1 e))
 
   -- 14 to 16 after 1 to 10
-  after-names : (n p : ℕ) → 10 < n → (judging f ≡ refused n p) ↔ ((readingNames f ≡ fine) × (placeable f head ≡ refused n p))
+  after-names : (n p : ℕ) → 10 < n → (judging f ≡ refused n p) ↔ ((readingNames f ≡ fine) × (placeable C ≡ refused n p))
   unfolding judging
-  after-names n p l = second-stage 1 10 (readingNames f) (placeable f head) n p (omega arith) l (names-among f)
+  after-names n p l = second-stage 1 10 (readingNames f) (placeable C) n p (omega arith) l (names-among f)
 
   -- 15 and 16 after 14
-  after-bare : (n p : ℕ) → 14 < n → (placeable f head ≡ refused n p) ↔ ((bare ≡ fine) × (settling (labelsIn f head) ≡ refused n p))
+  after-bare : (n p : ℕ) → 14 < n → (placeable C ≡ refused n p) ↔ ((bare ≡ fine) × (settling (labelsIn C) ≡ refused n p))
   unfolding placeable
-  after-bare n p l = second-stage 14 14 bare (settling (labelsIn f head)) n p (omega arith) l bare-among
+  after-bare n p l = second-stage 14 14 bare (settling (labelsIn C)) n p (omega arith) l bare-among
 
-  at-bare : (p : ℕ) → (placeable f head ≡ refused 14 p) ↔ (bare ≡ refused 14 p)
+  at-bare : (p : ℕ) → (placeable C ≡ refused 14 p) ↔ (bare ≡ refused 14 p)
   unfolding placeable
-  at-bare p = first-stage 15 16 bare (settling (labelsIn f head)) 14 p (omega arith) (omega arith) settling-among
+  at-bare p = first-stage 15 16 bare (settling (labelsIn C)) 14 p (omega arith) (omega arith) settling-among
 
-  bare-iff : (bare ≡ fine) ↔ ((masksAnswer f head ≡ fine) × (switchesAnswer f head ≡ fine))
-  bare-iff = both-fine (masksAnswer f head) (switchesAnswer f head) (among-fine 14 14 (masksAnswer f head) (omega arith) (masks-among f))
+  bare-iff : (bare ≡ fine) ↔ ((masksAnswer C ≡ fine) × (switchesAnswer C ≡ fine))
+  bare-iff = both-fine (masksAnswer C) (switchesAnswer C) (among-fine 14 14 (masksAnswer C) (omega arith) (masks-among C))
 
-  unrefused-iff : Unrefused f room ↔ ((6874 ≤ room) × (readingNames f ≡ fine) × (bare ≡ fine))
+  unrefused-iff : Unrefused f room ↔ ((roomFor f ≤ room) × (readingNames f ≡ fine) × (bare ≡ fine))
   unrefused-iff = (
     λ u. (u .wide, u .names, bare-iff .1 (u .masks, u .switches)),
     λ (l, e, b). let (m, s) = bare-iff .0 b in record { wide = l; names = e; masks = m; switches = s },
@@ -286,12 +264,12 @@ module _ (f : List ℕ) (room : ℕ) where
   -- 16
   pub sixteen-stage : (p : ℕ)
       → (placing f room ≡ noPlace 16 p)
-      ↔ (Unrefused f room × (unservedFrom 1 (labelsIn f (headAt f)) ≡ fine) × (sizeAnswer (sizesOf (turnsFor f (headAt f))) ≡ refused 16 p))
+      ↔ (Unrefused f room × (unservedFrom 1 (labelsIn (contentsOf f)) ≡ fine) × (sizeAnswer (sizesOf (turnsFor (contentsOf f))) ≡ refused 16 p))
   sixteen-stage p =
       let whole = refused-judging 16 p (omega arith) (omega arith) in
       let named = after-names 16 p (omega arith) in
       let settled = after-bare 16 p (omega arith) in
-      let last = second-stage 15 15 (unservedFrom 1 (labelsIn f head)) (sizeAnswer sizes) 16 p (omega arith) (omega arith) (unserved-among (labelsIn f head)) in (
+      let last = second-stage 15 15 (unservedFrom 1 (labelsIn C)) (sizeAnswer sizes) 16 p (omega arith) (omega arith) (unserved-among (labelsIn C)) in (
         λ h.
             let (w, j) = whole .0 h in
             let (e, k) = named .0 j in
@@ -304,12 +282,12 @@ module _ (f : List ℕ) (room : ℕ) where
       )
 
   -- 15
-  pub fifteen-stage : (p : ℕ) → (placing f room ≡ noPlace 15 p) ↔ (Unrefused f room × (unservedFrom 1 (labelsIn f (headAt f)) ≡ refused 15 p))
+  pub fifteen-stage : (p : ℕ) → (placing f room ≡ noPlace 15 p) ↔ (Unrefused f room × (unservedFrom 1 (labelsIn (contentsOf f)) ≡ refused 15 p))
   fifteen-stage p =
       let whole = refused-judging 15 p (omega arith) (omega arith) in
       let named = after-names 15 p (omega arith) in
       let settled = after-bare 15 p (omega arith) in
-      let last = first-stage 16 16 (unservedFrom 1 (labelsIn f head)) (sizeAnswer sizes) 15 p (omega arith) (omega arith) (size-among sizes) in (
+      let last = first-stage 16 16 (unservedFrom 1 (labelsIn C)) (sizeAnswer sizes) 15 p (omega arith) (omega arith) (size-among sizes) in (
         λ h.
             let (w, j) = whole .0 h in
             let (e, k) = named .0 j in
@@ -321,60 +299,60 @@ module _ (f : List ℕ) (room : ℕ) where
       )
 
   -- 14: a starting mask
-  pub masks-stage : (placing f room ≡ noPlace 14 0) ↔ (Clean f room × (masksAnswer f (headAt f) ≡ refused 14 0))
+  pub masks-stage : (placing f room ≡ noPlace 14 0) ↔ (Clean f room × (masksAnswer (contentsOf f) ≡ refused 14 0))
   masks-stage =
       let whole = refused-judging 14 0 (omega arith) (omega arith) in
       let named = after-names 14 0 (omega arith) in (
         λ h.
             let (w, j) = whole .0 h in
             let (e, k) = named .0 j in
-            (record { wide = w; names = e }, to (masks-answers f) (at-bare 0 .0 k)),
+            (record { wide = w; names = e }, to (masks-answers C) (at-bare 0 .0 k)),
         λ (c, m).
-            whole .1 (c .wide, named .1 (c .names, at-bare 0 .1 (loud-first (masksAnswer f head) (switchesAnswer f head) (λ z. omega (arith, number-of m)) ∙ m))),
+            whole .1 (c .wide, named .1 (c .names, at-bare 0 .1 (loud-first (masksAnswer C) (switchesAnswer C) (λ z. omega (arith, number-of m)) ∙ m))),
       )
     where
       -- on or off has a node as place
-      switched : (switchesAnswer f head ≡ fine) ⊎ ((p : ℕ) × (1 ≤ p) × (switchesAnswer f head ≡ refused 14 p)) → switchesAnswer f head ≡ refused 14 0 → ⊥
+      switched : (switchesAnswer C ≡ fine) ⊎ ((p : ℕ) × (1 ≤ p) × (switchesAnswer C ≡ refused 14 p)) → switchesAnswer C ≡ refused 14 0 → ⊥
       switched (inl e) h = omega (arith, number-of (sym e ∙ h))
       switched (inr (p, l, e)) h = omega (arith, ap (λ (v : Verdict). v .place) (sym e ∙ h))
 
-      to : (masksAnswer f head ≡ fine) ⊎ (masksAnswer f head ≡ refused 14 0) → bare ≡ refused 14 0 → masksAnswer f head ≡ refused 14 0
-      to (inl e) h = absurd (switched (switches-answers f) (sym (quiet-first (masksAnswer f head) (switchesAnswer f head) (number-of e)) ∙ h))
+      to : (masksAnswer C ≡ fine) ⊎ (masksAnswer C ≡ refused 14 0) → bare ≡ refused 14 0 → masksAnswer C ≡ refused 14 0
+      to (inl e) h = absurd (switched (switches-answers C) (sym (quiet-first (masksAnswer C) (switchesAnswer C) (number-of e)) ∙ h))
       to (inr e) h = e
 
   -- 14: on or off
   pub switches-stage : (p : ℕ) → 1 ≤ p
-      → (placing f room ≡ noPlace 14 p) ↔ (Clean f room × (masksAnswer f (headAt f) ≡ fine) × (switchesAnswer f (headAt f) ≡ refused 14 p))
+      → (placing f room ≡ noPlace 14 p) ↔ (Clean f room × (masksAnswer (contentsOf f) ≡ fine) × (switchesAnswer (contentsOf f) ≡ refused 14 p))
   switches-stage p l =
       let whole = refused-judging 14 p (omega arith) (omega arith) in
       let named = after-names 14 p (omega arith) in (
         λ h.
             let (w, j) = whole .0 h in
             let (e, k) = named .0 j in
-            let (m, s) = to (masks-answers f) (at-bare p .0 k) in
+            let (m, s) = to (masks-answers C) (at-bare p .0 k) in
             (record { wide = w; names = e }, m, s),
         λ (c, m, s).
-            whole .1 (c .wide, named .1 (c .names, at-bare p .1 (quiet-first (masksAnswer f head) (switchesAnswer f head) (number-of m) ∙ s))),
+            whole .1 (c .wide, named .1 (c .names, at-bare p .1 (quiet-first (masksAnswer C) (switchesAnswer C) (number-of m) ∙ s))),
       )
     where
-      to : (masksAnswer f head ≡ fine) ⊎ (masksAnswer f head ≡ refused 14 0) → bare ≡ refused 14 p
-          → (masksAnswer f head ≡ fine) × (switchesAnswer f head ≡ refused 14 p)
-      to (inl e) h = (e, sym (quiet-first (masksAnswer f head) (switchesAnswer f head) (number-of e)) ∙ h)
+      to : (masksAnswer C ≡ fine) ⊎ (masksAnswer C ≡ refused 14 0) → bare ≡ refused 14 p
+          → (masksAnswer C ≡ fine) × (switchesAnswer C ≡ refused 14 p)
+      to (inl e) h = (e, sym (quiet-first (masksAnswer C) (switchesAnswer C) (number-of e)) ∙ h)
       to (inr e) h =
-          let first : bare ≡ masksAnswer f head = loud-first (masksAnswer f head) (switchesAnswer f head) (λ z. omega (arith, number-of e)) in
+          let first : bare ≡ masksAnswer C = loud-first (masksAnswer C) (switchesAnswer C) (λ z. omega (arith, number-of e)) in
           absurd (omega (arith, l, ap (λ (v : Verdict). v .place) (sym e ∙ sym first ∙ h)))
 
   -- nothing refused
   pub placed-stage : (placing f room .number ≡ 0)
-      ↔ (Unrefused f room × (unservedFrom 1 (labelsIn f (headAt f)) ≡ fine) × (sizesOf (turnsFor f (headAt f)) ≤ 1024))
+      ↔ (Unrefused f room × (unservedFrom 1 (labelsIn (contentsOf f)) ≡ fine) × (sizesOf (turnsFor (contentsOf f)) ≤ 1024))
   unfolding judging placeable
   placed-stage =
-      let ls : List Label = labelsIn f head in
-      let named = both-quiet Quiet (readingNames f) (placeable f head) (λ q. q) in
-      let settled = both-quiet Quiet bare (settling ls) (λ q. q) in
-      let last = both-quiet Quiet (unservedFrom 1 ls) (sizeAnswer sizes) (λ q. q) in (
+      let ls : List Label = labelsIn C in
+      let named = both-zero (readingNames f) (placeable C) in
+      let settled = both-zero bare (settling ls) in
+      let last = both-zero (unservedFrom 1 ls) (sizeAnswer sizes) in (
         λ h.
-            let (w, j) = placed-quiet .0 h in
+            let (w, j) = placed-zero .0 h in
             let (e, k) = named .0 j in
             let (b, z) = settled .0 k in
             let (s, n) = last .0 z in (
@@ -384,13 +362,13 @@ module _ (f : List ℕ) (room : ℕ) where
             ),
         λ (u, s, n).
             let (w, e, b) = unrefused-iff .0 u in
-            placed-quiet .1 (w, named .1 (number-of e, settled .1 (number-of b, last .1 (number-of s, fits (size-answers sizes) n)))),
+            placed-zero .1 (w, named .1 (number-of e, settled .1 (number-of b, last .1 (number-of s, fits (size-answers sizes) n)))),
       )
     where
-      few : ((sizeAnswer sizes ≡ fine) × (sizes ≤ 1024)) ⊎ ((sizeAnswer sizes ≡ refused 16 0) × (1024 < sizes)) → Quiet (sizeAnswer sizes) → sizes ≤ 1024
+      few : ((sizeAnswer sizes ≡ fine) × (sizes ≤ 1024)) ⊎ ((sizeAnswer sizes ≡ refused 16 0) × (1024 < sizes)) → sizeAnswer sizes .number ≡ 0 → sizes ≤ 1024
       few (inl (e, l)) q = l
       few (inr (e, l)) q = absurd (omega (arith, number-of e, q))
 
-      fits : ((sizeAnswer sizes ≡ fine) × (sizes ≤ 1024)) ⊎ ((sizeAnswer sizes ≡ refused 16 0) × (1024 < sizes)) → sizes ≤ 1024 → Quiet (sizeAnswer sizes)
+      fits : ((sizeAnswer sizes ≡ fine) × (sizes ≤ 1024)) ⊎ ((sizeAnswer sizes ≡ refused 16 0) × (1024 < sizes)) → sizes ≤ 1024 → sizeAnswer sizes .number ≡ 0
       fits (inl (e, l)) q = number-of e
       fits (inr (e, l)) q = absurd (omega (arith, l, q))

@@ -12,11 +12,11 @@ use Rattle.states.specs.States.{Label, suits}
 use Rattle.clinic.specs.Lists.{All}
 use Rattle.clinic.specs.Tree.{Tree}
 use Rattle.clinic.specs.File.{Routine, File, WellFormed}
-use Rattle.clinic.proofs.FileTables.{treesOf}
+use Rattle.clinic.proofs.FileContents.{treesOf}
 use Rattle.typing.specs.Tables.{schemaFor}
-use Rattle.typing.specs.Typing.{Typed}
-use Rattle.typing.specs.Kinding.{Named}
+use Rattle.typing.specs.Typing.{Typed, WellKinded}
 use Rattle.typing.proofs.OperandKinds.{Ranged}
+use Rattle.typing.proofs.FileRules.{ranged}
 use Rattle.placement.specs.Placement.{plain, onStepsOf, Holds, grafted, Placement}
 use Rattle.placement.specs.Placed.{
   labels,
@@ -29,7 +29,7 @@ use Rattle.placement.specs.Placed.{
   servedAll,
   Bare,
 }
-use Rattle.placement.proofs.SoundSessions.{Sound, ranged, sound}
+use Rattle.placement.proofs.SoundSessions.{Sound, sound}
 use Rattle.placement.proofs.SessionPlaced.{taken-within, taken-allowed, taken-least, taken-first, placed-back, placed-passes, rival}
 pub use Rattle.placement.proofs.SessionPlaced.{one-role}
 
@@ -99,7 +99,7 @@ module _ (D : Schema) (R : Ranged D) (few : D .roles ≤ 16) where
       let (b, k, m) = rival-all ss ts (S .1) (cc) (p .1) (h .1) in
       ((a, b), (i, j, k), omega arith)
 
-module _ (F : File) (W : WellFormed F) (N : Named F) (B : Bare F) where
+module _ (F : File) (W : WellFormed F) (N : WellKinded F) (B : Bare F) where
   abbrev D : Schema
   D = schemaFor F
 

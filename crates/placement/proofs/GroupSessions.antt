@@ -1,22 +1,19 @@
 -- Sessions one after the other: the nodes, the roots, the number of nodes and the on steps of what is placed.
-use Prim.Native.Nat.{ℕ, zero, suc, _+_}
+use Prim.Native.Nat.{ℕ, suc, _+_}
 use mathlib.Core.Path.{_≡_, refl, ap, ap₂, _∙_}
 use mathlib.Core.List.{List, [], _∷_}
 use native.Mathlib.Omega.{arith}
 use lib.ListN.{length, getD}
-use Rattle.format.specs.Words.{wordAt}
 use Rattle.format.specs.declared.Session.{Session}
 use Rattle.rules.specs.Schema.{Schema}
 use Rattle.states.specs.declared.Turn.{Turn}
-use Rattle.groups.specs.Groups.{sizesOf, onsOf, startsOf, groupsFrom, sessionsFrom}
+use Rattle.groups.specs.Groups.{sizesOf, onsOf, startsOf, groupsFrom, sessionsFrom, placedContents}
 use Rattle.clinic.specs.Lists.{All}
 use Rattle.clinic.specs.Tree.{Tree, past, write, flatten}
-use Rattle.clinic.specs.File.{Routine, sessionWords}
+use Rattle.clinic.specs.File.{Routine, File, rooted, contentsFor}
 use Rattle.clinic.proofs.TreeEnds.{past-length}
-use Rattle.clinic.proofs.Rows.{rowsFrom}
-use Rattle.clinic.proofs.Tables.{sessionAt}
-use Rattle.clinic.proofs.FileTables.{treesOf, seats}
-use Rattle.placement.specs.Placement.{onStepsOf, grafted}
+use Rattle.clinic.proofs.FileContents.{treesOf}
+use Rattle.placement.specs.Placement.{onStepsOf, grafted, graft}
 use Rattle.placement.specs.Placed.{insert, taking, placedTree, placedTrees, AllStates, insertAll, takingAll}
 use Rattle.placement.proofs.SwitchFree.{Free}
 use Rattle.placement.proofs.Preorder.{walkedAll}
@@ -27,17 +24,6 @@ pub placed-inserted : (D : Schema) (ss : List Routine) → placedTrees D ss ≡ 
 unfolding placedTrees placedTree insertAll
 placed-inserted D [] = refl
 placed-inserted D (s ∷ ss) = ap {B = List Tree} (λ l. insert D (s .user) 0 [] (s .tree) (taking D (s .user) (s .tree)) ∷ l) (placed-inserted D ss)
-
--- the sessions' words with new roots
-unfoldable pub rooted : List ℕ → List Session → List ℕ
-rooted starts [] = []
-rooted starts (s ∷ ss) = s .user ∷ s .mask ∷ getD starts (s .root) 0 ∷ rooted starts ss
-
-pub sessions-rooted : (starts f : List ℕ) (p k : ℕ) → sessionsFrom starts f p k ≡ rooted starts (rowsFrom (sessionAt f) 3 p k)
-unfolding sessionsFrom rooted rowsFrom
-sessions-rooted starts f p zero = refl
-sessions-rooted starts f p (suc k) =
-    ap {B = List ℕ} (λ l. wordAt f p ∷ wordAt f (p + 1) ∷ getD starts (wordAt f (p + 2)) 0 ∷ l) (sessions-rooted starts f (p + 3) k)
 
 -- by old number the groups' numbers are those of the first turn on
 pub begun-all : (ts : List Turn) → Begun (startsOf ts) 1 1 ts
@@ -84,12 +70,22 @@ module _ (D : Schema) where
         ∙ ap (write to t′) (all-groups (past at (s .tree)) (past to t′) ss (a .1) (f .1) next)
 
     pub all-roots : (at to : ℕ) (ss : List Routine) (a : AllStates D ss) → All (λ s. Free (s .tree)) ss → Begun starts at to (walkedAll D ss a)
-        → rooted starts (seats at ss) ≡ sessionWords to (withStates ss a)
-    unfolding walkedAll insertAll grafted rooted seats sessionWords
+        → sessionsFrom starts (rooted at ss) ≡ rooted to (withStates ss a)
+    unfolding walkedAll insertAll grafted rooted sessionsFrom
     all-roots at to [] a f h = refl
     all-roots at to (s ∷ ss) a f h =
         let t′ : Tree = insert D (s .user) 0 [] (s .tree) (a .0) in
         let ts : List Turn = walkedAll D ss (a .1) in
         let next : Begun starts (past at (s .tree)) (past to t′) ts = tree-past D (s .user) starts at to 0 [] (s .tree) (a .0) ts (f .0) h in
         let here : getD starts at 0 ≡ to = tree-begins D (s .user) starts at to 0 [] (s .tree) (a .0) ts h in
-        ap₂ {C = List ℕ} (λ (r : ℕ) (l : List ℕ). s .user ∷ s .mask ∷ r ∷ l) here (all-roots (past at (s .tree)) (past to t′) ss (a .1) (f .1) next)
+        ap₂ {C = List Session} (λ r l. record { user = s .user; mask = s .mask; root = r } ∷ l) here
+        (all-roots (past at (s .tree)) (past to t′) ss (a .1) (f .1) next)
+
+-- what placing makes of a file is what the file with the trees that the states give holds
+pub contents-placed : (F : File) (D : Schema) (a : AllStates D (F .sessions)) → All (λ s. Free (s .tree)) (F .sessions)
+    → placedContents (contentsFor F) (walkedAll D (F .sessions) a) (startsOf (walkedAll D (F .sessions) a)) ≡ contentsFor (graft F (insertAll D (F .sessions) a))
+contents-placed F D a free =
+    let turns : List Turn = walkedAll D (F .sessions) a in
+    let sessions = all-roots D (startsOf turns) 1 1 (F .sessions) a free (begun-all turns) in
+    let nodes = all-groups D (startsOf turns) 1 1 (F .sessions) a free (begun-all turns) in
+    λ i. record { users = F .users; roles = F .roles; kinds = F .kinds; channels = F .channels; sessions = sessions i; nodes = nodes i }

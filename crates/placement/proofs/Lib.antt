@@ -10,18 +10,16 @@ pub mod SoundSessions
 pub mod SessionPlaced
 -- the whole file
 pub mod FilePlaced
--- What placing reads from a file's bytes: trees without on and off, their nodes with the roles that they may be given (labels-read)
+-- What placing sees in a file: trees without on and off, their nodes with the roles that they may be given (labels-read)
 pub mod SwitchFree
 pub mod Preorder
-pub mod SameLabels
 pub mod ReadLabels
 -- The states taken from the rows are the choice's (all-turns)
 pub mod TreeRows
--- The groups of nodes are the trees with off and on put in (all-groups, all-roots), and the words written are the placed file's (words-placed)
+-- The groups of nodes are the trees with off and on put in (all-groups, all-roots), and what is written is the placed file (contents-placed)
 pub mod TurnedNodes
 pub mod GroupTrees
 pub mod GroupSessions
-pub mod PlacedWords
 -- 14 and 15, and that the placed file is well formed
 pub mod BareAnswers
 pub mod ServedLabels

@@ -6,7 +6,7 @@ use native.Mathlib.Omega.{arith}
 use Rattle.format.specs.declared.Node.{Node}
 use Rattle.clinic.specs.Tree.{repeat, new, compare, receive, send, on, off, Tree, end, fork, step, switch, past, write, flatten}
 use Rattle.clinic.specs.File.{File, nodesOf}
-use Rattle.clinic.proofs.FileTables.{treesOf}
+use Rattle.clinic.proofs.FileContents.{treesOf}
 use Rattle.placement.specs.Placement.{onSteps, onStepsOf}
 use Rattle.placement.specs.Counts.{onNodes}
 

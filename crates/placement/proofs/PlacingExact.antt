@@ -1,37 +1,35 @@
 -- Placing answers, or refuses, exactly as the paper fixes it: what a placed file is, and when each of 14 to 16 is the answer.
-use Prim.Native.Nat.{ℕ, _+_, _*_, _≤_, _<_}
+use Prim.Native.Nat.{ℕ, _+_, _≤_, _<_}
 use mathlib.Core.Path.{_≡_, refl, sym, ap, _∙_, subst}
 use mathlib.Core.Logic.{_↔_, _⊎_, inl, inr, _≢_}
 use mathlib.Core.Bool.{true}
-use mathlib.Core.List.{List, [], _∷_, _++_}
+use mathlib.Core.List.{List, [], _∷_, _++_, map}
 use native.Mathlib.Omega.{arith}
 use lib.ListN.{length, drop}
 use lib.Seq.{sets-eq}
 use borrow.Author.Tests.{eq-eqb, ne-eqb}
+use Rattle.format.specs.Contents.{Contents, contentsOf}
 use Rattle.format.specs.Answers.{fine, refused}
-use Rattle.format.specs.Header.{headAt}
+use Rattle.format.specs.Header.{headAt, largest, roomFor}
 use Rattle.format.specs.declared.Verdict.{Verdict}
 use Rattle.rules.specs.Schema.{Schema}
-use Rattle.rules.specs.Checking.{nodesIn}
 use Rattle.rules.specs.Candidates.{candidatesIn}
 use Rattle.checking.specs.Check.{readingNames, checking}
+use Rattle.states.specs.declared.Turn.{Turn}
 use Rattle.groups.specs.Groups.{sizesOf, onsOf}
 use Rattle.placing.specs.declared.Placed.{Placed}
-use Rattle.placing.specs.Placing.{labelsIn, turnsFor, masksAnswer, switchesAnswer, unservedFrom, sizeAnswer, noPlace, placing, placedBytes, placedOver}
+use Rattle.placing.specs.Placing.{labelsIn, turnsFor, masksAnswer, switchesAnswer, unservedFrom, sizeAnswer, noPlace, placedIn, placing, placedBytes, placedOver}
 use Rattle.clinic.specs.Lists.{All}
 use Rattle.clinic.specs.Tree.{Tree}
-use Rattle.clinic.specs.File.{Routine, File, WellFormed, nodesOf, encode}
+use Rattle.clinic.specs.File.{Routine, File, WellFormed, nodesOf, contentsFor, encode}
 use Rattle.clinic.proofs.AllLaws.{all-map, all-both}
-use Rattle.clinic.proofs.Bytes.{length-bytesOf}
 use Rattle.clinic.proofs.EncodedBytes.{encode-bytes}
 use Rattle.clinic.proofs.Exact.{single}
-use Rattle.clinic.proofs.Tables.{Tables, tableWords, tableBytes}
-use Rattle.clinic.proofs.Places.{length-tables}
-use Rattle.clinic.proofs.FileTables.{treesOf, length-seats, tablesOf, encode-tables}
+use Rattle.clinic.proofs.Places.{length-encoded}
+use Rattle.clinic.proofs.FileContents.{treesOf, length-rooted, contents-back, contents-held}
 use Rattle.typing.specs.Tables.{schemaFor}
-use Rattle.typing.specs.Kinding.{Named}
+use Rattle.typing.specs.Typing.{WellKinded}
 use Rattle.typing.proofs.CheckExact.{names-exact, check-exact}
-use Rattle.typing.proofs.FileSchema.{encoded, nodes-read}
 use Rattle.placement.specs.Placement.{plain, onStepsOf, grafted, Placement}
 use Rattle.placement.specs.Placed.{placedTree, placedTrees, placedFile, takingAll, servedAll, Bare}
 use Rattle.placement.specs.Counts.{onNodes}
@@ -71,15 +69,13 @@ grafted-trees D [] = refl
 grafted-trees D (s ∷ ss) = ap {B = List Tree} (λ l. placedTree D (s .user) (s .tree) ∷ l) (grafted-trees D ss)
 
 -- the largest file has 6,874 bytes
-pub largest : (F : File) → WellFormed F → length (encode F) ≤ 6874
-unfolding tableBytes
-largest F W =
-    let T : Tables = tablesOf F in
-    let long : length (encode F) ≡ 2 * length (tableWords T) = ap length (encode-tables F) ∙ length-bytesOf (tableWords T) in
+pub at-largest : (F : File) → WellFormed F → length (encode F) ≤ largest
+unfolding encode
+at-largest F W =
     omega (
       arith,
-      length-tables T,
-      length-seats 1 (F .sessions),
+      length-encoded (contentsFor F),
+      length-rooted 1 (F .sessions),
       W .few-users,
       W .few-roles,
       W .few-kinds,
@@ -91,30 +87,29 @@ largest F W =
 -- what 1 to 10 and 14 leave of a file
 record Ready (F : File) : Type 0 where
   formed : WellFormed F
-  named : Named F
+  named : WellKinded F
   bare : Bare F
 
-bare-iff : (F : File) → WellFormed F
-    → ((masksAnswer (encode F) (headAt (encode F)) ≡ fine) × (switchesAnswer (encode F) (headAt (encode F)) ≡ fine)) ↔ Bare F
-bare-iff F W = (
-  λ (m, s). all-both (λ (s : Routine). s .mask ≡ 0) (λ (s : Routine). plain (s .tree) ≡ s .tree) (F .sessions) (masks-bare F W .0 m) (switches-bare F W .0 s),
-  λ b. (masks-bare F W .1 (all-map (λ s h. h .0) (F .sessions) b), switches-bare F W .1 (all-map (λ s h. h .1) (F .sessions) b)),
+bare-iff : (F : File) → ((masksAnswer (contentsFor F) ≡ fine) × (switchesAnswer (contentsFor F) ≡ fine)) ↔ Bare F
+bare-iff F = (
+  λ (m, s). all-both (λ (s : Routine). s .mask ≡ 0) (λ (s : Routine). plain (s .tree) ≡ s .tree) (F .sessions) (masks-bare F .0 m) (switches-bare F .0 s),
+  λ b. (masks-bare F .1 (all-map (λ s h. h .0) (F .sessions) b), switches-bare F .1 (all-map (λ s h. h .1) (F .sessions) b)),
 )
 
 -- 17 first of all: output under 6,874 bytes
-pub seventeen-exactly : (f : List ℕ) (room : ℕ) → (placing f room ≡ noPlace 17 0) ↔ (room < 6874)
+pub seventeen-exactly : (f : List ℕ) (room : ℕ) → (placing f room ≡ noPlace 17 0) ↔ (room < roomFor f)
 seventeen-exactly f room = room-stage f room
 
 -- then 1 to 10, as they are read
-pub ten-exactly : (f : List ℕ) (room n p : ℕ) → 1 ≤ n → n ≤ 10 → (placing f room ≡ noPlace n p) ↔ ((6874 ≤ room) × (readingNames f ≡ refused n p))
+pub ten-exactly : (f : List ℕ) (room n p : ℕ) → 1 ≤ n → n ≤ 10 → (placing f room ≡ noPlace n p) ↔ ((roomFor f ≤ room) × (readingNames f ≡ refused n p))
 ten-exactly f room = names-stage f room
 
 module _ (f : List ℕ) (bytes : All (λ b. b < 256) f) where
   -- a file whose bytes these are is well formed, and its names and kinds are right
-  pub named-file : readingNames f ≡ fine → (F : File) → encode F ≡ f → WellFormed F × Named F
+  pub named-file : readingNames f ≡ fine → (F : File) → encode F ≡ f → WellFormed F × WellKinded F
   named-file r F e =
       let (G, W, e′, N) = names-exact f bytes .0 r in
-      subst (λ (H : File). WellFormed H × Named H) (single G F (e′ ∙ sym e)) (W, N)
+      subst (λ (H : File). WellFormed H × WellKinded H) (single G F (e′ ∙ sym e)) (W, N)
 
   module _ (room : ℕ) where
     some-file : Unrefused f room → (F : File) × (encode F ≡ f)
@@ -123,45 +118,43 @@ module _ (f : List ℕ) (bytes : All (λ b. b < 256) f) where
     ready : Unrefused f room → (F : File) → encode F ≡ f → Ready F
     ready u F e =
         let (W, N) = named-file (u .names) F e in
-        let same = subst (λ (g : List ℕ). (masksAnswer g (headAt g) ≡ fine) × (switchesAnswer g (headAt g) ≡ fine)) (sym e) (u .masks, u .switches) in
-        record { formed = W; named = N; bare = bare-iff F W .0 same }
+        let same = subst (λ (C : Contents). (masksAnswer C ≡ fine) × (switchesAnswer C ≡ fine)) (contents-held F f e) (u .masks, u .switches) in
+        record { formed = W; named = N; bare = bare-iff F .0 same }
 
     -- nothing before 15 refuses exactly where nothing before 14 does, all starting masks are 0 and there is no on or off
     pub bare-exactly : Unrefused f room ↔ (Clean f room × ((F : File) × (encode F ≡ f) × Bare F))
     bare-exactly = (
       λ u. let (F, e) = some-file u in (record { wide = u .wide; names = u .names }, (F, e, ready u F e .bare)),
       λ (c, (F, e, b)).
-          let (W, N) = named-file (c .names) F e in
-          let (m, s) = subst (λ (g : List ℕ). (masksAnswer g (headAt g) ≡ fine) × (switchesAnswer g (headAt g) ≡ fine)) e (bare-iff F W .1 b) in
+          let (m, s) = subst (λ (C : Contents). (masksAnswer C ≡ fine) × (switchesAnswer C ≡ fine)) (sym (contents-held F f e)) (bare-iff F .1 b) in
           record { wide = c .wide; names = c .names; masks = m; switches = s },
     )
 
     -- 15 finds nothing exactly where every node is served; then there is a placement, and only then
-    served-read : (F : File) → encode F ≡ f → Ready F → (unservedFrom 1 (labelsIn f (headAt f)) ≡ fine) ↔ (servedAll (schemaFor F) (F .sessions) ≡ true)
+    served-read : (F : File) → encode F ≡ f → Ready F → (unservedFrom 1 (labelsIn (contentsOf f)) ≡ fine) ↔ (servedAll (schemaFor F) (F .sessions) ≡ true)
     served-read F e r =
-        subst (λ (g : List ℕ). (unservedFrom 1 (labelsIn g (headAt g)) ≡ fine) ↔ (servedAll (schemaFor F) (F .sessions) ≡ true)) e
+        subst (λ (C : Contents). (unservedFrom 1 (labelsIn C) ≡ fine) ↔ (servedAll (schemaFor F) (F .sessions) ≡ true)) (sym (contents-held F f e))
         (served-answer F (r .formed) (r .named) (r .bare))
 
-    size-read : (F : File) → encode F ≡ f → Ready F → sizesOf (turnsFor f (headAt f)) ≡ length (nodesOf (placedFile F))
-    size-read F e r =
-        subst (λ (g : List ℕ). sizesOf (turnsFor g (headAt g)) ≡ length (nodesOf (placedFile F))) e (placed-size F (r .formed) (r .named) (r .bare))
+    size-read : (F : File) → encode F ≡ f → Ready F → sizesOf (turnsFor (contentsOf f)) ≡ length (nodesOf (placedFile F))
+    size-read F e r = ap (λ (C : Contents). sizesOf (turnsFor C)) (contents-held F f e) ∙ placed-size F (r .formed) (r .named) (r .bare)
 
     -- 15: there is no placement
     pub fifteen-exactly : ((p : ℕ) × (placing f room ≡ noPlace 15 p)) ↔ (Unrefused f room × NoPlacement f)
     fifteen-exactly = (
       λ (p, h). let (u, s) = fifteen-stage f room p .0 h in (u, without p u s),
-      λ (u, n). let (p, s) = lacking u n (unserved-answers 1 (labelsIn f (headAt f))) in (p, fifteen-stage f room p .1 (u, s)),
+      λ (u, n). let (p, s) = lacking u n (unserved-answers 1 (labelsIn (contentsOf f))) in (p, fifteen-stage f room p .1 (u, s)),
     )
       where
-        without : (p : ℕ) → Unrefused f room → unservedFrom 1 (labelsIn f (headAt f)) ≡ refused 15 p → NoPlacement f
+        without : (p : ℕ) → Unrefused f room → unservedFrom 1 (labelsIn (contentsOf f)) ≡ refused 15 p → NoPlacement f
         without p u s F e ts P =
             let r = ready u F e in
             let served = placement-served F (r .formed) (r .named) (r .bare) ts P in
             omega (arith, ap (λ (v : Verdict). v .number) (sym (served-read F e r .1 served) ∙ s))
 
         lacking : Unrefused f room → NoPlacement f
-            → (unservedFrom 1 (labelsIn f (headAt f)) ≡ fine) ⊎ ((p : ℕ) × (unservedFrom 1 (labelsIn f (headAt f)) ≡ refused 15 p))
-            → (p : ℕ) × (unservedFrom 1 (labelsIn f (headAt f)) ≡ refused 15 p)
+            → (unservedFrom 1 (labelsIn (contentsOf f)) ≡ fine) ⊎ ((p : ℕ) × (unservedFrom 1 (labelsIn (contentsOf f)) ≡ refused 15 p))
+            → (p : ℕ) × (unservedFrom 1 (labelsIn (contentsOf f)) ≡ refused 15 p)
         lacking u n (inl s) =
             let (F, e) = some-file u in
             let r = ready u F e in
@@ -169,7 +162,7 @@ module _ (f : List ℕ) (bytes : All (λ b. b < 256) f) where
         lacking u n (inr z) = z
 
     -- what 15 leaves
-    placement-read : (Size : ℕ → Type 0) → Unrefused f room → unservedFrom 1 (labelsIn f (headAt f)) ≡ fine → Size (sizesOf (turnsFor f (headAt f)))
+    placement-read : (Size : ℕ → Type 0) → Unrefused f room → unservedFrom 1 (labelsIn (contentsOf f)) ≡ fine → Size (sizesOf (turnsFor (contentsOf f)))
         → PlacedWith Size f
     placement-read Size u s z =
         let (F, e) = some-file u in
@@ -182,7 +175,7 @@ module _ (f : List ℕ) (bytes : All (λ b. b < 256) f) where
         )
 
     read-placement : (Size : ℕ → Type 0) → Unrefused f room → PlacedWith Size f
-        → (unservedFrom 1 (labelsIn f (headAt f)) ≡ fine) × Size (sizesOf (turnsFor f (headAt f)))
+        → (unservedFrom 1 (labelsIn (contentsOf f)) ≡ fine) × Size (sizesOf (turnsFor (contentsOf f)))
     read-placement Size u (F, ts, e, P, z) =
         let r = ready u F e in
         (served-read F e r .1 (placement-served F (r .formed) (r .named) (r .bare) ts P), subst Size (sym (size-read F e r)) z)
@@ -192,10 +185,10 @@ module _ (f : List ℕ) (bytes : All (λ b. b < 256) f) where
     sixteen-exactly = (
       λ (p, h).
           let (u, s, z) = sixteen-stage f room p .0 h in
-          (u, placement-read (λ n. 1024 < n) u s (over p (size-answers (sizesOf (turnsFor f (headAt f)))) z)),
+          (u, placement-read (λ n. 1024 < n) u s (over p (size-answers (sizesOf (turnsFor (contentsOf f)))) z)),
       λ (u, q).
           let (s, l) = read-placement (λ n. 1024 < n) u q in
-          (0, sixteen-stage f room 0 .1 (u, s, at (size-answers (sizesOf (turnsFor f (headAt f)))) l)),
+          (0, sixteen-stage f room 0 .1 (u, s, at (size-answers (sizesOf (turnsFor (contentsOf f)))) l)),
     )
       where
         over : {n : ℕ} (p : ℕ) → ((sizeAnswer n ≡ fine) × (n ≤ 1024)) ⊎ ((sizeAnswer n ≡ refused 16 0) × (1024 < n)) → sizeAnswer n ≡ refused 16 p → 1024 < n
@@ -214,36 +207,36 @@ module _ (f : List ℕ) (bytes : All (λ b. b < 256) f) where
     )
 
     -- 14: a starting mask, at place 0
-    pub fourteen-masks : (placing f room ≡ noPlace 14 0) ↔ (Clean f room × SomeMask f)
+    pub fourteen-masks : (placing f room ≡ noPlace 14 0) ↔ (Clean f room × SomeMask (contentsOf f))
     fourteen-masks = (
-      λ h. let (c, m) = masks-stage f room .0 h in (c, masks-some f .0 m),
-      λ (c, s). masks-stage f room .1 (c, masks-some f .1 s),
+      λ h. let (c, m) = masks-stage f room .0 h in (c, masks-some (contentsOf f) .0 m),
+      λ (c, s). masks-stage f room .1 (c, masks-some (contentsOf f) .1 s),
     )
 
     -- 14: no starting mask, and the lowest node that is on or off
     pub fourteen-node : (p : ℕ) → 1 ≤ p
-        → (placing f room ≡ noPlace 14 p) ↔ (Clean f room × (masksAnswer f (headAt f) ≡ fine) × Lowest (IsSwitch (nodesIn f (headAt f))) p)
+        → (placing f room ≡ noPlace 14 p) ↔ (Clean f room × (masksAnswer (contentsOf f) ≡ fine) × Lowest (IsSwitch (contentsOf f .nodes)) p)
     fourteen-node p l = (
       λ h. let (c, m, s) = switches-stage f room p l .0 h in (c, m, switches-lowest f (c .names) p .0 s),
       λ (c, m, s). switches-stage f room p l .1 (c, m, switches-lowest f (c .names) p .1 s),
     )
 
     -- 15, by its place: the lowest send or receive that no role of the user permits
-    pub fifteen-place : (p : ℕ) → (placing f room ≡ noPlace 15 p) ↔ (Unrefused f room × Lowest (Unserved f) p)
+    pub fifteen-place : (p : ℕ) → (placing f room ≡ noPlace 15 p) ↔ (Unrefused f room × Lowest (Unserved (contentsOf f)) p)
     fifteen-place p = (
-      λ h. let (u, s) = fifteen-stage f room p .0 h in (u, unserved-lowest f p s),
-      λ (u, s). fifteen-stage f room p .1 (u, lowest-unserved f p (long u) s),
+      λ h. let (u, s) = fifteen-stage f room p .0 h in (u, unserved-lowest (contentsOf f) p s),
+      λ (u, s). fifteen-stage f room p .1 (u, lowest-unserved (contentsOf f) p (long u) s),
     )
       where
-        long : Unrefused f room → length (nodesIn f (headAt f)) ≤ length (candidatesIn f (headAt f))
+        long : Unrefused f room → length (contentsOf f .nodes) ≤ length (candidatesIn (contentsOf f))
         long u =
             let (F, e) = some-file u in
             let r = ready u F e in
-            subst (λ (g : List ℕ). length (nodesIn g (headAt g)) ≤ length (candidatesIn g (headAt g))) e (nodes-served F (r .formed) (r .named) (r .bare))
+            subst (λ (C : Contents). length (C .nodes) ≤ length (candidatesIn C)) (sym (contents-held F f e)) (nodes-served F (r .formed) (r .named) (r .bare))
 
     -- 16 has the place 0
     pub sixteen-place : (p : ℕ) → placing f room ≡ noPlace 16 p → p ≡ 0
-    sixteen-place p h = let (u, s, z) = sixteen-stage f room p .0 h in go (size-answers (sizesOf (turnsFor f (headAt f)))) z
+    sixteen-place p h = let (u, s, z) = sixteen-stage f room p .0 h in go (size-answers (sizesOf (turnsFor (contentsOf f)))) z
       where
         go : {n : ℕ} → ((sizeAnswer n ≡ fine) × (n ≤ 1024)) ⊎ ((sizeAnswer n ≡ refused 16 0) × (1024 < n)) → sizeAnswer n ≡ refused 16 p → p ≡ 0
         go (inl (e, l)) z = absurd (omega (arith, ap (λ (v : Verdict). v .number) (sym e ∙ z)))
@@ -271,16 +264,14 @@ module _ (F : File) (r : Ready F) (served : servedAll (schemaFor F) (F .sessions
       let whole : checking (encode G) ≡ fine = check-exact (encode G) (encode-bytes G formed) .1 (G, formed, refl, good .passes) in
       subst (λ (b : List ℕ). checking b ≡ fine) written whole
 
-  counted : onsOf (turnsFor (encode F) (headAt (encode F))) ≡ onNodes (nodesIn g (headAt g))
+  counted : onsOf (turnsFor (contentsFor F)) ≡ onNodes (contentsOf g .nodes)
   counted =
-      let nodes : nodesIn (encode G) (headAt (encode G)) ≡ nodesOf G = nodes-read G (encode G) (headAt (encode G)) (encoded G) in
       placed-ons F (r .formed) (r .named) (r .bare)
       ∙ ap onStepsOf (sym (grafted-trees (schemaFor F) (F .sessions)))
       ∙ sym (on-nodes G)
-      ∙ ap onNodes (sym nodes)
-      ∙ ap (λ (b : List ℕ). onNodes (nodesIn b (headAt b))) written
+      ∙ ap (λ (C : Contents). onNodes (C .nodes)) (sym (contents-held G g written))
 
-  file-well : (a : Placed) → a .length ≡ length g → a .«on_steps» ≡ onsOf (turnsFor (encode F) (headAt (encode F))) → WellPlaced (encode F) a g
+  file-well : (a : Placed) → a .length ≡ length g → a .«on_steps» ≡ onsOf (turnsFor (contentsFor F)) → WellPlaced (encode F) a g
   file-well a long ons =
       let steps : a .«on_steps» ≡ onStepsOf (placedTrees (schemaFor F) (F .sessions)) = ons ∙ placed-ons F (r .formed) (r .named) (r .bare) in
       record {
@@ -296,7 +287,7 @@ module _ (F : File) (r : Ready F) (served : servedAll (schemaFor F) (F .sessions
         fewest = λ ts P. omega (arith, fewest F (r .formed) (r .named) (r .bare) ts P);
         states = takingAll (schemaFor F) (F .sessions);
         allowed = states-allowed F (r .formed) (r .named) (r .bare) served;
-        taken = placed-states F (r .formed) (r .named) (r .bare);
+        taken = ap (λ (C : Contents). map (λ (t : Turn). t .to) (turnsFor C)) (contents-back F) ∙ placed-states F (r .formed) (r .named) (r .bare);
         turned = placed-inserted (schemaFor F) (F .sessions);
         smallest = λ other h l. smallest F (r .formed) (r .named) (r .bare) served other h (omega arith);
       }
@@ -316,7 +307,7 @@ module _ (f : List ℕ) (bytes : All (λ b. b < 256) f) (room : ℕ) (placed : p
   placed-well =
       let (F, e, r, s, l) = found in
       let answer = subst (λ (b : List ℕ). placing b room .number ≡ 0) (sym e) placed in
-      let same = placed-answer (encode F) room answer in
+      let same = placed-answer (encode F) room answer ∙ ap (placedIn (headAt (encode F))) (contents-back F) in
       let long : placing (encode F) room .length ≡ length (placedBytes (encode F)) =
       ap (λ (a : Placed). a .length) same ∙ placed-length F (r .formed) (r .named) (r .bare) ∙ ap length (written F r s l) in
       subst (λ (b : List ℕ). WellPlaced b (placing b room) (placedBytes b)) e
@@ -327,7 +318,7 @@ module _ (f : List ℕ) (bytes : All (λ b. b < 256) f) (room : ℕ) (placed : p
   placed-fits =
       let (F, e, r, s, l) = found in
       let wide = placed-exactly f bytes room .0 placed .0 .wide in
-      omega (arith, largest (placedFile F) (formed F r s l), ap length (written F r s l), ap (λ (b : List ℕ). length (placedBytes b)) e)
+      omega (arith, at-largest (placedFile F) (formed F r s l), ap length (written F r s l), ap (λ (b : List ℕ). length (placedBytes b)) e)
 
 -- a refusal leaves the output as it was
 pub out-kept : (f out : List ℕ) → placing f (length out) .number ≢ 0 → placedOver f out ≡ out

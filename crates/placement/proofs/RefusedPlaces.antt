@@ -1,23 +1,18 @@
 -- The places of 14 and 15: a starting mask has 0, on or off its lowest node, a send or receive without a role its lowest node.
-use Prim.Native.Nat.{ℕ, zero, suc, _+_, _*_, _-_, _≤_, _<_}
+use Prim.Native.Nat.{ℕ, zero, suc, _+_, _-_, _≤_, _<_}
 use mathlib.Core.Path.{_≡_, refl, sym, ap, ap₂, _∙_, subst}
 use mathlib.Core.Logic.{_↔_, _⊎_, inl, inr}
 use mathlib.Core.Bool.{Bool, true, false, cond, _&&_, and-eq-true-iff, true≢false}
 use mathlib.Core.List.{List, [], _∷_}
 use native.Mathlib.Omega.{arith}
-use lib.Dec.{eqb, leb, ltb}
+use lib.Dec.{eqb, ltb}
 use lib.ListN.{length, getD}
-use borrow.Author.Tests.{eqb-true, eqb-false, eq-eqb, ne-eqb, leb-true, leb-false, ltb-true, ltb-false, le-ltb}
+use borrow.Author.Tests.{eqb-true, eqb-false, eq-eqb, ne-eqb, ltb-true, ltb-false, le-ltb}
+use Rattle.format.specs.Contents.{Contents, item, noNode, contentsOf}
 use Rattle.format.specs.Answers.{fine, refused}
-use Rattle.format.specs.Header.{headAt}
-use Rattle.format.specs.Sections.{placeOf, nodeAt, nodesFrom}
 use Rattle.format.specs.declared.Verdict.{Verdict}
-use Rattle.format.specs.declared.Head.{Head}
 use Rattle.format.specs.declared.Node.{Node}
-use Rattle.format.specs.declared.Section.the-variants.{Nodes}
-use Rattle.trees.proofs.ShapeLaws.{length-nodes}
-use Rattle.reading.specs.Reading.{reading}
-use Rattle.rules.specs.Checking.{nodesIn, namesAnswer}
+use Rattle.format.proofs.ContentsLaws.{item-get}
 use Rattle.rules.specs.Candidates.{candidatesIn}
 use Rattle.checking.specs.Check.{readingNames}
 use Rattle.states.specs.States.{Label, needs, labelled}
@@ -26,16 +21,17 @@ use Rattle.rules.specs.Schema.{Schema}
 use Rattle.rules.specs.Names.{Bound}
 use Rattle.clinic.specs.Lists.{All}
 use Rattle.clinic.specs.Tree.{Tree, end, fork, step, switch, past, write, flatten}
-use Rattle.clinic.specs.File.{Routine, File, InCount, WellFormed, encode}
-use Rattle.clinic.specs.Refusals.{nth, Before, First, Refusable, misshapen, bad-tag}
-use Rattle.clinic.proofs.Firsts.{Unfit, first-fine}
-use Rattle.clinic.proofs.FirstRefusal.{first-refusal}
+use Rattle.clinic.specs.File.{Routine, File, InCount, WellFormed, nodesOf, contentsFor}
+use Rattle.clinic.specs.Order.{Sooner, First}
+use Rattle.clinic.specs.Refusals.{nth, misshapen, readingOrder}
+use Rattle.clinic.proofs.FirstLaws.{number-of, Unfit}
+use Rattle.clinic.proofs.ShapeFirst.{low-tag}
+use Rattle.clinic.proofs.FirstRefusal.{reading-fine}
 use Rattle.clinic.proofs.TagTests.{one-of}
-use Rattle.clinic.proofs.FileTables.{treesOf}
+use Rattle.clinic.proofs.FileContents.{treesOf}
 use Rattle.typing.specs.Tables.{schemaFor}
-use Rattle.typing.specs.Kinding.{Named}
-use Rattle.typing.proofs.FileSchema.{encoded, nodes-read}
-use Rattle.typing.proofs.Quiets.{refusable-number, reading-quiet, both-fine}
+use Rattle.typing.specs.Typing.{WellKinded}
+use Rattle.typing.proofs.CheckFirst.{names-fine}
 use Rattle.placement.specs.Placed.{varsBelow, labels, Bare}
 use Rattle.placement.specs.Promised.{SomeMask, IsSwitch, Unserved, Lowest}
 use Rattle.placement.proofs.SwitchFree.{Free, bare-free}
@@ -43,65 +39,46 @@ use Rattle.placement.proofs.Preorder.{spread, spreadAll}
 use Rattle.placement.proofs.ReadLabels.{labels-read}
 use Rattle.placement.proofs.AnswerStages.{bareMask, lowTag, masks-first, switches-first, unserved-answers}
 
-abbrev blank : Node
-blank = record { tag = 0; f1 = 0; f2 = 0 }
+-- a starting mask
+pub masks-some : (C : Contents) → (masksAnswer C ≡ refused 14 0) ↔ SomeMask C
+masks-some C = (to (masks-first C), λ s. back s (masks-first C))
+  where
+    Bad : ℕ → ℕ → Type 0
+    Bad = Unfit (bareMask C) 14 (λ n. 0) 1 (length (C .sessions))
 
--- one of the nodes read
-node-get : (f : List ℕ) (p k i : ℕ) → i < k → getD (nodesFrom f p k) i blank ≡ nodeAt f (p + 3 * i)
-unfolding nodesFrom
-node-get f p zero i l = let no-way : ⊥ = omega arith in absurd no-way
-node-get f p (suc k) zero l = let e : p ≡ p + 3 * 0 = omega arith in ap (nodeAt f) e
-node-get f p (suc k) (suc i) l = let e : p + 3 + 3 * i ≡ p + 3 * suc i = omega arith in node-get f (p + 3) k i (omega arith) ∙ ap (nodeAt f) e
+    to : First readingOrder Bad (masksAnswer C) → masksAnswer C ≡ refused 14 0 → SomeMask C
+    to (inl (e, clear)) z = absurd (omega (arith, number-of (sym e ∙ z)))
+    to (inr (n, p, e, ((a, x, l, k, t, b), low))) z = (x, (l, omega arith), eqb-false _ 0 t)
+
+    back : SomeMask C → First readingOrder Bad (masksAnswer C) → masksAnswer C ≡ refused 14 0
+    back (k, c, m) (inl (e, clear)) = absurd (clear 14 0 (refl, k, c .0, omega arith, ne-eqb _ 0 m, refl))
+    back s (inr (n, p, e, ((a, x, l, k, t, b), low))) = e ∙ ap₂ refused a b
 
 module _ (f : List ℕ) where
-  abbrev h : Head
-  h = headAt f
+  abbrev C : Contents
+  C = contentsOf f
 
   abbrev ns : List Node
-  ns = nodesIn f h
-
-  -- a starting mask
-  pub masks-some : (masksAnswer f (headAt f) ≡ refused 14 0) ↔ SomeMask f
-  masks-some = (to (masks-first f), λ s. back s (masks-first f))
-    where
-      Bad : ℕ → ℕ → Type 0
-      Bad = Unfit (bareMask f) 14 (λ n. 0) 1 (h .count .sessions)
-
-      to : First Bad (masksAnswer f h) → masksAnswer f h ≡ refused 14 0 → SomeMask f
-      to (inl (e, clear)) z = absurd (omega (arith, ap (λ (v : Verdict). v .number) (sym e ∙ z)))
-      to (inr (n, p, e, (a, x, l, k, t, b), low)) z = (x, (l, omega arith), eqb-false _ 0 t)
-
-      back : SomeMask f → First Bad (masksAnswer f h) → masksAnswer f h ≡ refused 14 0
-      back (k, c, m) (inl (e, clear)) = absurd (clear 14 0 (refl, k, c .0, omega arith, ne-eqb _ 0 m, refl))
-      back s (inr (n, p, e, (a, x, l, k, t, b), low)) = e ∙ ap₂ refused a b
+  ns = C .nodes
 
   -- every tag is one of 0 to 8
   tags-low : readingNames f ≡ fine → (i : ℕ) → InCount (length ns) i → nth ns i .tag ≤ 8
-  unfolding readingNames
-  tags-low r i c =
-      let clean : reading f ≡ fine = both-fine (reading f) (namesAnswer f h) (reading-quiet f) .0 r .0 in
-      go (first-fine (Refusable f) (reading f) (λ n p o. refusable-number f n p o .0) (first-refusal f) clean) (leb (nth ns i .tag) 8) refl
-    where
-      go : ((n p : ℕ) → Refusable f n p → ⊥) → (b : Bool) → leb (nth ns i .tag) 8 ≡ b → nth ns i .tag ≤ 8
-      go clear true e = leb-true (nth ns i .tag) 8 e
-      go clear false e = absurd (clear 8 i (misshapen refl (bad-tag c (leb-false (nth ns i .tag) 8 e))))
+  tags-low r = low-tag ns _ (λ p m. reading-fine f .0 (names-fine f .0 r .0) 8 p (misshapen refl m))
 
   abbrev High : ℕ → ℕ → Type 0
-  High = Unfit (lowTag f) 14 (λ n. n) 1 (h .count .nodes)
+  High = Unfit (lowTag C) 14 (λ n. n) 1 (length ns)
 
-  node-read : (i : ℕ) → InCount (h .count .nodes) i → nth ns i ≡ nodeAt f (placeOf h Nodes i)
-  node-read i c = node-get f (h .at .nodes) (h .count .nodes) (i - 1) (omega arith)
+  tag-read : (i : ℕ) → 1 ≤ i → item noNode ns i .tag ≡ nth ns i .tag
+  tag-read i l = ap (λ (n : Node). n .tag) (item-get noNode ns i l)
 
   high-switch : readingNames f ≡ fine → (n p : ℕ) → High n p → IsSwitch ns p
   high-switch r n p (a, x, l, k, t, b) = subst (IsSwitch ns) (sym b) (c, one (nth ns x .tag) (tags-low r x c) high)
     where
       c : InCount (length ns) x
-      c = (l, omega (arith, length-nodes f (h .at .nodes) (h .count .nodes)))
+      c = (l, omega arith)
 
       high : 7 ≤ nth ns x .tag
-      high =
-          let e : nth ns x .tag ≡ nodeAt f (placeOf h Nodes x) .tag = ap (λ (n : Node). n .tag) (node-read x (l, omega arith)) in
-          omega (arith, ltb-false (nodeAt f (placeOf h Nodes x) .tag) 7 t)
+      high = omega (arith, tag-read x l, ltb-false (item noNode ns x .tag) 7 t)
 
       one : (t : ℕ) → t ≤ 8 → 7 ≤ t → (t ≡ 7) ⊎ (t ≡ 8)
       one t l k = go (eqb t 7) refl
@@ -111,37 +88,36 @@ module _ (f : List ℕ) where
           go false e = inr (omega (arith, eqb-false t 7 e))
 
   switch-high : (p : ℕ) → IsSwitch ns p → High 14 p
-  switch-high p (c, t) =
-      let n : length ns ≡ h .count .nodes = length-nodes f (h .at .nodes) (h .count .nodes) in
-      (refl, p, c .0, omega arith, le-ltb _ 7 (least (nth ns p .tag) (nodeAt f (placeOf h Nodes p) .tag) (ap (λ (n : Node). n .tag) (node-read p (c .0, omega arith))) t), refl)
+  switch-high p (c, t) = (refl, p, c .0, omega arith, le-ltb _ 7 (least (nth ns p .tag) (item noNode ns p .tag) (tag-read p (c .0)) t), refl)
     where
-      least : (x y : ℕ) → x ≡ y → (x ≡ 7) ⊎ (x ≡ 8) → 7 ≤ y
+      least : (x y : ℕ) → y ≡ x → (x ≡ 7) ⊎ (x ≡ 8) → 7 ≤ y
       least x y e (inl a) = omega arith
       least x y e (inr a) = omega arith
 
   -- on or off
-  pub switches-lowest : readingNames f ≡ fine → (p : ℕ) → (switchesAnswer f (headAt f) ≡ refused 14 p) ↔ Lowest (IsSwitch (nodesIn f (headAt f))) p
-  switches-lowest r p = (to (switches-first f), λ s. back s (switches-first f))
+  pub switches-lowest : readingNames f ≡ fine → (p : ℕ) → (switchesAnswer (contentsOf f) ≡ refused 14 p) ↔ Lowest (IsSwitch (contentsOf f .nodes)) p
+  switches-lowest r p = (to (switches-first C), λ s. back s (switches-first C))
     where
-      not-later : (n p q : ℕ) → n ≡ 14 → Before n p 14 q → p ≤ q
+      not-later : (n p q : ℕ) → n ≡ 14 → Sooner readingOrder n p 14 q → p ≤ q
       not-later n p q e (inl l) = absurd (omega (arith, e, l))
-      not-later n p q e (inr (z, l)) = l
+      not-later n p q e (inr (_, inl l)) = omega arith
+      not-later n p q e (inr (_, inr (z, _))) = omega arith
 
-      to : First High (switchesAnswer f h) → switchesAnswer f h ≡ refused 14 p → Lowest (IsSwitch ns) p
-      to (inl (e, clear)) z = absurd (omega (arith, ap (λ (v : Verdict). v .number) (sym e ∙ z)))
-      to (inr (n, q, e, u, low)) z =
+      to : First readingOrder High (switchesAnswer C) → switchesAnswer C ≡ refused 14 p → Lowest (IsSwitch ns) p
+      to (inl (e, clear)) z = absurd (omega (arith, number-of (sym e ∙ z)))
+      to (inr (n, q, e, (u, low))) z =
           let same : q ≡ p = ap (λ (v : Verdict). v .place) (sym e ∙ z) in
           subst (Lowest (IsSwitch ns)) same (high-switch r n q u, λ x s. not-later n q x (u .0) (low 14 x (switch-high x s)))
 
-      back : Lowest (IsSwitch ns) p → First High (switchesAnswer f h) → switchesAnswer f h ≡ refused 14 p
+      back : Lowest (IsSwitch ns) p → First readingOrder High (switchesAnswer C) → switchesAnswer C ≡ refused 14 p
       back (s, least) (inl (e, clear)) = absurd (clear 14 p (switch-high p s))
-      back (s, least) (inr (n, q, e, u, low)) =
+      back (s, least) (inr (n, q, e, (u, low))) =
           let same : q ≡ p = omega (arith, least q (high-switch r n q u), not-later n q p (u .0) (low 14 p (switch-high p s))) in
           e ∙ ap₂ refused (u .0) same
 
 -- a node that needs a role and may be given none, by its number from 0 on
 abbrev Lacks : List Node → List ℕ → ℕ → Type 0
-Lacks ns rs k = (k < length ns) × (needs (getD ns k blank .tag) ≡ true) × (getD rs k 0 ≡ 0)
+Lacks ns rs k = (k < length ns) × (needs (getD ns k noNode .tag) ≡ true) × (getD rs k 0 ≡ 0)
 
 -- p is the place of the first, where the first of the nodes has the place i
 abbrev FirstLack : ℕ → List Node → List ℕ → ℕ → Type 0
@@ -149,8 +125,8 @@ FirstLack i ns rs p = (k : ℕ) × (p ≡ i + k) × Lacks ns rs k × ((j : ℕ) 
 
 first-lacking : (i : ℕ) (ns : List Node) (rs : List ℕ) (p : ℕ) → unservedFrom i (labelled ns rs) ≡ refused 15 p → FirstLack i ns rs p
 unfolding unservedFrom labelled
-first-lacking i [] rs p e = absurd (omega (arith, ap (λ (v : Verdict). v .number) e))
-first-lacking i (n ∷ ns) [] p e = absurd (omega (arith, ap (λ (v : Verdict). v .number) e))
+first-lacking i [] rs p e = absurd (omega (arith, number-of e))
+first-lacking i (n ∷ ns) [] p e = absurd (omega (arith, number-of e))
 first-lacking i (n ∷ ns) (r ∷ rs) p e = go (needs (n .tag) && eqb r 0) refl e (first-lacking (suc i) ns rs p)
   where
     go : (b : Bool) → (needs (n .tag) && eqb r 0) ≡ b → cond b (refused 15 i) (unservedFrom (suc i) (labelled ns rs)) ≡ refused 15 p
@@ -167,12 +143,11 @@ first-lacking i (n ∷ ns) (r ∷ rs) p e = go (needs (n .tag) && eqb r 0) refl 
         lower k low (suc j) l (a, b, c) = low j (omega arith) (omega arith, b, c)
 
 -- a send or receive without a role
-pub unserved-lowest : (f : List ℕ) (p : ℕ) → unservedFrom 1 (labelsIn f (headAt f)) ≡ refused 15 p → Lowest (Unserved f) p
-unserved-lowest f p e =
-    let (k, z, (a, b, c), low) = first-lacking 1 (nodesIn f (headAt f)) (candidatesIn f (headAt f)) p e in
+pub unserved-lowest : (C : Contents) (p : ℕ) → unservedFrom 1 (labelsIn C) ≡ refused 15 p → Lowest (Unserved C) p
+unserved-lowest C p e =
+    let (k, z, (a, b, c), low) = first-lacking 1 (C .nodes) (candidatesIn C) p e in
     let at : k ≡ p - 1 = omega arith in
-    let there : Lacks (nodesIn f (headAt f)) (candidatesIn f (headAt f)) (p - 1)
-    = subst (Lacks (nodesIn f (headAt f)) (candidatesIn f (headAt f))) at (a, b, c) in (
+    let there : Lacks (C .nodes) (candidatesIn C) (p - 1) = subst (Lacks (C .nodes) (candidatesIn C)) at (a, b, c) in (
       ((omega arith, omega (arith, there .0)), one-of _ 5 6 .0 (there .1), there .2),
       λ q (i, t, r). least k q z (i .0) (λ l. low (q - 1) l (omega arith, one-of _ 5 6 .1 t, r)),
     )
@@ -194,21 +169,18 @@ fine-clear i (n ∷ ns) (r ∷ rs) e k l s = go (needs (n .tag) && eqb r 0) refl
     go : (b : Bool) → (needs (n .tag) && eqb r 0) ≡ b → cond b (refused 15 i) (unservedFrom (suc i) (labelled ns rs)) ≡ fine
         → (unservedFrom (suc i) (labelled ns rs) ≡ fine → (k : ℕ) → k < length rs → Lacks ns rs k → ⊥)
         → (k : ℕ) → k < length (r ∷ rs) → Lacks (n ∷ ns) (r ∷ rs) k → ⊥
-    go true t e rec k l s = omega (arith, ap (λ (v : Verdict). v .number) e)
+    go true t e rec k l s = omega (arith, number-of e)
     go false t e rec zero l (a, b, c) = true≢false (sym (and-eq-true-iff (needs (n .tag)) (eqb r 0) .1 (b, eq-eqb r 0 c)) ∙ t)
     go false t e rec (suc k) l (a, b, c) = rec e k (omega arith) (omega arith, b, c)
 
 -- and where every node has its roles the lowest that lacks one is the place
-pub lowest-unserved : (f : List ℕ) (p : ℕ) → length (nodesIn f (headAt f)) ≤ length (candidatesIn f (headAt f)) → Lowest (Unserved f) p
-    → unservedFrom 1 (labelsIn f (headAt f)) ≡ refused 15 p
-lowest-unserved f p long ((i, t, r), low) = go (unserved-answers 1 (labelsIn f (headAt f)))
+pub lowest-unserved : (C : Contents) (p : ℕ) → length (C .nodes) ≤ length (candidatesIn C) → Lowest (Unserved C) p → unservedFrom 1 (labelsIn C) ≡ refused 15 p
+lowest-unserved C p long ((i, t, r), low) = go (unserved-answers 1 (labelsIn C))
   where
-    go : (unservedFrom 1 (labelsIn f (headAt f)) ≡ fine) ⊎ ((q : ℕ) × (unservedFrom 1 (labelsIn f (headAt f)) ≡ refused 15 q))
-        → unservedFrom 1 (labelsIn f (headAt f)) ≡ refused 15 p
-    go (inl e) =
-        absurd (fine-clear 1 (nodesIn f (headAt f)) (candidatesIn f (headAt f)) e (p - 1) (omega arith) (omega arith, one-of _ 5 6 .1 t, r))
+    go : (unservedFrom 1 (labelsIn C) ≡ fine) ⊎ ((q : ℕ) × (unservedFrom 1 (labelsIn C) ≡ refused 15 q)) → unservedFrom 1 (labelsIn C) ≡ refused 15 p
+    go (inl e) = absurd (fine-clear 1 (C .nodes) (candidatesIn C) e (p - 1) (omega arith) (omega arith, one-of _ 5 6 .1 t, r))
     go (inr (q, e)) =
-        let (s, least) = unserved-lowest f q e in
+        let (s, least) = unserved-lowest C q e in
         let same : q ≡ p = omega (arith, low q s, least p (i, t, r)) in
         e ∙ ap (refused 15) same
 
@@ -235,9 +207,6 @@ all-length D i [] f = refl
 all-length D i (s ∷ ss) f =
     spread-length D (s .user) i [] (s .tree) (spreadAll D ss) (flatten (past i (s .tree)) (treesOf ss)) (f .0) (all-length D (past i (s .tree)) ss (f .1))
 
-pub nodes-served : (F : File) → WellFormed F → Named F → Bare F
-    → length (nodesIn (encode F) (headAt (encode F))) ≤ length (candidatesIn (encode F) (headAt (encode F)))
+pub nodes-served : (F : File) → WellFormed F → WellKinded F → Bare F → length (nodesOf F) ≤ length (candidatesIn (contentsFor F))
 nodes-served F W N B =
-    let g : List ℕ = encode F in
-    labelled-long (nodesIn g (headAt g)) (candidatesIn g (headAt g))
-    (ap length (labels-read F W N B) ∙ all-length (schemaFor F) 1 (F .sessions) (bare-free F B) ∙ ap length (sym (nodes-read F g (headAt g) (encoded F))))
+    labelled-long (nodesOf F) (candidatesIn (contentsFor F)) (ap length (labels-read F W N B) ∙ all-length (schemaFor F) 1 (F .sessions) (bare-free F B))

@@ -14,8 +14,7 @@ use Rattle.clinic.specs.Tree.{Tree}
 use Rattle.clinic.specs.File.{Routine}
 use Rattle.typing.specs.Typing.{Typed}
 use Rattle.typing.proofs.OperandKinds.{Ranged}
-use Rattle.typing.proofs.KindedTrees.{kinded-iff}
-use Rattle.typing.proofs.TypedTrees.{typed-iff}
+use Rattle.typing.proofs.TreeRules.{kinded-iff, typed-iff}
 use Rattle.placement.specs.Placement.{plain, onSteps, Holds}
 use Rattle.placement.specs.Placed.{labels, insert, taking, placedTree, Throughout}
 use Rattle.placement.proofs.HeldRole.{is-empty}

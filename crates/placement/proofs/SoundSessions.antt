@@ -1,13 +1,14 @@
 -- What refusals 1 to 10 and 14 leave of each session: roles in count, a mask of 0, a plain tree, names and kinds right, few nodes.
 use Prim.Native.Nat.{ℕ, suc, _+_, _*_, _-_, _≤_, _<_}
-use mathlib.Core.Path.{_≡_, sym, _∙_}
-use mathlib.Core.Bool.{Bool, true, false, cond, false≢true}
+use mathlib.Core.Path.{_≡_, sym, subst}
+use mathlib.Core.Bool.{true}
 use mathlib.Core.List.{List, [], _∷_, map}
 use native.Mathlib.Omega.{arith}
-use lib.Dec.{eqb}
-use lib.ListN.{length, getD}
+use lib.ListN.{length}
 use Rattle.masks.specs.Mask.{has, NamesOnly}
-use Rattle.masks.proofs.Laws.{has-none, has-pos}
+use Rattle.masks.proofs.Laws.{has-pos}
+use Rattle.format.specs.Contents.{item}
+use Rattle.format.proofs.ContentsLaws.{item-get}
 use Rattle.rules.specs.Schema.{Schema}
 use Rattle.rules.specs.Names.{Bound}
 use Rattle.optimum.specs.Optimum.{nodes}
@@ -17,8 +18,7 @@ use Rattle.clinic.specs.File.{Routine, File, InCount, WellFormed}
 use Rattle.clinic.proofs.AllLaws.{all-get, all-map}
 use Rattle.clinic.proofs.TreeEnds.{past-length}
 use Rattle.typing.specs.Tables.{schemaFor}
-use Rattle.typing.specs.Kinding.{Kinded, Named}
-use Rattle.typing.proofs.OperandKinds.{Ranged}
+use Rattle.typing.specs.Typing.{Kinded, WellKinded}
 use Rattle.placement.specs.Placement.{plain}
 use Rattle.placement.specs.Placed.{varsBelow, labels, Bare}
 
@@ -53,18 +53,11 @@ few-each D i (s ∷ ss) h =
 module _ (F : File) (W : WellFormed F) where
   -- a user's roles are in count
   pub roles-fit : (u : ℕ) → InCount (length (F .users)) u → (r : ℕ) → has (schemaFor F .assigned u) r ≡ true → InCount (length (F .roles)) r
-  roles-fit u c r = go (eqb u 0)
-    where
-      go : (b : Bool) → has (cond b 0 (getD (F .users) (u - 1) 0)) r ≡ true → InCount (length (F .roles)) r
-      go true h = absurd (false≢true (sym (has-none r) ∙ h))
-      go false h = (
-        has-pos (getD (F .users) (u - 1) 0) r h,
-        all-get (λ (m : ℕ). NamesOnly (length (F .roles)) m) (F .users) (u - 1) 0 (omega arith) (W .users-fit) r h,
-      )
-
-  -- the ranges of users and channels do not meet
-  pub ranged : Ranged (schemaFor F)
-  ranged = record { users = omega (arith, W .few-users); channels = omega (arith, W .few-channels) }
+  roles-fit u c r h = (
+    has-pos (item 0 (F .users) u) r h,
+    subst (NamesOnly (length (F .roles))) (sym (item-get 0 (F .users) u (c .0)))
+        (all-get (λ (m : ℕ). NamesOnly (length (F .roles)) m) (F .users) (u - 1) 0 (omega arith) (W .users-fit)) r h,
+  )
 
   gather : (ss : List Routine) → All (λ (s : Routine). InCount (length (F .users)) (s .user)) ss
       → All (λ (s : Routine). 1 * nodes (labels (schemaFor F) (s .user) [] (s .tree)) < 1025) ss
@@ -77,5 +70,5 @@ module _ (F : File) (W : WellFormed F) where
   )
 
   -- so is every session of a file that is well formed, named and bare
-  pub sound : Named F → Bare F → All (Sound (schemaFor F)) (F .sessions)
+  pub sound : WellKinded F → Bare F → All (Sound (schemaFor F)) (F .sessions)
   sound N B = gather (F .sessions) (all-map (λ s h. h .0) (F .sessions) (W .sessions-fit)) (few-each (schemaFor F) 1 (F .sessions) (W .few-nodes)) N B

@@ -5,7 +5,7 @@ use mathlib.Core.List.{List, [], _∷_, _++_, map}
 use lib.ListN.{length}
 use Rattle.format.specs.Words.{bytesOf}
 use Rattle.format.specs.Answers.{fine, refused}
-use Rattle.format.specs.Header.{headAt}
+use Rattle.format.specs.Contents.{contentsOf}
 use Rattle.format.specs.declared.Verdict.{Verdict}
 use Rattle.checking.specs.Check.{checking}
 use Rattle.states.specs.declared.Turn.{Turn}
@@ -27,7 +27,7 @@ abbrev pub Shown : Case → Type 0
 Shown (checks ws v) = checking (bytesOf ws) ≡ v
 Shown (places ws xs n) =
     (placing (bytesOf ws) 6874 ≡ record { number = 0; place = 0; length = 2 * length xs; «on_steps» = n }) × (placedBytes (bytesOf ws) ≡ bytesOf xs)
-Shown (takes ws ss) = map (λ (t : Turn). t .to) (turnsFor (bytesOf ws) (headAt (bytesOf ws))) ≡ ss
+Shown (takes ws ss) = map (λ (t : Turn). t .to) (turnsFor (contentsOf (bytesOf ws))) ≡ ss
 Shown (refuses ws n p) = placing (bytesOf ws) 6874 ≡ noPlace n p
 
 -- the booking's tables (two users, two roles, two kinds, two channels of user 2), with the grants of the two roles, and one session of user 1

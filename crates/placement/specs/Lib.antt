@@ -1,5 +1,4 @@
 pub mod Placement
-pub mod ByRoles
 pub mod Placed
 pub mod Counts
 pub mod Promised

@@ -7,7 +7,8 @@ use Rattle.masks.specs.Mask.{has, with, without, AtMostOne}
 use Rattle.clinic.specs.Lists.{All}
 use Rattle.clinic.specs.Tree.{Tree, end, fork, step, switch, on, off}
 use Rattle.clinic.specs.File.{Routine, File}
-use Rattle.typing.specs.Typing.{Obeys}
+use Rattle.typing.specs.Tables.{schemaFor}
+use Rattle.typing.specs.Typing.{ByRoles, Obeys}
 
 -- each on and off node replaced by its child
 unfoldable pub plain : Tree → Tree
@@ -55,4 +56,11 @@ graft F ts = record { users = F .users; roles = F .roles; kinds = F .kinds; chan
 pub record Placement (F : File) (ts : List Tree) : Type 0 where
   pub back : map plain ts ≡ map (λ (s : Routine). s .tree) (F .sessions)
   pub passes : Obeys (graft F ts)
+  pub holds : All (λ (s : Routine). Holds (s .mask) (s .tree)) (graft F ts .sessions)
+
+-- A placement as the paper words it: "it passes if rules 5 and 6 hold". Nothing else is asked of a rival here.
+pub record PlacementByRoles (F : File) (ts : List Tree) : Type 0 where
+  pub back : map plain ts ≡ map (λ (s : Routine). s .tree) (F .sessions)
+  -- rule 5: the active set begins as the session's mask
+  pub passes : All (λ (s : Routine). ByRoles (schemaFor F) (s .user) [] (s .mask) (s .tree)) (graft F ts .sessions)
   pub holds : All (λ (s : Routine). Holds (s .mask) (s .tree)) (graft F ts .sessions)

@@ -5,10 +5,9 @@ use mathlib.Core.Logic.{_⊎_, _≢_}
 use mathlib.Core.List.{List, map}
 use lib.ListN.{length, getD}
 use Rattle.format.specs.Answers.{fine}
-use Rattle.format.specs.Header.{headAt}
-use Rattle.format.specs.Sections.{sessionOf}
+use Rattle.format.specs.Header.{roomFor}
+use Rattle.format.specs.Contents.{Contents, item, noSession, contentsOf}
 use Rattle.format.specs.declared.Node.{Node}
-use Rattle.rules.specs.Checking.{nodesIn}
 use Rattle.rules.specs.Candidates.{candidatesIn}
 use Rattle.checking.specs.Check.{readingNames, checking}
 use Rattle.optimum.specs.Optimum.{LexLe}
@@ -38,14 +37,14 @@ pub record WellPlaced (f : List ℕ) (a : Placed) (g : List ℕ) : Type 0 where
   -- its length in bytes
   pub sized : a .length ≡ length g
   -- the count returned is the number of on steps in the file returned
-  pub counted : a .«on_steps» ≡ onNodes (nodesIn g (headAt g))
+  pub counted : a .«on_steps» ≡ onNodes (contentsOf g .nodes)
   -- every other such placement has at least as many on steps
   pub fewest : (ts : List Tree) → Placement file ts → a .«on_steps» ≤ onStepsOf ts
   -- each node has a state: 0 or one role assigned to the user, and send and receive one that permits them
   pub states : AllStates (schemaFor file) (file .sessions)
   pub allowed : AllAllowed (schemaFor file) (file .sessions) states
   -- those taken from the bytes
-  pub taken : map (λ (t : Turn). t .to) (turnsFor f (headAt f)) ≡ listedAll (schemaFor file) (file .sessions) states
+  pub taken : map (λ (t : Turn). t .to) (turnsFor (contentsOf f)) ≡ listedAll (schemaFor file) (file .sessions) states
   -- a node whose state differs from its parent's has off and on before it
   pub turned : trees ≡ insertAll (schemaFor file) (file .sessions) states
   -- among the states with as few on steps, the list in node order that is smallest at the first difference
@@ -55,22 +54,21 @@ pub record WellPlaced (f : List ℕ) (a : Placed) (g : List ℕ) : Type 0 where
 
 -- nothing before 14 in the order refuses: 17 (output under 6,874 bytes), then 1 to 10
 pub record Clean (f : List ℕ) (room : ℕ) : Type 0 where
-  pub wide : 6874 ≤ room
+  pub wide : roomFor f ≤ room
   pub names : readingNames f ≡ fine
 
 -- 14, a starting mask: a session has one that is not 0
-abbrev pub SomeMask : List ℕ → Type 0
-SomeMask f = (k : ℕ) × InCount (headAt f .count .sessions) k × (sessionOf f (headAt f) k .mask ≢ 0)
+abbrev pub SomeMask : Contents → Type 0
+SomeMask C = (k : ℕ) × InCount (length (C .sessions)) k × (item noSession (C .sessions) k .mask ≢ 0)
 
 -- 14, on or off present
 abbrev pub IsSwitch : List Node → ℕ → Type 0
 IsSwitch ns p = InCount (length ns) p × ((nth ns p .tag ≡ 7) ⊎ (nth ns p .tag ≡ 8))
 
 -- 15: a send or receive that no role of the user permits
-abbrev pub Unserved : List ℕ → ℕ → Type 0
-Unserved f p =
-    InCount (length (nodesIn f (headAt f))) p × ((nth (nodesIn f (headAt f)) p .tag ≡ 5) ⊎ (nth (nodesIn f (headAt f)) p .tag ≡ 6))
-    × (getD (candidatesIn f (headAt f)) (p - 1) 0 ≡ 0)
+abbrev pub Unserved : Contents → ℕ → Type 0
+Unserved C p =
+    InCount (length (C .nodes)) p × ((nth (C .nodes) p .tag ≡ 5) ⊎ (nth (C .nodes) p .tag ≡ 6)) × (getD (candidatesIn C) (p - 1) 0 ≡ 0)
 
 -- each at its lowest node
 abbrev pub Lowest : (ℕ → Type 0) → ℕ → Type 0
@@ -78,10 +76,10 @@ Lowest P p = P p × ((q : ℕ) → P q → p ≤ q)
 
 -- nothing before 15 refuses: 17, 1 to 10, 14 (masks before nodes)
 pub record Unrefused (f : List ℕ) (room : ℕ) : Type 0 where
-  pub wide : 6874 ≤ room
+  pub wide : roomFor f ≤ room
   pub names : readingNames f ≡ fine
-  pub masks : masksAnswer f (headAt f) ≡ fine
-  pub switches : switchesAnswer f (headAt f) ≡ fine
+  pub masks : masksAnswer (contentsOf f) ≡ fine
+  pub switches : switchesAnswer (contentsOf f) ≡ fine
 
 -- there is no placement of the file that passes and holds so
 abbrev pub NoPlacement : List ℕ → Type 0

@@ -1,26 +1,25 @@
 -- Where 1 to 10 refuse nothing, every node has its candidates.
-use Prim.Native.Nat.{ℕ, zero, suc, _+_}
-use mathlib.Core.Path.{_≡_, refl, sym, ap, _∙_}
+use Prim.Native.Nat.{ℕ, suc}
+use mathlib.Core.Path.{_≡_, refl, ap}
 use mathlib.Core.List.{List, [], _∷_, _++_}
 use mathlib.Core.Bool.{Bool, true, false, cond}
 use native.Mathlib.Omega.{arith}
 use lib.Dec.{eqb}
 use lib.ListN.{length}
 use borrow.Author.Tests.{eqb-false}
-use Rattle.format.specs.Answers.{orElse}
-use Rattle.format.specs.Sections.{nodesFrom}
-use Rattle.format.specs.declared.Verdict.{Verdict}
+use Rattle.format.specs.Contents.{Contents}
 use Rattle.format.specs.declared.Head.{Head}
+use Rattle.format.specs.declared.Session.{Session}
 use Rattle.format.specs.declared.Node.{Node}
 use Rattle.format.proofs.AnswerLaws.{Quiet, both-quiet}
 use Rattle.tables.specs.Records.{recordsAnswer}
 use Rattle.trees.specs.Ends.{top, following}
-use Rattle.trees.specs.Shape.{nodeFits, onward, shapeFrom, rootsFrom, shapeAnswer}
+use Rattle.trees.specs.Shape.{nodeFits, onward, shapeFrom, roots, shapeAnswer}
 use Rattle.trees.specs.declared.Due.{Due}
 use Rattle.reading.specs.Reading.{bodyAnswer}
 use Rattle.rules.specs.Schema.{Schema, schemaOf}
 use Rattle.rules.specs.Rules.{Context, wrong, after}
-use Rattle.rules.specs.Checking.{firstBy, openingsFrom, openings, nodesIn, namesAnswer}
+use Rattle.rules.specs.Checking.{firstBy, opened, openings, namesAnswer}
 use Rattle.rules.specs.Candidates.{candidates, candidatesFrom, candidatesIn}
 use Rattle.states.specs.States.{labelled}
 
@@ -53,22 +52,16 @@ listed-from D i j (n ∷ ns) (c ∷ st) (d ∷ ds) e s w =
     go ih true p false q = let no-way : ⊥ = eqb-false (wrong D c n) 0 q (rw q at w) in absurd no-way
     go ih false p y q = let bad : _≡_ {A = ℕ} 8 0 = rw p at s in let no-way : ⊥ = omega (arith, bad) in absurd no-way
 
-openings-length : (f : List ℕ) (p k : ℕ) → length (openingsFrom f p k) ≡ k
-unfolding openingsFrom
-openings-length f p zero = refl
-openings-length f p (suc k) = ap suc (openings-length f (p + 3) k)
+same-begin : (ss : List Session) → length (opened ss) ≡ length (roots ss)
+unfolding opened roots
+same-begin [] = refl
+same-begin (s ∷ ss) = ap suc (same-begin ss)
 
-roots-length : (f : List ℕ) (p k : ℕ) → length (rootsFrom f p k) ≡ k
-unfolding rootsFrom
-roots-length f p zero = refl
-roots-length f p (suc k) = ap suc (roots-length f (p + 3) k)
-
-pub candidates-length : (f : List ℕ) (h : Head) → Quiet (bodyAnswer f h) → Quiet (namesAnswer f h) → length (candidatesIn f h) ≡ length (nodesIn f h)
+pub candidates-length : (h : Head) (C : Contents) → Quiet (bodyAnswer h C) → Quiet (namesAnswer C) → length (candidatesIn C) ≡ length (C .nodes)
 unfolding candidatesIn namesAnswer shapeAnswer
-candidates-length f h b n =
-    listed-from (schemaOf f h) 1 1 (nodesIn f h) (openings f h) (rootsFrom f (h .at .sessions) (h .count .sessions))
-    (openings-length f (h .at .sessions) (h .count .sessions) ∙ sym (roots-length f (h .at .sessions) (h .count .sessions)))
-    (both-quiet Quiet (recordsAnswer f h) (shapeAnswer f h) (λ q. q) .0 b .1) n
+candidates-length h C b n =
+    listed-from (schemaOf C) 1 1 (C .nodes) (openings C) (roots (C .sessions)) (same-begin (C .sessions))
+    (both-quiet Quiet (recordsAnswer h C) (shapeAnswer C) (λ q. q) .0 b .1) n
 
 -- what stands after the nodes' own masks plays no part
 pub labelled-more : (ns : List Node) (rs xs : List ℕ) → length rs ≡ length ns → labelled ns (rs ++ xs) ≡ labelled ns rs

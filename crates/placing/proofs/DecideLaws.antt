@@ -1,6 +1,6 @@
 -- What is decided, from the answers for its parts.
-use Prim.Native.Nat.{ℕ, zero, suc, _+_, _≤_, _<_}
-use mathlib.Core.Path.{_≡_, refl, sym, ap, ap₂, subst, _∙_}
+use Prim.Native.Nat.{ℕ, suc, _+_, _≤_, _<_}
+use mathlib.Core.Path.{_≡_, refl, sym, ap, _∙_}
 use mathlib.Core.List.{List, [], _∷_, _++_, map}
 use mathlib.Core.Bool.{Bool, true, false, cond}
 use native.Mathlib.Omega.{arith}
@@ -8,22 +8,21 @@ use lib.Dec.{eqb, leb}
 use lib.ListN.{length, take, drop, replicate, length-map, length-drop}
 use lib.Seq.{sets, sets-eq, take-append-seam}
 use borrow.Author.Tests.{eq-eqb, ne-eqb, le-leb, lt-leb, leb-true}
+use Rattle.format.specs.Contents.{Contents}
 use Rattle.format.specs.Answers.{fine, refused, orElse}
 use Rattle.format.specs.declared.Verdict.{Verdict}
 use Rattle.format.specs.declared.Head.{Head}
 use Rattle.format.specs.declared.Node.{Node}
 use Rattle.format.proofs.AnswerLaws.{Quiet, quiet-first, loud-first, both-quiet}
-use Rattle.trees.proofs.ShapeLaws.{length-nodes}
 use Rattle.reading.specs.Reading.{bodyAnswer}
-use Rattle.rules.specs.Checking.{namesAnswer, nodesIn}
+use Rattle.rules.specs.Checking.{namesAnswer}
 use Rattle.rules.specs.Candidates.{candidatesIn}
 use Rattle.states.specs.States.{Label, labelled, turnsOf, packed, unpacked}
 use Rattle.states.specs.declared.Turn.{Turn}
-use Rattle.groups.specs.Groups.{sizesOf, startsFrom, startsOf, placedWords, turnsIn}
+use Rattle.groups.specs.Groups.{sizesOf, startsFrom, startsOf, placedContents, turnsIn}
 use Rattle.states.proofs.TurnLaws.{turns-length, turns-unpacked}
 use Rattle.groups.proofs.GroupLaws.{placed-same, starts-table}
 use Rattle.placing.specs.Placing.{labelsIn, turnsFor, masksAnswer, switchesAnswer, unservedFrom, sizeAnswer, settling, placeable, decided, noSums, summed}
-use Rattle.placing.specs.declared.Decision.{Decision}
 use Rattle.placing.proofs.CandidateLaws.{candidates-length, labelled-more}
 
 pub decided-loud : (v : Verdict) (ts : List Turn) → (Quiet v → ⊥) → decided v ts ≡ record { verdict = v; sums = noSums }
@@ -68,80 +67,77 @@ labelled-length (n ∷ ns) [] h = let no-way : ⊥ = omega (arith, h) in absurd 
 labelled-length (n ∷ ns) (r ∷ rs) h = ap suc (labelled-length ns rs (omega (arith, h)))
 
 -- the turns that a pass wrote
-pub turns-written : (f : List ℕ) (h : Head) (rs t t′ : List ℕ) → h .count .nodes < length rs → h .count .nodes < length t
-    → t′ ≡ sets t 1 (map packed (turnsOf (labelled (nodesIn f h) (drop 1 rs)))) → turnsIn t′ (h .count .nodes) ≡ turnsOf (labelled (nodesIn f h) (drop 1 rs))
-turns-written f h rs t t′ fits room e =
-    let ls : List Label = labelled (nodesIn f h) (drop 1 rs) in
-    let n : length (nodesIn f h) ≡ h .count .nodes = length-nodes f (h .at .nodes) (h .count .nodes) in
-    let l : length ls ≡ h .count .nodes = labelled-length (nodesIn f h) (drop 1 rs) (omega (arith, n, length-drop 1 rs, fits)) ∙ n in
-    ap (λ r. turnsIn r (h .count .nodes)) e ∙ ap (turnsIn (sets t 1 (map packed (turnsOf ls)))) (sym l) ∙ turns-read ls t (omega (arith, l, room))
+pub turns-written : (ns : List Node) (rs t t′ : List ℕ) → length ns < length rs → length ns < length t
+    → t′ ≡ sets t 1 (map packed (turnsOf (labelled ns (drop 1 rs)))) → turnsIn t′ (length ns) ≡ turnsOf (labelled ns (drop 1 rs))
+turns-written ns rs t t′ fits room e =
+    let ls : List Label = labelled ns (drop 1 rs) in
+    let l : length ls ≡ length ns = labelled-length ns (drop 1 rs) (omega (arith, length-drop 1 rs, fits)) in
+    ap (λ r. turnsIn r (length ns)) e ∙ ap (turnsIn (sets t 1 (map packed (turnsOf ls)))) (sym l) ∙ turns-read ls t (omega (arith, l, room))
 
 -- 14 to 16, where 1 to 10 refuse nothing
-module _ (f : List ℕ) (h : Head) where
-  labels-kept : (t : List ℕ) → Quiet (bodyAnswer f h) → Quiet (namesAnswer f h) → h .count .nodes < length t
-      → labelled (nodesIn f h) (drop 1 (sets t 1 (candidatesIn f h))) ≡ labelsIn f h
+module _ (h : Head) (C : Contents) where
+  labels-kept : (t : List ℕ) → Quiet (bodyAnswer h C) → Quiet (namesAnswer C) → length (C .nodes) < length t
+      → labelled (C .nodes) (drop 1 (sets t 1 (candidatesIn C))) ≡ labelsIn C
   labels-kept t b n room =
-      let e : length (candidatesIn f h) ≡ length (nodesIn f h) = candidates-length f h b n in
-      ap (labelled (nodesIn f h)) (from-one t (candidatesIn f h) (omega (arith, e, length-nodes f (h .at .nodes) (h .count .nodes), room)))
-      ∙ labelled-more (nodesIn f h) (candidatesIn f h) (drop (suc (length (candidatesIn f h))) t) e
+      let e : length (candidatesIn C) ≡ length (C .nodes) = candidates-length h C b n in
+      ap (labelled (C .nodes)) (from-one t (candidatesIn C) (omega (arith, e, room)))
+      ∙ labelled-more (C .nodes) (candidatesIn C) (drop (suc (length (candidatesIn C))) t) e
 
   abbrev pub names : Verdict
-  names = orElse (bodyAnswer f h) (namesAnswer f h)
+  names = orElse (bodyAnswer h C) (namesAnswer C)
 
   abbrev pub bare : Verdict
-  bare = orElse (masksAnswer f h) (switchesAnswer f h)
+  bare = orElse (masksAnswer C) (switchesAnswer C)
 
-  pub bare-loud : Quiet names → (Quiet bare → ⊥) → orElse names (placeable f h) ≡ bare
+  pub bare-loud : Quiet names → (Quiet bare → ⊥) → orElse names (placeable C) ≡ bare
   unfolding placeable
-  bare-loud q l = quiet-first names (placeable f h) q ∙ loud-first bare (settling (labelsIn f h)) l
+  bare-loud q l = quiet-first names (placeable C) q ∙ loud-first bare (settling (labelsIn C)) l
 
-  pub bare-quiet : Quiet names → Quiet bare → orElse names (placeable f h) ≡ settling (labelsIn f h)
+  pub bare-quiet : Quiet names → Quiet bare → orElse names (placeable C) ≡ settling (labelsIn C)
   unfolding placeable
-  bare-quiet q b = quiet-first names (placeable f h) q ∙ quiet-first bare (settling (labelsIn f h)) b
+  bare-quiet q b = quiet-first names (placeable C) q ∙ quiet-first bare (settling (labelsIn C)) b
 
   -- the labels that a pass kept in a table
-  pub kept-labels : (t t′ : List ℕ) → t′ ≡ cond (eqb (bodyAnswer f h .number) 0) (sets t 1 (candidatesIn f h)) t → Quiet names → h .count .nodes < length t
-      → labelled (nodesIn f h) (drop 1 t′) ≡ labelsIn f h
+  pub kept-labels : (t t′ : List ℕ) → t′ ≡ cond (eqb (bodyAnswer h C .number) 0) (sets t 1 (candidatesIn C)) t → Quiet names → length (C .nodes) < length t
+      → labelled (C .nodes) (drop 1 t′) ≡ labelsIn C
   kept-labels t t′ e q room =
-      let (body, named) = both-quiet Quiet (bodyAnswer f h) (namesAnswer f h) (λ z. z) .0 q in
-      let t″ : t′ ≡ sets t 1 (candidatesIn f h) = e ∙ rw (eq-eqb (bodyAnswer f h .number) 0 body) in
-      ap (λ r. labelled (nodesIn f h) (drop 1 r)) t″ ∙ labels-kept t body named room
+      let (body, named) = both-quiet Quiet (bodyAnswer h C) (namesAnswer C) (λ z. z) .0 q in
+      let t″ : t′ ≡ sets t 1 (candidatesIn C) = e ∙ rw (eq-eqb (bodyAnswer h C .number) 0 body) in
+      ap (λ r. labelled (C .nodes) (drop 1 r)) t″ ∙ labels-kept t body named room
 
   -- where all is quiet, each node has a turn
-  module _ (q : Quiet (orElse names (placeable f h))) where
-    parts : Quiet names × Quiet (placeable f h)
-    parts = both-quiet Quiet names (placeable f h) (λ z. z) .0 q
+  module _ (q : Quiet (orElse names (placeable C))) where
+    parts : Quiet names × Quiet (placeable C)
+    parts = both-quiet Quiet names (placeable C) (λ z. z) .0 q
 
-    settled : Quiet (settling (labelsIn f h))
+    settled : Quiet (settling (labelsIn C))
     unfolding placeable
-    settled = both-quiet Quiet bare (settling (labelsIn f h)) (λ z. z) .0 (parts .1) .1
+    settled = both-quiet Quiet bare (settling (labelsIn C)) (λ z. z) .0 (parts .1) .1
 
-    pub few-nodes : sizesOf (turnsFor f h) ≤ 1024
-    few-nodes = go (leb (sizesOf (turnsFor f h)) 1024) refl
+    pub few-nodes : sizesOf (turnsFor C) ≤ 1024
+    few-nodes = go (leb (sizesOf (turnsFor C)) 1024) refl
       where
-        go : (b : Bool) → leb (sizesOf (turnsFor f h)) 1024 ≡ b → sizesOf (turnsFor f h) ≤ 1024
-        go true e = leb-true (sizesOf (turnsFor f h)) 1024 e
+        go : (b : Bool) → leb (sizesOf (turnsFor C)) 1024 ≡ b → sizesOf (turnsFor C) ≤ 1024
+        go true e = leb-true (sizesOf (turnsFor C)) 1024 e
         go false e =
-            let size : Quiet (sizeAnswer (sizesOf (turnsFor f h))) =
-            both-quiet Quiet (unservedFrom 1 (labelsIn f h)) (sizeAnswer (sizesOf (turnsFor f h))) (λ z. z) .0 settled .1 in
+            let size : Quiet (sizeAnswer (sizesOf (turnsFor C))) = both-quiet Quiet (unservedFrom 1 (labelsIn C)) (sizeAnswer (sizesOf (turnsFor C))) (λ z. z) .0 settled .1 in
             let bad : _≡_ {A = ℕ} 16 0 = rw e at size in
             let no-way : ⊥ = omega (arith, bad) in
             absurd no-way
 
-    labels-length : length (labelsIn f h) ≡ h .count .nodes
+    labels-length : length (labelsIn C) ≡ length (C .nodes)
     labels-length =
-        let (body, named) = both-quiet Quiet (bodyAnswer f h) (namesAnswer f h) (λ z. z) .0 (parts .0) in
-        let e : length (candidatesIn f h) ≡ length (nodesIn f h) = candidates-length f h body named in
-        labelled-length (nodesIn f h) (candidatesIn f h) (omega (arith, e)) ∙ length-nodes f (h .at .nodes) (h .count .nodes)
+        let (body, named) = both-quiet Quiet (bodyAnswer h C) (namesAnswer C) (λ z. z) .0 (parts .0) in
+        labelled-length (C .nodes) (candidatesIn C) (omega (arith, candidates-length h C body named))
 
-    pub turns-kept : (t t′ : List ℕ) → t′ ≡ sets t 1 (map packed (turnsFor f h)) → h .count .nodes < length t → turnsIn t′ (h .count .nodes) ≡ turnsFor f h
+    pub turns-kept : (t t′ : List ℕ) → t′ ≡ sets t 1 (map packed (turnsFor C)) → length (C .nodes) < length t → turnsIn t′ (length (C .nodes)) ≡ turnsFor C
     turns-kept t t′ e room =
-        ap (λ r. turnsIn r (h .count .nodes)) e ∙ ap (turnsIn (sets t 1 (map packed (turnsFor f h)))) (sym labels-length)
-        ∙ turns-read (labelsIn f h) t (omega (arith, labels-length, room))
+        ap (λ r. turnsIn r (length (C .nodes))) e ∙ ap (turnsIn (sets t 1 (map packed (turnsFor C)))) (sym labels-length)
+        ∙ turns-read (labelsIn C) t (omega (arith, labels-length, room))
 
-    pub words-kept : (s : List ℕ) → h .count .nodes ≤ 1024 → s ≡ sets (replicate 1025 0) 1 (startsFrom 1 (turnsFor f h))
-        → placedWords f h (turnsFor f h) s ≡ placedWords f h (turnsFor f h) (startsOf (turnsFor f h))
-    words-kept s few e =
-        let l : length (turnsFor f h) ≡ h .count .nodes = turns-length (labelsIn f h) ∙ labels-length in
-        ap (placedWords f h (turnsFor f h)) e
-        ∙ placed-same f h (turnsFor f h) (sets (replicate 1025 0) 1 (startsFrom 1 (turnsFor f h))) (startsOf (turnsFor f h)) (starts-table (turnsFor f h) (omega (arith, l, few)))
+    pub starts-kept : (s : List ℕ) → length (C .nodes) ≤ 1024 → s ≡ sets (replicate 1025 0) 1 (startsFrom 1 (turnsFor C))
+        → placedContents C (turnsFor C) s ≡ placedContents C (turnsFor C) (startsOf (turnsFor C))
+    starts-kept s few e =
+        let l : length (turnsFor C) ≡ length (C .nodes) = turns-length (labelsIn C) ∙ labels-length in
+        ap (placedContents C (turnsFor C)) e
+        ∙ placed-same C (turnsFor C) (sets (replicate 1025 0) 1 (startsFrom 1 (turnsFor C))) (startsOf (turnsFor C)) (starts-table (turnsFor C) (omega (arith, l, few)))

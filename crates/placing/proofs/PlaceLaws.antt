@@ -1,15 +1,16 @@
 -- Placing, whole, from what is decided.
 use Prim.Native.Nat.{ℕ, _+_, _*_, _≤_, _<_}
 use mathlib.Core.Path.{_≡_, refl, sym, ap, ap₂, subst, _∙_}
-use mathlib.Core.List.{List, map}
+use mathlib.Core.List.{List}
 use mathlib.Core.Bool.{Bool, true, false, cond}
 use native.Mathlib.Omega.{arith}
 use lib.Dec.{eqb, ltb}
 use lib.ListN.{length}
 use lib.Seq.{sets, length-sets}
 use borrow.Author.Tests.{eq-eqb, ne-eqb, lt-ltb, le-ltb, ltb-true, ltb-false, eqb-true, eqb-false}
-use Rattle.format.specs.Words.{bytesOf}
-use Rattle.format.specs.Answers.{fine, refused, orElse}
+use Rattle.format.specs.Contents.{contentsAt, contentsOf}
+use Rattle.format.specs.Writing.{encoded}
+use Rattle.format.specs.Answers.{refused, orElse}
 use Rattle.format.specs.Header.{headAt, headOf}
 use Rattle.format.specs.declared.Verdict.{Verdict}
 use Rattle.format.specs.declared.Head.{Head}
@@ -22,7 +23,7 @@ use Rattle.reading.proofs.LongLaws.{Stands, stands-judged}
 use Rattle.rules.specs.Checking.{namesAnswer}
 use Rattle.checking.specs.Check.{readingNames}
 use Rattle.checking.proofs.CheckLaws.{names-refused, names-judged}
-use Rattle.groups.specs.Groups.{sizesOf, startsOf, placedWords}
+use Rattle.groups.specs.Groups.{sizesOf, startsOf, placedContents}
 use Rattle.placing.specs.Placing.{turnsFor, placeable, judging, noPlace, placedIn, answered, placing, placedBytes, placedOver}
 use Rattle.placing.specs.declared.Placed.{Placed}
 use Rattle.placing.proofs.DecideLaws.{few-nodes}
@@ -50,28 +51,28 @@ module _ (f : List ℕ) where
   head-refused room n h e =
       let loud : Quiet (refused n 0) → ⊥ = λ z. let no-way : ⊥ = omega (arith, head-number f n e, z) in no-way in
       let names : readingNames f ≡ refused n 0 = names-refused f n e in
-      placing-refused room (refused n 0) h (ap (λ v. orElse v (placeable f (headAt f))) names ∙ loud-first (refused n 0) (placeable f (headAt f)) loud) loud
+      placing-refused room (refused n 0) h (ap (λ v. orElse v (placeable (contentsOf f))) names ∙ loud-first (refused n 0) (placeable (contentsOf f)) loud) loud
 
   module _ (h : Head) (e : headOf f ≡ Fine h) where
     same : h ≡ headAt f
     same = headed f h e .1
 
-    pub head-length : length f ≡ 2 * (h .at .nodes + 3 * h .count .nodes)
-    head-length = subst (λ (k : Head). length f ≡ 2 * (k .at .nodes + 3 * k .count .nodes)) (sym same) (headed f h e .0 .size)
+    pub head-version : h .version ≡ 1
+    head-version = ap (λ (k : Head). k .version) same ∙ headed f h e .0 .version
 
-    pub judged : judging f ≡ orElse (orElse (bodyAnswer f h) (namesAnswer f h)) (placeable f h)
+    pub judged : judging f ≡ orElse (orElse (bodyAnswer h (contentsAt f h)) (namesAnswer (contentsAt f h))) (placeable (contentsAt f h))
     unfolding judging
-    judged = ap₂ (λ v k. orElse v (placeable f k)) (names-judged f h e) (sym same)
+    judged = ap₂ (λ v k. orElse v (placeable (contentsAt f k))) (names-judged f h e) (sym same)
 
-    pub placing-placed : (room : ℕ) → 6874 ≤ room → Quiet (judging f) → placing f room ≡ placedIn f h
-    placing-placed room r q = answers room r ∙ rw (eq-eqb (judging f .number) 0 q) (ap (placedIn f) (sym same))
+    pub placing-placed : (room : ℕ) → 6874 ≤ room → Quiet (judging f) → placing f room ≡ placedIn h (contentsAt f h)
+    placing-placed room r q = answers room r ∙ rw (eq-eqb (judging f .number) 0 q) (ap (λ k. placedIn k (contentsAt f k)) (sym same))
 
     pub over-placed : (out : List ℕ) → 6874 ≤ length out → Quiet (judging f)
-        → placedOver f out ≡ sets out 0 (bytesOf (placedWords f h (turnsFor f h) (startsOf (turnsFor f h))))
+        → placedOver f out ≡ sets out 0 (encoded (placedContents (contentsAt f h) (turnsFor (contentsAt f h)) (startsOf (turnsFor (contentsAt f h)))))
     unfolding placedOver placedBytes
     over-placed out r q =
         ap (λ a. cond (eqb (a .number) 0) (sets out 0 (placedBytes f)) out) (placing-placed (length out) r q)
-        ∙ ap (λ k. sets out 0 (bytesOf (placedWords f k (turnsFor f k) (startsOf (turnsFor f k))))) (sym same)
+        ∙ ap (λ k. sets out 0 (encoded (placedContents (contentsAt f k) (turnsFor (contentsAt f k)) (startsOf (turnsFor (contentsAt f k)))))) (sym same)
 
 -- what a caller keeps of a long input is placed as the whole is
 pub stands-placed : (room : ℕ) (kept input : List ℕ) → Stands kept input → placing kept room ≡ placing input room
@@ -108,11 +109,11 @@ length-most f room = go (ltb room 6874) refl (headOf f) refl (eqb (judging f .nu
         none (judging f .number) (judging f .place) (placing-refused f room (judging f) (ltb-false room 6874 r) refl (eqb-false (judging f .number) 0 j))
     go false r (Fine h) e true j =
         let quiet : Quiet (judging f) = eqb-true (judging f .number) 0 j in
-        let whole : Quiet (orElse (orElse (bodyAnswer f h) (namesAnswer f h)) (placeable f h)) = subst Quiet (judged f h e) quiet in
+        let whole : Quiet (orElse (orElse (bodyAnswer h (contentsAt f h)) (namesAnswer (contentsAt f h))) (placeable (contentsAt f h))) = subst Quiet (judged f h e) quiet in
         let l = head-laid f h e in
-        let size : placing f room .length ≡ 2 * (h .at .nodes + 3 * sizesOf (turnsFor f h)) =
+        let size : placing f room .length ≡ 2 * (h .at .nodes + 3 * sizesOf (turnsFor (contentsAt f h))) =
         ap (λ (a : Placed). a .length) (placing-placed f h e room (ltb-false room 6874 r) quiet) in
-        omega (arith, size, few-nodes f h whole, l .users, l .roles, l .kinds, l .channels, l .sessions, l .users-at, l .roles-at, l .kinds-at, l .channels-at, l .sessions-at, l .nodes-at)
+        omega (arith, size, few-nodes h (contentsAt f h) whole, l)
 
 -- what a caller has in hand: an answer no longer than that, and an output as long as it was
 pub answer-short : (f : List ℕ) (room : ℕ) (a : Placed) → a ≡ placing f room → a .length ≤ 6874

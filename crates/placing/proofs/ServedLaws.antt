@@ -1,5 +1,5 @@
 -- The nodes that are left to look at for 15.
-use Prim.Native.Nat.{ℕ, suc, _+_, _*_, _-_, _≤_, _<_}
+use Prim.Native.Nat.{ℕ, suc, _+_, _-_, _≤_, _<_}
 use mathlib.Core.Path.{_≡_, refl, sym, ap, ap₂, _∙_}
 use mathlib.Core.List.{List, [], _∷_}
 use mathlib.Core.Bool.{Bool, true, false, cond, _&&_, true≢false}
@@ -10,49 +10,41 @@ use lib.ListN.{length, getD, drop}
 use lib.Seq.{drop-cons}
 use borrow.Author.Tests.{eqb-false}
 use Rattle.format.specs.Answers.{fine, refused}
-use Rattle.format.specs.Sections.{nodeAt, nodesFrom}
+use Rattle.format.specs.Contents.{item, noNode}
+use Rattle.format.specs.declared.Node.{Node}
 use Rattle.format.proofs.AnswerLaws.{Quiet}
+use Rattle.format.proofs.ContentsLaws.{from-item, none-past}
 use Rattle.states.specs.States.{Label, needs, labelled}
 use Rattle.states.specs.Kept.{Served}
 use Rattle.placing.specs.Placing.{unservedFrom}
 
-abbrev pub labelsLeft : List ℕ → ℕ → List ℕ → ℕ → ℕ → List Label
-labelsLeft f at rs n c = labelled (nodesFrom f (at + 3 * (n - 1)) (c + 1 - n)) (drop n rs)
+abbrev pub labelsLeft : List Node → List ℕ → ℕ → List Label
+labelsLeft ns rs n = labelled (drop (n - 1) ns) (drop n rs)
 
-pub left-all : (f : List ℕ) (at : ℕ) (rs : List ℕ) (c : ℕ) → labelsLeft f at rs 1 c ≡ labelled (nodesFrom f at c) (drop 1 rs)
-left-all f at rs c =
-    let p : at + 3 * (1 - 1) ≡ at = omega arith in
-    let k : c + 1 - 1 ≡ c = omega arith in
-    ap₂ (λ q j. labelled (nodesFrom f q j) (drop 1 rs)) p k
+module _ (ns : List Node) (rs : List ℕ) (n : ℕ) (low : 1 ≤ n) (high : n ≤ length ns) (room : n < length rs) where
+  left-next : labelsLeft ns rs n ≡ record { tag = item noNode ns n .tag; roles = getD rs n 0 } ∷ labelsLeft ns rs (n + 1)
+  unfolding labelled
+  left-next =
+      let back : n ≡ n + 1 - 1 = omega arith in
+      ap₂ labelled (from-item noNode ns n low high) (drop-cons rs n 0 room)
+      ∙ ap₂ (λ i j. record { tag = item noNode ns n .tag; roles = getD rs n 0 } ∷ labelled (drop i ns) (drop j rs)) back (sym (add-one n))
 
-left-next : (f : List ℕ) (at : ℕ) (rs : List ℕ) (n c : ℕ) → 1 ≤ n → n ≤ c → n < length rs
-    → labelsLeft f at rs n c ≡ record { tag = nodeAt f (at + 3 * (n - 1)) .tag; roles = getD rs n 0 } ∷ labelsLeft f at rs (n + 1) c
-unfolding nodesFrom labelled
-left-next f at rs n c low high room =
-    let p : at + 3 * (n - 1) + 3 ≡ at + 3 * (n + 1 - 1) = omega arith in
-    let k : c + 1 - n ≡ suc (c + 1 - (n + 1)) = omega arith in
-    ap₂ (λ j d. labelled (nodesFrom f (at + 3 * (n - 1)) j) d) k (drop-cons rs n 0 room)
-    ∙ ap₂ (λ q d. record { tag = nodeAt f (at + 3 * (n - 1)) .tag; roles = getD rs n 0 } ∷ labelled (nodesFrom f q (c + 1 - (n + 1))) d) p (ap (λ j. drop j rs) (sym (add-one n)))
-
-module _ (f : List ℕ) (at : ℕ) (rs : List ℕ) (n c : ℕ) (low : 1 ≤ n) (high : n ≤ c) (room : n < length rs) where
-  left-one : unservedFrom n (labelsLeft f at rs n c)
-      ≡ cond (needs (nodeAt f (at + 3 * (n - 1)) .tag) && eqb (getD rs n 0) 0) (refused 15 n) (unservedFrom (n + 1) (labelsLeft f at rs (n + 1) c))
+  left-one : unservedFrom n (labelsLeft ns rs n)
+      ≡ cond (needs (item noNode ns n .tag) && eqb (getD rs n 0) 0) (refused 15 n) (unservedFrom (n + 1) (labelsLeft ns rs (n + 1)))
   unfolding unservedFrom
   left-one =
-      ap (unservedFrom n) (left-next f at rs n c low high room)
-      ∙ ap (λ j. cond (needs (nodeAt f (at + 3 * (n - 1)) .tag) && eqb (getD rs n 0) 0) (refused 15 n) (unservedFrom j (labelsLeft f at rs (n + 1) c))) (sym (add-one n))
+      ap (unservedFrom n) left-next
+      ∙ ap (λ j. cond (needs (item noNode ns n .tag) && eqb (getD rs n 0) 0) (refused 15 n) (unservedFrom j (labelsLeft ns rs (n + 1)))) (sym (add-one n))
 
-  pub left-unserved : (needs (nodeAt f (at + 3 * (n - 1)) .tag) && eqb (getD rs n 0) 0) ≡ true → unservedFrom n (labelsLeft f at rs n c) ≡ refused 15 n
-  left-unserved e = left-one ∙ ap (λ b. cond b (refused 15 n) (unservedFrom (n + 1) (labelsLeft f at rs (n + 1) c))) e
+  pub left-unserved : (needs (item noNode ns n .tag) && eqb (getD rs n 0) 0) ≡ true → unservedFrom n (labelsLeft ns rs n) ≡ refused 15 n
+  left-unserved e = left-one ∙ ap (λ b. cond b (refused 15 n) (unservedFrom (n + 1) (labelsLeft ns rs (n + 1)))) e
 
-  pub left-served : (needs (nodeAt f (at + 3 * (n - 1)) .tag) && eqb (getD rs n 0) 0) ≡ false
-      → unservedFrom n (labelsLeft f at rs n c) ≡ unservedFrom (n + 1) (labelsLeft f at rs (n + 1) c)
-  left-served e = left-one ∙ ap (λ b. cond b (refused 15 n) (unservedFrom (n + 1) (labelsLeft f at rs (n + 1) c))) e
+  pub left-served : (needs (item noNode ns n .tag) && eqb (getD rs n 0) 0) ≡ false → unservedFrom n (labelsLeft ns rs n) ≡ unservedFrom (n + 1) (labelsLeft ns rs (n + 1))
+  left-served e = left-one ∙ ap (λ b. cond b (refused 15 n) (unservedFrom (n + 1) (labelsLeft ns rs (n + 1)))) e
 
-pub left-none : (f : List ℕ) (at : ℕ) (rs : List ℕ) (n c : ℕ) → c < n → unservedFrom n (labelsLeft f at rs n c) ≡ fine
-unfolding unservedFrom nodesFrom labelled
-left-none f at rs n c past =
-    let k : c + 1 - n ≡ 0 = omega arith in ap (λ j. unservedFrom n (labelled (nodesFrom f (at + 3 * (n - 1)) j) (drop n rs))) k
+pub left-none : (ns : List Node) (rs : List ℕ) (n : ℕ) → length ns < n → unservedFrom n (labelsLeft ns rs n) ≡ fine
+unfolding unservedFrom labelled
+left-none ns rs n past = ap (λ (xs : List Node). unservedFrom n (labelled xs (drop n rs))) (none-past ns (n - 1) (omega arith))
 
 -- where there is none, each node that needs a state has one
 pub all-served : (i : ℕ) (ls : List Label) → Quiet (unservedFrom i ls) → Served ls

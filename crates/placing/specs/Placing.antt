@@ -6,37 +6,35 @@ use mathlib.Core.List.{List, [], _∷_, map}
 use lib.Dec.{eqb, leb, ltb}
 use lib.ListN.{length}
 use lib.Seq.{sets}
-use Rattle.format.specs.Words.{bytesOf}
 use Rattle.format.specs.Answers.{fine, refused, orElse, firstOf}
-use Rattle.format.specs.Header.{headAt}
-use Rattle.format.specs.Sections.{placeOf, sessionOf, nodeAt}
+use Rattle.format.specs.Header.{headAt, lengthFor, roomFor}
+use Rattle.format.specs.Contents.{Contents, item, noSession, noNode, contentsOf}
+use Rattle.format.specs.Writing.{encoded}
 use Rattle.format.specs.declared.Verdict.{Verdict}
 use Rattle.format.specs.declared.Head.{Head}
-use Rattle.format.specs.declared.Section.the-variants.{Nodes}
-use Rattle.rules.specs.Checking.{nodesIn}
 use Rattle.rules.specs.Candidates.{candidatesIn}
 use Rattle.checking.specs.Check.{readingNames}
 use Rattle.states.specs.States.{Label, needs, labelled, turnsOf, packed}
 use Rattle.states.specs.declared.Turn.{Turn}
-use Rattle.groups.specs.Groups.{sizesOf, onsOf, startsFrom, startsOf, placedWords}
+use Rattle.groups.specs.Groups.{sizesOf, onsOf, startsFrom, startsOf, placedContents}
 use Rattle.groups.specs.declared.Sums.{Sums}
 use Rattle.placing.specs.declared.Placed.{Placed}
 use Rattle.placing.specs.declared.Decision.{Decision}
 
 -- the nodes as placing sees them, and what becomes of each
-abbrev pub labelsIn : List ℕ → Head → List Label
-labelsIn f h = labelled (nodesIn f h) (candidatesIn f h)
+abbrev pub labelsIn : Contents → List Label
+labelsIn C = labelled (C .nodes) (candidatesIn C)
 
-abbrev pub turnsFor : List ℕ → Head → List Turn
-turnsFor f h = turnsOf (labelsIn f h)
+abbrev pub turnsFor : Contents → List Turn
+turnsFor C = turnsOf (labelsIn C)
 
 -- 14: a starting mask (place 0)
-unfoldable pub masksAnswer : List ℕ → Head → Verdict
-masksAnswer f h = firstOf (λ n. eqb (sessionOf f h n .mask) 0) (λ n. refused 14 0) 1 (h .count .sessions)
+unfoldable pub masksAnswer : Contents → Verdict
+masksAnswer C = firstOf (λ n. eqb (item noSession (C .sessions) n .mask) 0) (λ n. refused 14 0) 1 (length (C .sessions))
 
 -- 14: on or off present (place: that node)
-unfoldable pub switchesAnswer : List ℕ → Head → Verdict
-switchesAnswer f h = firstOf (λ n. ltb (nodeAt f (placeOf h Nodes n) .tag) 7) (λ n. refused 14 n) 1 (h .count .nodes)
+unfoldable pub switchesAnswer : Contents → Verdict
+switchesAnswer C = firstOf (λ n. ltb (item noNode (C .nodes) n .tag) 7) (λ n. refused 14 n) 1 (length (C .nodes))
 
 -- 15: no role of the user permits the node
 unfoldable pub unservedFrom : ℕ → List Label → Verdict
@@ -56,12 +54,12 @@ abbrev pub settling : List Label → Verdict
 settling ls = orElse (unservedFrom 1 ls) (sizeAnswer (sizesOf (turnsOf ls)))
 
 -- 14 (masks before nodes), 15, 16
-unfoldable pub placeable : List ℕ → Head → Verdict
-placeable f h = orElse (orElse (masksAnswer f h) (switchesAnswer f h)) (settling (labelsIn f h))
+unfoldable pub placeable : Contents → Verdict
+placeable C = orElse (orElse (masksAnswer C) (switchesAnswer C)) (settling (labelsIn C))
 
 -- all that a file can be refused for: 1 to 10, then 14 to 16
 unfoldable pub judging : List ℕ → Verdict
-judging f = orElse (readingNames f) (placeable f (headAt f))
+judging f = orElse (readingNames f) (placeable (contentsOf f))
 
 -- what is decided before anything is written: 14 to 16 beside what stands before them, and the sums where nothing is refused
 abbrev pub noSums : Sums
@@ -77,24 +75,24 @@ abbrev pub noPlace : ℕ → ℕ → Placed
 noPlace n p = record { number = n; place = p; length = 0; «on_steps» = 0 }
 
 -- where nothing is refused: the length of the placed file in bytes, and the number of on steps
-abbrev pub placedIn : List ℕ → Head → Placed
-placedIn f h = record {
+abbrev pub placedIn : Head → Contents → Placed
+placedIn h C = record {
   number = 0;
   place = 0;
-  length = 2 * (h .at .nodes + 3 * sizesOf (turnsFor f h));
-  «on_steps» = onsOf (turnsFor f h);
+  length = lengthFor (h .at .nodes) (sizesOf (turnsFor C));
+  «on_steps» = onsOf (turnsFor C);
 }
 
 abbrev pub answered : List ℕ → Verdict → Placed
-answered f v = cond (eqb (v .number) 0) (placedIn f (headAt f)) (noPlace (v .number) (v .place))
+answered f v = cond (eqb (v .number) 0) (placedIn (headAt f) (contentsOf f)) (noPlace (v .number) (v .place))
 
 -- 17 first of all: output under 6,874 bytes
 unfoldable pub placing : List ℕ → ℕ → Placed
-placing f room = cond (ltb room 6874) (noPlace 17 0) (answered f (judging f))
+placing f room = cond (ltb room (roomFor f)) (noPlace 17 0) (answered f (judging f))
 
 -- the bytes of the placed file
 unfoldable pub placedBytes : List ℕ → List ℕ
-placedBytes f = bytesOf (placedWords f (headAt f) (turnsFor f (headAt f)) (startsOf (turnsFor f (headAt f))))
+placedBytes f = encoded (placedContents (contentsOf f) (turnsFor (contentsOf f)) (startsOf (turnsFor (contentsOf f))))
 
 -- the output: the placed file, and past it what was there; where anything is refused, all of what was there
 unfoldable pub placedOver : List ℕ → List ℕ → List ℕ

@@ -2,16 +2,17 @@
 use format::Head;
 use format::Verdict;
 use format::answers::or_else;
-use format::sections::node;
+use format::sections::node_tag;
 use format::sections::session;
 ghost use mathlib.Core.Path.{_≡_};
-ghost use Prim.Native.Nat.{_≤_};
 ghost use Rattle.format.specs.Answers.{orElse};
+ghost use Rattle.format.specs.Header.{Laid};
+ghost use Rattle.format.specs.Contents.{contentsAt};
 ghost use Rattle.placing.specs.Placing.{masksAnswer, switchesAnswer};
 
 fn masks(file: &[u8], head: Head) -> Verdict
-    requires { ⌜ head .count .sessions ≤ 32 ⌝ }
-    ensures { λ r. ⌜ r ≡ masksAnswer (now (file .entry)) head ⌝ }
+    requires { ⌜ Laid (now file) head ⌝ }
+    ensures { λ r. ⌜ r ≡ masksAnswer (contentsAt (now (file .entry)) head) ⌝ }
 {
     let count = head.count.sessions;
     let mut n: u16 = 1;
@@ -32,14 +33,13 @@ fn masks(file: &[u8], head: Head) -> Verdict
 }
 
 fn switches(file: &[u8], head: Head) -> Verdict
-    requires { ⌜ head .count .nodes ≤ 1024 ⌝ }
-    ensures { λ r. ⌜ r ≡ switchesAnswer (now (file .entry)) head ⌝ }
+    requires { ⌜ Laid (now file) head ⌝ }
+    ensures { λ r. ⌜ r ≡ switchesAnswer (contentsAt (now (file .entry)) head) ⌝ }
 {
     let count = head.count.nodes;
     let mut n: u16 = 1;
     while n <= count {
-        let it = node(file, head, n);
-        if 6 < it.tag {
+        if 6 < node_tag(file, head, n) {
             return Verdict {
                 number: 14,
                 place: n,
@@ -55,8 +55,8 @@ fn switches(file: &[u8], head: Head) -> Verdict
 
 // Masks before nodes.
 pub fn bare(file: &[u8], head: Head) -> Verdict
-    requires { ⌜ (head .count .sessions ≤ 32) × (head .count .nodes ≤ 1024) ⌝ }
-    ensures { λ r. ⌜ r ≡ orElse (masksAnswer (now (file .entry)) head) (switchesAnswer (now (file .entry)) head) ⌝ }
+    requires { ⌜ Laid (now file) head ⌝ }
+    ensures { λ r. ⌜ r ≡ orElse (masksAnswer (contentsAt (now (file .entry)) head)) (switchesAnswer (contentsAt (now (file .entry)) head)) ⌝ }
 {
     or_else(masks(file, head), switches(file, head))
 }

@@ -11,9 +11,10 @@ use states::turns as put_turns;
 ghost use mathlib.Core.Path.{_≡_};
 ghost use lib.ListN.{length, drop};
 ghost use Rattle.format.specs.Header.{Laid};
+ghost use Rattle.format.specs.Contents.{contentsAt};
 ghost use Rattle.format.specs.Answers.{orElse};
 ghost use Rattle.reading.specs.Reading.{bodyAnswer};
-ghost use Rattle.rules.specs.Checking.{namesAnswer, nodesIn};
+ghost use Rattle.rules.specs.Checking.{namesAnswer};
 ghost use Rattle.states.specs.States.{labelled, turnsOf};
 ghost use Rattle.placing.specs.Placing.{turnsFor, placeable, settling, decided, noSums, Settled};
 
@@ -31,9 +32,9 @@ fn refused(verdict: Verdict) -> Decision
 
 // 15 and 16, with each node's roles at its number; each node's turn, and where its group starts.
 fn settle(file: &[u8], head: Head, roles: &[u16], turns: &mut [u16], starts: &mut [u16]) -> Decision
-    requires { ⌜ Laid head × (length (now roles) ≡ 1025) × (length (now turns) ≡ 1025) × (length (now starts) ≡ 1025) ⌝ }
-    ensures { λ r. ⌜ (r ≡ decided (settling (labelled (nodesIn (now (file .entry)) head) (drop 1 (now (roles .entry))))) (turnsOf (labelled (nodesIn (now (file .entry)) head) (drop 1 (now (roles .entry))))))
-        × (r .verdict .number ≡ 0 → Settled (turnsOf (labelled (nodesIn (now (file .entry)) head) (drop 1 (now (roles .entry))))) (now (turns .entry)) (now (turns .exit)) (now (starts .entry)) (now (starts .exit))) ⌝ }
+    requires { ⌜ Laid (now file) head × (length (now roles) ≡ 1025) × (length (now turns) ≡ 1025) × (length (now starts) ≡ 1025) ⌝ }
+    ensures { λ r. ⌜ (r ≡ decided (settling (labelled (contentsAt (now (file .entry)) head .nodes) (drop 1 (now (roles .entry))))) (turnsOf (labelled (contentsAt (now (file .entry)) head .nodes) (drop 1 (now (roles .entry))))))
+        × (r .verdict .number ≡ 0 → Settled (turnsOf (labelled (contentsAt (now (file .entry)) head .nodes) (drop 1 (now (roles .entry))))) (now (turns .entry)) (now (turns .exit)) (now (starts .entry)) (now (starts .exit))) ⌝ }
 {
     let first = unserved(file, head, roles);
     if first.number != 0 {
@@ -58,9 +59,9 @@ fn settle(file: &[u8], head: Head, roles: &[u16], turns: &mut [u16], starts: &mu
 
 // 6 to 10, then 14 to 16.
 pub fn decide(file: &[u8], head: Head, turns: &mut [u16], starts: &mut [u16]) -> Decision
-    requires { ⌜ Laid head × (length (now turns) ≡ 1025) × (length (now starts) ≡ 1025) ⌝ }
-    ensures { λ r. ⌜ (r ≡ decided (orElse (orElse (bodyAnswer (now (file .entry)) head) (namesAnswer (now (file .entry)) head)) (placeable (now (file .entry)) head)) (turnsFor (now (file .entry)) head))
-        × (r .verdict .number ≡ 0 → Settled (turnsFor (now (file .entry)) head) (now (turns .entry)) (now (turns .exit)) (now (starts .entry)) (now (starts .exit))) ⌝ }
+    requires { ⌜ Laid (now file) head × (length (now turns) ≡ 1025) × (length (now starts) ≡ 1025) ⌝ }
+    ensures { λ r. ⌜ (r ≡ decided (orElse (orElse (bodyAnswer head (contentsAt (now (file .entry)) head)) (namesAnswer (contentsAt (now (file .entry)) head))) (placeable (contentsAt (now (file .entry)) head))) (turnsFor (contentsAt (now (file .entry)) head)))
+        × (r .verdict .number ≡ 0 → Settled (turnsFor (contentsAt (now (file .entry)) head)) (now (turns .entry)) (now (turns .exit)) (now (starts .entry)) (now (starts .exit))) ⌝ }
 {
     let mut roles = [0u16; 1025];
     let first = survey(file, head, &mut roles);

@@ -7,15 +7,16 @@ use decide::decide;
 use format::Head;
 use format::HeadAnswer;
 use format::Verdict;
+use format::header::length_for;
 use format::header::read_head;
+use format::header::room_for;
 use format::words::narrow;
-use format::words::wide;
 use groups::Sums;
 use groups::put_file;
 ghost use mathlib.Core.Path.{_≡_};
 ghost use Prim.Native.Nat.{_≤_};
 ghost use lib.ListN.{length};
-ghost use Rattle.format.specs.Header.{headOf};
+ghost use Rattle.format.specs.Header.{headOf, roomFor};
 ghost use Rattle.format.specs.declared.HeadAnswer.the-variants.{Fine};
 ghost use Rattle.placing.specs.Placing.{noPlace, placing, placedOver};
 
@@ -47,7 +48,7 @@ fn no_place(number: u16, place: u16) -> Placed
 
 // The same for a file with a head, into an output with room for the largest file.
 fn place_body(file: &[u8], head: Head, out: &mut [u8]) -> Placed
-    requires { ⌜ (headOf (now file) ≡ Fine head) × (6874 ≤ length (now out)) ⌝ }
+    requires { ⌜ (headOf (now file) ≡ Fine head) × (roomFor (now file) ≤ length (now out)) ⌝ }
     ensures { λ r. ⌜ (r ≡ placing (now (file .entry)) (length (now (out .entry)))) × (now (out .exit) ≡ placedOver (now (file .entry)) (now (out .entry))) ⌝ }
 {
     let mut turns = [0u16; 1025];
@@ -62,7 +63,7 @@ fn place_body(file: &[u8], head: Head, out: &mut [u8]) -> Placed
     Placed {
         number: 0,
         place: 0,
-        length: narrow(2 * (wide(head.at.nodes) + 3 * wide(nodes))),
+        length: narrow(length_for(head.at.nodes, nodes)),
         on_steps: decision.sums.on_steps,
     }
 }
@@ -72,7 +73,7 @@ fn place_body(file: &[u8], head: Head, out: &mut [u8]) -> Placed
 pub fn place(file: &[u8], out: &mut [u8]) -> Placed
     ensures { λ r. ⌜ (r ≡ placing (now (file .entry)) (length (now (out .entry)))) × (now (out .exit) ≡ placedOver (now (file .entry)) (now (out .entry))) ⌝ }
 {
-    if out.len() < 6874 {
+    if out.len() < room_for(file) {
         return no_place(17, 0);
     }
     let answer = read_head(file);

@@ -1,6 +1,7 @@
--- How much of a long input has to be kept. The largest file has 6,874 bytes; what is longer is answered by its head and by whether its length is odd.
-use Prim.Native.Nat.{ℕ, _-_, _%_, min}
+-- How much of a long input has to be kept. What is longer than the largest file is answered by its head and by whether its length is odd.
+use Prim.Native.Nat.{ℕ, _+_, _-_, _%_, min}
+use Rattle.format.specs.Header.{largest}
 
--- the number of bytes that stand for so many: all of them, or 6,875 for a longer odd number and 6,876 for a longer even one
+-- the number of bytes that stand for so many: all of them, or for a longer number one or two more than the largest file has, odd or even alike
 abbrev pub enough : ℕ → ℕ
-enough n = min n (6876 - n % 2)
+enough n = min n (largest + 2 - n % 2)

@@ -3,6 +3,7 @@ use Prim.Native.Nat.{ℕ}
 use mathlib.Core.List.{List}
 use Rattle.format.specs.Answers.{refused, orElse}
 use Rattle.format.specs.Header.{headOf}
+use Rattle.format.specs.Contents.{Contents, contentsAt}
 use Rattle.tables.specs.Records.{recordsAnswer}
 use Rattle.trees.specs.Shape.{shapeAnswer}
 use Rattle.format.specs.declared.Verdict.{Verdict}
@@ -11,12 +12,12 @@ use Rattle.format.specs.declared.HeadAnswer.{HeadAnswer}
 use Rattle.format.specs.declared.HeadAnswer.the-variants.{Fine, Refused}
 
 -- 6 to 8
-abbrev pub bodyAnswer : List ℕ → Head → Verdict
-bodyAnswer f h = orElse (recordsAnswer f h) (shapeAnswer f h)
+abbrev pub bodyAnswer : Head → Contents → Verdict
+bodyAnswer h C = orElse (recordsAnswer h C) (shapeAnswer C)
 
 abbrev pub after : List ℕ → HeadAnswer → Verdict
 after f (Refused n) = refused n 0
-after f (Fine h) = bodyAnswer f h
+after f (Fine h) = bodyAnswer h (contentsAt f h)
 
 unfoldable pub reading : List ℕ → Verdict
 reading f = after f (headOf f)

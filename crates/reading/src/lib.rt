@@ -8,12 +8,13 @@ use format::answers::or_else;
 use format::header::read_head;
 ghost use mathlib.Core.Path.{_≡_};
 ghost use Rattle.format.specs.Header.{Laid};
+ghost use Rattle.format.specs.Contents.{contentsAt};
 ghost use Rattle.reading.specs.Reading.{bodyAnswer, reading};
 
 // What follows the head: the first of the refusals 6 to 8.
 pub fn body(file: &[u8], head: Head) -> Verdict
-    requires { ⌜ Laid head ⌝ }
-    ensures { λ r. ⌜ r ≡ bodyAnswer (now (file .entry)) head ⌝ }
+    requires { ⌜ Laid (now file) head ⌝ }
+    ensures { λ r. ⌜ r ≡ bodyAnswer head (contentsAt (now (file .entry)) head) ⌝ }
 {
     or_else(tables::records(file, head), trees::shape::shape(file, head))
 }

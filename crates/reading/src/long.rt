@@ -1,4 +1,5 @@
 // Inputs of any length, for a caller that keeps only their start.
+use format::header::largest;
 ghost use mathlib.Core.Path.{_≡_};
 ghost use Prim.Native.Nat.{_≤_};
 ghost use Rattle.reading.specs.Long.{enough as Long·enough};
@@ -8,6 +9,6 @@ pub fn enough(length: usize) -> usize
     ensures { λ r. ⌜ r ≡ Long·enough length ⌝ }
     ensures { λ r. ⌜ r ≤ 6876 ⌝ }
 {
-    let most = 6876 - length % 2;
+    let most = largest() + 2 - length % 2;
     if length < most { length } else { most }
 }

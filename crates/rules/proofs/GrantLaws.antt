@@ -1,32 +1,20 @@
 -- Grants: a lookup, a mask of roles, and the table of these masks.
 use Prim.Native.Nat.{ℕ, zero, suc, _+_, _-_, _^_, _≤_, _<_}
 use mathlib.Core.Path.{_≡_, refl, sym, ap, _∙_}
-use mathlib.Core.Bool.{Bool, true, false, cond, not, _&&_}
+use mathlib.Core.Bool.{Bool, true, false, cond}
 use mathlib.Core.List.{List, [], _∷_}
 use native.Mathlib.Omega.{arith}
 use native.Mathlib.Numerals.{add-one}
 use lib.ListN.{length, getD, take, drop, set, replicate, drop-of-length-le, List·getD-eq-default}
-use lib.Dec.{eqb, ltb}
+use lib.Dec.{ltb}
 use lib.Seq.{set-split, drop-at, length-take-le, getD-take, take-take, take-set-le}
-use borrow.Author.Tests.{eq-eqb, ne-eqb, ltb-true, ltb-false}
+use borrow.Author.Tests.{ltb-true, ltb-false}
 use Rattle.masks.specs.Mask.{has, with}
-use Rattle.masks.proofs.Laws.{has-none, has-above}
-use Rattle.masks.specs.declared.UserRole.{UserRole}
+use Rattle.masks.proofs.Laws.{has-above}
 use Rattle.masks.specs.declared.ChannelKind.{ChannelKind}
-use Rattle.format.specs.Sections.{roleOf}
-use Rattle.format.specs.declared.Head.{Head}
 use Rattle.rules.specs.declared.Way.{Way}
-use Rattle.rules.specs.Schema.{Schema, ofItem, schemaOf, granted, permits, permittingTo, permitting}
+use Rattle.rules.specs.Schema.{Schema, permits, permittingTo, permitting}
 use Rattle.rules.specs.Kept.{grantsTo, grantsFrom, addRole, Beyond, Granting}
-
-pub no-role : (f : List ℕ) (h : Head) (w : Way) (r : UserRole) (k : ChannelKind) → r .0 ≡ 0 → permits (schemaOf f h) w r k ≡ false
-unfolding permits
-no-role f h w r k e = rw (eq-eqb (r .0) 0 e) (has-none (k .0))
-
-pub some-role : (f : List ℕ) (h : Head) (w : Way) (r : UserRole) (k : ChannelKind) (g : ℕ) → (r .0 ≡ 0 → ⊥) → g ≡ granted w (roleOf f h (r .0))
-    → has g (k .0) ≡ permits (schemaOf f h) w r k
-unfolding permits
-some-role f h w r k g n e = rw (ne-eqb (r .0) 0 n, e)
 
 -- one role more
 pub permitting-more : (D : Schema) (w : Way) (k : ChannelKind) (n m : ℕ) (can : Bool) → m ≡ permittingTo D w k n → can ≡ permits D w (record { 0 = n + 1 }) k
@@ -62,19 +50,13 @@ add-more g r l₀ l (suc k) v pos le len e t d =
     )
 
 -- a role more in all of them
-pub grants-more : (f : List ℕ) (h : Head) (w : Way) (g r k n : ℕ) → g ≡ granted w (roleOf f h (r + 1))
-    → addRole g (r + 1) k (grantsTo (schemaOf f h) w r k n) ≡ grantsTo (schemaOf f h) w (r + 1) k n
-unfolding addRole grantsTo
-grants-more f h w g r k zero e = refl
-grants-more f h w g r k (suc n) e =
-    let some : has g k ≡ permits (schemaOf f h) w (record { 0 = r + 1 }) (record { 0 = k }) = some-role f h w (record { 0 = r + 1 }) (record { 0 = k }) g (λ z. omega arith) e in
-    let first = permitting-more (schemaOf f h) w (record { 0 = k }) r (permittingTo (schemaOf f h) w (record { 0 = k }) r) (has g k) refl some in
-    rw (first, grants-more f h w g r (suc k) n e)
-
-pub same-taken : (m n x : ℕ) → take n (replicate m x) ≡ replicate (length (take n (replicate m x))) x
-same-taken m zero x = refl
-same-taken zero (suc n) x = refl
-same-taken (suc m) (suc n) x = ap (λ (l : List ℕ). x ∷ l) (same-taken m n x)
+pub grants-more : (D : Schema) (w : Way) (g r k n : ℕ) → g ≡ D .grants w (r + 1) → addRole g (r + 1) k (grantsTo D w r k n) ≡ grantsTo D w (r + 1) k n
+unfolding addRole grantsTo permits
+grants-more D w g r k zero e = refl
+grants-more D w g r k (suc n) e =
+    let some : has g k ≡ permits D w (record { 0 = r + 1 }) (record { 0 = k }) = ap (λ x. has x k) e in
+    let first = permitting-more D w (record { 0 = k }) r (permittingTo D w (record { 0 = k }) r) (has g k) refl some in
+    rw (first, grants-more D w g r (suc k) n e)
 
 -- no role yet
 pub grants-begin : (D : Schema) (w : Way) (k n : ℕ) → replicate n 0 ≡ grantsTo D w 0 k n
@@ -104,11 +86,11 @@ pub beyond-none : (D : Schema) (w : Way) → Beyond D w 0
 unfolding permittingTo
 beyond-none D w k h = refl
 
-pub beyond-more : (f : List ℕ) (h : Head) (w : Way) (g r : ℕ) → g ≡ granted w (roleOf f h (r + 1)) → g < 2 ^ 32 → Beyond (schemaOf f h) w r → Beyond (schemaOf f h) w (r + 1)
-beyond-more f h w g r e small ih k above =
-    let some : has g k ≡ permits (schemaOf f h) w (record { 0 = r + 1 }) (record { 0 = k }) = some-role f h w (record { 0 = r + 1 }) (record { 0 = k }) g (λ z. omega arith) e in
-    let off : false ≡ permits (schemaOf f h) w (record { 0 = r + 1 }) (record { 0 = k }) = sym (has-above 32 g k small above) ∙ some in
-    sym (permitting-more (schemaOf f h) w (record { 0 = k }) r (permittingTo (schemaOf f h) w (record { 0 = k }) r) false refl off) ∙ ih k above
+pub beyond-more : (D : Schema) (w : Way) (g r : ℕ) → g ≡ D .grants w (r + 1) → g < 2 ^ 32 → Beyond D w r → Beyond D w (r + 1)
+unfolding permits
+beyond-more D w g r e small ih k above =
+    let off : false ≡ permits D w (record { 0 = r + 1 }) (record { 0 = k }) = sym (has-above 32 g k small above) ∙ ap (λ x. has x k) e in
+    sym (permitting-more D w (record { 0 = k }) r (permittingTo D w (record { 0 = k }) r) false refl off) ∙ ih k above
 
 pub granting : (D : Schema) (w : Way) (l : List ℕ) → l ≡ grantsFrom D w 0 (length l) → length l ≡ 33 → Beyond D w (D .roles) → Granting D w l
 granting D w l e long past k = go (ltb k 33) refl
@@ -120,14 +102,3 @@ granting D w l e long past k = go (ltb k 33) refl
 -- a table that was filled has the length that it had
 pub grants-filled : (D : Schema) (w : Way) (l : List ℕ) (n : ℕ) → l ≡ grantsFrom D w 0 n → l ≡ grantsFrom D w 0 (length l)
 grants-filled D w l n e = e ∙ ap (grantsFrom D w 0) (sym (ap length e ∙ grants-length D w (D .roles) 0 n))
-
--- there is no role 0, so it has no kind
-pub item-has : (n g k : ℕ) → (not (eqb n 0) && has g k) ≡ has (ofItem n g) k
-item-has n g k = go (eqb n 0)
-  where
-    go : (b : Bool) → (not b && has g k) ≡ has (cond b 0 g) k
-    go true = sym (has-none k)
-    go false = refl
-
-pub item-some : (n g : ℕ) → 1 ≤ n → ofItem n g ≡ g
-item-some n g h = rw (ne-eqb n 0 (λ z. let no-way : ⊥ = omega (arith, h, z) in no-way))

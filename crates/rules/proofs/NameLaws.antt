@@ -1,16 +1,16 @@
 -- Operands: the table of names, and the variables kept in it.
-use Prim.Native.Nat.{ℕ, zero, suc, _+_, _*_, _-_, _/_, _%_, _≤_, _<_}
+use Prim.Native.Nat.{ℕ, zero, suc, _+_, _-_, _≤_, _<_}
 use mathlib.Core.Path.{_≡_, refl, sym, ap, _∙_}
-use mathlib.Core.Bool.{Bool, true, false, cond, not, _&&_, _||_, and-eq-true-iff, false≢true}
+use mathlib.Core.Bool.{Bool, true, false, not, _&&_, _||_, and-eq-true-iff, false≢true}
 use mathlib.Core.List.{List, [], _∷_, _++_, map, map-append}
 use native.Mathlib.Omega.{arith}
 use native.Mathlib.Numerals.{add-one}
-use lib.ListN.{length, getD, take, drop, set, replicate, length-map, length-drop, List·getD-map, List·getD-eq-default}
+use lib.ListN.{length, getD, take, drop, set, replicate, length-map, length-drop, List·getD-map}
 use lib.Seq.{length-take-le, take-set-le, take-suc-set, getD-take, getD-drop, drop-set-add, getD-set-same, getD-set-other}
 use lib.Dec.{eqb, leb, ltb}
 use borrow.Author.Tests.{ltb-true, ltb-false, leb-true, lt-ltb, le-ltb, le-leb, eqb-true, eqb-false, eq-eqb, ne-eqb}
 use Rattle.rules.specs.Schema.{Schema}
-use Rattle.rules.specs.Names.{Bound, unbound, within, isUser, isChannel, isVariable, named, kindOf, mine}
+use Rattle.rules.specs.Names.{unbound, isUser, isChannel, isVariable, named, kindOf, mine}
 use Rattle.rules.specs.Kept.{kindIn, ownerIn, entry, isMade, kindTo, ownerTo, Named, variable, varsOf, look, something}
 
 or-false : (b : Bool) → (b || false) ≡ b

@@ -1,24 +1,26 @@
 -- The pass over the nodes: what is left from a node on gives what the whole gives.
-use Prim.Native.Nat.{ℕ, suc, _+_, _*_, _-_, _≤_, _<_}
+use Prim.Native.Nat.{ℕ, suc, _+_, _-_, _≤_, _<_}
 use mathlib.Core.Path.{_≡_, refl, sym, ap, ap₂, _∙_}
 use mathlib.Core.Bool.{Bool, true, false, cond}
-use mathlib.Core.List.{List, [], _∷_}
+use mathlib.Core.List.{List, [], _∷_, map}
 use native.Mathlib.Omega.{arith}
 use native.Mathlib.Numerals.{add-one}
-use lib.ListN.{set}
+use lib.ListN.{length, set, drop}
 use lib.Seq.{sets}
 use lib.Dec.{eqb}
 use borrow.Author.Tests.{eq-eqb, ne-eqb}
+use Rattle.masks.specs.Mask.{with, without}
+use Rattle.format.specs.Contents.{Contents, item, noNode}
 use Rattle.format.specs.Answers.{fine, refused, orElse}
-use Rattle.format.specs.Sections.{nodeAt, nodesFrom}
 use Rattle.format.specs.declared.Verdict.{Verdict}
-use Rattle.format.specs.declared.Head.{Head}
 use Rattle.format.specs.declared.Node.{Node}
+use Rattle.format.proofs.ContentsLaws.{from-item, none-past}
 use Rattle.rules.specs.Schema.{Schema, schemaOf}
-use Rattle.rules.specs.Rules.{Context, namesFit, kindsFit, wrong, barred, childOf, after}
+use Rattle.rules.specs.Names.{kindOf}
+use Rattle.rules.specs.Rules.{Context, namesFit, kindsFit, wrong, barred, bind, activate, childOf, after}
 use Rattle.rules.specs.Checking.{firstBy, openings, namesAnswer, rolesAnswer, judgement}
 use Rattle.rules.specs.Candidates.{candidates, candidatesFrom, candidatesIn}
-use Rattle.rules.specs.Kept.{answerAt}
+use Rattle.rules.specs.Kept.{answerAt, unmasked}
 
 -- the first refusal is kept
 noted : (v r : Verdict) (n i : ℕ) → orElse v (cond (eqb n 0) r (refused n i)) ≡ orElse (orElse v (answerAt n i)) r
@@ -41,132 +43,199 @@ noted-quiet v n i h = go (eqb (v .number) 0) (eqb n 0) refl refl
 pub after-step : (D : Schema) (c : Context) (n : Node) (st : List Context) {d : Context} {us : List Context} → (n .tag ≡ 0 → ⊥) → (n .tag ≡ 1 → ⊥) → d ≡ childOf D c n → us ≡ st → d ∷ us ≡ after D c n st
 after-step D c n st z o e r = rw (ne-eqb (n .tag) 0 z, ne-eqb (n .tag) 1 o) (ap₂ _∷_ e r)
 
-module _ (f : List ℕ) (h : Head) (out : List ℕ) where
+-- the active set plays no part in 9 and 10
+module _ (D : Schema) where
+  bare-twice : (st : List Context) → map unmasked (map unmasked st) ≡ map unmasked st
+  bare-twice [] = refl
+  bare-twice (c ∷ st) = ap (λ (us : List Context). unmasked c ∷ us) (bare-twice st)
+
+  abbrev child-by : Node → Context → Bool → Bool → Bool → Bool → Context
+  child-by n c p q r s =
+      cond p (bind c (n .f1) true)
+      (cond q (bind c (D .carries (kindOf D (c .vars) (n .f1))) false) (cond r (activate c (with (c .mask) (n .f1))) (cond s (activate c (without (c .mask) (n .f1))) c)))
+
+  bare-child : (c : Context) (n : Node) → unmasked (childOf D (unmasked c) n) ≡ unmasked (childOf D c n)
+  unfolding childOf
+  bare-child c n = go (eqb (n .tag) 3) (eqb (n .tag) 5) (eqb (n .tag) 7) (eqb (n .tag) 8)
+    where
+      go : (p q r s : Bool) → unmasked (child-by n (unmasked c) p q r s) ≡ unmasked (child-by n c p q r s)
+      go true q r s = refl
+      go false true r s = refl
+      go false false true s = refl
+      go false false false true = refl
+      go false false false false = refl
+
+  bare-after : (c : Context) (n : Node) (st : List Context) → map unmasked (after D (unmasked c) n (map unmasked st)) ≡ map unmasked (after D c n st)
+  bare-after c n st = go (eqb (n .tag) 0) (eqb (n .tag) 1)
+    where
+      go : (p q : Bool) → map unmasked (cond p (map unmasked st) (cond q (unmasked c ∷ unmasked c ∷ map unmasked st) (childOf D (unmasked c) n ∷ map unmasked st)))
+          ≡ map unmasked (cond p st (cond q (c ∷ c ∷ st) (childOf D c n ∷ st)))
+      go true q = bare-twice st
+      go false true = ap (λ (us : List Context). unmasked c ∷ unmasked c ∷ us) (bare-twice st)
+      go false false = ap₂ _∷_ (bare-child c n) (bare-twice st)
+
+  bare-first : (i : ℕ) (ns : List Node) (st : List Context) → firstBy (wrong D) D i ns (map unmasked st) ≡ firstBy (wrong D) D i ns st
+  unfolding firstBy wrong
+  bare-first i [] st = refl
+  bare-first i (n ∷ ns) [] = refl
+  bare-first i (n ∷ ns) (c ∷ st) =
+      ap (λ (v : Verdict). cond (eqb (wrong D c n) 0) v (refused (wrong D c n) i))
+      (sym (bare-first (suc i) ns (after D (unmasked c) n (map unmasked st))) ∙ ap (firstBy (wrong D) D (suc i) ns) (bare-after c n st) ∙ bare-first (suc i) ns (after D c n st))
+
+  pub masks-aside : (i : ℕ) (ns : List Node) (st us : List Context) → map unmasked st ≡ map unmasked us → firstBy (wrong D) D i ns st ≡ firstBy (wrong D) D i ns us
+  masks-aside i ns st us e = sym (bare-first i ns st) ∙ ap (firstBy (wrong D) D i ns) e ∙ bare-first i ns us
+
+module _ (C : Contents) where
   -- the first that a rule refuses from the node i on, and the candidates from there on
   abbrev pub from : (Context → Node → ℕ) → ℕ → List Context → Verdict
-  from rule i st = firstBy rule (schemaOf f h) i (nodesFrom f (h .at .nodes + 3 * (i - 1)) (h .count .nodes + 1 - i)) st
+  from rule i st = firstBy rule (schemaOf C) i (drop (i - 1) (C .nodes)) st
 
   abbrev roles-from : ℕ → List Context → List ℕ
-  roles-from i st = candidatesFrom (schemaOf f h) (nodesFrom f (h .at .nodes + 3 * (i - 1)) (h .count .nodes + 1 - i)) st
+  roles-from i st = candidatesFrom (schemaOf C) (drop (i - 1) (C .nodes)) st
 
-  -- the contexts st wait at the node i; v is the first of 11 to 13 before it, and l the table of candidates so far
-  pub record Left (i : ℕ) (st : List Context) (v : Verdict) (l : List ℕ) : Type 0 where
-    pub known : orElse v fine ≡ v
-    pub names : from (wrong (schemaOf f h)) i st ≡ namesAnswer f h
-    pub roles : orElse v (from (barred (schemaOf f h)) i st) ≡ rolesAnswer f h
-    pub given : sets l i (roles-from i st) ≡ sets out 1 (candidatesIn f h)
+  from-node : (i : ℕ) (n : Node) → 1 ≤ i → i ≤ length (C .nodes) → n ≡ item noNode (C .nodes) i → drop (i - 1) (C .nodes) ≡ n ∷ drop (i + 1 - 1) (C .nodes)
+  from-node i n pos le e = let back : i + 1 - 1 ≡ i = omega arith in rw (e, back) (from-item noNode (C .nodes) i pos le)
 
-  turn : (rule : Context → Node → ℕ) (i : ℕ) (c : Context) (st : List Context) (n : Node) → 1 ≤ i → i ≤ h .count .nodes → n ≡ nodeAt f (h .at .nodes + 3 * (i - 1))
-      → from rule i (c ∷ st) ≡ cond (eqb (rule c n) 0) (from rule (i + 1) (after (schemaOf f h) c n st)) (refused (rule c n) i)
-  unfolding firstBy nodesFrom
-  turn rule i c st n pos le e =
-      let more : h .count .nodes + 1 - i ≡ suc (h .count .nodes - i) = omega arith in
-      let along : h .at .nodes + 3 * (i - 1) + 3 ≡ h .at .nodes + 3 * i = omega arith in
-      let back : i + 1 - 1 ≡ i = omega arith in
-      let left : h .count .nodes + 1 - (i + 1) ≡ h .count .nodes - i = omega arith in
-      rw (e, more, along, back, left, add-one i)
+  turn : (rule : Context → Node → ℕ) (i : ℕ) (c : Context) (st : List Context) (n : Node) → 1 ≤ i → i ≤ length (C .nodes) → n ≡ item noNode (C .nodes) i
+      → from rule i (c ∷ st) ≡ cond (eqb (rule c n) 0) (from rule (i + 1) (after (schemaOf C) c n st)) (refused (rule c n) i)
+  unfolding firstBy
+  turn rule i c st n pos le e = rw (from-node i n pos le e, add-one i)
 
-  turn-roles : (i : ℕ) (c : Context) (st : List Context) (n : Node) → 1 ≤ i → i ≤ h .count .nodes → n ≡ nodeAt f (h .at .nodes + 3 * (i - 1))
-      → roles-from i (c ∷ st) ≡ cond (eqb (wrong (schemaOf f h) c n) 0) (candidates (schemaOf f h) c n ∷ roles-from (i + 1) (after (schemaOf f h) c n st)) []
-  unfolding candidatesFrom nodesFrom
-  turn-roles i c st n pos le e =
-      let more : h .count .nodes + 1 - i ≡ suc (h .count .nodes - i) = omega arith in
-      let along : h .at .nodes + 3 * (i - 1) + 3 ≡ h .at .nodes + 3 * i = omega arith in
-      let back : i + 1 - 1 ≡ i = omega arith in
-      let left : h .count .nodes + 1 - (i + 1) ≡ h .count .nodes - i = omega arith in
-      rw (e, more, along, back, left)
+  turn-roles : (i : ℕ) (c : Context) (st : List Context) (n : Node) → 1 ≤ i → i ≤ length (C .nodes) → n ≡ item noNode (C .nodes) i
+      → roles-from i (c ∷ st) ≡ cond (eqb (wrong (schemaOf C) c n) 0) (candidates (schemaOf C) c n ∷ roles-from (i + 1) (after (schemaOf C) c n st)) []
+  unfolding candidatesFrom
+  turn-roles i c st n pos le e = rw (from-node i n pos le e)
 
   none-waits : (rule : Context → Node → ℕ) (i : ℕ) → from rule i [] ≡ fine
   unfolding firstBy
-  none-waits rule i = go (nodesFrom f (h .at .nodes + 3 * (i - 1)) (h .count .nodes + 1 - i))
+  none-waits rule i = go (drop (i - 1) (C .nodes))
     where
-      go : (ns : List Node) → firstBy rule (schemaOf f h) i ns [] ≡ fine
+      go : (ns : List Node) → firstBy rule (schemaOf C) i ns [] ≡ fine
       go [] = refl
       go (n ∷ ns) = refl
 
   none-given : (i : ℕ) → roles-from i [] ≡ []
   unfolding candidatesFrom
-  none-given i = go (nodesFrom f (h .at .nodes + 3 * (i - 1)) (h .count .nodes + 1 - i))
+  none-given i = go (drop (i - 1) (C .nodes))
     where
-      go : (ns : List Node) → candidatesFrom (schemaOf f h) ns [] ≡ []
+      go : (ns : List Node) → candidatesFrom (schemaOf C) ns [] ≡ []
       go [] = refl
       go (n ∷ ns) = refl
 
-  none-left : (rule : Context → Node → ℕ) (i : ℕ) (st : List Context) → h .count .nodes < i → from rule i st ≡ fine
-  unfolding firstBy nodesFrom
-  none-left rule i st past = let none : h .count .nodes + 1 - i ≡ 0 = omega arith in rw none
+  none-left : (rule : Context → Node → ℕ) (i : ℕ) (st : List Context) → length (C .nodes) < i → from rule i st ≡ fine
+  unfolding firstBy
+  none-left rule i st past = rw (none-past (C .nodes) (i - 1) (omega arith))
 
-  none-more : (i : ℕ) (st : List Context) → h .count .nodes < i → roles-from i st ≡ []
-  unfolding candidatesFrom nodesFrom
-  none-more i st past = let none : h .count .nodes + 1 - i ≡ 0 = omega arith in rw none
+  none-more : (i : ℕ) (st : List Context) → length (C .nodes) < i → roles-from i st ≡ []
+  unfolding candidatesFrom
+  none-more i st past = rw (none-past (C .nodes) (i - 1) (omega arith))
 
-  pub begins : (st : List Context) → st ≡ openings f h → Left 1 st fine out
+  -- the first of 9 and 10 from the node i on is that of all
+  abbrev pub Names : ℕ → List Context → Type 0
+  Names i st = from (wrong (schemaOf C)) i st ≡ namesAnswer C
+
+  pub names-begin : (st : List Context) → st ≡ map unmasked (openings C) → Names 1 st
+  unfolding namesAnswer
+  names-begin st e = ap (from (wrong (schemaOf C)) 1) e ∙ bare-first (schemaOf C) 1 (C .nodes) (openings C)
+
+  pub names-on : (i : ℕ) (c : Context) (st next : List Context) (n : Node) → 1 ≤ i → i ≤ length (C .nodes) → n ≡ item noNode (C .nodes) i → wrong (schemaOf C) c n ≡ 0
+      → map unmasked next ≡ map unmasked (after (schemaOf C) c n st) → Names i (c ∷ st) → Names (i + 1) next
+  names-on i c st next n pos le its good same left =
+      let D : Schema = schemaOf C in
+      masks-aside D (i + 1) (drop (i + 1 - 1) (C .nodes)) next (after D c n st) same ∙ (rw (turn (wrong D) i c st n pos le its, eq-eqb (wrong D c n) 0 good) at left)
+
+  pub names-refused : (i : ℕ) (c : Context) (st : List Context) (b : ℕ) (n : Node) → 1 ≤ i → i ≤ length (C .nodes) → n ≡ item noNode (C .nodes) i
+      → b ≡ wrong (schemaOf C) c n → (b ≡ 0 → ⊥) → Names i (c ∷ st) → refused b i ≡ namesAnswer C
+  names-refused i c st b n pos le its e bad left = rw (turn (wrong (schemaOf C)) i c st n pos le its, sym e, ne-eqb b 0 bad) at left
+
+  -- an end and a fork
+  pub names-tree : (i : ℕ) (c : Context) (st : List Context) (n : Node) → 1 ≤ i → i ≤ length (C .nodes) → n ≡ item noNode (C .nodes) i → n .tag ≡ 0 → Names i (c ∷ st) → Names (i + 1) st
+  unfolding wrong namesFit kindsFit
+  names-tree i c st n pos le its t left = names-on i c st st n pos le its (rw t) (rw t) left
+
+  pub names-fork : (i : ℕ) (c : Context) (st : List Context) (n : Node) → 1 ≤ i → i ≤ length (C .nodes) → n ≡ item noNode (C .nodes) i → n .tag ≡ 1
+      → Names i (c ∷ st) → Names (i + 1) (c ∷ c ∷ st)
+  unfolding wrong namesFit kindsFit
+  names-fork i c st n pos le its t left = names-on i c st (c ∷ c ∷ st) n pos le its (rw t) (rw t) left
+
+  -- none is refused where no context waits, and past the last node
+  pub names-out : (i : ℕ) → Names i [] → fine ≡ namesAnswer C
+  names-out i left = sym (none-waits (wrong (schemaOf C)) i) ∙ left
+
+  pub names-end : (i : ℕ) (st : List Context) → length (C .nodes) < i → Names i st → fine ≡ namesAnswer C
+  names-end i st past left = sym (none-left (wrong (schemaOf C)) i st past) ∙ left
+
+module _ (C : Contents) (out : List ℕ) where
+  -- the contexts st wait at the node i; v is the first of 11 to 13 before it, and l the table of candidates so far
+  pub record Left (i : ℕ) (st : List Context) (v : Verdict) (l : List ℕ) : Type 0 where
+    pub known : orElse v fine ≡ v
+    pub names : Names C i st
+    pub roles : orElse v (from C (barred (schemaOf C)) i st) ≡ rolesAnswer C
+    pub given : sets l i (roles-from C i st) ≡ sets out 1 (candidatesIn C)
+
+  pub begins : (st : List Context) → st ≡ openings C → Left 1 st fine out
   unfolding namesAnswer rolesAnswer candidatesIn
-  begins st e =
-      let at : h .at .nodes + 3 * (1 - 1) ≡ h .at .nodes = omega arith in
-      let count : h .count .nodes + 1 - 1 ≡ h .count .nodes = omega arith in
-      record { known = refl; names = rw (at, count, e); roles = rw (at, count, e); given = rw (at, count, e) }
+  begins st e = record { known = refl; names = rw e; roles = rw e; given = rw e }
 
   -- a node that is not refused for its names
-  pub goes-on : (i : ℕ) (c : Context) (st next : List Context) (v : Verdict) (l : List ℕ) (b r : ℕ) (n : Node) → 1 ≤ i → i ≤ h .count .nodes → n ≡ nodeAt f (h .at .nodes + 3 * (i - 1))
-      → wrong (schemaOf f h) c n ≡ 0 → b ≡ barred (schemaOf f h) c n → r ≡ candidates (schemaOf f h) c n → next ≡ after (schemaOf f h) c n st
+  pub goes-on : (i : ℕ) (c : Context) (st next : List Context) (v : Verdict) (l : List ℕ) (b r : ℕ) (n : Node) → 1 ≤ i → i ≤ length (C .nodes) → n ≡ item noNode (C .nodes) i
+      → wrong (schemaOf C) c n ≡ 0 → b ≡ barred (schemaOf C) c n → r ≡ candidates (schemaOf C) c n → next ≡ after (schemaOf C) c n st
       → Left i (c ∷ st) v l → Left (i + 1) next (orElse v (answerAt b i)) (set l i r)
   goes-on i c st next v l b r n pos le its good bar can after′ left =
-      let D : Schema = schemaOf f h in
-      let names : from (wrong D) (i + 1) (after D c n st) ≡ namesAnswer f h = (rw (turn (wrong D) i c st n pos le its, eq-eqb (wrong D c n) 0 good) at (left .names)) in
-      let roles : orElse v (cond (eqb b 0) (from (barred D) (i + 1) (after D c n st)) (refused b i)) ≡ rolesAnswer f h =
-      rw (turn (barred D) i c st n pos le its, sym bar) at (left .roles) in
-      let shape : roles-from i (c ∷ st) ≡ candidates D c n ∷ roles-from (i + 1) (after D c n st) =
-      turn-roles i c st n pos le its ∙ rw (eq-eqb (wrong D c n) 0 good) in
-      let given : sets l i (candidates D c n ∷ roles-from (i + 1) (after D c n st)) ≡ sets out 1 (candidatesIn f h) = ap (sets l i) (sym shape) ∙ left .given in
+      let D : Schema = schemaOf C in
+      let roles : orElse v (cond (eqb b 0) (from C (barred D) (i + 1) (after D c n st)) (refused b i)) ≡ rolesAnswer C =
+      rw (turn C (barred D) i c st n pos le its, sym bar) at (left .roles) in
+      let shape : roles-from C i (c ∷ st) ≡ candidates D c n ∷ roles-from C (i + 1) (after D c n st) =
+      turn-roles C i c st n pos le its ∙ rw (eq-eqb (wrong D c n) 0 good) in
+      let given : sets l i (candidates D c n ∷ roles-from C (i + 1) (after D c n st)) ≡ sets out 1 (candidatesIn C) = ap (sets l i) (sym shape) ∙ left .given in
       record {
         known = noted-quiet v b i (left .known);
-        names = ap (from (wrong D) (i + 1)) after′ ∙ names;
-        roles = ap (λ s. orElse (orElse v (answerAt b i)) (from (barred D) (i + 1) s)) after′ ∙ sym (noted v (from (barred D) (i + 1) (after D c n st)) b i) ∙ roles;
-        given = ap (λ s. sets (set l i r) (i + 1) (roles-from (i + 1) s)) after′ ∙ ap (λ k. sets (set l i r) k (roles-from (i + 1) (after D c n st))) (add-one i)
-            ∙ ap (λ x. sets (set l i x) (suc i) (roles-from (i + 1) (after D c n st))) can ∙ given;
+        names = names-on C i c st next n pos le its good (ap (map unmasked) after′) (left .names);
+        roles = ap (λ s. orElse (orElse v (answerAt b i)) (from C (barred D) (i + 1) s)) after′ ∙ sym (noted v (from C (barred D) (i + 1) (after D c n st)) b i) ∙ roles;
+        given = ap (λ s. sets (set l i r) (i + 1) (roles-from C (i + 1) s)) after′ ∙ ap (λ k. sets (set l i r) k (roles-from C (i + 1) (after D c n st))) (add-one i)
+            ∙ ap (λ x. sets (set l i x) (suc i) (roles-from C (i + 1) (after D c n st))) can ∙ given;
       }
 
   -- the pass is over: at a node that is refused for its names, where no context waits, and past the last node
   abbrev pub Over : Verdict → Verdict → List ℕ → Type 0
-  Over n r l = (record { names = n; roles = r } ≡ judgement f h) × (l ≡ sets out 1 (candidatesIn f h))
+  Over n r l = (record { names = n; roles = r } ≡ judgement C) × (l ≡ sets out 1 (candidatesIn C))
 
-  pub refuses : (i : ℕ) (c : Context) (st : List Context) (v : Verdict) (l : List ℕ) (b : ℕ) (n : Node) → 1 ≤ i → i ≤ h .count .nodes → n ≡ nodeAt f (h .at .nodes + 3 * (i - 1))
-      → b ≡ wrong (schemaOf f h) c n → (b ≡ 0 → ⊥) → Left i (c ∷ st) v l → Over (answerAt b i) fine l
+  pub refuses : (i : ℕ) (c : Context) (st : List Context) (v : Verdict) (l : List ℕ) (b : ℕ) (n : Node) → 1 ≤ i → i ≤ length (C .nodes) → n ≡ item noNode (C .nodes) i
+      → b ≡ wrong (schemaOf C) c n → (b ≡ 0 → ⊥) → Left i (c ∷ st) v l → Over (answerAt b i) fine l
   refuses i c st v l b n pos le its e bad left =
-      let D : Schema = schemaOf f h in
-      let names : refused b i ≡ namesAnswer f h = rw (turn (wrong D) i c st n pos le its, sym e, ne-eqb b 0 bad) at (left .names) in
-      let none : roles-from i (c ∷ st) ≡ [] = turn-roles i c st n pos le its ∙ rw (sym e, ne-eqb b 0 bad) in
+      let D : Schema = schemaOf C in
+      let names = names-refused C i c st b n pos le its e bad (left .names) in
+      let none : roles-from C i (c ∷ st) ≡ [] = turn-roles C i c st n pos le its ∙ rw (sym e, ne-eqb b 0 bad) in
       (rw (sym names, ne-eqb b 0 bad), ap (sets l i) (sym none) ∙ left .given)
 
-  quiet : (v : Verdict) → fine ≡ namesAnswer f h → v ≡ rolesAnswer f h → record { names = fine; roles = v } ≡ judgement f h
+  quiet : (v : Verdict) → fine ≡ namesAnswer C → v ≡ rolesAnswer C → record { names = fine; roles = v } ≡ judgement C
   quiet v a b = rw (sym a, sym b)
 
   pub runs-out : (i : ℕ) (v : Verdict) (l : List ℕ) → Left i [] v l → Over fine v l
   runs-out i v l left =
-      let D : Schema = schemaOf f h in (
-        quiet v (sym (none-waits (wrong D) i) ∙ left .names) (sym (left .known) ∙ ap (orElse v) (sym (none-waits (barred D) i)) ∙ left .roles),
-        ap (sets l i) (sym (none-given i)) ∙ left .given,
+      let D : Schema = schemaOf C in (
+        quiet v (names-out C i (left .names)) (sym (left .known) ∙ ap (orElse v) (sym (none-waits C (barred D) i)) ∙ left .roles),
+        ap (sets l i) (sym (none-given C i)) ∙ left .given,
       )
 
-  pub ends : (i : ℕ) (st : List Context) (v : Verdict) (l : List ℕ) → h .count .nodes < i → Left i st v l → Over fine v l
+  pub ends : (i : ℕ) (st : List Context) (v : Verdict) (l : List ℕ) → length (C .nodes) < i → Left i st v l → Over fine v l
   ends i st v l past left =
-      let D : Schema = schemaOf f h in (
-        quiet v (sym (none-left (wrong D) i st past) ∙ left .names) (sym (left .known) ∙ ap (orElse v) (sym (none-left (barred D) i st past)) ∙ left .roles),
-        ap (sets l i) (sym (none-more i st past)) ∙ left .given,
+      let D : Schema = schemaOf C in (
+        quiet v (names-end C i st past (left .names)) (sym (left .known) ∙ ap (orElse v) (sym (none-left C (barred D) i st past)) ∙ left .roles),
+        ap (sets l i) (sym (none-more C i st past)) ∙ left .given,
       )
 
   -- an end and a fork
-  pub ends-tree : (i : ℕ) (c : Context) (st : List Context) (v : Verdict) (l : List ℕ) (r : ℕ) (n : Node) → 1 ≤ i → i ≤ h .count .nodes → n ≡ nodeAt f (h .at .nodes + 3 * (i - 1))
-      → n .tag ≡ 0 → r ≡ schemaOf f h .assigned (c .user) → Left i (c ∷ st) v l → Left (i + 1) st v (set l i r)
+  pub ends-tree : (i : ℕ) (c : Context) (st : List Context) (v : Verdict) (l : List ℕ) (r : ℕ) (n : Node) → 1 ≤ i → i ≤ length (C .nodes) → n ≡ item noNode (C .nodes) i
+      → n .tag ≡ 0 → r ≡ schemaOf C .assigned (c .user) → Left i (c ∷ st) v l → Left (i + 1) st v (set l i r)
   unfolding wrong namesFit kindsFit barred candidates
   ends-tree i c st v l r n pos le its t can left =
       let on = goes-on i c st st v l 0 r n pos le its (rw t) (rw t) (can ∙ rw t) (rw t) left in
-      record { known = left .known; names = on .names; roles = ap (λ x. orElse x (from (barred (schemaOf f h)) (i + 1) st)) (sym (left .known)) ∙ on .roles; given = on .given }
+      record { known = left .known; names = on .names; roles = ap (λ x. orElse x (from C (barred (schemaOf C)) (i + 1) st)) (sym (left .known)) ∙ on .roles; given = on .given }
 
-  pub forks : (i : ℕ) (c : Context) (st : List Context) (v : Verdict) (l : List ℕ) (r : ℕ) (n : Node) → 1 ≤ i → i ≤ h .count .nodes → n ≡ nodeAt f (h .at .nodes + 3 * (i - 1))
-      → n .tag ≡ 1 → r ≡ schemaOf f h .assigned (c .user) → Left i (c ∷ st) v l → Left (i + 1) (c ∷ c ∷ st) v (set l i r)
+  pub forks : (i : ℕ) (c : Context) (st : List Context) (v : Verdict) (l : List ℕ) (r : ℕ) (n : Node) → 1 ≤ i → i ≤ length (C .nodes) → n ≡ item noNode (C .nodes) i
+      → n .tag ≡ 1 → r ≡ schemaOf C .assigned (c .user) → Left i (c ∷ st) v l → Left (i + 1) (c ∷ c ∷ st) v (set l i r)
   unfolding wrong namesFit kindsFit barred candidates
   forks i c st v l r n pos le its t can left =
       let on = goes-on i c st (c ∷ c ∷ st) v l 0 r n pos le its (rw t) (rw t) (can ∙ rw t) (rw t) left in
-      record { known = left .known; names = on .names; roles = ap (λ x. orElse x (from (barred (schemaOf f h)) (i + 1) (c ∷ c ∷ st))) (sym (left .known)) ∙ on .roles; given = on .given }
+      record { known = left .known; names = on .names; roles = ap (λ x. orElse x (from C (barred (schemaOf C)) (i + 1) (c ∷ c ∷ st))) (sym (left .known)) ∙ on .roles; given = on .given }

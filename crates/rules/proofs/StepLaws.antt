@@ -1,20 +1,20 @@
 -- The rules at one node, tag by tag, as the code goes by tags.
-use Prim.Native.Nat.{ℕ, zero, suc, _+_, _*_, _/_, _%_, _≤_, _<_}
+use Prim.Native.Nat.{ℕ, zero, suc, _+_, _≤_, _<_}
 use mathlib.Core.Path.{_≡_, refl, sym, ap, ap₂, subst, _∙_}
-use mathlib.Core.Bool.{Bool, true, false, cond, not, _&&_, and-eq-true-iff}
+use mathlib.Core.Bool.{Bool, true, false, cond, _&&_, and-eq-true-iff}
 use mathlib.Core.List.{List, [], _∷_, _++_}
 use native.Mathlib.Omega.{arith}
 use lib.ListN.{length, set}
-use lib.Bits.{bitAnd}
-use lib.Dec.{eqb, leb, ltb}
-use borrow.Author.Tests.{eq-eqb, ne-eqb, eqb-true, eqb-false, lt-ltb, le-ltb}
+use lib.Dec.{eqb, ltb}
+use borrow.Author.Tests.{eq-eqb, ne-eqb, eqb-true, eqb-false, lt-ltb}
 use Rattle.masks.specs.Mask.{has, with, without}
+use Rattle.format.specs.Contents.{inCount}
 use Rattle.format.specs.declared.Node.{Node}
-use Rattle.rules.specs.declared.Way.the-variants.{Sends, Receives}
 use Rattle.rules.specs.declared.Point.{Point}
 use Rattle.rules.specs.declared.Step.{Step}
-use Rattle.rules.specs.Schema.{Schema, permitting}
-use Rattle.rules.specs.Names.{Bound, within, named, kindOf, mine}
+use Rattle.rules.specs.declared.NameStep.{NameStep}
+use Rattle.rules.specs.Schema.{Schema}
+use Rattle.rules.specs.Names.{Bound, named, kindOf, mine}
 use Rattle.rules.specs.Rules.{Context, namesFit, kindsFit, able, wrong, barred, childOf}
 use Rattle.rules.specs.Candidates.{candidates}
 use Rattle.rules.specs.Kept.{
@@ -38,6 +38,10 @@ use Rattle.rules.specs.Kept.{
   onStep,
   offStep,
   stepOf,
+  barePoint,
+  unmasked,
+  namingFrom,
+  namingOf,
 }
 use Rattle.rules.proofs.NameLaws.{Held, held-same, held-more, vars-kept, vars-more, said}
 
@@ -47,9 +51,9 @@ module _ (D : Schema) (t : List ℕ) (p : Point) (n : Node) where
   unfolding stepOf
   step-repeat e = rw e
 
-  pub step-new : n .tag ≡ 3 → newStep (D .kinds) p (n .f1) ≡ stepOf D t p n
+  pub step-new : {k : ℕ} → D .kinds ≡ k → n .tag ≡ 3 → newStep k p (n .f1) ≡ stepOf D t p n
   unfolding stepOf
-  step-new e = rw e
+  step-new m e = rw (e, m)
 
   pub step-compare : n .tag ≡ 4 → compareStep p (look t (p .bound) (n .f1)) (look t (p .bound) (n .f2)) ≡ stepOf D t p n
   unfolding stepOf
@@ -63,19 +67,36 @@ module _ (D : Schema) (t : List ℕ) (p : Point) (n : Node) where
   unfolding stepOf
   step-send e = rw e
 
-  pub step-on : n .tag ≡ 7 → onStep (D .roles) p (n .f1) ≡ stepOf D t p n
+  pub step-on : {k : ℕ} → D .roles ≡ k → n .tag ≡ 7 → onStep k p (n .f1) ≡ stepOf D t p n
   unfolding stepOf
-  step-on e = rw e
+  step-on m e = rw (e, m)
 
-  pub step-off : n .tag ≡ 8 → offStep (D .roles) p (n .f1) ≡ stepOf D t p n
+  pub step-off : {k : ℕ} → D .roles ≡ k → n .tag ≡ 8 → offStep k p (n .f1) ≡ stepOf D t p n
   unfolding stepOf
-  step-off e = rw e
+  step-off m e = rw (e, m)
 
-  pub step-other : (n .tag ≡ 2 → ⊥) → (n .tag ≡ 3 → ⊥) → (n .tag ≡ 4 → ⊥) → (n .tag ≡ 5 → ⊥) → (n .tag ≡ 6 → ⊥) → (n .tag ≡ 7 → ⊥) → (n .tag ≡ 8 → ⊥)
-      → staying p (graded (within (D .roles) (n .f1)) true) 0 (p .assigned) ≡ stepOf D t p n
+  pub step-other : {k : ℕ} → D .roles ≡ k → (n .tag ≡ 2 → ⊥) → (n .tag ≡ 3 → ⊥) → (n .tag ≡ 4 → ⊥) → (n .tag ≡ 5 → ⊥) → (n .tag ≡ 6 → ⊥) → (n .tag ≡ 7 → ⊥) → (n .tag ≡ 8 → ⊥)
+      → staying p (graded (inCount k (n .f1)) true) 0 (p .assigned) ≡ stepOf D t p n
   unfolding stepOf
-  step-other a b c d e f g =
-      rw (ne-eqb (n .tag) 2 a, ne-eqb (n .tag) 3 b, ne-eqb (n .tag) 4 c, ne-eqb (n .tag) 5 d, ne-eqb (n .tag) 6 e, ne-eqb (n .tag) 7 f, ne-eqb (n .tag) 8 g)
+  step-other m a b c d e f g =
+      rw (m, ne-eqb (n .tag) 2 a, ne-eqb (n .tag) 3 b, ne-eqb (n .tag) 4 c, ne-eqb (n .tag) 5 d, ne-eqb (n .tag) 6 e, ne-eqb (n .tag) 7 f, ne-eqb (n .tag) 8 g)
+
+-- the same for names alone, where a role is turned on or off and at any further tag
+turned : (p : Point) (q : Bool) (b m : ℕ) → record { wrong = graded q true; binding = 0; bound = p .bound } ≡ namingFrom (cond q (turning p b m) (staying p 9 0 0))
+turned p true b m = refl
+turned p false b m = refl
+
+pub naming-other : (D : Schema) (t : List ℕ) (u b : ℕ) (n : Node) {k : ℕ} → D .roles ≡ k → (n .tag ≡ 2 → ⊥) → (n .tag ≡ 3 → ⊥) → (n .tag ≡ 4 → ⊥) → (n .tag ≡ 5 → ⊥) → (n .tag ≡ 6 → ⊥)
+    → record { wrong = graded (inCount k (n .f1)) true; binding = 0; bound = b } ≡ namingOf D t u b n
+naming-other D t u b n {k} m x2 x3 x4 x5 x6 = go7 (eqb (n .tag) 7) refl
+  where
+    go8 : (n .tag ≡ 7 → ⊥) → (q : Bool) → eqb (n .tag) 8 ≡ q → record { wrong = graded (inCount k (n .f1)) true; binding = 0; bound = b } ≡ namingOf D t u b n
+    go8 x7 true e = turned (barePoint D u b) (inCount k (n .f1)) _ _ ∙ ap namingFrom (step-off D t (barePoint D u b) n m (eqb-true (n .tag) 8 e))
+    go8 x7 false e = ap namingFrom (step-other D t (barePoint D u b) n m x2 x3 x4 x5 x6 x7 (eqb-false (n .tag) 8 e))
+
+    go7 : (q : Bool) → eqb (n .tag) 7 ≡ q → record { wrong = graded (inCount k (n .f1)) true; binding = 0; bound = b } ≡ namingOf D t u b n
+    go7 true e = turned (barePoint D u b) (inCount k (n .f1)) _ _ ∙ ap namingFrom (step-on D t (barePoint D u b) n m (eqb-true (n .tag) 7 e))
+    go7 false e = go8 (eqb-false (n .tag) 7 e) (eqb (n .tag) 8) refl
 
 -- what is not refused
 named-zero : (a b : Bool) → graded a b ≡ 0 → a ≡ true
@@ -234,21 +255,21 @@ module _ (D : Schema) (t : List ℕ) (p : Point) (n : Node) (users : D .users �
 
   on-on : n .tag ≡ 7 → Right D t p n (onStep (D .roles) p (n .f1))
   unfolding wrong namesFit kindsFit barred candidates childOf
-  on-on e = go (within (D .roles) (n .f1)) refl
+  on-on e = go (inCount (D .roles) (n .f1)) refl
     where
-      go : (q : Bool) → within (D .roles) (n .f1) ≡ q → Right D t p n (cond q (turning p (cond (has (p .assigned) (n .f1)) 0 11) (with (p .mask) (n .f1))) (staying p 9 0 0))
+      go : (q : Bool) → inCount (D .roles) (n .f1) ≡ q → Right D t p n (cond q (turning p (cond (has (p .assigned) (n .f1)) 0 11) (with (p .mask) (n .f1))) (staying p 9 0 0))
       go true q = record { wrong = rw (e, q); goes = λ z. turns _ _ (rw (e, own)) (own ∙ rw e) (rw e) }
       go false q = record { wrong = rw (e, q); goes = λ z. let no : ⊥ = omega (arith, z) in absurd no }
 
   on-off : n .tag ≡ 8 → Right D t p n (offStep (D .roles) p (n .f1))
   unfolding wrong namesFit kindsFit barred candidates childOf
-  on-off e = go (within (D .roles) (n .f1)) refl
+  on-off e = go (inCount (D .roles) (n .f1)) refl
     where
-      go : (q : Bool) → within (D .roles) (n .f1) ≡ q → Right D t p n (cond q (turning p (cond (has (p .mask) (n .f1)) 0 12) (without (p .mask) (n .f1))) (staying p 9 0 0))
+      go : (q : Bool) → inCount (D .roles) (n .f1) ≡ q → Right D t p n (cond q (turning p (cond (has (p .mask) (n .f1)) 0 12) (without (p .mask) (n .f1))) (staying p 9 0 0))
       go true q = record { wrong = rw (e, q); goes = λ z. turns _ _ (rw e) (own ∙ rw e) (rw e) }
       go false q = record { wrong = rw (e, q); goes = λ z. let no : ⊥ = omega (arith, z) in absurd no }
 
-  on-other : 8 < n .tag → Right D t p n (staying p (graded (within (D .roles) (n .f1)) true) 0 (p .assigned))
+  on-other : 8 < n .tag → Right D t p n (staying p (graded (inCount (D .roles) (n .f1)) true) 0 (p .assigned))
   unfolding wrong namesFit kindsFit barred candidates childOf
   on-other e =
       let no : (k : ℕ) → k ≤ 8 → eqb (n .tag) k ≡ false = λ k le. ne-eqb (n .tag) k (λ q. let z : n .tag ≡ k = q in omega arith) in
@@ -271,13 +292,13 @@ module _ (D : Schema) (t : List ℕ) (p : Point) (n : Node) (users : D .users �
       moved s e r = subst (λ (x : Step). Right D t p n x) e r
 
       go8 : (n .tag ≡ 2 → ⊥) → (n .tag ≡ 3 → ⊥) → (n .tag ≡ 4 → ⊥) → (n .tag ≡ 5 → ⊥) → (n .tag ≡ 6 → ⊥) → (n .tag ≡ 7 → ⊥) → (q : Bool) → eqb (n .tag) 8 ≡ q → Done
-      go8 x2 x3 x4 x5 x6 x7 true e = let y = eqb-true (n .tag) 8 e in moved _ (step-off D t p n y) (on-off y)
+      go8 x2 x3 x4 x5 x6 x7 true e = let y = eqb-true (n .tag) 8 e in moved _ (step-off D t p n refl y) (on-off y)
       go8 x2 x3 x4 x5 x6 x7 false e =
           let x8 = eqb-false (n .tag) 8 e in
-          moved _ (step-other D t p n x2 x3 x4 x5 x6 x7 x8) (on-other (above (n .tag) a b x2 x3 x4 x5 x6 x7 x8))
+          moved _ (step-other D t p n refl x2 x3 x4 x5 x6 x7 x8) (on-other (above (n .tag) a b x2 x3 x4 x5 x6 x7 x8))
 
       go7 : (n .tag ≡ 2 → ⊥) → (n .tag ≡ 3 → ⊥) → (n .tag ≡ 4 → ⊥) → (n .tag ≡ 5 → ⊥) → (n .tag ≡ 6 → ⊥) → (q : Bool) → eqb (n .tag) 7 ≡ q → Done
-      go7 x2 x3 x4 x5 x6 true e = let y = eqb-true (n .tag) 7 e in moved _ (step-on D t p n y) (on-on y)
+      go7 x2 x3 x4 x5 x6 true e = let y = eqb-true (n .tag) 7 e in moved _ (step-on D t p n refl y) (on-on y)
       go7 x2 x3 x4 x5 x6 false e = go8 x2 x3 x4 x5 x6 (eqb-false (n .tag) 7 e) (eqb (n .tag) 8) refl
 
       go6 : (n .tag ≡ 2 → ⊥) → (n .tag ≡ 3 → ⊥) → (n .tag ≡ 4 → ⊥) → (n .tag ≡ 5 → ⊥) → (q : Bool) → eqb (n .tag) 6 ≡ q → Done
@@ -293,9 +314,29 @@ module _ (D : Schema) (t : List ℕ) (p : Point) (n : Node) (users : D .users �
       go4 x2 x3 false e = go5 x2 x3 (eqb-false (n .tag) 4 e) (eqb (n .tag) 5) refl
 
       go3 : (n .tag ≡ 2 → ⊥) → (q : Bool) → eqb (n .tag) 3 ≡ q → Done
-      go3 x2 true e = let y = eqb-true (n .tag) 3 e in moved _ (step-new D t p n y) (on-new y small)
+      go3 x2 true e = let y = eqb-true (n .tag) 3 e in moved _ (step-new D t p n refl y) (on-new y small)
       go3 x2 false e = go4 x2 (eqb-false (n .tag) 3 e) (eqb (n .tag) 4) refl
 
       go2 : (q : Bool) → eqb (n .tag) 2 ≡ q → Done
       go2 true e = let y = eqb-true (n .tag) 2 e in moved _ (step-repeat D t p n y) (on-repeat y)
       go2 false e = go3 (eqb-false (n .tag) 2 e) (eqb (n .tag) 3) refl
+
+-- the same for names alone
+pub record Told (D : Schema) (t : List ℕ) (u b : ℕ) (n : Node) (s : NameStep) : Type 0 where
+  pub wrong : s .wrong ≡ wrong D (contextOf t (barePoint D u b)) n
+  pub child : s .wrong ≡ 0 → unmasked (contextOf (set t (512 + b) (s .binding)) (barePoint D u (s .bound))) ≡ unmasked (childOf D (contextOf t (barePoint D u b)) n)
+  pub least : s .wrong ≡ 0 → b ≤ s .bound
+  pub most : s .wrong ≡ 0 → s .bound ≤ b + 1
+  pub held : s .wrong ≡ 0 → Held (set t (512 + b) (s .binding)) (s .bound)
+
+pub told : (D : Schema) (t : List ℕ) (u b : ℕ) (n : Node) → Right D t (barePoint D u b) n (stepOf D t (barePoint D u b) n) → Told D t u b n (namingOf D t u b n)
+told D t u b n r =
+    let s : Step = stepOf D t (barePoint D u b) n in
+    let q : List ℕ = set t (512 + b) (s .binding) in
+    record {
+      wrong = r .wrong;
+      child = λ z. ap (λ k. record { user = k; mask = 0; vars = varsOf k q (s .child .bound) }) (sym (r .goes z .user)) ∙ ap unmasked (r .goes z .child);
+      least = λ z. r .goes z .least;
+      most = λ z. r .goes z .most;
+      held = λ z. r .goes z .held;
+    }

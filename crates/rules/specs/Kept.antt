@@ -1,7 +1,7 @@
 -- What the pass over the nodes keeps: tables of grants and of names, and the contexts that wait, each as numbers in an array.
 use Prim.Native.Nat.{ℕ, zero, suc, _+_, _*_, _-_, _/_, _%_, _≤_, _<_}
 use mathlib.Core.Path.{_≡_}
-use mathlib.Core.Bool.{Bool, true, false, cond, not, _&&_}
+use mathlib.Core.Bool.{Bool, true, cond, not, _&&_}
 use mathlib.Core.List.{List, [], _∷_, map}
 use lib.Bits.{bitAnd}
 use lib.Dec.{eqb, leb, ltb}
@@ -9,13 +9,15 @@ use lib.ListN.{getD, take, drop}
 use Rattle.masks.specs.Mask.{has, with, without}
 use Rattle.format.specs.Answers.{fine, refused}
 use Rattle.format.specs.declared.Verdict.{Verdict}
+use Rattle.format.specs.Contents.{Contents, item, noChannel, noSession, inCount}
 use Rattle.format.specs.declared.Node.{Node}
 use Rattle.rules.specs.declared.Way.{Way}
 use Rattle.rules.specs.declared.Way.the-variants.{Sends, Receives}
 use Rattle.rules.specs.declared.Point.{Point}
 use Rattle.rules.specs.declared.Step.{Step}
+use Rattle.rules.specs.declared.NameStep.{NameStep}
 use Rattle.rules.specs.Schema.{Schema, permittingTo, permitting}
-use Rattle.rules.specs.Names.{Bound, within}
+use Rattle.rules.specs.Names.{Bound}
 use Rattle.rules.specs.Rules.{Context}
 
 -- those of the roles 1 to r that permit a step on the kinds k, k + 1, .. (n of them), a mask each
@@ -58,7 +60,7 @@ abbrev pub kindTo : Schema → ℕ → ℕ → ℕ
 kindTo D c x = cond (isMade c x) (D .kind (x - 256)) 0
 
 abbrev pub ownerTo : Schema → ℕ → ℕ → ℕ → ℕ
-ownerTo D u c x = cond (within u x) 1 (cond (isMade c x) (D .owner (x - 256) + 2) 0)
+ownerTo D u c x = cond (inCount u x) 1 (cond (isMade c x) (D .owner (x - 256) + 2) 0)
 
 abbrev pub Named : Schema → ℕ → ℕ → List ℕ → Type 0
 Named D u c t = (x : ℕ) → x < 512 → (kindIn (getD t x 0) ≡ kindTo D c x) × (ownerIn (getD t x 0) ≡ ownerTo D u c x)
@@ -92,10 +94,14 @@ stacked a (suc d) = getD a d 0 ∷ stacked a d
 abbrev pub waiting : List ℕ → ℕ → List Point
 waiting a d = map unpacking (stacked a d)
 
--- of the contexts that wait none has more variables than the one above it, the top has b at most, and each has its user's roles
-abbrev pub Waits : Schema → ℕ → List Point → Type 0
-Waits D b [] = Unit {0}
-Waits D b (p ∷ ps) = (p .bound ≤ b) × (p .assigned ≡ D .assigned (p .user)) × Waits D (p .bound) ps
+-- of the contexts that wait none has more variables than the one above it, the top has b at most, and each is as P says
+abbrev pub Waits : (Point → Type 0) → ℕ → List Point → Type 0
+Waits P b [] = Unit {0}
+Waits P b (p ∷ ps) = (p .bound ≤ b) × P p × Waits P (p .bound) ps
+
+-- it has its user's roles
+abbrev pub Given : Schema → Point → Type 0
+Given D p = p .assigned ≡ D .assigned (p .user)
 
 -- 9 before 10
 abbrev pub graded : Bool → Bool → ℕ
@@ -128,7 +134,7 @@ turning p b m = record {
 
 -- the same tag by tag, from what the operands name
 abbrev pub newStep : ℕ → Point → ℕ → Step
-newStep kinds p x = binding p (graded (within kinds x) true) 0 (p .assigned) (entry x (p .user + 2))
+newStep kinds p x = binding p (graded (inCount kinds x) true) 0 (p .assigned) (entry x (p .user + 2))
 
 abbrev pub compareStep : Point → ℕ → ℕ → Step
 compareStep p d e = staying p (graded (something d && something e) (eqb (kindIn d) (kindIn e))) 0 (p .assigned)
@@ -146,10 +152,10 @@ sendStep D p d e =
     (bitAnd (p .assigned) (permitting D Sends (kindIn d)))
 
 abbrev pub onStep : ℕ → Point → ℕ → Step
-onStep roles p x = cond (within roles x) (turning p (cond (has (p .assigned) x) 0 11) (with (p .mask) x)) (staying p 9 0 0)
+onStep roles p x = cond (inCount roles x) (turning p (cond (has (p .assigned) x) 0 11) (with (p .mask) x)) (staying p 9 0 0)
 
 abbrev pub offStep : ℕ → Point → ℕ → Step
-offStep roles p x = cond (within roles x) (turning p (cond (has (p .mask) x) 0 12) (without (p .mask) x)) (staying p 9 0 0)
+offStep roles p x = cond (inCount roles x) (turning p (cond (has (p .mask) x) 0 12) (without (p .mask) x)) (staying p 9 0 0)
 
 -- a node that is no end and no fork
 unfoldable pub stepOf : Schema → List ℕ → Point → Node → Step
@@ -160,7 +166,34 @@ stepOf D t p n =
     (cond (eqb (n .tag) 5) (receiveStep D p (look t (p .bound) (n .f1)))
     (cond (eqb (n .tag) 6) (sendStep D p (look t (p .bound) (n .f1)) (look t (p .bound) (n .f2)))
     (cond (eqb (n .tag) 7) (onStep (D .roles) p (n .f1))
-    (cond (eqb (n .tag) 8) (offStep (D .roles) p (n .f1)) (staying p (graded (within (D .roles) (n .f1)) true) 0 (p .assigned))))))))
+    (cond (eqb (n .tag) 8) (offStep (D .roles) p (n .f1)) (staying p (graded (inCount (D .roles) (n .f1)) true) 0 (p .assigned))))))))
+
+-- 9 and 10 alone: the active set plays no part, and of a context only its user and its variables are kept
+abbrev pub barePoint : Schema → ℕ → ℕ → Point
+barePoint D u b = record { user = u; assigned = D .assigned u; mask = 0; bound = b }
+
+abbrev pub unmasked : Context → Context
+unmasked c = record { user = c .user; mask = 0; vars = c .vars }
+
+abbrev pub unpaired : Schema → ℕ → Point
+unpaired D w = barePoint D (kindIn w) (ownerIn w)
+
+abbrev pub queued : Schema → List ℕ → ℕ → List Point
+queued D a d = map (unpaired D) (stacked a d)
+
+-- 2 and the user is a word
+abbrev pub Ownable : Point → Type 0
+Ownable p = p .user < 65534
+
+-- what 6 and 7 leave: this holds of each owner and of each session's user
+abbrev pub Owned : Contents → Type 0
+Owned C = ((c : ℕ) → item noChannel (C .channels) c .owner < 65534) × ((s : ℕ) → item noSession (C .sessions) s .user < 65534)
+
+abbrev pub namingFrom : Step → NameStep
+namingFrom s = record { wrong = s .wrong; binding = s .binding; bound = s .child .bound }
+
+abbrev pub namingOf : Schema → List ℕ → ℕ → ℕ → Node → NameStep
+namingOf D t u b n = namingFrom (stepOf D t (barePoint D u b) n)
 
 -- a node's refusal as an answer; 0 refuses nothing
 abbrev pub answerAt : ℕ → ℕ → Verdict

@@ -14,7 +14,9 @@ ghost use mathlib.Core.Bool.{cond};
 ghost use Prim.Native.Nat.{_≤_};
 ghost use lib.ListN.{length, getD, replicate};
 ghost use Rattle.masks.specs.Mask.{has, with};
-ghost use Rattle.rules.specs.Schema.{granted, ofItem, schemaOf, permits};
+ghost use Rattle.format.specs.Header.{Laid};
+ghost use Rattle.format.specs.Contents.{contentsAt};
+ghost use Rattle.rules.specs.Schema.{granted, schemaOf, permits};
 ghost use Rattle.rules.specs.Kept.{grantsFrom, addRole, Beyond};
 ghost use Rattle.rules.specs.declared.Way.the-variants.{Sends, Receives};
 
@@ -28,20 +30,17 @@ fn granted_by(way: Way, it: Role) -> u32
 }
 
 // The one lookup of a grant, by a user's role, whose record is at hand, and a channel's kind: whether the role permits sending, or receiving, on it.
-// There is no role 0.
 fn role_permits(it: Role, way: Way, role: UserRole, kind: ChannelKind) -> bool
-    ensures { λ r. ⌜ r ≡ has (ofItem (role .0) (granted way it)) (kind .0) ⌝ }
+    ensures { λ r. ⌜ r ≡ has (granted way it) (kind .0) ⌝ }
 {
-    (role.0 != 0) & has_kind(granted_by(way, it), kind)
+    has_kind(granted_by(way, it), kind)
 }
 
 // The same by the file.
 pub fn permits(file: &[u8], head: Head, way: Way, role: UserRole, kind: ChannelKind) -> bool
-    ensures { λ r. ⌜ r ≡ permits (schemaOf (now (file .entry)) head) way role kind ⌝ }
+    requires { ⌜ Laid (now file) head ⌝ }
+    ensures { λ r. ⌜ r ≡ permits (schemaOf (contentsAt (now (file .entry)) head)) way role kind ⌝ }
 {
-    if role.0 == 0 {
-        return false;
-    }
     role_permits(sections::role(file, head, role.0), way, role, kind)
 }
 
@@ -70,10 +69,10 @@ fn add_role(table: &mut [u16], role: UserRole, it: Role, way: Way)
 
 // The masks of the roles that permit sending, and receiving, on the kinds 0, 1, .., as many as the tables have room for.
 pub fn fill_grants(file: &[u8], head: Head, sends: &mut [u16], receives: &mut [u16])
-    requires { ⌜ (head .count .roles ≤ 16) × (length (now sends) ≤ 33) × (length (now receives) ≤ 33) × (now sends ≡ replicate (length (now sends)) 0) × (now receives ≡ replicate (length (now receives)) 0) ⌝ }
-    ensures { λ r. ⌜ (now (sends .exit) ≡ grantsFrom (schemaOf (now (file .entry)) head) Sends 0 (length (now (sends .entry))))
-        × (now (receives .exit) ≡ grantsFrom (schemaOf (now (file .entry)) head) Receives 0 (length (now (receives .entry))))
-        × Beyond (schemaOf (now (file .entry)) head) Sends (head .count .roles) × Beyond (schemaOf (now (file .entry)) head) Receives (head .count .roles) ⌝ }
+    requires { ⌜ Laid (now file) head × (length (now sends) ≤ 33) × (length (now receives) ≤ 33) × (now sends ≡ replicate (length (now sends)) 0) × (now receives ≡ replicate (length (now receives)) 0) ⌝ }
+    ensures { λ r. ⌜ (now (sends .exit) ≡ grantsFrom (schemaOf (contentsAt (now (file .entry)) head)) Sends 0 (length (now (sends .entry))))
+        × (now (receives .exit) ≡ grantsFrom (schemaOf (contentsAt (now (file .entry)) head)) Receives 0 (length (now (receives .entry))))
+        × Beyond (schemaOf (contentsAt (now (file .entry)) head)) Sends (head .count .roles) × Beyond (schemaOf (contentsAt (now (file .entry)) head)) Receives (head .count .roles) ⌝ }
 {
     let mut n: u16 = 0;
     while n < head.count.roles {

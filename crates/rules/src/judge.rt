@@ -2,7 +2,6 @@
 use super::Judged;
 use super::Point;
 use super::grants::fill_grants;
-use super::names::assigned_to;
 use super::names::name_channels;
 use super::names::name_users;
 use super::steps::step_at;
@@ -11,6 +10,7 @@ use format::Verdict;
 use format::answers::or_else;
 use format::sections::node;
 use format::sections::session;
+use format::sections::user_roles;
 use format::words::narrow;
 use format::words::wide;
 ghost use mathlib.Core.Path.{_≡_};
@@ -19,10 +19,11 @@ ghost use Prim.Native.Nat.{_≤_, _<_};
 ghost use lib.ListN.{length, replicate};
 ghost use lib.Seq.{sets};
 ghost use Rattle.format.specs.Header.{Laid};
+ghost use Rattle.format.specs.Contents.{contentsAt};
 ghost use Rattle.rules.specs.Schema.{schemaOf};
 ghost use Rattle.rules.specs.Checking.{openings, judgement};
 ghost use Rattle.rules.specs.Candidates.{candidatesIn};
-ghost use Rattle.rules.specs.Kept.{Granting, Named, packing, unpacking, contextOf, waiting, Waits, answerAt};
+ghost use Rattle.rules.specs.Kept.{Granting, Named, packing, unpacking, contextOf, waiting, Waits, Given, answerAt};
 ghost use Rattle.rules.specs.declared.Way.the-variants.{Sends, Receives};
 
 // A context as one number, and read back.
@@ -47,15 +48,15 @@ fn unpacked(w: u64) -> Point
 
 // The sessions' contexts on the stack, session 1 on top, and how many they are.
 fn open_sessions(file: &[u8], head: Head, stack: &mut [u64]) -> usize
-    requires { ⌜ (head .count .sessions ≤ 32) × (length (now stack) ≡ 1057) ⌝ }
-    ensures { λ r. ⌜ (r ≡ head .count .sessions) × (length (now (stack .exit)) ≡ 1057) × Waits (schemaOf (now (file .entry)) head) 0 (waiting (now (stack .exit)) r)
-        × (map (contextOf []) (waiting (now (stack .exit)) r) ≡ openings (now (file .entry)) head) ⌝ }
+    requires { ⌜ Laid (now file) head × (length (now stack) ≡ 1057) ⌝ }
+    ensures { λ r. ⌜ (r ≡ head .count .sessions) × (length (now (stack .exit)) ≡ 1057) × Waits (Given (schemaOf (contentsAt (now (file .entry)) head))) 0 (waiting (now (stack .exit)) r)
+        × (map (contextOf []) (waiting (now (stack .exit)) r) ≡ openings (contentsAt (now (file .entry)) head)) ⌝ }
 {
     let sessions = wide(head.count.sessions);
     let mut depth: usize = 0;
     while depth < sessions {
         let it = session(file, head, narrow(sessions - depth));
-        let assigned = assigned_to(file, head, it.user);
+        let assigned = user_roles(file, head, it.user);
         stack[depth] = packed(Point {
             user: it.user,
             assigned,
@@ -90,9 +91,9 @@ fn walk(
     names: &mut [u64],
     roles: &mut [u16],
 ) -> Judged
-    requires { ⌜ Laid head × Granting (schemaOf (now file) head) Sends (now sends) × Granting (schemaOf (now file) head) Receives (now receives)
-        × (length (now names) ≡ 1537) × Named (schemaOf (now file) head) (head .count .users) (head .count .channels) (now names) × (length (now roles) ≡ 1025) ⌝ }
-    ensures { λ r. ⌜ (r ≡ judgement (now (file .entry)) head) × (now (roles .exit) ≡ sets (now (roles .entry)) 1 (candidatesIn (now (file .entry)) head)) ⌝ }
+    requires { ⌜ Laid (now file) head × Granting (schemaOf (contentsAt (now file) head)) Sends (now sends) × Granting (schemaOf (contentsAt (now file) head)) Receives (now receives)
+        × (length (now names) ≡ 1537) × Named (schemaOf (contentsAt (now file) head)) (head .count .users) (head .count .channels) (now names) × (length (now roles) ≡ 1025) ⌝ }
+    ensures { λ r. ⌜ (r ≡ judgement (contentsAt (now (file .entry)) head)) × (now (roles .exit) ≡ sets (now (roles .entry)) 1 (candidatesIn (contentsAt (now (file .entry)) head))) ⌝ }
 {
     let fine = Verdict {
         number: 0,
@@ -163,9 +164,9 @@ fn judge_by(
     names: &mut [u64],
     roles: &mut [u16],
 ) -> Judged
-    requires { ⌜ Laid head × (length (now sends) ≡ 33) × (length (now receives) ≡ 33) × (length (now names) ≡ 1537) × (length (now roles) ≡ 1025)
+    requires { ⌜ Laid (now file) head × (length (now sends) ≡ 33) × (length (now receives) ≡ 33) × (length (now names) ≡ 1537) × (length (now roles) ≡ 1025)
         × (now sends ≡ replicate (length (now sends)) 0) × (now receives ≡ replicate (length (now receives)) 0) × (now names ≡ replicate (length (now names)) 0) ⌝ }
-    ensures { λ r. ⌜ (r ≡ judgement (now (file .entry)) head) × (now (roles .exit) ≡ sets (now (roles .entry)) 1 (candidatesIn (now (file .entry)) head)) ⌝ }
+    ensures { λ r. ⌜ (r ≡ judgement (contentsAt (now (file .entry)) head)) × (now (roles .exit) ≡ sets (now (roles .entry)) 1 (candidatesIn (contentsAt (now (file .entry)) head))) ⌝ }
 {
     fill_grants(file, head, sends, receives);
     name_users(file, head, names);
@@ -176,8 +177,8 @@ fn judge_by(
 // 9 and 10, and where these refuse nothing 11 to 13, each at its lowest node. As far as 9 and 10 refuse nothing, each node's candidates are stored:
 // the roles of the session's user that it may be given by placing.
 pub fn judge(file: &[u8], head: Head, roles: &mut [u16]) -> Judged
-    requires { ⌜ Laid head × (length (now roles) ≡ 1025) ⌝ }
-    ensures { λ r. ⌜ (r ≡ judgement (now (file .entry)) head) × (now (roles .exit) ≡ sets (now (roles .entry)) 1 (candidatesIn (now (file .entry)) head)) ⌝ }
+    requires { ⌜ Laid (now file) head × (length (now roles) ≡ 1025) ⌝ }
+    ensures { λ r. ⌜ (r ≡ judgement (contentsAt (now (file .entry)) head)) × (now (roles .exit) ≡ sets (now (roles .entry)) 1 (candidatesIn (contentsAt (now (file .entry)) head))) ⌝ }
 {
     let mut sends = [0u16; 33];
     let mut receives = [0u16; 33];

@@ -1,7 +1,8 @@
-// The rules of the check: grants, operands, the rules at one node, and the pass over the nodes that finds 9 to 13.
+// The rules of the check: grants, operands, the rules at one node, the pass over the nodes that finds 9 to 13, and a shorter one for 9 and 10.
 pub mod grants;
 pub mod judge;
 pub mod names;
+pub mod naming;
 mod steps;
 
 use format::Verdict;
@@ -34,4 +35,11 @@ pub struct Step {
     pub roles: u16,
     pub binding: u64,
     pub child: Point,
+}
+
+// The same for names alone: its refusal, 0 where there is none, its variable, and how many variables its child has.
+pub struct NameStep {
+    pub wrong: u16,
+    pub binding: u32,
+    pub bound: u16,
 }

@@ -1,24 +1,16 @@
 // Operands: the table of what they name, and what the file's tables say of it.
 use format::Head;
-use format::sections::carries;
 use format::sections::channel;
-use format::sections::user_roles;
 use format::words::wide;
 ghost use mathlib.Core.Path.{_≡_};
 ghost use mathlib.Core.Bool.{not};
 ghost use Prim.Native.Nat.{_+_, _≤_};
 ghost use lib.Dec.{eqb};
 ghost use lib.ListN.{length, replicate};
+ghost use Rattle.format.specs.Header.{Laid};
+ghost use Rattle.format.specs.Contents.{contentsAt};
 ghost use Rattle.rules.specs.Schema.{schemaOf};
-ghost use Rattle.rules.specs.Names.{within};
 ghost use Rattle.rules.specs.Kept.{kindIn, ownerIn, entry, look, Named};
-
-// An item of 1 to n.
-pub fn is_within(n: u16, x: u16) -> bool
-    ensures { λ r. ⌜ r ≡ within n x ⌝ }
-{
-    (0 < x) & (x <= n)
-}
 
 // What is named, as one number: its kind, and who may receive on it.
 pub fn entry(kind: u16, owner: u32) -> u64
@@ -67,8 +59,8 @@ pub fn look(names: &[u64], bound: u16, x: u16) -> u64
 
 // The users as operands: plain values.
 pub fn name_users(file: &[u8], head: Head, names: &mut [u64])
-    requires { ⌜ (head .count .users ≤ 32) × (length (now names) ≡ 1537) × (now names ≡ replicate (length (now names)) 0) ⌝ }
-    ensures { λ r. ⌜ (length (now (names .exit)) ≡ 1537) × Named (schemaOf (now (file .entry)) head) (head .count .users) 0 (now (names .exit)) ⌝ }
+    requires { ⌜ Laid (now file) head × (length (now names) ≡ 1537) × (now names ≡ replicate (length (now names)) 0) ⌝ }
+    ensures { λ r. ⌜ (length (now (names .exit)) ≡ 1537) × Named (schemaOf (contentsAt (now (file .entry)) head)) (head .count .users) 0 (now (names .exit)) ⌝ }
 {
     let mut n: u16 = 0;
     while n < head.count.users {
@@ -79,8 +71,8 @@ pub fn name_users(file: &[u8], head: Head, names: &mut [u64])
 
 // The channels as operands, after the users.
 pub fn name_channels(file: &[u8], head: Head, names: &mut [u64])
-    requires { ⌜ (head .count .users ≤ 32) × (head .count .channels ≤ 64) × (length (now names) ≡ 1537) × Named (schemaOf (now file) head) (head .count .users) 0 (now names) ⌝ }
-    ensures { λ r. ⌜ (length (now (names .exit)) ≡ 1537) × Named (schemaOf (now (file .entry)) head) (head .count .users) (head .count .channels) (now (names .exit)) ⌝ }
+    requires { ⌜ Laid (now file) head × (length (now names) ≡ 1537) × Named (schemaOf (contentsAt (now file) head)) (head .count .users) 0 (now names) ⌝ }
+    ensures { λ r. ⌜ (length (now (names .exit)) ≡ 1537) × Named (schemaOf (contentsAt (now (file .entry)) head)) (head .count .users) (head .count .channels) (now (names .exit)) ⌝ }
 {
     let mut n: u16 = 0;
     while n < head.count.channels {
@@ -88,24 +80,4 @@ pub fn name_channels(file: &[u8], head: Head, names: &mut [u64])
         let it = channel(file, head, n);
         names[256 + wide(n)] = entry(it.kind.0, owned_by(it.owner));
     }
-}
-
-// What the channels of a kind carry: of none, a plain value.
-pub fn carried_by(file: &[u8], head: Head, kind: u16) -> u16
-    ensures { λ r. ⌜ r ≡ schemaOf (now (file .entry)) head .carries kind ⌝ }
-{
-    if kind == 0 {
-        return 0;
-    }
-    carries(file, head, kind)
-}
-
-// The roles assigned to a user: to none, no role.
-pub fn assigned_to(file: &[u8], head: Head, user: u16) -> u16
-    ensures { λ r. ⌜ r ≡ schemaOf (now (file .entry)) head .assigned user ⌝ }
-{
-    if user == 0 {
-        return 0;
-    }
-    user_roles(file, head, user)
 }

@@ -2,16 +2,16 @@
 use super::Point;
 use super::Step;
 use super::grants::grant_of;
-use super::names::carried_by;
 use super::names::entry;
 use super::names::is_mine;
 use super::names::is_named;
-use super::names::is_within;
 use super::names::kind_in;
 use super::names::look;
 use super::names::owned_by;
 use format::Head;
 use format::Node;
+use format::sections::carries;
+use format::sections::in_count;
 use masks::UserRole;
 use masks::has_role;
 use masks::with_role;
@@ -22,12 +22,14 @@ ghost use Prim.Native.Nat.{_+_, _≤_, _<_};
 ghost use lib.Bits.{bitAnd};
 ghost use lib.Dec.{eqb};
 ghost use lib.ListN.{length};
+ghost use Rattle.format.specs.Header.{Laid};
+ghost use Rattle.format.specs.Contents.{contentsAt};
 ghost use Rattle.rules.specs.Schema.{schemaOf};
 ghost use Rattle.rules.specs.Kept.{Granting, kindIn, look, graded, staying, binding, turning, newStep, receiveStep, sendStep, onStep, offStep, stepOf};
 ghost use Rattle.rules.specs.declared.Way.the-variants.{Sends, Receives};
 
 // 9 before 10.
-fn graded(names: bool, kinds: bool) -> u16
+pub fn graded(names: bool, kinds: bool) -> u16
     ensures { λ r. ⌜ r ≡ graded names kinds ⌝ }
 {
     if !names {
@@ -111,7 +113,7 @@ fn new_at(head: Head, here: Point, kind: u16) -> Step
 {
     binding(
         here,
-        graded(is_within(head.count.kinds, kind), true),
+        graded(in_count(head.count.kinds, kind), true),
         0,
         here.assigned,
         entry(kind, owned_by(here.user)),
@@ -119,8 +121,8 @@ fn new_at(head: Head, here: Point, kind: u16) -> Step
 }
 
 fn receive_at(file: &[u8], head: Head, receives: &[u16], here: Point, on: u64) -> Step
-    requires { ⌜ (here .bound < 65535) × Granting (schemaOf (now file) head) Receives (now receives) ⌝ }
-    ensures { λ r. ⌜ (r ≡ receiveStep (schemaOf (now (file .entry)) head) here on) × (schemaOf (now (file .entry)) head .carries (kindIn on) < 65536) ⌝ }
+    requires { ⌜ Laid (now file) head × (here .bound < 65535) × Granting (schemaOf (contentsAt (now file) head)) Receives (now receives) ⌝ }
+    ensures { λ r. ⌜ (r ≡ receiveStep (schemaOf (contentsAt (now (file .entry)) head)) here on) × (schemaOf (contentsAt (now (file .entry)) head) .carries (kindIn on) < 65536) ⌝ }
 {
     let kind = kind_in(on);
     let grant = grant_of(receives, kind);
@@ -129,13 +131,13 @@ fn receive_at(file: &[u8], head: Head, receives: &[u16], here: Point, on: u64) -
         graded(is_named(on), is_mine(on, here.user)),
         unless(is_able(here.mask, grant), 13),
         here.assigned & grant,
-        entry(carried_by(file, head, kind), 1),
+        entry(carries(file, head, kind), 1),
     )
 }
 
 fn send_at(file: &[u8], head: Head, sends: &[u16], here: Point, on: u64, value: u64) -> Step
-    requires { ⌜ Granting (schemaOf (now file) head) Sends (now sends) ⌝ }
-    ensures { λ r. ⌜ r ≡ sendStep (schemaOf (now (file .entry)) head) here on value ⌝ }
+    requires { ⌜ Laid (now file) head × Granting (schemaOf (contentsAt (now file) head)) Sends (now sends) ⌝ }
+    ensures { λ r. ⌜ r ≡ sendStep (schemaOf (contentsAt (now (file .entry)) head)) here on value ⌝ }
 {
     let kind = kind_in(on);
     let grant = grant_of(sends, kind);
@@ -143,7 +145,7 @@ fn send_at(file: &[u8], head: Head, sends: &[u16], here: Point, on: u64, value: 
         here,
         graded(
             is_named(on) & is_named(value),
-            (0 < kind) & (kind_in(value) == carried_by(file, head, kind)),
+            (0 < kind) & (kind_in(value) == carries(file, head, kind)),
         ),
         unless(is_able(here.mask, grant), 13),
         here.assigned & grant,
@@ -154,7 +156,7 @@ fn on_at(head: Head, here: Point, role: u16) -> Step
     requires { ⌜ head .count .roles ≤ 16 ⌝ }
     ensures { λ r. ⌜ r ≡ onStep (head .count .roles) here role ⌝ }
 {
-    if !is_within(head.count.roles, role) {
+    if !in_count(head.count.roles, role) {
         return staying(here, 9, 0, 0);
     }
     turning(
@@ -167,7 +169,7 @@ fn on_at(head: Head, here: Point, role: u16) -> Step
 fn off_at(head: Head, here: Point, role: u16) -> Step
     ensures { λ r. ⌜ r ≡ offStep (head .count .roles) here role ⌝ }
 {
-    if !is_within(head.count.roles, role) {
+    if !in_count(head.count.roles, role) {
         return staying(here, 9, 0, 0);
     }
     turning(
@@ -187,9 +189,9 @@ pub fn step_at(
     here: Point,
     it: Node,
 ) -> Step
-    requires { ⌜ (head .count .roles ≤ 16) × (here .bound < 65535) × (512 + here .bound ≤ length (now names)) × Granting (schemaOf (now file) head) Sends (now sends) × Granting (schemaOf (now file) head) Receives (now receives) ⌝ }
-    ensures { λ r. ⌜ (r ≡ stepOf (schemaOf (now (file .entry)) head) (now (names .entry)) here it)
-        × (it .tag ≡ 5 → schemaOf (now (file .entry)) head .carries (kindIn (look (now (names .entry)) (here .bound) (it .f1))) < 65536) ⌝ }
+    requires { ⌜ Laid (now file) head × (here .bound < 65535) × (512 + here .bound ≤ length (now names)) × Granting (schemaOf (contentsAt (now file) head)) Sends (now sends) × Granting (schemaOf (contentsAt (now file) head)) Receives (now receives) ⌝ }
+    ensures { λ r. ⌜ (r ≡ stepOf (schemaOf (contentsAt (now (file .entry)) head)) (now (names .entry)) here it)
+        × (it .tag ≡ 5 → schemaOf (contentsAt (now (file .entry)) head) .carries (kindIn (look (now (names .entry)) (here .bound) (it .f1))) < 65536) ⌝ }
 {
     let tag = it.tag;
     match tag {
@@ -213,7 +215,7 @@ pub fn step_at(
         8 => off_at(head, here, it.f1),
         _ => staying(
             here,
-            graded(is_within(head.count.roles, it.f1), true),
+            graded(in_count(head.count.roles, it.f1), true),
             0,
             here.assigned,
         ),

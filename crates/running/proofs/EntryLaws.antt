@@ -8,6 +8,7 @@ use lib.Dec.{eqb, leb}
 use lib.ListN.{length}
 use lib.Seq.{sets}
 use borrow.Author.Tests.{eq-eqb, ne-eqb, leb-true, not-true, not-false}
+use Rattle.format.specs.Contents.{contentsAt}
 use Rattle.format.specs.Words.{bytesOf}
 use Rattle.format.specs.Answers.{fine, refused}
 use Rattle.format.specs.Header.{headAt, headOf}
@@ -112,8 +113,8 @@ module _ (f : List ℕ) (v : Verdict) (e : v ≡ readingNames f) where
     unfolding running runOver
     run-refused n = (e ∙ rw (fits, loud n), rw (fits, loud n))
 
-    pub run-done : (h : Head) (y : Verdict) (out′ : List ℕ) → v .number ≡ 0 → headOf f ≡ Fine h → y ≡ stopped (run (clinicOf f h) (start f h) ws)
-        → out′ ≡ sets out 0 (bytesOf (ranWords (run (clinicOf f h) (start f h) ws))) → (y ≡ running f ws (length out)) × (out′ ≡ runOver f ws out)
+    pub run-done : (h : Head) (y : Verdict) (out′ : List ℕ) → v .number ≡ 0 → headOf f ≡ Fine h → y ≡ stopped (run (clinicOf (contentsAt f h)) (start (contentsAt f h)) ws)
+        → out′ ≡ sets out 0 (bytesOf (ranWords (run (clinicOf (contentsAt f h)) (start (contentsAt f h)) ws))) → (y ≡ running f ws (length out)) × (out′ ≡ runOver f ws out)
     unfolding running runOver
     run-done h y out′ q k ey eo = let same : h ≡ headAt f = headed f h k .1 in (ey ∙ rw (fits, quiet q, same), eo ∙ rw (fits, quiet q, same))
 
@@ -125,7 +126,7 @@ module _ (f : List ℕ) (v : Verdict) (e : v ≡ readingNames f) where
         ey ∙ ap noPair e ∙ whole
 
     pub ready-done : (h : Head) (y : Ready) → v .number ≡ 0 → headOf f ≡ Fine h
-        → y ≡ readyOf (stopped (run (clinicOf f h) (start f h) ws)) (readyPair (clinicOf f h) (run (clinicOf f h) (start f h) ws .state)) → y ≡ ready f ws
+        → y ≡ readyOf (stopped (run (clinicOf (contentsAt f h)) (start (contentsAt f h)) ws)) (readyPair (clinicOf (contentsAt f h)) (run (clinicOf (contentsAt f h)) (start (contentsAt f h)) ws .state)) → y ≡ ready f ws
     unfolding ready
     ready-done h y q k ey = let same : h ≡ headAt f = headed f h k .1 in ey ∙ rw (fits, quiet q, same)
 

@@ -7,9 +7,9 @@ use native.Mathlib.Omega.{arith}
 use native.Mathlib.Numerals.{add-one}
 use lib.Dec.{eqb, eqb·suc-zero}
 use lib.ListN.{length, getD}
-use borrow.Author.Tests.{eq-eqb, ne-eqb, le-ltb, lt-ltb, le-leb, lt-leb}
+use borrow.Author.Tests.{eq-eqb, ne-eqb}
+use Rattle.format.specs.Contents.{inCount}
 use Rattle.format.specs.declared.Node.{Node}
-use Rattle.rules.specs.Names.{within}
 use Rattle.rules.specs.declared.Way.the-variants.{Sends, Receives}
 use Rattle.steps.specs.declared.Thread.{Thread}
 use Rattle.steps.specs.declared.Made.{Made}
@@ -28,11 +28,11 @@ two q s r e = ap (λ (x : ℕ × ℕ). record { sender = x .0; receiver = x .1 }
 
 -- a thread that is at no send meets none
 abbrev pub atSend : Clinic → Thread → Bool
-atSend C t = within (C .nodes) (t .node) && eqb (C .node (t .node) .tag) 6
+atSend C t = inCount (C .nodes) (t .node) && eqb (C .node (t .node) .tag) 6
 
 meets-none : (C : Clinic) (n : ℕ) (made : List Made) (t r : Thread) → atSend C t ≡ false → isMeeting (acting C n made t (With r)) ≡ false
 unfolding acting aloneOnly
-meets-none C n made t r = go (within (C .nodes) (t .node)) (eqb (C .node (t .node) .tag) 6) (eqb (C .node (t .node) .tag) 5)
+meets-none C n made t r = go (inCount (C .nodes) (t .node)) (eqb (C .node (t .node) .tag) 6) (eqb (C .node (t .node) .tag) 5)
   where
     go : (x y z : Bool) → x && y ≡ false → isMeeting (cond x (cond y (sending C made t (C .node (t .node)) (With r)) (cond z (Refused 18) (aloneOnly (With r) (lone C n (length made) t (C .node (t .node)))))) (Refused 18)) ≡ false
     go false y z e = refl
@@ -41,10 +41,10 @@ meets-none C n made t r = go (within (C .nodes) (t .node)) (eqb (C .node (t .nod
     go true true z e = let none : _≡_ {A = ℕ} 0 1 = cc in absurd (omega arith)
 
 -- a send meets no thread that is at no receive
-meets-no-receive : (C : Clinic) (n : ℕ) (made : List Made) (t r : Thread) → within (C .nodes) (r .node) && eqb (C .node (r .node) .tag) 5 ≡ false
+meets-no-receive : (C : Clinic) (n : ℕ) (made : List Made) (t r : Thread) → inCount (C .nodes) (r .node) && eqb (C .node (r .node) .tag) 5 ≡ false
     → isMeeting (acting C n made t (With r)) ≡ false
 unfolding acting aloneOnly sending
-meets-no-receive C n made t r e = rw e (go (within (C .nodes) (t .node)) (eqb (C .node (t .node) .tag) 6) (eqb (C .node (t .node) .tag) 5))
+meets-no-receive C n made t r e = rw e (go (inCount (C .nodes) (t .node)) (eqb (C .node (t .node) .tag) 6) (eqb (C .node (t .node) .tag) 5))
   where
     go : (x y z : Bool) → isMeeting (cond x (cond y (Refused 18) (cond z (Refused 18) (Refused 18))) (Refused 18)) ≡ false
     go false y z = refl
@@ -54,22 +54,22 @@ meets-no-receive C n made t r e = rw e (go (within (C .nodes) (t .node)) (eqb (C
 
 -- two threads, as code looks at their nodes
 module _ (C : Clinic) (n : ℕ) (made : List Made) (t r : Thread) where
-  pub met-out : within (C .nodes) (r .node) ≡ false → false ≡ isMeeting (acting C n made t (With r))
+  pub met-out : inCount (C .nodes) (r .node) ≡ false → false ≡ isMeeting (acting C n made t (With r))
   met-out w = sym (meets-no-receive C n made t r (rw w))
 
-  pub met-elsewhere : (m : Node) → m ≡ C .node (r .node) → within (C .nodes) (r .node) ≡ true → (m .tag ≡ 5 → ⊥) → false ≡ isMeeting (acting C n made t (With r))
+  pub met-elsewhere : (m : Node) → m ≡ C .node (r .node) → inCount (C .nodes) (r .node) ≡ true → (m .tag ≡ 5 → ⊥) → false ≡ isMeeting (acting C n made t (With r))
   met-elsewhere m k w d = sym (meets-no-receive C n made t r (rw (w, ← k, ne-eqb (m .tag) 5 d)))
 
-  pub met-from-out : within (C .nodes) (t .node) ≡ false → false ≡ isMeeting (acting C n made t (With r))
+  pub met-from-out : inCount (C .nodes) (t .node) ≡ false → false ≡ isMeeting (acting C n made t (With r))
   met-from-out w = sym (meets-none C n made t r (rw w))
 
-  pub met-from-elsewhere : (q : Node) → q ≡ C .node (t .node) → within (C .nodes) (t .node) ≡ true → (q .tag ≡ 6 → ⊥) → false ≡ isMeeting (acting C n made t (With r))
+  pub met-from-elsewhere : (q : Node) → q ≡ C .node (t .node) → inCount (C .nodes) (t .node) ≡ true → (q .tag ≡ 6 → ⊥) → false ≡ isMeeting (acting C n made t (With r))
   met-from-elsewhere q k w d = sym (meets-none C n made t r (rw (w, ← k, ne-eqb (q .tag) 6 d)))
 
-  pub met : (q m : Node) → q ≡ C .node (t .node) → m ≡ C .node (r .node) → within (C .nodes) (t .node) ≡ true → q .tag ≡ 6
-      → within (C .nodes) (r .node) ≡ true → m .tag ≡ 5 → isMeeting (meeting C made t q r m) ≡ isMeeting (acting C n made t (With r))
+  pub met : (q m : Node) → q ≡ C .node (t .node) → m ≡ C .node (r .node) → inCount (C .nodes) (t .node) ≡ true → q .tag ≡ 6
+      → inCount (C .nodes) (r .node) ≡ true → m .tag ≡ 5 → (b : Bool) → b ≡ isMeeting (meeting C made t q r m) → b ≡ isMeeting (acting C n made t (With r))
   unfolding acting sending
-  met q m k l w e v f = rw (← k, ← l, w, eq-eqb (q .tag) 6 e, v, eq-eqb (m .tag) 5 f)
+  met q m k l w e v f b h = rw (← k, ← l, w, eq-eqb (q .tag) 6 e, v, eq-eqb (m .tag) 5 f) h
 
 -- a send with a receive, as code tests them
 module _ (C : Clinic) (made : List Made) (t : Thread) (n : Node) (r : Thread) (m : Node) where
@@ -96,21 +96,18 @@ no-receiver C s t j [] e = refl
 no-receiver C s t j (r ∷ ts) e = rw (meets-none C (length (s .threads)) (s .made) t r e) (no-receiver C s t (suc j) ts e)
 
 -- how many threads are left out, as code tests it
-pub out-zero : (n at tag count : ℕ) → at ≡ 0 → count ≡ cond (within n at && eqb tag 6) 0 count
-out-zero n at tag count e = rw (le-ltb 0 at (omega (arith, e)))
+pub out-past : (n at tag count : ℕ) → inCount n at ≡ false → count ≡ cond (inCount n at && eqb tag 6) 0 count
+out-past n at tag count e = rw e
 
-pub out-above : (n at tag count : ℕ) → n < at → count ≡ cond (within n at && eqb tag 6) 0 count
-out-above n at tag count h = rw (lt-ltb 0 at (omega (arith, h)), lt-leb at n h)
-
-pub out-other : (n at tag count : ℕ) → (tag ≡ 6 → ⊥) → count ≡ cond (within n at && eqb tag 6) 0 count
-out-other n at tag count h = rw (ne-eqb tag 6 h) (go (within n at))
+pub out-other : (n at tag count : ℕ) → (tag ≡ 6 → ⊥) → count ≡ cond (inCount n at && eqb tag 6) 0 count
+out-other n at tag count h = rw (ne-eqb tag 6 h) (go (inCount n at))
   where
     go : (x : Bool) → count ≡ cond (x && false) 0 count
     go true = refl
     go false = refl
 
-pub out-none : (n at tag count : ℕ) → (at ≡ 0 → ⊥) → at ≤ n → tag ≡ 6 → 0 ≡ cond (within n at && eqb tag 6) 0 count
-out-none n at tag count pos le e = rw (lt-ltb 0 at (omega (arith, pos)), le-leb at n le, eq-eqb tag 6 e)
+pub out-none : (n at tag count : ℕ) → inCount n at ≡ true → tag ≡ 6 → 0 ≡ cond (inCount n at && eqb tag 6) 0 count
+out-none n at tag count w e = rw (w, eq-eqb tag 6 e)
 
 module _ (C : Clinic) (w b : List ℕ) where
   -- the threads after i
@@ -134,15 +131,15 @@ module _ (C : Clinic) (w b : List ℕ) where
   unfolding threadsIn
   none-after i h = let z : getD b 0 0 - i ≡ 0 = omega arith in rw z
 
-  pub receivers-begin : (t : Thread) (j : ℕ) → j ≡ cond (atSend C t) 0 (getD b 0 0)
+  pub receivers-begin : (t : Thread) (n j : ℕ) → C .nodes ≡ n → j ≡ cond (inCount n (t .node) && eqb (C .node (t .node) .tag) 6) 0 (getD b 0 0)
       → (j ≤ getD b 0 0) × (receiverFrom C (stateIn w b) t (j + 1) (after j) ≡ receiverFrom C (stateIn w b) t 1 (threadsIn w 0 (getD b 0 0)))
   unfolding receiverFrom
-  receivers-begin t j e = go (atSend C t) refl
+  receivers-begin t n j held e = go (atSend C t) refl
     where
       go : (x : Bool) → atSend C t ≡ x → (j ≤ getD b 0 0) × (receiverFrom C (stateIn w b) t (j + 1) (after j) ≡ receiverFrom C (stateIn w b) t 1 (threadsIn w 0 (getD b 0 0)))
-      go true q = let z : j ≡ 0 = rw q at e in (omega (arith, z), rw (z, all-after))
+      go true q = let z : j ≡ 0 = rw (← held, q) at e in (omega (arith, z), rw (z, all-after))
       go false q =
-          let z : j ≡ getD b 0 0 = rw q at e in
+          let z : j ≡ getD b 0 0 = rw (← held, q) at e in
           (omega (arith, z), rw (none-after j (omega (arith, z)), no-receiver C (stateIn w b) t 1 (threadsIn w 0 (getD b 0 0)) q))
 
   -- a turn of the loop over the receivers, and its end

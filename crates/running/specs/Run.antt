@@ -8,7 +8,7 @@ use lib.Seq.{sets}
 use Rattle.masks.specs.Mask.{held}
 use Rattle.format.specs.Words.{wordAt, bytesOf}
 use Rattle.format.specs.Answers.{fine, refused, orElse}
-use Rattle.format.specs.Header.{headAt}
+use Rattle.format.specs.Contents.{contentsOf}
 use Rattle.format.specs.declared.Verdict.{Verdict}
 use Rattle.format.specs.declared.Head.{Head}
 use Rattle.checking.specs.Check.{readingNames}
@@ -87,4 +87,4 @@ readyOf v q = cond (eqb (v .number) 0) (record { number = 0; place = 0; sender =
 -- the pair of the state after the list, or the refusal that stopped it with 0, 0; there is no output, so 17 comes only for the list
 unfoldable pub ready : List ℕ → List ℕ → Ready
 ready f ws =
-    readyOf (orElse (unready (listed (length ws)) f) (stopped (ranOf f ws))) (readyPair (clinicOf f (headAt f)) (ranOf f ws .state))
+    readyOf (orElse (unready (listed (length ws)) f) (stopped (ranOf f ws))) (readyPair (clinicOf (contentsOf f)) (ranOf f ws .state))

@@ -20,6 +20,7 @@ ghost use lib.Seq.{sets};
 ghost use Rattle.format.specs.Words.{bytesOf};
 ghost use Rattle.format.specs.Answers.{fine, refused};
 ghost use Rattle.format.specs.Header.{Laid};
+ghost use Rattle.format.specs.Contents.{contentsAt};
 ghost use Rattle.steps.specs.Choice.{clinicOf};
 ghost use Rattle.choices.specs.Choices.{start, run};
 ghost use Rattle.running.specs.Run.{ranWords, listed, stopped, running, runOver, readyPair, readyOf, ready};
@@ -65,9 +66,9 @@ fn stopped_at(counted: Counted) -> Verdict
 
 // The run of a file that 1 to 10 leave clean, and its output.
 fn run_into(file: &[u8], head: Head, choices: &[u16], out: &mut [u8]) -> Verdict
-    requires { ⌜ Laid head × (length (now choices) ≤ 131070) × (1800 ≤ length (now out)) ⌝ }
-    ensures { λ r. ⌜ (r ≡ stopped (run (clinicOf (now (file .entry)) head) (start (now (file .entry)) head) (now (choices .entry))))
-        × (now (out .exit) ≡ sets (now (out .entry)) 0 (bytesOf (ranWords (run (clinicOf (now (file .entry)) head) (start (now (file .entry)) head) (now (choices .entry)))))) ⌝ }
+    requires { ⌜ Laid (now file) head × (length (now choices) ≤ 131070) × (1800 ≤ length (now out)) ⌝ }
+    ensures { λ r. ⌜ (r ≡ stopped (run (clinicOf (contentsAt (now (file .entry)) head)) (start (contentsAt (now (file .entry)) head)) (now (choices .entry))))
+        × (now (out .exit) ≡ sets (now (out .entry)) 0 (bytesOf (ranWords (run (clinicOf (contentsAt (now (file .entry)) head)) (start (contentsAt (now (file .entry)) head)) (now (choices .entry)))))) ⌝ }
 {
     let mut threads = [0u16; 704];
     let mut beside = [0u16; 130];
@@ -112,9 +113,9 @@ fn no_pair(verdict: Verdict) -> Ready
 
 // The pair of the state that the list leaves, of a file that 1 to 10 leave clean.
 fn ready_in(file: &[u8], head: Head, choices: &[u16]) -> Ready
-    requires { ⌜ Laid head × (length (now choices) ≤ 131070) ⌝ }
-    ensures { λ r. ⌜ r ≡ readyOf (stopped (run (clinicOf (now (file .entry)) head) (start (now (file .entry)) head) (now (choices .entry))))
-        (readyPair (clinicOf (now (file .entry)) head) (run (clinicOf (now (file .entry)) head) (start (now (file .entry)) head) (now (choices .entry)) .state)) ⌝ }
+    requires { ⌜ Laid (now file) head × (length (now choices) ≤ 131070) ⌝ }
+    ensures { λ r. ⌜ r ≡ readyOf (stopped (run (clinicOf (contentsAt (now (file .entry)) head)) (start (contentsAt (now (file .entry)) head)) (now (choices .entry))))
+        (readyPair (clinicOf (contentsAt (now (file .entry)) head)) (run (clinicOf (contentsAt (now (file .entry)) head)) (start (contentsAt (now (file .entry)) head)) (now (choices .entry)) .state)) ⌝ }
 {
     let mut threads = [0u16; 704];
     let mut beside = [0u16; 130];

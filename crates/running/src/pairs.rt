@@ -3,12 +3,12 @@ use super::Two;
 use choices::state::thread_at;
 use format::Head;
 use format::Node;
+use format::sections::in_count;
 use format::sections::node;
 use format::words::wide;
 use rules::grants::fill_grants;
 use steps::Thread;
 use steps::act::is_able;
-use steps::act::is_node;
 use steps::act::kind_held;
 ghost use mathlib.Core.Path.{_≡_};
 ghost use mathlib.Core.Bool.{cond, _&&_};
@@ -16,8 +16,8 @@ ghost use Prim.Native.Nat.{_≤_};
 ghost use lib.Dec.{eqb};
 ghost use lib.ListN.{length, getD, replicate};
 ghost use Rattle.format.specs.Header.{Laid};
+ghost use Rattle.format.specs.Contents.{inCount, contentsAt};
 ghost use Rattle.rules.specs.Schema.{schemaOf};
-ghost use Rattle.rules.specs.Names.{within};
 ghost use Rattle.rules.specs.Kept.{Granting};
 ghost use Rattle.rules.specs.declared.Way.the-variants.{Sends, Receives};
 ghost use Rattle.steps.specs.declared.Partner.the-variants.{With};
@@ -37,8 +37,8 @@ fn agrees(
     other: Thread,
     theirs: Node,
 ) -> bool
-    requires { ⌜ Granting (schemaOf (now file) head) Sends (now sends) × Granting (schemaOf (now file) head) Receives (now receives) × (length (now beside) ≡ 130) × (getD (now beside) 1 0 ≤ 64) ⌝ }
-    ensures { λ r. ⌜ r ≡ isMeeting (meeting (clinicOf (now (file .entry)) head) (madeIn (now (beside .entry)) 2 (getD (now (beside .entry)) 1 0)) own it other theirs) ⌝ }
+    requires { ⌜ Laid (now file) head × Granting (schemaOf (contentsAt (now file) head)) Sends (now sends) × Granting (schemaOf (contentsAt (now file) head)) Receives (now receives) × (length (now beside) ≡ 130) × (getD (now beside) 1 0 ≤ 64) ⌝ }
+    ensures { λ r. ⌜ r ≡ isMeeting (meeting (clinicOf (contentsAt (now (file .entry)) head)) (madeIn (now (beside .entry)) 2 (getD (now (beside .entry)) 1 0)) own it other theirs) ⌝ }
 {
     let over = own.value(it.f1);
     if over != other.value(theirs.f1) {
@@ -58,17 +58,17 @@ fn meets(
     own: Thread,
     other: Thread,
 ) -> bool
-    requires { ⌜ Granting (schemaOf (now file) head) Sends (now sends) × Granting (schemaOf (now file) head) Receives (now receives) × (length (now beside) ≡ 130) × (getD (now beside) 1 0 ≤ 64) ⌝ }
-    ensures { λ r. ⌜ r ≡ isMeeting (acting (clinicOf (now (file .entry)) head) (getD (now (beside .entry)) 0 0) (madeIn (now (beside .entry)) 2 (getD (now (beside .entry)) 1 0)) own (With other)) ⌝ }
+    requires { ⌜ Laid (now file) head × Granting (schemaOf (contentsAt (now file) head)) Sends (now sends) × Granting (schemaOf (contentsAt (now file) head)) Receives (now receives) × (length (now beside) ≡ 130) × (getD (now beside) 1 0 ≤ 64) ⌝ }
+    ensures { λ r. ⌜ r ≡ isMeeting (acting (clinicOf (contentsAt (now (file .entry)) head)) (getD (now (beside .entry)) 0 0) (madeIn (now (beside .entry)) 2 (getD (now (beside .entry)) 1 0)) own (With other)) ⌝ }
 {
-    if !is_node(head, other.node) {
+    if !in_count(head.count.nodes, other.node) {
         return false;
     }
     let theirs = node(file, head, other.node);
     if theirs.tag != 5 {
         return false;
     }
-    if !is_node(head, own.node) {
+    if !in_count(head.count.nodes, own.node) {
         return false;
     }
     let it = node(file, head, own.node);
@@ -80,12 +80,10 @@ fn meets(
 
 // How many of the threads a thread at a node need not try: none at a send, and all at any other node.
 fn left_out(file: &[u8], head: Head, at: u16, count: u16) -> u16
-    ensures { λ r. ⌜ r ≡ cond (within (head .count .nodes) at && eqb (clinicOf (now (file .entry)) head .node at .tag) 6) 0 count ⌝ }
+    requires { ⌜ Laid (now file) head ⌝ }
+    ensures { λ r. ⌜ r ≡ cond (inCount (head .count .nodes) at && eqb (clinicOf (contentsAt (now (file .entry)) head) .node at .tag) 6) 0 count ⌝ }
 {
-    if at == 0 {
-        return count;
-    }
-    if head.count.nodes < at {
+    if !in_count(head.count.nodes, at) {
         return count;
     }
     let it = node(file, head, at);
@@ -104,10 +102,10 @@ pub fn ready_pair(
     threads: &[u16],
     beside: &[u16],
 ) -> Two
-    requires { ⌜ (head .count .nodes ≤ 1024) × Granting (schemaOf (now file) head) Sends (now sends) × Granting (schemaOf (now file) head) Receives (now receives) × Sized (now threads) (now beside) ⌝ }
+    requires { ⌜ Laid (now file) head × Granting (schemaOf (contentsAt (now file) head)) Sends (now sends) × Granting (schemaOf (contentsAt (now file) head)) Receives (now receives) × Sized (now threads) (now beside) ⌝ }
     ensures { λ r. ⌜ r ≡ record {
-      sender = readyPair (clinicOf (now (file .entry)) head) (stateIn (now (threads .entry)) (now (beside .entry))) .0;
-      receiver = readyPair (clinicOf (now (file .entry)) head) (stateIn (now (threads .entry)) (now (beside .entry))) .1;
+      sender = readyPair (clinicOf (contentsAt (now (file .entry)) head)) (stateIn (now (threads .entry)) (now (beside .entry))) .0;
+      receiver = readyPair (clinicOf (contentsAt (now (file .entry)) head)) (stateIn (now (threads .entry)) (now (beside .entry))) .1;
     } ⌝ }
 {
     let count = beside[0];
@@ -140,10 +138,10 @@ fn pair_by(
     threads: &[u16],
     beside: &[u16],
 ) -> Two
-    requires { ⌜ Laid head × (length (now sends) ≡ 33) × (length (now receives) ≡ 33) × (now sends ≡ replicate (length (now sends)) 0) × (now receives ≡ replicate (length (now receives)) 0) × Sized (now threads) (now beside) ⌝ }
+    requires { ⌜ Laid (now file) head × (length (now sends) ≡ 33) × (length (now receives) ≡ 33) × (now sends ≡ replicate (length (now sends)) 0) × (now receives ≡ replicate (length (now receives)) 0) × Sized (now threads) (now beside) ⌝ }
     ensures { λ r. ⌜ r ≡ record {
-      sender = readyPair (clinicOf (now (file .entry)) head) (stateIn (now (threads .entry)) (now (beside .entry))) .0;
-      receiver = readyPair (clinicOf (now (file .entry)) head) (stateIn (now (threads .entry)) (now (beside .entry))) .1;
+      sender = readyPair (clinicOf (contentsAt (now (file .entry)) head)) (stateIn (now (threads .entry)) (now (beside .entry))) .0;
+      receiver = readyPair (clinicOf (contentsAt (now (file .entry)) head)) (stateIn (now (threads .entry)) (now (beside .entry))) .1;
     } ⌝ }
 {
     fill_grants(file, head, sends, receives);
@@ -152,10 +150,10 @@ fn pair_by(
 
 // The ready pair of a state of a run.
 pub fn pair_after(file: &[u8], head: Head, threads: &[u16], beside: &[u16]) -> Two
-    requires { ⌜ Laid head × Sized (now threads) (now beside) ⌝ }
+    requires { ⌜ Laid (now file) head × Sized (now threads) (now beside) ⌝ }
     ensures { λ r. ⌜ r ≡ record {
-      sender = readyPair (clinicOf (now (file .entry)) head) (stateIn (now (threads .entry)) (now (beside .entry))) .0;
-      receiver = readyPair (clinicOf (now (file .entry)) head) (stateIn (now (threads .entry)) (now (beside .entry))) .1;
+      sender = readyPair (clinicOf (contentsAt (now (file .entry)) head)) (stateIn (now (threads .entry)) (now (beside .entry))) .0;
+      receiver = readyPair (clinicOf (contentsAt (now (file .entry)) head)) (stateIn (now (threads .entry)) (now (beside .entry))) .1;
     } ⌝ }
 {
     let mut sends = [0u16; 33];

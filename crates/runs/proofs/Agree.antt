@@ -8,6 +8,7 @@ use native.Mathlib.Omega.{arith}
 use lib.Dec.{eqb}
 use borrow.Author.Tests.{eqb-true}
 use Rattle.steps.specs.Choice.{Clinic, State, Chosen, halts, goes, choice}
+use Rattle.clinic.specs.Order.{Sooner}
 use Rattle.runs.specs.Steps.{Steps}
 use Rattle.runs.specs.Conditions.{
   Condition,
@@ -23,7 +24,7 @@ use Rattle.runs.specs.Conditions.{
   channels-differ,
   threads-full,
   channels-full,
-  turn,
+  choiceOrder,
   FirstRefusal,
 }
 use Rattle.runs.proofs.ChoiceTold.{Told, choice-told}
@@ -41,8 +42,13 @@ positive n (inr (inr (inr (inl e)))) = omega (arith, e)
 positive n (inr (inr (inr (inr (inl e))))) = omega (arith, e)
 positive n (inr (inr (inr (inr (inr e))))) = omega (arith, e)
 
--- no two refusals have one place in the order
-same-turn : (n k : ℕ) → 1 ≤ n → 1 ≤ k → turn n ≡ turn k → n ≡ k
+-- the order is that of turns, in which no two refusals are one
+by-turn : (n m : ℕ) → Sooner choiceOrder n 0 m 0 → choiceOrder .turn n ≤ choiceOrder .turn m
+by-turn n m (inl l) = absurd (omega arith)
+by-turn n m (inr (_, inl l)) = absurd (omega arith)
+by-turn n m (inr (_, inr (_, l))) = l
+
+same-turn : (n k : ℕ) → 1 ≤ n → 1 ≤ k → choiceOrder .turn n ≡ choiceOrder .turn k → n ≡ k
 same-turn n k l m e = go (eqb n 18) (eqb k 18) refl refl e
   where
     go : (a b : Bool) → eqb n 18 ≡ a → eqb k 18 ≡ b → _≡_ {A = ℕ} (cond a 0 n) (cond b 0 k) → n ≡ k
@@ -99,18 +105,18 @@ module _ (C : Clinic) (s : State) where
 
   -- A choice is refused with a number exactly where that is the first, in the order 18, 11, 12, 13, 19, 20, whose condition holds.
   pub refused-first : (i p n : ℕ) → (choice C s i p ≡ halts n) ↔ FirstRefusal C s i p n
-  refused-first i p n = (λ e. (halts-condition i p n e, first e), back)
+  refused-first i p n = (λ e. ((halts-condition i p n e, refl), first e), back)
     where
-      first : choice C s i p ≡ halts n → (m : ℕ) → Condition C s i p m → turn n ≤ turn m
-      first e m c =
+      first : choice C s i p ≡ halts n → (m q : ℕ) → Condition C s i p m × (q ≡ 0) → Sooner choiceOrder n 0 m q
+      first e m q (c, z) =
           let (k, h, l) = condition-halts C s i p m c in
-          subst (λ (x : ℕ). turn x ≤ turn m) (same-halt i p k n h e) l
+          inr (refl, inr (sym z, subst (λ (x : ℕ). choiceOrder .turn x ≤ choiceOrder .turn m) (same-halt i p k n h e) l))
 
       back : FirstRefusal C s i p n → choice C s i p ≡ halts n
-      back (c, least) =
+      back ((c, _), least) =
           let (k, h, l) = condition-halts C s i p n c in
           let d : Condition C s i p k = halts-condition i p k h in
-          let e : turn k ≡ turn n = le-antisymm l (least k d) in
+          let e : choiceOrder .turn k ≡ choiceOrder .turn n = le-antisymm l (by-turn n k (least k 0 (d, refl))) in
           h ∙ ap halts (same-turn k n (positive k (condition-number i p k d)) (positive n (condition-number i p n c)) e)
 
   -- A choice is done exactly where no condition holds.

@@ -7,8 +7,8 @@ use native.Mathlib.Omega.{arith}
 use lib.Dec.{eqb, leb}
 use lib.ListN.{length, set, take, drop, length-append, length-set, length-take, length-drop}
 use borrow.Author.Tests.{eqb-true, eqb-false, leb-true}
-use Rattle.tables.proofs.RecordLaws.{inCount-iff}
-use Rattle.rules.specs.Names.{within}
+use Rattle.format.specs.Contents.{inCount}
+use Rattle.format.proofs.ContentsLaws.{inCount-iff}
 use Rattle.rules.specs.Rules.{Context}
 use Rattle.steps.specs.declared.Thread.{Thread}
 use Rattle.steps.specs.declared.Made.{Made}
@@ -53,7 +53,7 @@ module _ (C : Clinic) (At : ℕ → Context → Type 0) (L : Lawful C At) (K : �
   acting-told : (k : ℕ) (made : List Made) (t : Thread) → Fit made t → (p : Partner) → GoodPartner (C .schema) At K made p → Told C At K R k made (acting C k made t p)
   unfolding acting
   acting-told k made t (c, a, F, e) p h =
-      either C At K R k made (within (C .nodes) (t .node)) _ _
+      either C At K R k made (inCount (C .nodes) (t .node)) _ _
       (λ _. either C At K R k made (eqb (C .node (t .node) .tag) 6) _ _
       (λ z. sending-told C At L K S R M k made t (c, a, F, e) (eqb-true (C .node (t .node) .tag) 6 z) p h)
       (λ _. either C At K R k made (eqb (C .node (t .node) .tag) 5) _ _ (λ _. refused-told C At K R k made 18 (M .no-thread))
@@ -123,12 +123,12 @@ module _ (C : Clinic) (At : ℕ → Context → Type 0) (L : Lawful C At) (K : �
   -- any choice
   pub choice-keeps : (s : State) → Invariant C At K s → (i p : ℕ) → Keeps C At K R (choice C s i p)
   unfolding choice
-  choice-keeps s I i p = go (within (length (s .threads)) i) refl
+  choice-keeps s I i p = go (inCount (length (s .threads)) i) refl
     where
       o : Outcome
       o = acting C (length (s .threads)) (s .made) (threadAt s i) (partnerAt s p)
 
-      go : (b : Bool) → within (length (s .threads)) i ≡ b → Keeps C At K R (cond b (done s i p o) (halts 18))
+      go : (b : Bool) → inCount (length (s .threads)) i ≡ b → Keeps C At K R (cond b (done s i p o) (halts 18))
       go true e =
           let n = inCount-iff (length (s .threads)) i .0 e in
           done-keeps s I i p (n .0) o (acting-told (length (s .threads)) (s .made) (threadAt s i) (thread-fits s I i n) (partnerAt s p) (partner-fits s I p))

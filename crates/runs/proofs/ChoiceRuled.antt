@@ -8,11 +8,11 @@ use native.Mathlib.Omega.{arith}
 use lib.Dec.{eqb, leb}
 use lib.ListN.{length}
 use borrow.Author.Tests.{eqb-true, eqb-false, leb-true, eq-eqb, ne-eqb, lt-ltb, le-ltb, le-leb}
+use Rattle.format.specs.Contents.{inCount}
 use Rattle.format.specs.declared.Node.{Node}
-use Rattle.tables.proofs.RecordLaws.{inCount-iff}
+use Rattle.format.proofs.ContentsLaws.{inCount-iff}
 use Rattle.rules.specs.declared.Way.{Way}
 use Rattle.rules.specs.declared.Way.the-variants.{Sends, Receives}
-use Rattle.rules.specs.Names.{within}
 use Rattle.steps.specs.declared.Thread.{Thread}
 use Rattle.steps.specs.declared.Partner.{Partner}
 use Rattle.steps.specs.declared.Partner.the-variants.{Alone, With, Missing}
@@ -39,7 +39,7 @@ use Rattle.runs.specs.Conditions.{
   channels-differ,
   threads-full,
   channels-full,
-  turn,
+  choiceOrder,
 }
 use Rattle.runs.proofs.ChoiceTold.{lone-or-none, loneAt, sendAt}
 
@@ -113,7 +113,7 @@ module _ (C : Clinic) (s : State) where
 
   -- refused with a number no later in the order
   abbrev pub Halted : ℕ → ℕ → ℕ → Type 0
-  Halted i p n = (k : ℕ) × (choice C s i p ≡ halts k) × (turn k ≤ turn n)
+  Halted i p n = (k : ℕ) × (choice C s i p ≡ halts k) × (choiceOrder .turn k ≤ choiceOrder .turn n)
 
   halt-18 : (i p n : ℕ) → choice C s i p ≡ halts 18 → Halted i p n
   halt-18 i p n e = (18, e, zero-le)
@@ -137,7 +137,7 @@ module _ (C : Clinic) (s : State) where
   lone-halts i p n k st l h = go (eqb p 0) refl
     where
       go : (b : Bool) → eqb p 0 ≡ b → Halted i p k
-      go true e = subst (λ (q : ℕ). Halted i q k) (sym (eqb-true p 0 e)) (k, alone i n st l ∙ ap (done s i 0) h, le-refl (turn k))
+      go true e = subst (λ (q : ℕ). Halted i q k) (sym (eqb-true p 0 e)) (k, alone i n st l ∙ ap (done s i 0) h, le-refl (choiceOrder .turn k))
       go false e = halt-18 i p k (partner-halts i p n st l (eqb-false p 0 e))
 
   -- a send whose partner isn't a thread at a receive
@@ -148,8 +148,8 @@ module _ (C : Clinic) (s : State) where
       there : InCount (length (s .threads)) p → done s i p (sendAt C s i n (With (threadAt s p))) ≡ halts 18
       there c =
           let j : ℕ = threadAt s p .node in
-          let e : (within (C .nodes) j && eqb (C .node j .tag) 5) ≡ false = not-eq-not .0 (λ e.
-          let (a, b) = and-eq-true-iff (within (C .nodes) j) (eqb (C .node j .tag) 5) .0 e in
+          let e : (inCount (C .nodes) j && eqb (C .node j .tag) 5) ≡ false = not-eq-not .0 (λ e.
+          let (a, b) = and-eq-true-iff (inCount (C .nodes) j) (eqb (C .node j .tag) 5) .0 e in
           h (C .node j) (c, inCount-iff (C .nodes) j .0 a, refl) (eqb-true (C .node j .tag) 5 b)) in
           ap (λ (b : Bool). done s i p (cond b (meeting C (s .made) (threadAt s i) n (threadAt s p) (C .node j)) (Refused 18))) e
 
@@ -194,21 +194,21 @@ module _ (C : Clinic) (s : State) where
   -- no such thread, or one that stands at no node
   threadless : (i p : ℕ) → ((n : Node) → StandsAt C s i n → Lone (n .tag) ⊎ ((n .tag ≡ 5) ⊎ (n .tag ≡ 6)) → ⊥) → choice C s i p ≡ halts 18
   unfolding choice acting done
-  threadless i p h = go (within (length (s .threads)) i) refl
+  threadless i p h = go (inCount (length (s .threads)) i) refl
     where
       tagged : (n : Node) → StandsAt C s i n → Lone (n .tag) ⊎ (9 ≤ n .tag) → choice C s i p ≡ halts 18
       tagged n st (inl l) = absurd (h n st (inl l))
       tagged n st (inr l) = tagless i p n st l
 
-      at : (b : Bool) → InCount (length (s .threads)) i → within (C .nodes) (threadAt s i .node) ≡ b → choice C s i p ≡ halts 18
+      at : (b : Bool) → InCount (length (s .threads)) i → inCount (C .nodes) (threadAt s i .node) ≡ b → choice C s i p ≡ halts 18
       at true c e =
           let n : Node = C .node (threadAt s i .node) in
           let st : StandsAt C s i n = (c, inCount-iff (C .nodes) (threadAt s i .node) .0 e, refl) in
           tagged n st (lone-or-none (n .tag) (λ five. h n st (inr (inl five))) (λ six. h n st (inr (inr six))))
       at false c e = rw (inCount-iff (length (s .threads)) i .1 c, e)
 
-      go : (b : Bool) → within (length (s .threads)) i ≡ b → choice C s i p ≡ halts 18
-      go true e = at (within (C .nodes) (threadAt s i .node)) (inCount-iff (length (s .threads)) i .0 e) refl
+      go : (b : Bool) → inCount (length (s .threads)) i ≡ b → choice C s i p ≡ halts 18
+      go true e = at (inCount (C .nodes) (threadAt s i .node)) (inCount-iff (length (s .threads)) i .0 e) refl
       go false e = rw e
 
   second-fails : (a b : Bool) (o : Outcome) → b ≡ false → cond (a && b) o (Refused 13) ≡ Refused 13
@@ -216,7 +216,7 @@ module _ (C : Clinic) (s : State) where
   second-fails false b o e = refl
 
   -- 19, unless 13 comes before it
-  differing : (a : Bool) (o : Outcome) → (k : ℕ) × (cond a (cond false o (Refused 19)) (Refused 13) ≡ Refused k) × (turn k ≤ 19)
+  differing : (a : Bool) (o : Outcome) → (k : ℕ) × (cond a (cond false o (Refused 19)) (Refused 13) ≡ Refused k) × (choiceOrder .turn k ≤ 19)
   differing true o = (19, refl, le-refl 19)
   differing false o = (13, refl, omega arith)
 

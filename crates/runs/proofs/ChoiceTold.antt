@@ -9,12 +9,12 @@ use lib.Dec.{eqb, leb, ltb}
 use lib.ListN.{length}
 use borrow.Author.Tests.{ltb-true, ltb-false, eqb-true, eqb-false, leb-true, leb-false, eq-eqb}
 use Rattle.masks.specs.Mask.{has}
+use Rattle.format.specs.Contents.{inCount}
 use Rattle.format.specs.declared.Node.{Node}
 use Rattle.format.proofs.BoolLaws.{and-fails}
-use Rattle.tables.proofs.RecordLaws.{inCount-iff}
+use Rattle.format.proofs.ContentsLaws.{inCount-iff}
 use Rattle.rules.specs.declared.Way.{Way}
 use Rattle.rules.specs.declared.Way.the-variants.{Sends, Receives}
-use Rattle.rules.specs.Names.{within}
 use Rattle.steps.specs.declared.Thread.{Thread}
 use Rattle.steps.specs.declared.Partner.{Partner}
 use Rattle.steps.specs.declared.Partner.the-variants.{Alone, With, Missing}
@@ -93,8 +93,8 @@ module _ (C : Clinic) (s : State) where
       out t l (inr (inl e)) = omega arith
       out t l (inr (inr e)) = omega arith
 
-  not-counted : (k x : ℕ) → within k x ≡ false → InCount k x → ⊥
-  not-counted k x = fails-iff (within k x) (InCount k x) (inCount-iff k x) .0
+  not-counted : (k x : ℕ) → inCount k x ≡ false → InCount k x → ⊥
+  not-counted k x = fails-iff (inCount k x) (InCount k x) (inCount-iff k x) .0
 
   able-at : (t : Thread) (w : Way) (x : ℕ) → allowed C (s .made) t w x ≡ true → Able C s t w x
   able-at t w x = able-iff (C .schema) (t .mask) w (kindHeld (C .schema) (s .made) (value t x)) .0
@@ -188,13 +188,13 @@ module _ (C : Clinic) (s : State) where
       met : InCount (length (s .threads)) p → Comes i p (sendAt i n (With (threadAt s p)))
       met c =
           let j : ℕ = threadAt s p .node in
-          branch i p (within (C .nodes) j && eqb (C .node j .tag) 5) _ _
-          (λ e. let (a, b) = and-eq-true-iff (within (C .nodes) j) (eqb (C .node j .tag) 5) .0 e in
+          branch i p (inCount (C .nodes) j && eqb (C .node j .tag) 5) _ _
+          (λ e. let (a, b) = and-eq-true-iff (inCount (C .nodes) j) (eqb (C .node j .tag) 5) .0 e in
           meeting-told i p n (C .node j) st six (c, inCount-iff (C .nodes) j .0 a, refl) (eqb-true (C .node j .tag) 5 b))
           (λ e. no-receiver n st six (λ m at five.
-          let a : within (C .nodes) j ≡ true = inCount-iff (C .nodes) j .1 (at .1) in
+          let a : inCount (C .nodes) j ≡ true = inCount-iff (C .nodes) j .1 (at .1) in
           let b : eqb (C .node j .tag) 5 ≡ true = eq-eqb (C .node j .tag) 5 (ap (λ (x : Node). x .tag) (at .2) ∙ five) in
-          false≢true (sym e ∙ and-eq-true-iff (within (C .nodes) j) (eqb (C .node j .tag) 5) .1 (a, b))))
+          false≢true (sym e ∙ and-eq-true-iff (inCount (C .nodes) j) (eqb (C .node j .tag) 5) .1 (a, b))))
 
       some : (b : Bool) → leb p (length (s .threads)) ≡ b → 1 ≤ p → Comes i p (sendAt i n (cond b (With (threadAt s p)) Missing))
       some true e l = met (l, leb-true p (length (s .threads)) e)
@@ -210,7 +210,7 @@ module _ (C : Clinic) (s : State) where
   unfolding acting done
   acting-told i p c =
       let j : ℕ = threadAt s i .node in
-      branch i p (within (C .nodes) j) _ _
+      branch i p (inCount (C .nodes) j) _ _
       (λ e. let st : StandsAt C s i (C .node j) = (c, inCount-iff (C .nodes) j .0 e, refl) in
       branch i p (eqb (C .node j .tag) 6) _ _ (λ e6. sending-told i p (C .node j) st (eqb-true (C .node j .tag) 6 e6)) (λ e6.
       branch i p (eqb (C .node j .tag) 5) _ _ (λ e5. receive-first (C .node j) st (eqb-true (C .node j .tag) 5 e5)) (λ e5.
@@ -220,9 +220,9 @@ module _ (C : Clinic) (s : State) where
   -- a choice is a step, or its refusal's condition holds
   pub choice-told : (i p : ℕ) → Told i p (choice C s i p)
   unfolding choice
-  choice-told i p = go (within (length (s .threads)) i) refl
+  choice-told i p = go (inCount (length (s .threads)) i) refl
     where
-      go : (b : Bool) → within (length (s .threads)) i ≡ b
+      go : (b : Bool) → inCount (length (s .threads)) i ≡ b
           → Told i p (cond b (done s i p (acting C (length (s .threads)) (s .made) (threadAt s i) (partnerAt s p))) (halts 18))
       go true e = acting-told i p (inCount-iff (length (s .threads)) i .0 e)
       go false e = no-thread (λ m at t. not-counted (length (s .threads)) i e (at .0))

@@ -7,11 +7,12 @@ use mathlib.Core.List.{List}
 use native.Mathlib.Omega.{arith}
 use lib.Dec.{eqb}
 use borrow.Author.Tests.{eqb-true}
+use Rattle.format.specs.Contents.{inCount}
 use Rattle.format.specs.declared.Node.{Node}
 use Rattle.format.proofs.BoolLaws.{and-fails}
 use Rattle.rules.specs.declared.Way.the-variants.{Sends, Receives}
 use Rattle.rules.specs.Schema.{Schema}
-use Rattle.rules.specs.Names.{within, kindOf}
+use Rattle.rules.specs.Names.{kindOf}
 use Rattle.rules.specs.Rules.{Context, able, bind, activate}
 use Rattle.steps.specs.declared.Thread.{Thread}
 use Rattle.steps.specs.declared.Made.{Made}
@@ -107,8 +108,8 @@ module _ (C : Clinic) (At : ℕ → Context → Type 0) (L : Lawful C At) (K : �
   sending-told t g z Alone h = refused-told C At K R k made 18 (M .no-thread)
   sending-told t g z Missing h = refused-told C At K R k made 18 (M .no-thread)
   sending-told t (c, a, F, e) z (With r) (d, b, G, g) =
-      either C At K R k made (within (C .nodes) (r .node) && eqb (C .node (r .node) .tag) 5) _ _
+      either C At K R k made (inCount (C .nodes) (r .node) && eqb (C .node (r .node) .tag) 5) _ _
       (λ x.
-      let w = and-eq-true-iff (within (C .nodes) (r .node)) (eqb (C .node (r .node) .tag) 5) .0 x .1 in
+      let w = and-eq-true-iff (inCount (C .nodes) (r .node)) (eqb (C .node (r .node) .tag) 5) .0 x .1 in
       meeting-told t r c d a b F G e g z (eqb-true (C .node (r .node) .tag) 5 w))
       (λ _. refused-told C At K R k made 18 (M .no-thread))

@@ -8,7 +8,7 @@ use lib.Dec.{eqb, ltb}
 use borrow.Author.Tests.{eqb-true}
 use Rattle.masks.specs.Mask.{has, with, without}
 use Rattle.format.specs.declared.Node.{Node}
-use Rattle.tables.proofs.RecordLaws.{inCount-iff}
+use Rattle.format.proofs.ContentsLaws.{inCount-iff}
 use Rattle.rules.specs.declared.Way.the-variants.{Sends, Receives}
 use Rattle.rules.specs.Schema.{Schema}
 use Rattle.rules.specs.Names.{kindOf}

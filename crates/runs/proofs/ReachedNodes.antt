@@ -30,12 +30,12 @@ use Rattle.clinic.specs.Refusals.{
   second-child,
   Misshapen,
   not-due,
-  bad-tag,
   second,
   past-last,
   ninth,
 }
 use Rattle.clinic.proofs.FollowedEnds.{follows-on}
+use Rattle.clinic.proofs.ShapeFirst.{low-tag}
 use Rattle.typing.specs.Faults.{
   nowhere,
   InContext,
@@ -70,14 +70,6 @@ module _ (ns : List Node) (roots : List ℕ) (none : (p : ℕ) → Misshapen ns 
       go true e q = leb-true i (length ns) e
       go false e q = let z : i ≡ suc (length ns) = omega (arith, leb-false i (length ns) e) in absurd (none i (past-last b r z))
 
-  -- tags are 0 to 8
-  pub low-tag : (i : ℕ) → InCount (length ns) i → nth ns i .tag ≤ 8
-  low-tag i c = go (leb (nth ns i .tag) 8) refl
-    where
-      go : (x : Bool) → leb (nth ns i .tag) 8 ≡ x → nth ns i .tag ≤ 8
-      go true e = leb-true (nth ns i .tag) 8 e
-      go false e = absurd (none i (bad-tag c (leb-false (nth ns i .tag) 8 e)))
-
   -- by the number k of nodes from i on
   follow-from : (k i b : ℕ) → length ns - i < k → Reached ns (length roots) i b → (e : ℕ) × Follows ns i e
   follow-from zero i b l r = absurd (omega arith)
@@ -102,7 +94,7 @@ module _ (ns : List Node) (roots : List ℕ) (none : (p : ℕ) → Misshapen ns 
           let (e, g) = rest z j h in
           (e, at-fork c z h g)
       go false x false y one two rest =
-          let o : OneChild t = (omega (arith, eqb-false t 0 x, eqb-false t 1 y), low-tag i c) in
+          let o : OneChild t = (omega (arith, eqb-false t 0 x, eqb-false t 1 y), low-tag ns roots none i c) in
           let (e, h) = one o in
           (e, at-step c o h)
 

@@ -7,10 +7,10 @@ use native.Mathlib.Omega.{arith}
 use lib.Dec.{eqb, leb}
 use lib.ListN.{length}
 use borrow.Author.Tests.{eqb-false, leb-true, eq-eqb, ne-eqb}
+use Rattle.format.specs.Contents.{inCount}
 use Rattle.format.specs.declared.Node.{Node}
-use Rattle.tables.proofs.RecordLaws.{inCount-iff}
+use Rattle.format.proofs.ContentsLaws.{inCount-iff}
 use Rattle.rules.specs.declared.Way.the-variants.{Sends, Receives}
-use Rattle.rules.specs.Names.{within}
 use Rattle.steps.specs.declared.Thread.{Thread}
 use Rattle.steps.specs.declared.Partner.{Partner}
 use Rattle.steps.specs.declared.Partner.the-variants.{Alone, With, Missing}
@@ -46,7 +46,7 @@ module _ (C : Clinic) (s : State) where
       let o : Outcome = Meets (record { first = onward t; second = bound r (value t (n .f2)) }) in
       let same : Bool = eqb (value t (n .f1)) (value r (m .f1)) in
       let may : Bool = allowed C (s .made) t Sends (n .f1) && allowed C (s .made) r Receives (m .f1) in
-      either-cond (within (C .nodes) (r .node) && eqb (m .tag) 5) (cond may (cond same o (Refused 19)) (Refused 13)) 18
+      either-cond (inCount (C .nodes) (r .node) && eqb (m .tag) 5) (cond may (cond same o (Refused 19)) (Refused 13)) 18
       (either-cond may (cond same o (Refused 19)) 13 (either-cond same o 19 (inr refl)))
 
   meets-goes : (i p : ℕ) (o : Outcome) → isMeeting o ≡ true → (s′ : State) × (done s i p o ≡ goes s′)

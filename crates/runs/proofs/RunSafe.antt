@@ -9,28 +9,27 @@ use lib.Dec.{eqb, leb}
 use lib.ListN.{length, getD}
 use borrow.Author.Tests.{eqb-true, ne-eqb, le-leb, lt-leb}
 use Rattle.masks.specs.Mask.{with, without}
+use Rattle.format.specs.Contents.{Contents, contentsOf}
 use Rattle.format.specs.Answers.{fine, refused}
-use Rattle.format.specs.Header.{headAt}
 use Rattle.format.proofs.BoolLaws.{eq-iff, le-iff, and-iff}
 use Rattle.checking.specs.Check.{readingNames, checking}
 use Rattle.rules.specs.Schema.{schemaOf}
 use Rattle.rules.specs.Rules.{Context, activate, barred}
-use Rattle.rules.specs.Checking.{openings, nodesIn}
+use Rattle.rules.specs.Checking.{openings}
 use Rattle.steps.specs.Threads.{noThread, firstFree}
-use Rattle.steps.specs.Choice.{Clinic, clinicOf, State, Chosen, halts, goes, threadAt, choice}
+use Rattle.steps.specs.Choice.{clinicOf, State, Chosen, halts, goes, threadAt, choice}
 use Rattle.choices.specs.Choices.{start, Ran, follow, run, ranOf}
 use Rattle.running.specs.Run.{listed, stopped, running}
 use Rattle.placing.specs.Placing.{placing, placedBytes}
 use Rattle.clinic.specs.Lists.{All}
 use Rattle.clinic.specs.File.{InCount}
 use Rattle.clinic.proofs.AllLaws.{all-get}
-use Rattle.typing.specs.Faults.{Objection, Soonest}
 use Rattle.typing.proofs.ContextStack.{reached-stack}
-use Rattle.typing.proofs.CheckFirst.{names-first}
+use Rattle.typing.proofs.CheckFirst.{check-fine}
 use Rattle.placement.proofs.PlacingExact.{placed-well}
 use Rattle.runs.specs.Keeps.{Reaches, Kept}
 use Rattle.runs.proofs.HeldValues.{held-free}
-use Rattle.runs.proofs.FileNodes.{StandsIn, check-none}
+use Rattle.runs.proofs.FileNodes.{StandsIn}
 use Rattle.runs.proofs.ThreadSteps.{Steady}
 use Rattle.runs.proofs.OutcomesTold.{MayCome}
 use Rattle.runs.proofs.ChoiceKeeps.{Keeps, choice-keeps}
@@ -52,42 +51,67 @@ caller-no-role n (inr (inr e)) = (λ z. omega arith, λ z. omega arith, λ z. om
 
 -- what passes the check meets 1 to 10 clean
 pub passes-names : (f : List ℕ) → checking f ≡ fine → readingNames f ≡ fine
-passes-names f passes = go (names-first f)
-  where
-    go : Soonest (λ n p. Objection f n p × (n ≤ 10)) (readingNames f) → readingNames f ≡ fine
-    go (inl (e, none)) = e
-    go (inr (n, p, e, (o, l), least)) = absurd (check-none f passes n p o)
+passes-names f passes = check-fine f .0 passes .0
 
 -- a list fits where its words are even in number, and not over 65,535 choices
 pub listed-iff : (n : ℕ) → (listed n ≡ true) ↔ ((n % 2 ≡ 0) × (n ≤ 131070))
 listed-iff n = and-iff (eq-iff (n % 2) 0) (λ _. le-iff n 131070)
 
-module _ (f : List ℕ) where
-  abbrev clinic : Clinic
-  clinic = clinicOf f (headAt f)
+-- the thread's active set and the context's stay the same
+same : Steady _≡_
+same = record { on = λ a b r e. ap (λ (m : ℕ). with m r) e; off = λ a b r e. ap (λ (m : ℕ). without m r) e }
 
+module _ (C : Contents) where
   -- what is claimed of a choice in a state of a run, where R says which refusals may come
   abbrev Claimed : (ℕ → Type 0) → Chosen → Type 0
-  Claimed R o = Keeps clinic (StandsIn f) _≡_ R o
+  Claimed R o = Keeps (clinicOf C) (StandsIn C) _≡_ R o
 
-  -- the thread's active set and the context's stay the same
-  same : Steady _≡_
-  same = record { on = λ a b r e. ap (λ (m : ℕ). with m r) e; off = λ a b r e. ap (λ (m : ℕ). without m r) e }
+  -- a run ends in a state of a run, stopped by nothing or by one of R
+  abbrev Ending : (ℕ → Type 0) → Ran → Type 0
+  Ending R r = Kept C (r .state) × ((r .refusal ≡ 0) ⊎ R (r .refusal))
+
+  module _ (R : ℕ → Type 0) (keeps : (s : State) → Kept C s → (i p : ℕ) → Claimed R (choice (clinicOf C) s i p)) where
+    follow-ends : (s : State) → Kept C s → (o : Chosen) → Claimed R o → (on : State → Ran) → ((s′ : State) → Kept C s′ → Ending R (on s′))
+        → Ending R (follow s o on)
+    follow-ends s K (halts n) h on rec = (K, inr h)
+    follow-ends s K (goes s′) h on rec = rec s′ (to-kept C s′ h)
+
+    run-ends : (s : State) → Kept C s → (ws : List ℕ) → Ending R (run (clinicOf C) s ws)
+    unfolding run
+    run-ends s K [] = (K, inl refl)
+    run-ends s K (i ∷ []) = (K, inl refl)
+    run-ends s K (i ∷ p ∷ ws) = follow-ends s K (choice (clinicOf C) s i p) (keeps s K i p) (λ s′. run (clinicOf C) s′ ws) (λ s′ h. run-ends s′ h ws)
+
+  -- The variable that a binder takes.
+
+  -- the first that is 0 is the next on the path, in the one context of the thread's node
+  pub next-free : {s : State} → Kept C s → (i : ℕ) → InCount (length (s .threads)) i → (c : Context) → Reaches C (threadAt s i) c
+      → firstFree (threadAt s i .vars) ≡ length (c .vars)
+  next-free {s} K i n c (a, h) =
+      let (d, (b, g), F, e) = all-get _ (s .threads) (i - 1) noThread (omega arith) (K .threads) in
+      let (st, z) = reached-stack (schemaOf C) (C .nodes) (openings C) g in
+      let (st′, z′) = reached-stack (schemaOf C) (C .nodes) (openings C) h in
+      let one : d ≡ c = ap (λ (l : List Context). getD l 0 d) (sym z ∙ z′) in
+      held-free (schemaOf C) (s .made) (d .vars) (threadAt s i .vars) (F .vars) ∙ ap (λ (x : Context). length (x .vars)) one
+
+module _ (f : List ℕ) where
+  abbrev C : Contents
+  C = contentsOf f
 
   -- One choice.
 
   -- any refusal
-  names-keeps : readingNames f ≡ fine → (s : State) → Kept f s → (i p : ℕ) → Claimed (λ n. Unit {0}) (choice clinic s i p)
-  names-keeps clean s K i p = choice-keeps clinic (StandsIn f) (lawful f clean) _≡_ same (λ n. Unit {0}) any s (of-kept f s K) i p
+  names-keeps : readingNames f ≡ fine → (s : State) → Kept C s → (i p : ℕ) → Claimed C (λ n. Unit {0}) (choice (clinicOf C) s i p)
+  names-keeps clean s K i p = choice-keeps (clinicOf C) (StandsIn C) (lawful f clean) _≡_ same (λ n. Unit {0}) any s (of-kept C s K) i p
     where
-      any : MayCome clinic (StandsIn f) _≡_ (λ n. Unit {0})
+      any : MayCome (clinicOf C) (StandsIn C) _≡_ (λ n. Unit {0})
       any = record { no-thread = tt; unequal = tt; full = tt; role = λ j c a m h n e. tt }
 
   -- no refusal for a role
-  check-keeps : checking f ≡ fine → (s : State) → Kept f s → (i p : ℕ) → Claimed OfCaller (choice clinic s i p)
-  check-keeps passes s K i p = choice-keeps clinic (StandsIn f) (lawful f (passes-names f passes)) _≡_ same OfCaller calls s (of-kept f s K) i p
+  check-keeps : checking f ≡ fine → (s : State) → Kept C s → (i p : ℕ) → Claimed C OfCaller (choice (clinicOf C) s i p)
+  check-keeps passes s K i p = choice-keeps (clinicOf C) (StandsIn C) (lawful f (passes-names f passes)) _≡_ same OfCaller calls s (of-kept C s K) i p
     where
-      calls : MayCome clinic (StandsIn f) _≡_ OfCaller
+      calls : MayCome (clinicOf C) (StandsIn C) _≡_ OfCaller
       calls = record {
         no-thread = inl refl;
         unequal = inr (inl refl);
@@ -95,47 +119,31 @@ module _ (f : List ℕ) where
         role = λ j c a m h n e. absurd (omega (arith, sym (none j c a m h) ∙ e));
       }
         where
-          none : (j : ℕ) (c : Context) → StandsIn f j c → (m : ℕ) → m ≡ c .mask → barred (schemaOf f (headAt f)) (activate c m) (clinic .node j) ≡ 0
+          none : (j : ℕ) (c : Context) → StandsIn C j c → (m : ℕ) → m ≡ c .mask → barred (schemaOf C) (activate c m) (clinicOf C .node j) ≡ 0
           none j c a m h =
-              subst (λ (x : ℕ). barred (schemaOf f (headAt f)) (activate c x) (clinic .node j) ≡ 0) (sym h) (lawful-roles f (passes-names f passes) passes j c a)
+              subst (λ (x : ℕ). barred (schemaOf C) (activate c x) (clinicOf C .node j) ≡ 0) (sym h) (lawful-roles f (passes-names f passes) passes j c a)
 
   -- the start is a state of a run
-  pub start-kept : readingNames f ≡ fine → Kept f (start f (headAt f))
+  pub start-kept : readingNames f ≡ fine → Kept C (start C)
   start-kept clean = start-fits f clean
 
   -- a choice that is carried out leaves one
-  pub choice-kept : {s s′ : State} → readingNames f ≡ fine → Kept f s → (i p : ℕ) → choice (clinicOf f (headAt f)) s i p ≡ goes s′ → Kept f s′
-  choice-kept {s} {s′} clean K i p e = to-kept f s′ (subst (Claimed (λ n. Unit {0})) e (names-keeps clean s K i p))
+  pub choice-kept : {s s′ : State} → readingNames f ≡ fine → Kept C s → (i p : ℕ) → choice (clinicOf C) s i p ≡ goes s′ → Kept C s′
+  choice-kept {s} {s′} clean K i p e = to-kept C s′ (subst (Claimed C (λ n. Unit {0})) e (names-keeps clean s K i p))
 
   -- in a file that passes the check no choice is refused for a role
-  pub choice-safe : {s : State} {n : ℕ} → checking f ≡ fine → Kept f s → (i p : ℕ) → choice (clinicOf f (headAt f)) s i p ≡ halts n
+  pub choice-safe : {s : State} {n : ℕ} → checking f ≡ fine → Kept C s → (i p : ℕ) → choice (clinicOf C) s i p ≡ halts n
       → (n ≢ 11) × (n ≢ 12) × (n ≢ 13)
-  choice-safe {s} {n} passes K i p e = caller-no-role n (subst (Claimed OfCaller) e (check-keeps passes s K i p))
+  choice-safe {s} {n} passes K i p e = caller-no-role n (subst (Claimed C OfCaller) e (check-keeps passes s K i p))
 
   -- Lists of choices.
 
-  -- a run ends in a state of a run, stopped by nothing or by one of R
-  abbrev Ending : (ℕ → Type 0) → Ran → Type 0
-  Ending R r = Kept f (r .state) × ((r .refusal ≡ 0) ⊎ R (r .refusal))
-
-  module _ (R : ℕ → Type 0) (keeps : (s : State) → Kept f s → (i p : ℕ) → Claimed R (choice clinic s i p)) where
-    follow-ends : (s : State) → Kept f s → (o : Chosen) → Claimed R o → (on : State → Ran) → ((s′ : State) → Kept f s′ → Ending R (on s′))
-        → Ending R (follow s o on)
-    follow-ends s K (halts n) h on rec = (K, inr h)
-    follow-ends s K (goes s′) h on rec = rec s′ (to-kept f s′ h)
-
-    run-ends : (s : State) → Kept f s → (ws : List ℕ) → Ending R (run clinic s ws)
-    unfolding run
-    run-ends s K [] = (K, inl refl)
-    run-ends s K (i ∷ []) = (K, inl refl)
-    run-ends s K (i ∷ p ∷ ws) = follow-ends s K (choice clinic s i p) (keeps s K i p) (λ s′. run clinic s′ ws) (λ s′ h. run-ends s′ h ws)
-
   -- what holds in every state of a run: 1 to 10 must find nothing, 11 to 13 may
-  pub run-kept : readingNames f ≡ fine → (ws : List ℕ) → Kept f (ranOf f ws .state)
-  run-kept clean ws = run-ends (λ n. Unit {0}) (names-keeps clean) (start f (headAt f)) (start-kept clean) ws .0
+  pub run-kept : readingNames f ≡ fine → (ws : List ℕ) → Kept C (ranOf f ws .state)
+  run-kept clean ws = run-ends C (λ n. Unit {0}) (names-keeps clean) (start C) (start-kept clean) ws .0
 
   run-caller : checking f ≡ fine → (ws : List ℕ) → (ranOf f ws .refusal ≡ 0) ⊎ OfCaller (ranOf f ws .refusal)
-  run-caller passes ws = run-ends OfCaller (check-keeps passes) (start f (headAt f)) (start-kept (passes-names f passes)) ws .1
+  run-caller passes ws = run-ends C OfCaller (check-keeps passes) (start C) (start-kept (passes-names f passes)) ws .1
 
   -- no run of a file that passes the check is stopped for a role, whatever the list
   pub run-safe : checking f ≡ fine → (ws : List ℕ) → (ranOf f ws .refusal ≢ 11) × (ranOf f ws .refusal ≢ 12) × (ranOf f ws .refusal ≢ 13)
@@ -178,18 +186,6 @@ module _ (f : List ℕ) where
       unfit (inl l) = and-not (listed (length ws)) (leb 1800 room) (lt-leb 1800 room l)
       unfit (inr (inl e)) = rw (ne-eqb (length ws % 2) 0 (λ z. omega arith))
       unfit (inr (inr l)) = let z = and-not (eqb (length ws % 2) 0) (leb (length ws) 131070) (lt-leb (length ws) 131070 l) in rw z
-
-  -- The variable that a binder takes.
-
-  -- the first that is 0 is the next on the path, in the one context of the thread's node
-  pub next-free : {s : State} → Kept f s → (i : ℕ) → InCount (length (s .threads)) i → (c : Context) → Reaches f (threadAt s i) c
-      → firstFree (threadAt s i .vars) ≡ length (c .vars)
-  next-free {s} K i n c (a, h) =
-      let (d, (b, g), F, e) = all-get _ (s .threads) (i - 1) noThread (omega arith) (K .threads) in
-      let (st, z) = reached-stack (schemaOf f (headAt f)) (nodesIn f (headAt f)) (openings f (headAt f)) g in
-      let (st′, z′) = reached-stack (schemaOf f (headAt f)) (nodesIn f (headAt f)) (openings f (headAt f)) h in
-      let one : d ≡ c = ap (λ (l : List Context). getD l 0 d) (sym z ∙ z′) in
-      held-free (schemaOf f (headAt f)) (s .made) (d .vars) (threadAt s i .vars) (F .vars) ∙ ap (λ (x : Context). length (x .vars)) one
 
 -- A placed file.
 

@@ -1,5 +1,5 @@
 -- What each refusal of a choice objects to, and the order: 18, 11, 12, 13, 19, 20.
-use Prim.Native.Nat.{ℕ, _≤_, _<_}
+use Prim.Native.Nat.{ℕ, _≤_}
 use mathlib.Core.Path.{_≡_}
 use mathlib.Core.Logic.{_⊎_, _≢_}
 use mathlib.Core.Bool.{false, cond}
@@ -10,7 +10,7 @@ use Rattle.format.specs.declared.Node.{Node}
 use Rattle.rules.specs.declared.Way.the-variants.{Sends, Receives}
 use Rattle.steps.specs.Threads.{value}
 use Rattle.steps.specs.Choice.{Clinic, State, threadAt}
-use Rattle.clinic.specs.File.{InCount}
+use Rattle.clinic.specs.Order.{Order, FirstAt}
 use Rattle.runs.specs.Steps.{StandsAt, Able}
 
 -- a lone step: every tag but send and receive
@@ -41,10 +41,10 @@ pub data Condition (C : Clinic) (s : State) (i p : ℕ) : ℕ → Type 0 where
   threads-full : (n : Node) → StandsAt C s i n → (n .tag ≡ 1) ⊎ (n .tag ≡ 2) → 64 ≤ length (s .threads) → Condition C s i p 20
   channels-full : (n : Node) → StandsAt C s i n → n .tag ≡ 3 → 64 ≤ length (s .made) → Condition C s i p 20
 
--- the order of a choice's refusals
-abbrev pub turn : ℕ → ℕ
-turn n = cond (eqb n 18) 0 n
+-- the order: all at one place, 18 first
+abbrev pub choiceOrder : Order
+choiceOrder = record { stage = λ n. 0; turn = λ n. cond (eqb n 18) 0 n }
 
 -- the refusal n is the first of those whose condition holds
 abbrev pub FirstRefusal : Clinic → State → ℕ → ℕ → ℕ → Type 0
-FirstRefusal C s i p n = Condition C s i p n × ((m : ℕ) → Condition C s i p m → turn n ≤ turn m)
+FirstRefusal C s i p n = FirstAt choiceOrder (λ m q. Condition C s i p m × (q ≡ 0)) n 0

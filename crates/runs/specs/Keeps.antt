@@ -4,11 +4,11 @@ use mathlib.Core.Path.{_≡_}
 use mathlib.Core.List.{List, [], _∷_}
 use lib.ListN.{length, getD}
 use Rattle.masks.specs.Mask.{Within}
-use Rattle.format.specs.Header.{headAt}
+use Rattle.format.specs.Contents.{Contents}
 use Rattle.rules.specs.Schema.{Schema, schemaOf}
 use Rattle.rules.specs.Names.{Bound}
 use Rattle.rules.specs.Rules.{Context}
-use Rattle.rules.specs.Checking.{openings, nodesIn}
+use Rattle.rules.specs.Checking.{openings}
 use Rattle.steps.specs.declared.Thread.{Thread}
 use Rattle.steps.specs.declared.Made.{Made}
 use Rattle.steps.specs.Threads.{noMade}
@@ -39,17 +39,16 @@ pub record Fits (D : Schema) (made : List Made) (c : Context) (t : Thread) : Typ
   pub vars : Held D made (c .vars) (t .vars)
 
 -- the context of a thread's node in a file
-abbrev pub Reaches : List ℕ → Thread → Context → Type 0
-Reaches f t c =
-    InCount (length (nodesIn f (headAt f))) (t .node) × InContext (schemaOf f (headAt f)) (nodesIn f (headAt f)) (openings f (headAt f)) (t .node) c
+abbrev pub Reaches : Contents → Thread → Context → Type 0
+Reaches C t c = InCount (length (C .nodes)) (t .node) × InContext (schemaOf C) (C .nodes) (openings C) (t .node) c
 
 -- a made channel's owner and kind are in count
 abbrev pub Formed : Schema → Made → Type 0
 Formed D m = InCount (D .users) (m .owner) × InCount (D .kinds) (m .kind)
 
 -- a state of a run: every thread fits the context of its node, and holds exactly that context's active set
-pub record Kept (f : List ℕ) (s : State) : Type 0 where
-  pub threads : All (λ (t : Thread). (c : Context) × Reaches f t c × Fits (schemaOf f (headAt f)) (s .made) c t × (t .mask ≡ c .mask)) (s .threads)
-  pub made : All (Formed (schemaOf f (headAt f))) (s .made)
+pub record Kept (C : Contents) (s : State) : Type 0 where
+  pub threads : All (λ (t : Thread). (c : Context) × Reaches C t c × Fits (schemaOf C) (s .made) c t × (t .mask ≡ c .mask)) (s .threads)
+  pub made : All (Formed (schemaOf C)) (s .made)
   pub few-threads : length (s .threads) ≤ 64
   pub few-made : length (s .made) ≤ 64

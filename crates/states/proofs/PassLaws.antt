@@ -6,12 +6,12 @@ use mathlib.Core.List.{List, [], _∷_, _++_, map}
 use native.Mathlib.Omega.{arith}
 use native.Mathlib.Numerals.{add-one}
 use lib.Dec.{eqb}
-use lib.ListN.{length, getD, take, drop, set}
+use lib.ListN.{length, getD, take, drop, set, length-drop}
 use lib.Seq.{sets, drop-cons, getD-set-same, getD-set-other, set-split, drop-at, length-take-le}
 use borrow.Author.Tests.{eqb-true}
-use Rattle.format.specs.Words.{wordAt}
-use Rattle.format.specs.Sections.{nodeAt, nodesFrom}
+use Rattle.format.specs.Contents.{item, noNode}
 use Rattle.format.specs.declared.Node.{Node}
+use Rattle.format.proofs.ContentsLaws.{from-item, none-past}
 use Rattle.states.specs.States.{Label, rest, top, onward, labelled, packed}
 use Rattle.states.specs.Kept.{upper, lower, cellOf, wordOf, cellsPast, cells, keptAll, after, followed}
 use Rattle.states.proofs.CellLaws.{Roled, cell-most}
@@ -78,8 +78,8 @@ same-past tag cs ds h = go (eqb tag 0) (eqb tag 1)
     go false false = same-rest cs ds h
 
 -- the nodes from the number i + 1 on, with their roles
-abbrev pub labelsFrom : List ℕ → ℕ → ℕ → List ℕ → ℕ → List Label
-labelsFrom f p n roles i = labelled (nodesFrom f (p + 3 * i) (n - i)) (drop (suc i) roles)
+abbrev pub labelsFrom : List Node → List ℕ → ℕ → List Label
+labelsFrom ns roles i = labelled (drop i ns) (drop (suc i) roles)
 
 length-labelled : (ns : List Node) (rs : List ℕ) → length (labelled ns rs) ≤ length ns
 unfolding labelled
@@ -87,26 +87,17 @@ length-labelled [] rs = omega arith
 length-labelled (n ∷ ns) [] = omega arith
 length-labelled (n ∷ ns) (r ∷ rs) = omega (arith, length-labelled ns rs)
 
-pub length-nodes : (f : List ℕ) (p k : ℕ) → length (nodesFrom f p k) ≡ k
-unfolding nodesFrom
-length-nodes f p zero = refl
-length-nodes f p (suc k) = ap suc (length-nodes f (p + 3) k)
+pub labels-few : (ns : List Node) (roles : List ℕ) (i : ℕ) → length (labelsFrom ns roles i) ≤ length ns
+labels-few ns roles i = omega (arith, length-labelled (drop i ns) (drop (suc i) roles), length-drop i ns)
 
-pub labels-few : (f : List ℕ) (p n : ℕ) (roles : List ℕ) (i : ℕ) → length (labelsFrom f p n roles i) ≤ n - i
-labels-few f p n roles i = omega (arith, length-labelled (nodesFrom f (p + 3 * i) (n - i)) (drop (suc i) roles), length-nodes f (p + 3 * i) (n - i))
+-- the items after i: the next one, and those after it
+pub next-item : {A : Type 0} (z : A) (xs : List A) (i : ℕ) → i < length xs → drop i xs ≡ item z xs (i + 1) ∷ drop (i + 1) xs
+next-item z xs i h = let back : i ≡ i + 1 - 1 = omega arith in ap (λ j. drop j xs) back ∙ from-item z xs (i + 1) (omega arith) (omega arith)
 
-nodes-next : (f : List ℕ) (p n i : ℕ) → i < n → nodesFrom f (p + 3 * i) (n - i) ≡ nodeAt f (p + 3 * i) ∷ nodesFrom f (p + 3 * (i + 1)) (n - (i + 1))
-unfolding nodesFrom
-nodes-next f p n i h =
-    let more : n - i ≡ suc (n - (i + 1)) = omega arith in
-    let along : p + 3 * i + 3 ≡ p + 3 * (i + 1) = omega arith in
-    rw (more, along)
-
-labels-next : (f : List ℕ) (p n : ℕ) (roles : List ℕ) (i : ℕ) → i < n → i + 1 < length roles
-    → labelsFrom f p n roles i ≡ record { tag = wordAt f (p + 3 * i); roles = getD roles (i + 1) 0 } ∷ labelsFrom f p n roles (i + 1)
+labels-next : (ns : List Node) (roles : List ℕ) (i : ℕ) → i < length ns → i + 1 < length roles
+    → labelsFrom ns roles i ≡ record { tag = item noNode ns (i + 1) .tag; roles = getD roles (i + 1) 0 } ∷ labelsFrom ns roles (i + 1)
 unfolding labelled
-labels-next f p n roles i h k =
-    ap₂ labelled (nodes-next f p n i h) (ap (λ j. drop j roles) (sym (add-one i)) ∙ drop-cons roles (i + 1) 0 k)
+labels-next ns roles i h k = ap₂ labelled (next-item noNode ns i h) (ap (λ j. drop j roles) (sym (add-one i)) ∙ drop-cons roles (i + 1) 0 k)
 
 -- what a slice of u16 holds
 abbrev pub Short : List ℕ → Type 0
@@ -173,11 +164,11 @@ right-past tag t a d h = let one : d + 1 ≡ suc d = omega arith in rw one (go (
     go false true = held-set 0 a (suc d) t (d - 1) (omega arith) ∙ sym (held-rest 0 a d)
     go false false = held-set 0 a (suc d) t d (omega arith)
 
--- from the right: node i + 1 of n is read, i of them are left
-module _ (f : List ℕ) (p n : ℕ) (roles : List ℕ) (i : ℕ) (h : i < n) (k : i + 1 < length roles) (t : ℕ) (a : List ℕ) (d : ℕ) (e : getD a 0 0 ≡ 0)
-    (st : Same (t ∷ held 0 a d) (cells (labelsFrom f p n roles (i + 1)))) (tag : ℕ) (its : tag ≡ wordAt f (p + 3 * i)) where
+-- from the right: node i + 1 is read, i of them are left
+module _ (ns : List Node) (roles : List ℕ) (i : ℕ) (h : i < length ns) (k : i + 1 < length roles) (t : ℕ) (a : List ℕ) (d : ℕ) (e : getD a 0 0 ≡ 0)
+    (st : Same (t ∷ held 0 a d) (cells (labelsFrom ns roles (i + 1)))) (tag : ℕ) (its : tag ≡ item noNode ns (i + 1) .tag) where
   abbrev ls : List Label
-  ls = labelsFrom f p n roles (i + 1)
+  ls = labelsFrom ns roles (i + 1)
 
   abbrev role : ℕ
   role = getD roles (i + 1) 0
@@ -188,11 +179,11 @@ module _ (f : List ℕ) (p n : ℕ) (roles : List ℕ) (i : ℕ) (h : i < n) (k 
   two-is : getD a d 0 ≡ top (rest (cells ls))
   two-is = sym (top-held a d e) ∙ same-top (held 0 a d) (rest (cells ls)) (same-rest (t ∷ held 0 a d) (cells ls) st)
 
-  this : labelsFrom f p n roles i ≡ record { tag = tag; roles = role } ∷ ls
-  this = labels-next f p n roles i h k ∙ ap (λ t. record { tag = t; roles = role } ∷ ls) (sym its)
+  this : labelsFrom ns roles i ≡ record { tag = tag; roles = role } ∷ ls
+  this = labels-next ns roles i h k ∙ ap (λ t. record { tag = t; roles = role } ∷ ls) (sym its)
 
   pub right-cells : (cell j : ℕ) → cell ≡ cellOf tag role t (getD a d 0) → j ≡ cond (eqb tag 0) (d + 1) (cond (eqb tag 1) (d - 1) d) → d + 1 < length a
-      → Same (cell ∷ held 0 (set a (d + 1) t) j) (cells (labelsFrom f p n roles i))
+      → Same (cell ∷ held 0 (set a (d + 1) t) j) (cells (labelsFrom ns roles i))
   unfolding cells
   right-cells cell j ce je fits q =
       ap (λ cs. getD (cell ∷ cs) q 0) (ap (held 0 (set a (d + 1) t)) je ∙ right-past tag t a d fits)
@@ -201,7 +192,7 @@ module _ (f : List ℕ) (p n : ℕ) (roles : List ℕ) (i : ℕ) (h : i < n) (k 
       ∙ ap (λ ls. getD (cells ls) q 0) (sym this)
 
   pub right-words : (words ends : List ℕ) (w : ℕ) → w ≡ wordOf tag role t (getD a d 0) → i < length words → drop (i + 1) words ≡ keptAll ls ++ ends
-      → drop i (set words i w) ≡ keptAll (labelsFrom f p n roles i) ++ ends
+      → drop i (set words i w) ≡ keptAll (labelsFrom ns roles i) ++ ends
   unfolding keptAll
   right-words words ends w we len inv =
       drop-set words i w len ∙ ap₂ _∷_ (we ∙ ap₂ (wordOf tag role) one-is two-is) (ap (λ j. drop j words) (sym (add-one i)) ∙ inv)
@@ -272,53 +263,43 @@ left-stack tag s a d f j h z fe je k =
     go false true k = ap (λ l. getD (s ∷ l) k 0) (held-push 0 a d s (omega arith))
     go false false k = ap (λ l. getD (s ∷ l) k 0) (held-set 0 a (suc d) s d (omega arith))
 
-pub left-turn : (f : List ℕ) (p n i : ℕ) (words turns whole st st′ : List ℕ) (tag from to : ℕ) → i < n → i < length words
-    → tag ≡ wordAt f (p + 3 * i) → from ≡ top st → to ≡ after (getD words i 0) from → st′ ≡ onward tag to (rest st)
-    → sets turns (i + 1) (map packed (followed (nodesFrom f (p + 3 * i) (n - i)) (drop i words) st)) ≡ whole
-    → sets (set turns (i + 1) (from + 256 * to)) (i + 1 + 1) (map packed (followed (nodesFrom f (p + 3 * (i + 1)) (n - (i + 1))) (drop (i + 1) words) st′)) ≡ whole
+pub left-turn : (ns : List Node) (i : ℕ) (words turns whole st st′ : List ℕ) (tag from to : ℕ) → i < length ns → i < length words
+    → tag ≡ item noNode ns (i + 1) .tag → from ≡ top st → to ≡ after (getD words i 0) from → st′ ≡ onward tag to (rest st)
+    → sets turns (i + 1) (map packed (followed (drop i ns) (drop i words) st)) ≡ whole
+    → sets (set turns (i + 1) (from + 256 * to)) (i + 1 + 1) (map packed (followed (drop (i + 1) ns) (drop (i + 1) words) st′)) ≡ whole
 unfolding followed
-left-turn f p n i words turns whole st st′ tag from to h k te fe oe se inv =
-    let ns : List Node = nodesFrom f (p + 3 * (i + 1)) (n - (i + 1)) in
-    let now : followed (nodesFrom f (p + 3 * i) (n - i)) (drop i words) st ≡ record { from = from; to = to } ∷ followed ns (drop (i + 1) words) st′ =
-    ap₂ (λ x y. followed x y st) (nodes-next f p n i h) (drop-cons words i 0 k ∙ ap (λ j. getD words i 0 ∷ drop j words) (sym (add-one i)))
+left-turn ns i words turns whole st st′ tag from to h k te fe oe se inv =
+    let now : followed (drop i ns) (drop i words) st ≡ record { from = from; to = to } ∷ followed (drop (i + 1) ns) (drop (i + 1) words) st′ =
+    ap₂ (λ x y. followed x y st) (next-item noNode ns i h) (drop-cons words i 0 k ∙ ap (λ j. getD words i 0 ∷ drop j words) (sym (add-one i)))
     ∙ both fe oe te se in
-    ap (λ j. sets (set turns (i + 1) (from + 256 * to)) j (map packed (followed ns (drop (i + 1) words) st′))) (add-one (i + 1))
+    ap (λ j. sets (set turns (i + 1) (from + 256 * to)) j (map packed (followed (drop (i + 1) ns) (drop (i + 1) words) st′))) (add-one (i + 1))
     ∙ ap (λ ts. sets turns (i + 1) (map packed ts)) (sym now) ∙ inv
   where
-    both : from ≡ top st → to ≡ after (getD words i 0) from → tag ≡ wordAt f (p + 3 * i) → st′ ≡ onward tag to (rest st)
-        → followed (nodeAt f (p + 3 * i) ∷ nodesFrom f (p + 3 * (i + 1)) (n - (i + 1))) (getD words i 0 ∷ drop (i + 1) words) st
-        ≡ record { from = from; to = to } ∷ followed (nodesFrom f (p + 3 * (i + 1)) (n - (i + 1))) (drop (i + 1) words) st′
+    both : from ≡ top st → to ≡ after (getD words i 0) from → tag ≡ item noNode ns (i + 1) .tag → st′ ≡ onward tag to (rest st)
+        → followed (item noNode ns (i + 1) ∷ drop (i + 1) ns) (getD words i 0 ∷ drop (i + 1) words) st
+        ≡ record { from = from; to = to } ∷ followed (drop (i + 1) ns) (drop (i + 1) words) st′
     both fe oe te se = rw (se, te, oe, fe)
 
 -- where the loops begin and end
-pub labels-none : (f : List ℕ) (p n : ℕ) (roles : List ℕ) → labelsFrom f p n roles n ≡ []
-unfolding nodesFrom labelled
-labels-none f p n roles = let none : n - n ≡ 0 = omega arith in rw none
+labels-none : (ns : List Node) (roles : List ℕ) (n : ℕ) → length ns ≤ n → labelsFrom ns roles n ≡ []
+unfolding labelled
+labels-none ns roles n h = ap (λ x. labelled x (drop (suc n) roles)) (none-past ns n h)
 
-pub labels-all : (f : List ℕ) (p n : ℕ) (roles : List ℕ) (i : ℕ) → i ≡ 0 → labelsFrom f p n roles i ≡ labelled (nodesFrom f p n) (drop 1 roles)
-labels-all f p n roles i e =
-    let at : p + 3 * 0 ≡ p = omega arith in
-    let all : n - 0 ≡ n = omega arith in
-    rw (e, at, all)
-
-pub right-begins : (f : List ℕ) (p n : ℕ) (roles : List ℕ) → Same (0 ∷ []) (cells (labelsFrom f p n roles n))
+pub right-begins : (ns : List Node) (roles : List ℕ) (n : ℕ) → length ns ≤ n → Same (0 ∷ []) (cells (labelsFrom ns roles n))
 unfolding cells
-right-begins f p n roles k = only-zero k ∙ ap (λ ls. getD (cells ls) k 0) (sym (labels-none f p n roles))
+right-begins ns roles n h k = only-zero k ∙ ap (λ ls. getD (cells ls) k 0) (sym (labels-none ns roles n h))
 
-pub right-empty : (f : List ℕ) (p n : ℕ) (roles ends : List ℕ) → ends ≡ keptAll (labelsFrom f p n roles n) ++ ends
+pub right-empty : (ns : List Node) (roles ends : List ℕ) (n : ℕ) → length ns ≤ n → ends ≡ keptAll (labelsFrom ns roles n) ++ ends
 unfolding keptAll
-right-empty f p n roles ends = ap (λ ls. keptAll ls ++ ends) (sym (labels-none f p n roles))
+right-empty ns roles ends n h = ap (λ ls. keptAll ls ++ ends) (sym (labels-none ns roles n h))
 
-pub left-begins : (f : List ℕ) (p n : ℕ) (words turns : List ℕ)
-    → sets turns 1 (map packed (followed (nodesFrom f (p + 3 * 0) (n - 0)) (drop 0 words) (0 ∷ []))) ≡ sets turns 1 (map packed (followed (nodesFrom f p n) words []))
-left-begins f p n words turns =
-    let at : p + 3 * 0 ≡ p = omega arith in
-    let all : n - 0 ≡ n = omega arith in
-    rw (at, all) (ap (λ ts. sets turns 1 (map packed ts)) (same-followed (nodesFrom f p n) words (0 ∷ []) [] only-zero))
+pub left-begins : (ns : List Node) (words turns : List ℕ)
+    → sets turns 1 (map packed (followed ns words (0 ∷ []))) ≡ sets turns 1 (map packed (followed ns words []))
+left-begins ns words turns = ap (λ ts. sets turns 1 (map packed ts)) (same-followed ns words (0 ∷ []) [] only-zero)
 
-pub left-ends : (f : List ℕ) (p n i : ℕ) (words turns st : List ℕ) → i ≡ n → turns ≡ sets turns (i + 1) (map packed (followed (nodesFrom f p (n - i)) words st))
-unfolding nodesFrom followed
-left-ends f p n i words turns st e = let none : n - i ≡ 0 = omega arith in rw none
+pub left-ends : (ns : List Node) (i : ℕ) (words turns st : List ℕ) → length ns ≤ i → turns ≡ sets turns (i + 1) (map packed (followed (drop i ns) words st))
+unfolding followed
+left-ends ns i words turns st h = ap (λ x. sets turns (i + 1) (map packed (followed x words st))) (sym (none-past ns i h))
 
 -- the depths, and the element 0
 pub right-depth : (tag d j : ℕ) → j ≡ cond (eqb tag 0) (d + 1) (cond (eqb tag 1) (d - 1) d) → j ≤ d + 1

@@ -3,7 +3,6 @@ mod costs;
 mod pass;
 
 use format::Head;
-use format::words::wide;
 use pass::decide;
 use pass::follow;
 ghost use mathlib.Core.Path.{_≡_};
@@ -11,7 +10,8 @@ ghost use mathlib.Core.List.{map};
 ghost use Prim.Native.Nat.{_≤_};
 ghost use lib.ListN.{length, drop};
 ghost use lib.Seq.{sets};
-ghost use Rattle.format.specs.Sections.{nodesFrom};
+ghost use Rattle.format.specs.Header.{Laid};
+ghost use Rattle.format.specs.Contents.{contentsAt};
 ghost use Rattle.states.specs.States.{labelled, turnsOf, packed};
 ghost use Rattle.states.specs.Kept.{Served};
 
@@ -23,13 +23,11 @@ pub struct Turn {
 
 // The turn of each node, at its number.
 pub fn turns(file: &[u8], head: Head, roles: &[u16], turns: &mut [u16])
-    requires { ⌜ (head .count .nodes ≤ 1024) × (length (now roles) ≡ 1025) × (length (now turns) ≡ 1025)
-        × Served (labelled (nodesFrom (now file) (head .at .nodes) (head .count .nodes)) (drop 1 (now roles))) ⌝ }
-    ensures { λ r. ⌜ now (turns .exit) ≡ sets (now (turns .entry)) 1 (map packed (turnsOf (labelled (nodesFrom (now (file .entry)) (head .at .nodes) (head .count .nodes)) (drop 1 (now (roles .entry)))))) ⌝ }
+    requires { ⌜ Laid (now file) head × (length (now roles) ≡ 1025) × (length (now turns) ≡ 1025)
+        × Served (labelled (contentsAt (now file) head .nodes) (drop 1 (now roles))) ⌝ }
+    ensures { λ r. ⌜ now (turns .exit) ≡ sets (now (turns .entry)) 1 (map packed (turnsOf (labelled (contentsAt (now (file .entry)) head .nodes) (drop 1 (now (roles .entry)))))) ⌝ }
 {
-    let at = wide(head.at.nodes);
-    let n = wide(head.count.nodes);
     let mut kept = [0u32; 1024];
-    decide(file, at, n, roles, &mut kept);
-    follow(file, at, n, &kept, turns);
+    decide(file, head, roles, &mut kept);
+    follow(file, head, &kept, turns);
 }

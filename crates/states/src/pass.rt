@@ -1,6 +1,9 @@
 // Both ways over the nodes, each with a stack. Below a stack's values is one more, 0.
 use super::costs::keep;
-use format::words::word;
+use format::Head;
+use format::sections::node_tag;
+use format::words::narrow;
+use format::words::wide;
 ghost use mathlib.Core.Path.{_≡_};
 ghost use mathlib.Core.Bool.{cond};
 ghost use mathlib.Core.List.{[], map, _++_};
@@ -8,7 +11,8 @@ ghost use Prim.Native.Nat.{_+_, _*_, _-_, _≤_, _<_};
 ghost use lib.Dec.{eqb};
 ghost use lib.ListN.{length, drop};
 ghost use lib.Seq.{sets};
-ghost use Rattle.format.specs.Sections.{nodesFrom};
+ghost use Rattle.format.specs.Header.{Laid};
+ghost use Rattle.format.specs.Contents.{contentsAt};
 ghost use Rattle.states.specs.States.{labelled, packed};
 ghost use Rattle.states.specs.Kept.{keptAll, after, followed};
 
@@ -34,17 +38,17 @@ fn by_tag(tag: u16, none: usize, two: usize, one: usize) -> usize
 }
 
 // From the right: the stack has the rows of the trees that follow, but for the first.
-pub fn decide(file: &[u8], at: usize, n: usize, roles: &[u16], words: &mut [u32])
-    requires { ⌜ (at < 65536) × (n ≤ 1024) × (length (now roles) ≡ 1025) × (length (now words) ≡ 1024) ⌝ }
-    ensures { λ r. ⌜ now (words .exit) ≡ keptAll (labelled (nodesFrom (now (file .entry)) at n) (drop 1 (now (roles .entry)))) ++ drop n (now (words .entry)) ⌝ }
+pub fn decide(file: &[u8], head: Head, roles: &[u16], words: &mut [u32])
+    requires { ⌜ Laid (now file) head × (length (now roles) ≡ 1025) × (length (now words) ≡ 1024) ⌝ }
+    ensures { λ r. ⌜ now (words .exit) ≡ keptAll (labelled (contentsAt (now (file .entry)) head .nodes) (drop 1 (now (roles .entry)))) ++ drop (head .count .nodes) (now (words .entry)) ⌝ }
 {
     let mut stack = [0u32; 1025];
     let mut depth: usize = 0;
     let mut row: u32 = 0;
-    let mut i = n;
+    let mut i = wide(head.count.nodes);
     while 0 < i {
+        let tag = node_tag(file, head, narrow(i));
         i -= 1;
-        let tag = word(file, at + 3 * i);
         let it = keep(tag, roles[i + 1], row, stack[depth]);
         stack[depth + 1] = row;
         depth = by_tag(tag, depth + 1, less(depth), depth);
@@ -75,18 +79,19 @@ fn above_next(tag: u16, waits: u16, to: u16) -> u16
 }
 
 // From the left: the stack has the states above the trees that wait, but for the next.
-pub fn follow(file: &[u8], at: usize, n: usize, words: &[u32], turns: &mut [u16])
-    requires { ⌜ (at < 65536) × (n ≤ 1024) × (length (now words) ≡ 1024) × (length (now turns) ≡ 1025) ⌝ }
-    ensures { λ r. ⌜ now (turns .exit) ≡ sets (now (turns .entry)) 1 (map packed (followed (nodesFrom (now (file .entry)) at n) (now (words .entry)) [])) ⌝ }
+pub fn follow(file: &[u8], head: Head, words: &[u32], turns: &mut [u16])
+    requires { ⌜ Laid (now file) head × (length (now words) ≡ 1024) × (length (now turns) ≡ 1025) ⌝ }
+    ensures { λ r. ⌜ now (turns .exit) ≡ sets (now (turns .entry)) 1 (map packed (followed (contentsAt (now (file .entry)) head .nodes) (now (words .entry)) [])) ⌝ }
 {
     let mut stack = [0u16; 1025];
     let mut depth: usize = 0;
     let mut from: u16 = 0;
+    let n = wide(head.count.nodes);
     let mut i: usize = 0;
     while i < n {
-        let tag = word(file, at + 3 * i);
         let to = state_after(words[i], from);
         i += 1;
+        let tag = node_tag(file, head, narrow(i));
         turns[i] = from + 256 * to;
         from = above_next(tag, stack[depth], to);
         stack[depth + 1] = to;

@@ -1,18 +1,18 @@
 -- What a choice comes to, branch by branch, as the code goes.
 use Prim.Native.Nat.{ℕ, zero, suc, _+_, _*_, _-_, _≤_, _<_}
 use mathlib.Core.Path.{_≡_, refl, sym, ap, _∙_}
-use mathlib.Core.Bool.{Bool, true, false, cond, not, _&&_, and-eq-true-iff}
+use mathlib.Core.Bool.{Bool, true, false, cond, not, _&&_}
 use mathlib.Core.List.{List, [], _∷_}
 use native.Mathlib.Omega.{arith}
 use lib.Bits.{bitAnd}
 use lib.Dec.{eqb, leb, ltb}
 use lib.ListN.{length, getD, List·getD-eq-default}
-use borrow.Author.Tests.{eq-eqb, ne-eqb, lt-ltb, le-ltb, le-leb, lt-leb, ltb-true, leb-true}
+use borrow.Author.Tests.{eq-eqb, ne-eqb, lt-ltb, le-ltb, le-leb, lt-leb}
 use Rattle.masks.specs.Mask.{has, with, without}
+use Rattle.format.specs.Contents.{inCount}
 use Rattle.format.specs.declared.Node.{Node}
 use Rattle.masks.proofs.Bounds.{namesOnly-lt, namesOnly-iff}
 use Rattle.rules.specs.Schema.{Schema}
-use Rattle.rules.specs.Names.{within}
 use Rattle.rules.specs.Rules.{able}
 use Rattle.rules.specs.Kept.{Granting}
 use Rattle.rules.specs.declared.Way.{Way}
@@ -49,10 +49,6 @@ leaving a t = record { answer = a; first = t; second = noThread }
 -- a role of a mask of 16 bits
 pub role-low : (m x : ℕ) → m < 65536 → has m x ≡ true → x ≤ 16
 role-low m x h p = namesOnly-iff 16 m .0 (namesOnly-lt 16 m .1 h) x p
-
--- a number in count
-pub in-count : (n x : ℕ) → within n x ≡ true → (0 < x) × (x ≤ n)
-in-count n x h = let b = and-eq-true-iff (ltb 0 x) (leb x n) .0 h in (ltb-true 0 x (b .0), leb-true x n (b .1))
 
 -- made channels in a table
 pub length-made : (b : List ℕ) (p k : ℕ) → length (madeIn b p k) ≡ k
@@ -126,18 +122,18 @@ module _ (C : Clinic) (made : List Made) (t : Thread) (n : Node) (threads p : �
 
   sending-with : (p ≡ 0 → ⊥) → p ≤ threads
       → sending C made t n (partnerOf threads p r)
-      ≡ cond (within (C .nodes) (r .node) && eqb (C .node (r .node) .tag) 5) (meeting C made t n r (C .node (r .node))) (Refused 18)
+      ≡ cond (inCount (C .nodes) (r .node) && eqb (C .node (r .node) .tag) 5) (meeting C made t n r (C .node (r .node))) (Refused 18)
   unfolding sending
   sending-with d h = rw (ne-eqb p 0 d, le-leb p threads h)
 
-  pub sending-out : (p ≡ 0 → ⊥) → p ≤ threads → within (C .nodes) (r .node) ≡ false → sending C made t n (partnerOf threads p r) ≡ Refused 18
+  pub sending-out : (p ≡ 0 → ⊥) → p ≤ threads → inCount (C .nodes) (r .node) ≡ false → sending C made t n (partnerOf threads p r) ≡ Refused 18
   sending-out d h w = sending-with d h ∙ rw w
 
-  pub sending-elsewhere : (m : Node) → m ≡ C .node (r .node) → (p ≡ 0 → ⊥) → p ≤ threads → within (C .nodes) (r .node) ≡ true → (m .tag ≡ 5 → ⊥)
+  pub sending-elsewhere : (m : Node) → m ≡ C .node (r .node) → (p ≡ 0 → ⊥) → p ≤ threads → inCount (C .nodes) (r .node) ≡ true → (m .tag ≡ 5 → ⊥)
       → sending C made t n (partnerOf threads p r) ≡ Refused 18
   sending-elsewhere m k d h w e = sending-with d h ∙ rw (w, ← k, ne-eqb (m .tag) 5 e)
 
-  pub sending-received : (m : Node) → m ≡ C .node (r .node) → (p ≡ 0 → ⊥) → p ≤ threads → within (C .nodes) (r .node) ≡ true → m .tag ≡ 5
+  pub sending-received : (m : Node) → m ≡ C .node (r .node) → (p ≡ 0 → ⊥) → p ≤ threads → inCount (C .nodes) (r .node) ≡ true → m .tag ≡ 5
       → sending C made t n (partnerOf threads p r) ≡ meeting C made t n r m
   sending-received m k d h w e = sending-with d h ∙ rw (w, ← k, eq-eqb (m .tag) 5 e)
 
@@ -194,26 +190,26 @@ module _ (C : Clinic) (threads made : ℕ) (t : Thread) (n : Node) where
 
 -- a choice, by the thread's node and its partner
 module _ (C : Clinic) (threads : ℕ) (made : List Made) (t : Thread) (p : ℕ) (r : Thread) where
-  pub acting-out : within (C .nodes) (t .node) ≡ false → acting C threads made t (partnerOf threads p r) ≡ Refused 18
+  pub acting-out : inCount (C .nodes) (t .node) ≡ false → acting C threads made t (partnerOf threads p r) ≡ Refused 18
   unfolding acting
   acting-out w = rw w
 
-  pub acting-send : (n : Node) → n ≡ C .node (t .node) → within (C .nodes) (t .node) ≡ true → n .tag ≡ 6
+  pub acting-send : (n : Node) → n ≡ C .node (t .node) → inCount (C .nodes) (t .node) ≡ true → n .tag ≡ 6
       → acting C threads made t (partnerOf threads p r) ≡ sending C made t n (partnerOf threads p r)
   unfolding acting
   acting-send n k w e = rw (← k, w, eq-eqb (n .tag) 6 e)
 
-  pub acting-receive : (n : Node) → n ≡ C .node (t .node) → within (C .nodes) (t .node) ≡ true → n .tag ≡ 5
+  pub acting-receive : (n : Node) → n ≡ C .node (t .node) → inCount (C .nodes) (t .node) ≡ true → n .tag ≡ 5
       → acting C threads made t (partnerOf threads p r) ≡ Refused 18
   unfolding acting
   acting-receive n k w e = rw (← k, w, e)
 
-  alone : (n : Node) → n ≡ C .node (t .node) → within (C .nodes) (t .node) ≡ true → (n .tag ≡ 6 → ⊥) → (n .tag ≡ 5 → ⊥)
+  alone : (n : Node) → n ≡ C .node (t .node) → inCount (C .nodes) (t .node) ≡ true → (n .tag ≡ 6 → ⊥) → (n .tag ≡ 5 → ⊥)
       → acting C threads made t (partnerOf threads p r) ≡ aloneOnly (partnerOf threads p r) (lone C threads (length made) t n)
   unfolding acting
   alone n k w a b = rw (← k, w, ne-eqb (n .tag) 6 a, ne-eqb (n .tag) 5 b)
 
-  pub acting-partner : (n : Node) → n ≡ C .node (t .node) → within (C .nodes) (t .node) ≡ true → (n .tag ≡ 6 → ⊥) → (n .tag ≡ 5 → ⊥) → (p ≡ 0 → ⊥)
+  pub acting-partner : (n : Node) → n ≡ C .node (t .node) → inCount (C .nodes) (t .node) ≡ true → (n .tag ≡ 6 → ⊥) → (n .tag ≡ 5 → ⊥) → (p ≡ 0 → ⊥)
       → acting C threads made t (partnerOf threads p r) ≡ Refused 18
   unfolding aloneOnly
   acting-partner n k w a b d = alone n k w a b ∙ rw (ne-eqb p 0 d) (either (leb p threads))
@@ -222,7 +218,7 @@ module _ (C : Clinic) (threads : ℕ) (made : List Made) (t : Thread) (p : ℕ) 
       either true = refl
       either false = refl
 
-  pub acting-lone : (n : Node) (m : ℕ) → n ≡ C .node (t .node) → length made ≡ m → within (C .nodes) (t .node) ≡ true → (n .tag ≡ 6 → ⊥) → (n .tag ≡ 5 → ⊥) → p ≡ 0
+  pub acting-lone : (n : Node) (m : ℕ) → n ≡ C .node (t .node) → length made ≡ m → inCount (C .nodes) (t .node) ≡ true → (n .tag ≡ 6 → ⊥) → (n .tag ≡ 5 → ⊥) → p ≡ 0
       → acting C threads made t (partnerOf threads p r) ≡ lone C threads m t n
   unfolding aloneOnly
   acting-lone n m k l w a b e = alone n k w a b ∙ rw (eq-eqb p 0 e, l)

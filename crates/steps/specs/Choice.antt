@@ -5,14 +5,11 @@ use mathlib.Core.List.{List, [], _∷_, _++_}
 use lib.Dec.{eqb, leb, ltb}
 use lib.ListN.{length, getD, set, take, drop}
 use Rattle.masks.specs.Mask.{has, with, without}
-use Rattle.format.specs.Sections.{placeOf, nodeAt}
-use Rattle.format.specs.declared.Head.{Head}
+use Rattle.format.specs.Contents.{Contents, inCount, item, noNode}
 use Rattle.format.specs.declared.Node.{Node}
-use Rattle.format.specs.declared.Section.the-variants.{Nodes}
 use Rattle.rules.specs.declared.Way.{Way}
 use Rattle.rules.specs.declared.Way.the-variants.{Sends, Receives}
 use Rattle.rules.specs.Schema.{Schema, schemaOf}
-use Rattle.rules.specs.Names.{within}
 use Rattle.rules.specs.Rules.{able}
 use Rattle.steps.specs.declared.Thread.{Thread}
 use Rattle.steps.specs.declared.Made.{Made}
@@ -30,8 +27,8 @@ pub record Clinic : Type 0 where
   pub nodes : ℕ
   pub node : ℕ → Node
 
-abbrev pub clinicOf : List ℕ → Head → Clinic
-clinicOf f h = record { schema = schemaOf f h; nodes = h .count .nodes; node = λ j. nodeAt f (placeOf h Nodes j) }
+abbrev pub clinicOf : Contents → Clinic
+clinicOf C = record { schema = schemaOf C; nodes = length (C .nodes); node = λ j. item noNode (C .nodes) j }
 
 -- the kind of a value, 0 for a plain one: made channel i has value 384 + i
 unfoldable pub kindHeld : Schema → List Made → ℕ → ℕ
@@ -52,7 +49,7 @@ unfoldable pub sending : Clinic → List Made → Thread → Node → Partner �
 sending C made t n Alone = Refused 18
 sending C made t n Missing = Refused 18
 sending C made t n (With r) =
-    cond (within (C .nodes) (r .node) && eqb (C .node (r .node) .tag) 5) (meeting C made t n r (C .node (r .node))) (Refused 18)
+    cond (inCount (C .nodes) (r .node) && eqb (C .node (r .node) .tag) 5) (meeting C made t n r (C .node (r .node))) (Refused 18)
 
 -- a lone step, by its tag: 11 on of a role not assigned, 12 off of a role not active, 19 compare unequal, 20 a 65th thread or made channel
 unfoldable pub lone : Clinic → ℕ → ℕ → Thread → Node → Outcome
@@ -76,7 +73,7 @@ aloneOnly (With r) o = Refused 18
 unfoldable pub acting : Clinic → ℕ → List Made → Thread → Partner → Outcome
 acting C threads made t p =
     let n : Node = C .node (t .node) in
-    cond (within (C .nodes) (t .node))
+    cond (inCount (C .nodes) (t .node))
     (cond (eqb (n .tag) 6) (sending C made t n p) (cond (eqb (n .tag) 5) (Refused 18) (aloneOnly p (lone C threads (length made) t n)))) (Refused 18)
 
 pub record State : Type 0 where
@@ -118,4 +115,4 @@ done s i p (Meets q) = goes (changed (changed s i (q .first)) p (q .second))
 -- 18 where there is no such thread
 unfoldable pub choice : Clinic → State → ℕ → ℕ → Chosen
 choice C s i p =
-    cond (within (length (s .threads)) i) (done s i p (acting C (length (s .threads)) (s .made) (threadAt s i) (partnerAt s p))) (halts 18)
+    cond (inCount (length (s .threads)) i) (done s i p (acting C (length (s .threads)) (s .made) (threadAt s i) (partnerAt s p))) (halts 18)

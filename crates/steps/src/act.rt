@@ -6,6 +6,7 @@ use super::Thread;
 use format::Head;
 use format::Node;
 use format::sections::channel;
+use format::sections::in_count;
 use format::sections::node;
 use format::sections::user_roles;
 use format::words::wide;
@@ -19,8 +20,9 @@ ghost use lib.Bits.{bitAnd};
 ghost use lib.Dec.{eqb, ltb};
 ghost use lib.ListN.{length, getD};
 ghost use Rattle.masks.specs.Mask.{has, with};
+ghost use Rattle.format.specs.Header.{Laid};
+ghost use Rattle.format.specs.Contents.{contentsAt};
 ghost use Rattle.rules.specs.Schema.{schemaOf};
-ghost use Rattle.rules.specs.Names.{within};
 ghost use Rattle.rules.specs.Kept.{Granting};
 ghost use Rattle.rules.specs.declared.Way.the-variants.{Sends, Receives};
 ghost use Rattle.steps.specs.declared.Outcome.the-variants.{Refused, Moves, Adds, Makes};
@@ -29,17 +31,10 @@ ghost use Rattle.steps.specs.Choice.{clinicOf, kindHeld, meeting, sendin
 ghost use Rattle.steps.specs.Kept.{madeIn};
 ghost use Rattle.steps.specs.Acted.{partnerOf, actedOf};
 
-// A node in count.
-pub fn is_node(head: Head, n: u16) -> bool
-    ensures { λ r. ⌜ r ≡ within (head .count .nodes) n ⌝ }
-{
-    (0 < n) & (n <= head.count.nodes)
-}
-
 // The kind of a value, 0 for a plain one.
 pub fn kind_held(file: &[u8], head: Head, beside: &[u16], v: u16) -> u16
-    requires { ⌜ (length (now beside) ≡ 130) × (getD (now beside) 1 0 ≤ 64) ⌝ }
-    ensures { λ r. ⌜ r ≡ kindHeld (schemaOf (now (file .entry)) head) (madeIn (now (beside .entry)) 2 (getD (now (beside .entry)) 1 0)) v ⌝ }
+    requires { ⌜ Laid (now file) head × (length (now beside) ≡ 130) × (getD (now beside) 1 0 ≤ 64) ⌝ }
+    ensures { λ r. ⌜ r ≡ kindHeld (schemaOf (contentsAt (now (file .entry)) head)) (madeIn (now (beside .entry)) 2 (getD (now (beside .entry)) 1 0)) v ⌝ }
 {
     if v < 257 {
         return 0;
@@ -131,12 +126,9 @@ fn makes(made: u16, own: Thread, kind: u16) -> Acted
 
 // On of a role assigned to the user; 11 of another.
 fn switches_on(file: &[u8], head: Head, own: Thread, role: UserRole) -> Acted
-    requires { ⌜ own .node < 65535 ⌝ }
-    ensures { λ r. ⌜ r ≡ actedOf (cond (has (schemaOf (now (file .entry)) head .assigned (own .user)) (role .0)) (Moves (masked own (with (own .mask) (role .0)))) (Refused 11)) ⌝ }
+    requires { ⌜ Laid (now file) head × (own .node < 65535) ⌝ }
+    ensures { λ r. ⌜ r ≡ actedOf (cond (has (schemaOf (contentsAt (now (file .entry)) head) .assigned (own .user)) (role .0)) (Moves (masked own (with (own .mask) (role .0)))) (Refused 11)) ⌝ }
 {
-    if own.user == 0 {
-        return refused(11);
-    }
     if has_role(user_roles(file, head, own.user), role) {
         return sole(Answer::Moves, own.on(role));
     }
@@ -145,8 +137,8 @@ fn switches_on(file: &[u8], head: Head, own: Thread, role: UserRole) -> Acted
 
 // A lone step, by its tag.
 fn step(file: &[u8], head: Head, threads: u16, made: u16, own: Thread, it: Node) -> Acted
-    requires { ⌜ own .node < 65535 ⌝ }
-    ensures { λ r. ⌜ r ≡ actedOf (lone (clinicOf (now (file .entry)) head) threads made own it) ⌝ }
+    requires { ⌜ Laid (now file) head × (own .node < 65535) ⌝ }
+    ensures { λ r. ⌜ r ≡ actedOf (lone (clinicOf (contentsAt (now (file .entry)) head)) threads made own it) ⌝ }
 {
     let tag = it.tag;
     match tag {
@@ -176,8 +168,8 @@ fn meets(
     other: Thread,
     theirs: Node,
 ) -> Acted
-    requires { ⌜ (own .node < 65535) × (other .node < 65535) × Granting (schemaOf (now file) head) Sends (now sends) × Granting (schemaOf (now file) head) Receives (now receives) × (length (now beside) ≡ 130) × (getD (now beside) 1 0 ≤ 64) ⌝ }
-    ensures { λ r. ⌜ r ≡ actedOf (meeting (clinicOf (now (file .entry)) head) (madeIn (now (beside .entry)) 2 (getD (now (beside .entry)) 1 0)) own it other theirs) ⌝ }
+    requires { ⌜ Laid (now file) head × (own .node < 65535) × (other .node < 65535) × Granting (schemaOf (contentsAt (now file) head)) Sends (now sends) × Granting (schemaOf (contentsAt (now file) head)) Receives (now receives) × (length (now beside) ≡ 130) × (getD (now beside) 1 0 ≤ 64) ⌝ }
+    ensures { λ r. ⌜ r ≡ actedOf (meeting (clinicOf (contentsAt (now (file .entry)) head)) (madeIn (now (beside .entry)) 2 (getD (now (beside .entry)) 1 0)) own it other theirs) ⌝ }
 {
     let over = own.value(it.f1);
     let kind = kind_held(file, head, beside, over);
@@ -213,8 +205,8 @@ fn send(
     partner: u16,
     other: Thread,
 ) -> Acted
-    requires { ⌜ (head .count .nodes ≤ 1024) × (own .node < 65535) × Granting (schemaOf (now file) head) Sends (now sends) × Granting (schemaOf (now file) head) Receives (now receives) × (length (now beside) ≡ 130) × (getD (now beside) 1 0 ≤ 64) ⌝ }
-    ensures { λ r. ⌜ r ≡ actedOf (sending (clinicOf (now (file .entry)) head) (madeIn (now (beside .entry)) 2 (getD (now (beside .entry)) 1 0)) own it (partnerOf (getD (now (beside .entry)) 0 0) partner other)) ⌝ }
+    requires { ⌜ Laid (now file) head × (own .node < 65535) × Granting (schemaOf (contentsAt (now file) head)) Sends (now sends) × Granting (schemaOf (contentsAt (now file) head)) Receives (now receives) × (length (now beside) ≡ 130) × (getD (now beside) 1 0 ≤ 64) ⌝ }
+    ensures { λ r. ⌜ r ≡ actedOf (sending (clinicOf (contentsAt (now (file .entry)) head)) (madeIn (now (beside .entry)) 2 (getD (now (beside .entry)) 1 0)) own it (partnerOf (getD (now (beside .entry)) 0 0) partner other)) ⌝ }
 {
     if partner == 0 {
         return refused(18);
@@ -222,7 +214,7 @@ fn send(
     if beside[0] < partner {
         return refused(18);
     }
-    if !is_node(head, other.node) {
+    if !in_count(head.count.nodes, other.node) {
         return refused(18);
     }
     let theirs = node(file, head, other.node);
@@ -245,10 +237,10 @@ pub fn act(
     partner: u16,
     other: Thread,
 ) -> Acted
-    requires { ⌜ (head .count .nodes ≤ 1024) × Granting (schemaOf (now file) head) Sends (now sends) × Granting (schemaOf (now file) head) Receives (now receives) × (length (now beside) ≡ 130) × (getD (now beside) 1 0 ≤ 64) ⌝ }
-    ensures { λ r. ⌜ r ≡ actedOf (acting (clinicOf (now (file .entry)) head) (getD (now (beside .entry)) 0 0) (madeIn (now (beside .entry)) 2 (getD (now (beside .entry)) 1 0)) own (partnerOf (getD (now (beside .entry)) 0 0) partner other)) ⌝ }
+    requires { ⌜ Laid (now file) head × Granting (schemaOf (contentsAt (now file) head)) Sends (now sends) × Granting (schemaOf (contentsAt (now file) head)) Receives (now receives) × (length (now beside) ≡ 130) × (getD (now beside) 1 0 ≤ 64) ⌝ }
+    ensures { λ r. ⌜ r ≡ actedOf (acting (clinicOf (contentsAt (now (file .entry)) head)) (getD (now (beside .entry)) 0 0) (madeIn (now (beside .entry)) 2 (getD (now (beside .entry)) 1 0)) own (partnerOf (getD (now (beside .entry)) 0 0) partner other)) ⌝ }
 {
-    if !is_node(head, own.node) {
+    if !in_count(head.count.nodes, own.node) {
         return refused(18);
     }
     let it = node(file, head, own.node);

@@ -1,11 +1,19 @@
--- What the tests of records say.
-use Prim.Native.Nat.{ℕ, _≤_}
+-- A section has as many records as the head counts.
+use Prim.Native.Nat.{ℕ}
 use mathlib.Core.Path.{_≡_}
-use mathlib.Core.Logic.{_↔_}
-use mathlib.Core.Bool.{true}
-use borrow.Author.Tests.{ltb-true, lt-ltb}
-use Rattle.format.proofs.BoolLaws.{le-iff, and-iff}
-use Rattle.tables.specs.Records.{inCount}
+use mathlib.Core.List.{List}
+use Rattle.format.specs.Contents.{contentsAt}
+use Rattle.format.specs.Sections.{part}
+use Rattle.format.specs.declared.Head.{Head}
+use Rattle.format.specs.declared.Section.{Section}
+use Rattle.format.specs.declared.Section.the-variants.{Users, Roles, Kinds, Channels, Sessions, Nodes}
+use Rattle.format.proofs.ContentsLaws.{users-held, roles-held, kinds-held, channels-held, sessions-held, nodes-held}
+use Rattle.tables.specs.Records.{countIn}
 
-pub inCount-iff : (n x : ℕ) → (inCount n x ≡ true) ↔ ((1 ≤ x) × (x ≤ n))
-inCount-iff n x = and-iff (ltb-true 0 x, lt-ltb 0 x) (λ p. le-iff x n)
+pub counted : (f : List ℕ) (h : Head) (s : Section) → countIn s (contentsAt f h) ≡ part s (h .count)
+counted f h Users = users-held f h
+counted f h Roles = roles-held f h
+counted f h Kinds = kinds-held f h
+counted f h Channels = channels-held f h
+counted f h Sessions = sessions-held f h
+counted f h Nodes = nodes-held f h

@@ -5,6 +5,7 @@ use format::Verdict;
 use format::answers::or_else;
 use format::sections::carries;
 use format::sections::channel;
+use format::sections::in_count;
 use format::sections::part_of;
 use format::sections::place_of;
 use format::sections::role;
@@ -18,42 +19,36 @@ ghost use Prim.Native.Nat.{ℕ, _+_, _*_, _≤_, _<_};
 ghost use Rattle.format.specs.Answers.{orElse};
 ghost use Rattle.format.specs.Header.{Laid};
 ghost use Rattle.format.specs.Sections.{placeOf};
-ghost use Rattle.tables.specs.Records.{inCount, recordFits, numberOf, refusalOf, sectionAnswer, recordsAnswer};
+ghost use Rattle.format.specs.Contents.{contentsAt};
+ghost use Rattle.tables.specs.Records.{recordFits, numberOf, refusalOf, sectionAnswer, recordsAnswer};
 ghost use Rattle.format.specs.declared.Section.the-variants.{Users, Roles, Kinds, Channels, Sessions, Nodes};
 
-// An item of 1 to n.
-pub fn in_count(n: u16, x: u16) -> bool
-    ensures { λ r. ⌜ r ≡ inCount n x ⌝ }
-{
-    (0 < x) & (x <= n)
-}
-
 fn user_fits(file: &[u8], head: Head, n: u16) -> bool
-    requires { ⌜ 0 < n ⌝ }
-    ensures { λ r. ⌜ r ≡ recordFits (now (file .entry)) head Users n ⌝ }
+    requires { ⌜ Laid (now file) head ⌝ }
+    ensures { λ r. ⌜ r ≡ recordFits (contentsAt (now (file .entry)) head) Users n ⌝ }
 {
     names_only(user_roles(file, head, n) as u32, head.count.roles)
 }
 
 fn role_fits(file: &[u8], head: Head, n: u16) -> bool
-    requires { ⌜ 0 < n ⌝ }
-    ensures { λ r. ⌜ r ≡ recordFits (now (file .entry)) head Roles n ⌝ }
+    requires { ⌜ Laid (now file) head ⌝ }
+    ensures { λ r. ⌜ r ≡ recordFits (contentsAt (now (file .entry)) head) Roles n ⌝ }
 {
     let it = role(file, head, n);
     names_only(it.sends, head.count.kinds) & names_only(it.receives, head.count.kinds)
 }
 
 fn channel_fits(file: &[u8], head: Head, n: u16) -> bool
-    requires { ⌜ 0 < n ⌝ }
-    ensures { λ r. ⌜ r ≡ recordFits (now (file .entry)) head Channels n ⌝ }
+    requires { ⌜ Laid (now file) head ⌝ }
+    ensures { λ r. ⌜ r ≡ recordFits (contentsAt (now (file .entry)) head) Channels n ⌝ }
 {
     let it = channel(file, head, n);
     in_count(head.count.users, it.owner) & in_count(head.count.kinds, it.kind.0)
 }
 
 fn session_fits(file: &[u8], head: Head, n: u16) -> bool
-    requires { ⌜ 0 < n ⌝ }
-    ensures { λ r. ⌜ r ≡ recordFits (now (file .entry)) head Sessions n ⌝ }
+    requires { ⌜ Laid (now file) head ⌝ }
+    ensures { λ r. ⌜ r ≡ recordFits (contentsAt (now (file .entry)) head) Sessions n ⌝ }
 {
     let it = session(file, head, n);
     if !in_count(head.count.users, it.user) {
@@ -63,8 +58,8 @@ fn session_fits(file: &[u8], head: Head, n: u16) -> bool
 }
 
 fn record_fits(file: &[u8], head: Head, section: Section, n: u16) -> bool
-    requires { ⌜ 0 < n ⌝ }
-    ensures { λ r. ⌜ r ≡ recordFits (now (file .entry)) head section n ⌝ }
+    requires { ⌜ Laid (now file) head ⌝ }
+    ensures { λ r. ⌜ r ≡ recordFits (contentsAt (now (file .entry)) head) section n ⌝ }
 {
     match section {
         Section::Users => user_fits(file, head, n),
@@ -107,8 +102,8 @@ fn refusal_of(head: Head, section: Section, n: u16) -> Verdict
 
 // The first record of a section that does not fit.
 fn section_answer(file: &[u8], head: Head, section: Section) -> Verdict
-    requires { ⌜ Laid head ⌝ }
-    ensures { λ r. ⌜ r ≡ sectionAnswer (now (file .entry)) head section ⌝ }
+    requires { ⌜ Laid (now file) head ⌝ }
+    ensures { λ r. ⌜ r ≡ sectionAnswer head (contentsAt (now (file .entry)) head) section ⌝ }
 {
     let count = part_of(head.count, section);
     let mut n: u16 = 1;
@@ -126,8 +121,8 @@ fn section_answer(file: &[u8], head: Head, section: Section) -> Verdict
 
 // 6, then 7.
 pub fn records(file: &[u8], head: Head) -> Verdict
-    requires { ⌜ Laid head ⌝ }
-    ensures { λ r. ⌜ r ≡ recordsAnswer (now (file .entry)) head ⌝ }
+    requires { ⌜ Laid (now file) head ⌝ }
+    ensures { λ r. ⌜ r ≡ recordsAnswer head (contentsAt (now (file .entry)) head) ⌝ }
 {
     let users = section_answer(file, head, Section::Users);
     let roles = section_answer(file, head, Section::Roles);

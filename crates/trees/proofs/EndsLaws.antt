@@ -1,5 +1,5 @@
 -- The table of ends, as the backward loop fills it, against the trees that can be followed.
-use Prim.Native.Nat.{ℕ, zero, suc, _+_, _*_, _-_, _≤_, _<_}
+use Prim.Native.Nat.{ℕ, suc, _+_, _-_, _≤_, _<_}
 use mathlib.Core.Path.{_≡_, refl, sym, ap, _∙_}
 use mathlib.Core.Bool.{Bool, true, false, cond}
 use mathlib.Core.List.{List, [], _∷_, _++_, append-assoc, append-nil}
@@ -8,8 +8,8 @@ use native.Mathlib.Numerals.{add-one}
 use lib.ListN.{length, getD, take, drop, set, length-append, length-drop, length-set, take-append-drop, List·getD-eq-default, drop-of-length-le}
 use lib.Seq.{set-split, drop-at, length-take-le, getD-at, getD-drop, getD-set-other, getD-set-same}
 use lib.Dec.{eqb, leb}
-use Rattle.format.specs.Words.{wordAt}
-use Rattle.format.specs.Sections.{nodesFrom}
+use Rattle.format.specs.Contents.{item, noNode}
+use Rattle.format.proofs.ContentsLaws.{from-item, none-past}
 use Rattle.trees.specs.Ends.{top, rest, grown, following, tableFrom, tableOf, endOf}
 use Rattle.format.specs.declared.Node.{Node}
 
@@ -99,34 +99,28 @@ drop-set : (l : List ℕ) (i v : ℕ) → i < length l → drop i (set l i v) �
 drop-set l i v h = rw (set-split l i v h) (drop-at (take i l) (v ∷ drop (suc i) l) i (length-take-le i l (omega arith)))
 
 -- one turn of the loop, at the node i
-pub again : (f : List ℕ) (base n i : ℕ) (l : List ℕ) (v : ℕ) → 0 < i → i ≤ n → length l ≡ n + 2 → getD l 0 0 ≡ 0
-    → drop (suc i) l ≡ tableFrom (suc i) (nodesFrom f (base + 3 * i) (n - i))
-    → v ≡ endOf (wordAt f (base + 3 * (i - 1))) (i + 1) (getD l (i + 1) 0) (getD l (getD l (i + 1) 0) 0)
-    → drop (suc (i - 1)) (set l i v) ≡ tableFrom (suc (i - 1)) (nodesFrom f (base + 3 * (i - 1)) (n - (i - 1)))
-unfolding nodesFrom tableFrom following
-again f base n zero l v pos le len z h e = let no : ⊥ = omega arith in absurd no
-again f base n (suc j) l v pos le len z h e =
-    let j1 : suc j - 1 ≡ j = omega arith in
-    let more : n - j ≡ suc (n - suc j) = omega arith in
-    let along : base + 3 * j + 3 ≡ base + 3 * suc j = omega arith in
-    let ns : List Node = nodesFrom f (base + 3 * suc j) (n - suc j) in
-    let st : List ℕ = following (suc (suc j)) ns in
-    let one : getD l (suc (suc j)) 0 ≡ top st = first-at l (suc (suc j)) ns h in
-    let two′ : getD l (top st) 0 ≡ top (rest st) = two l (suc (suc j)) ns (omega arith) h z .1 in
-    let v′ : v ≡ endOf (wordAt f (base + 3 * j)) (suc (suc j)) (top st) (top (rest st)) =
-    e ∙ rw (j1, add-one (suc j), one, two′) in
-    rw (j1, more, along) (rw (drop-set l (suc j) v (omega arith), h) (ap (λ x. x ∷ tableFrom (suc (suc j)) ns) (v′ ∙ sym (top-grown (wordAt f (base + 3 * j)) (suc j) st))))
+pub again : (xs : List Node) (i : ℕ) (l : List ℕ) (v : ℕ) → 0 < i → i ≤ length xs → length l ≡ length xs + 2 → getD l 0 0 ≡ 0
+    → drop (suc i) l ≡ tableFrom (suc i) (drop i xs)
+    → v ≡ endOf (item noNode xs i .tag) (i + 1) (getD l (i + 1) 0) (getD l (getD l (i + 1) 0) 0)
+    → drop (suc (i - 1)) (set l i v) ≡ tableFrom (suc (i - 1)) (drop (i - 1) xs)
+unfolding tableFrom following
+again xs i l v pos le len z h e =
+    let same : suc (i - 1) ≡ i = omega arith in
+    let st : List ℕ = following (suc i) (drop i xs) in
+    let one : getD l (suc i) 0 ≡ top st = first-at l (suc i) (drop i xs) h in
+    let two′ : getD l (top st) 0 ≡ top (rest st) = two l (suc i) (drop i xs) (omega arith) h z .1 in
+    let v′ : v ≡ endOf (item noNode xs i .tag) (suc i) (top st) (top (rest st)) = e ∙ rw (add-one i, one, two′) in
+    rw (same, from-item noNode xs i pos le)
+    (rw (drop-set l i v (omega arith), h) (ap (λ x. x ∷ tableFrom (suc i) (drop i xs)) (v′ ∙ sym (top-grown (item noNode xs i .tag) i st))))
 
-pub begin : (f : List ℕ) (base n : ℕ) (l : List ℕ) → length l ≡ n + 2
-    → (getD (set (set l 0 0) (n + 1) 0) 0 0 ≡ 0)
-    × (drop (suc n) (set (set l 0 0) (n + 1) 0) ≡ tableFrom (suc n) (nodesFrom f (base + 3 * n) (n - n)))
-unfolding nodesFrom tableFrom
-begin f base n l len =
-    let none : n - n ≡ 0 = omega arith in
+pub begin : (xs : List Node) (n : ℕ) (l : List ℕ) → length xs ≡ n → length l ≡ n + 2
+    → (getD (set (set l 0 0) (n + 1) 0) 0 0 ≡ 0) × (drop (suc n) (set (set l 0 0) (n + 1) 0) ≡ tableFrom (suc n) (drop n xs))
+unfolding tableFrom
+begin xs n l all len =
     let long : length (set l 0 0) ≡ n + 2 = length-set l 0 0 ∙ len in
     let past : drop (suc (suc n)) (set l 0 0) ≡ [] = drop-of-length-le (set l 0 0) {i = suc (suc n)} (omega arith) in (
       getD-set-other (set l 0 0) (n + 1) 0 0 0 (λ e. let no : 0 ≡ n + 1 = e in omega arith) ∙ getD-set-same l 0 0 0 (omega arith),
-      rw (none, add-one) (drop-set (set l 0 0) (suc n) 0 (omega arith) ∙ ap (0 ∷_) past),
+      rw (none-past xs n (omega arith), add-one) (drop-set (set l 0 0) (suc n) 0 (omega arith) ∙ ap (0 ∷_) past),
     )
 
 pub finish : (l : List ℕ) (ns : List Node) → 0 < length l → getD l 0 0 ≡ 0 → drop 1 l ≡ tableFrom 1 ns → l ≡ tableOf ns

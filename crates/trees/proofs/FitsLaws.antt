@@ -8,13 +8,13 @@ use native.Mathlib.Omega.{arith}
 use borrow.Author.Tests.{ltb-true, ne-eqb}
 use Rattle.format.proofs.BoolLaws.{eq-iff, le-iff, and-iff}
 use Rattle.trees.specs.Ends.{top, following}
-use Rattle.trees.specs.Shape.{boundOf, rootFits, binds, unusedFit, secondFits, roomFor, nodeFits, onward, shapeFrom}
+use Rattle.trees.specs.Shape.{boundOf, rootFits, binds, unusedFit, secondFits, variableFits, nodeFits, onward, shapeFrom}
 use Rattle.format.specs.declared.Node.{Node}
 use Rattle.trees.specs.declared.Due.{Due}
 
 -- the five tests of a node
 abbrev pub Fitting : ℕ → Node → Due → ℕ → Type 0
-Fitting i n d e = (rootFits i d ≡ true) × (n .tag ≤ 8) × (unusedFit n ≡ true) × (secondFits n e ≡ true) × (roomFor n d ≡ true)
+Fitting i n d e = (rootFits i d ≡ true) × (n .tag ≤ 8) × (unusedFit n ≡ true) × (secondFits n e ≡ true) × (variableFits n d ≡ true)
 
 pub fits-apart : (i : ℕ) (n : Node) (d : Due) (e : ℕ) → (nodeFits i n d e ≡ true) ↔ Fitting i n d e
 unfolding nodeFits
@@ -22,7 +22,7 @@ fits-apart i n d e =
     let two = and-iff {a = rootFits i d} Iff·rfl (λ x. le-iff (n .tag) 8) in
     let three = and-iff two (λ x. Iff·rfl {A = unusedFit n ≡ true}) in
     let four = and-iff three (λ x. Iff·rfl {A = secondFits n e ≡ true}) in
-    let all = and-iff four (λ x. Iff·rfl {A = roomFor n d ≡ true}) in
+    let all = and-iff four (λ x. Iff·rfl {A = variableFits n d ≡ true}) in
     (λ h. let ((((r, t), u), s), m) = all .0 h in (r, t, u, s, m), λ (r, t, u, s, m). all .1 ((((r, t), u), s), m))
 
 -- a node that fits is passed
@@ -32,7 +32,7 @@ unfolding shapeFrom
 passed i n ns d st h = rw (fits-apart i n d (top (following (suc i) ns)) .1 h)
 
 -- a node that binds a variable has room for it
-pub room : (n : Node) (d : Due) → roomFor n d ≡ true → binds (n .tag) ≡ true → boundOf d < 8
+pub room : (n : Node) (d : Due) → variableFits n d ≡ true → binds (n .tag) ≡ true → boundOf d < 8
 room n d r b = ltb-true (boundOf d) 8 (rw b at r)
 
 pub fits-room : (i : ℕ) (n : Node) (d : Due) (e : ℕ) → nodeFits i n d e ≡ true → binds (n .tag) ≡ true → boundOf d < 8

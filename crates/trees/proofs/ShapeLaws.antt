@@ -1,22 +1,23 @@
 -- The stack of trees due in an array, and one turn of the walk over the nodes.
-use Prim.Native.Nat.{ℕ, zero, suc, _+_, _*_, _-_, _≤_, _<_}
+use Prim.Native.Nat.{ℕ, zero, suc, _+_, _-_, _≤_, _<_}
 use mathlib.Core.Path.{_≡_, refl, sym, ap, _∙_}
 use mathlib.Core.Bool.{Bool, true, false, cond}
 use mathlib.Core.List.{List, [], _∷_}
 use native.Mathlib.Omega.{arith}
 use native.Mathlib.Numerals.{add-one}
-use lib.ListN.{length, getD, set, length-set}
+use lib.ListN.{length, getD, set, drop, length-set}
 use lib.Seq.{getD-set-other, getD-set-same}
 use lib.Dec.{eqb}
-use Rattle.format.specs.Words.{wordAt}
 use Rattle.format.specs.Answers.{fine, refused}
-use Rattle.format.specs.Sections.{nodeAt, nodesFrom}
+use Rattle.format.specs.Contents.{item, noSession, noNode}
 use Rattle.trees.specs.Ends.{top, following, tableFrom, tableOf}
-use Rattle.trees.specs.Shape.{boundOf, nodeFits, boundBelow, depthAfter, onward, shapeFrom, rootsFrom}
+use Rattle.trees.specs.Shape.{boundOf, nodeFits, boundBelow, depthAfter, onward, shapeFrom, roots}
 use Rattle.format.specs.declared.Verdict.{Verdict}
+use Rattle.format.specs.declared.Session.{Session}
 use Rattle.format.specs.declared.Node.{Node}
 use Rattle.trees.specs.declared.Due.{Due}
 use Rattle.trees.specs.declared.Due.the-variants.{Root, Below}
+use Rattle.format.proofs.ContentsLaws.{from-item, none-past}
 use Rattle.trees.proofs.EndsLaws.{table-head, table-length}
 
 module _ {A : Type 0} (z : A) where
@@ -49,14 +50,13 @@ abbrev pub blank : Due
 blank = Root 0
 
 -- the roots, last session first
-pub roots-push : (f : List ℕ) (p s d : ℕ) (a : List Due) → d < s → d < length a
-    → pile blank a d ≡ rootsFrom f (p + 3 * (s - d)) d
-    → pile blank (set a d (Root (wordAt f (p + 3 * (s - d - 1) + 2)))) (d + 1) ≡ rootsFrom f (p + 3 * (s - (d + 1))) (d + 1)
-unfolding rootsFrom
-roots-push f p s d a h l e =
+pub roots-push : (ss : List Session) (s d : ℕ) (a : List Due) → length ss ≡ s → d < s → d < length a
+    → pile blank a d ≡ roots (drop (s - d) ss)
+    → pile blank (set a d (Root (item noSession ss (s - d) .root))) (d + 1) ≡ roots (drop (s - (d + 1)) ss)
+unfolding roots
+roots-push ss s d a all h l e =
     let one : s - suc d ≡ s - d - 1 = omega arith in
-    let along : p + 3 * (s - d - 1) + 3 ≡ p + 3 * (s - d) = omega arith in
-    rw (add-one d, one, along, pile-push blank a d (Root (wordAt f (p + 3 * (s - d - 1) + 2))) l, e)
+    rw (add-one d, one, from-item noSession ss (s - d) (omega arith) (omega arith), pile-push blank a d (Root (item noSession ss (s - d) .root)) l, e)
 
 -- what is due after a node, in the array
 pub due-after : (n : Node) (a : List Due) (d : ℕ) (x : Due) → 0 < d → d < length a
@@ -83,66 +83,48 @@ depth-most tag d = go (eqb tag 0) (eqb tag 1)
     go false false = omega arith
 
 -- the table of ends holds the end of the next node's tree
-table-from : (f : List ℕ) (k p n i : ℕ) → i ≤ n → getD (tableFrom k (nodesFrom f p n)) i 0 ≡ top (following (k + i) (nodesFrom f (p + 3 * i) (n - i)))
-unfolding tableFrom nodesFrom
-table-from f k p n zero h =
-    let k0 : k + 0 ≡ k = omega arith in
-    let p0 : p + 3 * 0 ≡ p = omega arith in
-    let n0 : n - 0 ≡ n = omega arith in
-    rw (k0, p0, n0) (table-head k (nodesFrom f p n))
-table-from f k p zero (suc i) h = let no : ⊥ = omega arith in absurd no
-table-from f k p (suc n) (suc i) h =
-    let k1 : suc k + i ≡ k + suc i = omega arith in
-    let p1 : p + 3 + 3 * i ≡ p + 3 * suc i = omega arith in
-    let n1 : suc n - suc i ≡ n - i = omega arith in
-    rw (n1) (rw (k1, p1) at (table-from f (suc k) (p + 3) n i (omega arith)))
+table-from : (k : ℕ) (ns : List Node) (i : ℕ) → i ≤ length ns → getD (tableFrom k ns) i 0 ≡ top (following (k + i) (drop i ns))
+unfolding tableFrom
+table-from k ns zero h = let k0 : k + 0 ≡ k = omega arith in rw k0 (table-head k ns)
+table-from k [] (suc i) h = let no : ⊥ = omega arith in absurd no
+table-from k (n ∷ ns) (suc i) h = let k1 : suc k + i ≡ k + suc i = omega arith in rw k1 at (table-from (suc k) ns i (omega arith))
 
-table-next : (f ends : List ℕ) (p n i : ℕ) → ends ≡ tableOf (nodesFrom f p n) → i ≤ n → getD ends (i + 1) 0 ≡ top (following (suc i) (nodesFrom f (p + 3 * i) (n - i)))
+table-next : (ends : List ℕ) (ns : List Node) (i : ℕ) → ends ≡ tableOf ns → i ≤ length ns → getD ends (i + 1) 0 ≡ top (following (suc i) (drop i ns))
 unfolding tableOf
-table-next f ends p n i e h =
+table-next ends ns i e h =
     let one : 1 + i ≡ suc i = omega arith in
-    rw (e, add-one i) (rw one at (table-from f 1 p n i h))
+    rw (e, add-one i) (rw one at (table-from 1 ns i h))
 
-pub length-nodes : (f : List ℕ) (p n : ℕ) → length (nodesFrom f p n) ≡ n
-unfolding nodesFrom
-length-nodes f p zero = refl
-length-nodes f p (suc n) = ap suc (length-nodes f (p + 3) n)
-
-pub table-size : (f ends : List ℕ) (p n : ℕ) → ends ≡ tableOf (nodesFrom f p n) → length ends ≡ n + 2
+pub table-size : (ends : List ℕ) (ns : List Node) → ends ≡ tableOf ns → length ends ≡ length ns + 2
 unfolding tableOf
-table-size f ends p n e = ap length e ∙ omega (arith, table-length 1 (nodesFrom f p n), length-nodes f p n)
+table-size ends ns e = ap length e ∙ omega (arith, table-length 1 ns)
 
 -- a turn: the node at i is judged, and the walk goes on with what is due then
-turn : (f ends : List ℕ) (p n i : ℕ) (d : Due) (st : List Due) → ends ≡ tableOf (nodesFrom f p n) → 1 ≤ i → i ≤ n
-    → shapeFrom i (nodesFrom f (p + 3 * (i - 1)) (n + 1 - i)) (d ∷ st)
-    ≡ cond (nodeFits i (nodeAt f (p + 3 * (i - 1))) d (getD ends (i + 1) 0))
-    (shapeFrom (i + 1) (nodesFrom f (p + 3 * (i + 1 - 1)) (n + 1 - (i + 1))) (onward (nodeAt f (p + 3 * (i - 1))) d st)) (refused 8 i)
-unfolding shapeFrom nodesFrom
-turn f ends p n i d st e pos h =
-    let more : n + 1 - i ≡ suc (n - i) = omega arith in
-    let along : p + 3 * (i - 1) + 3 ≡ p + 3 * i = omega arith in
+turn : (ends : List ℕ) (ns : List Node) (i : ℕ) (d : Due) (st : List Due) → ends ≡ tableOf ns → 1 ≤ i → i ≤ length ns
+    → shapeFrom i (drop (i - 1) ns) (d ∷ st)
+    ≡ cond (nodeFits i (item noNode ns i) d (getD ends (i + 1) 0)) (shapeFrom (i + 1) (drop (i + 1 - 1) ns) (onward (item noNode ns i) d st)) (refused 8 i)
+unfolding shapeFrom
+turn ends ns i d st e pos h =
     let back : i + 1 - 1 ≡ i = omega arith in
-    let left : n + 1 - (i + 1) ≡ n - i = omega arith in
-    rw (more, along, back, left, table-next f ends p n i e h, add-one i)
+    rw (from-item noNode ns i pos h, back, table-next ends ns i e h, add-one i)
 
 -- the end of the walk
-pub over-empty : (f : List ℕ) (p n i : ℕ) → n < i → shapeFrom i (nodesFrom f p (n + 1 - i)) [] ≡ fine
-unfolding shapeFrom nodesFrom
-over-empty f p n i h = let none : n + 1 - i ≡ 0 = omega arith in rw none
+pub over-empty : (ns : List Node) (i : ℕ) → length ns < i → shapeFrom i (drop (i - 1) ns) [] ≡ fine
+unfolding shapeFrom
+over-empty ns i h = rw (none-past ns (i - 1) (omega arith))
 
-pub over-due : (f : List ℕ) (p n i : ℕ) (d : Due) (st : List Due) → n < i → shapeFrom i (nodesFrom f p (n + 1 - i)) (d ∷ st) ≡ refused 8 i
-unfolding shapeFrom nodesFrom
-over-due f p n i d st h = let none : n + 1 - i ≡ 0 = omega arith in rw none
+pub over-due : (ns : List Node) (i : ℕ) (d : Due) (st : List Due) → length ns < i → shapeFrom i (drop (i - 1) ns) (d ∷ st) ≡ refused 8 i
+unfolding shapeFrom
+over-due ns i d st h = rw (none-past ns (i - 1) (omega arith))
 
-pub left-over : (f : List ℕ) (p n i : ℕ) → i ≤ n → shapeFrom i (nodesFrom f p (n + 1 - i)) [] ≡ refused 8 i
-unfolding shapeFrom nodesFrom
-left-over f p n i h = let more : n + 1 - i ≡ suc (n - i) = omega arith in rw more
+pub left-over : (ns : List Node) (i : ℕ) → 1 ≤ i → i ≤ length ns → shapeFrom i (drop (i - 1) ns) [] ≡ refused 8 i
+unfolding shapeFrom
+left-over ns i pos h = rw (from-item noNode ns i pos h)
 
 -- the same with the node, its fit and the end as the code has them
-pub judged : (f ends : List ℕ) (p n i : ℕ) (d : Due) (st : List Due) (v : Verdict) (node : Node) (fit : Bool) (e : ℕ)
-    → ends ≡ tableOf (nodesFrom f p n) → 1 ≤ i → i ≤ n
-    → node ≡ nodeAt f (p + 3 * (i - 1)) → e ≡ getD ends (i + 1) 0 → fit ≡ nodeFits i node d e
-    → shapeFrom i (nodesFrom f (p + 3 * (i - 1)) (n + 1 - i)) (d ∷ st) ≡ v
-    → cond fit (shapeFrom (i + 1) (nodesFrom f (p + 3 * (i + 1 - 1)) (n + 1 - (i + 1))) (onward node d st)) (refused 8 i) ≡ v
-judged f ends p n i d st v node fit e table pos h nd en ft whole =
-    rw (ft, en, nd) (sym (turn f ends p n i d st table pos h) ∙ whole)
+pub judged : (ends : List ℕ) (ns : List Node) (i : ℕ) (d : Due) (st : List Due) (v : Verdict) (node : Node) (fit : Bool) (e : ℕ)
+    → ends ≡ tableOf ns → 1 ≤ i → i ≤ length ns
+    → node ≡ item noNode ns i → e ≡ getD ends (i + 1) 0 → fit ≡ nodeFits i node d e
+    → shapeFrom i (drop (i - 1) ns) (d ∷ st) ≡ v
+    → cond fit (shapeFrom (i + 1) (drop (i + 1 - 1) ns) (onward node d st)) (refused 8 i) ≡ v
+judged ends ns i d st v node fit e table pos h nd en ft whole = rw (ft, en, nd) (sym (turn ends ns i d st table pos h) ∙ whole)

@@ -1,35 +1,22 @@
 -- The quicker look for 8: where it accepts, 8 refuses nothing.
-use Prim.Native.Nat.{ℕ, zero, suc, _+_, _*_, _-_, _/_, _%_, _≤_, _<_}
+use Prim.Native.Nat.{ℕ, suc, _+_, _*_, _-_, _/_, _%_, _≤_, _<_}
 use mathlib.Core.Path.{_≡_, refl, sym, ap, ap₂, _∙_}
 use mathlib.Core.Bool.{Bool, true, false, cond, not, _&&_, _||_, and-eq-true-iff}
 use mathlib.Core.List.{List, [], _∷_, map}
 use native.Mathlib.Omega.{arith}
 use native.Mathlib.Numerals.{add-one}
-use lib.ListN.{length, getD, set}
+use lib.ListN.{length, getD, set, drop}
 use lib.Dec.{eqb, leb, ltb}
 use borrow.Author.Tests.{leb-true, eqb-true, eqb-false, eq-eqb, ne-eqb, leb-false, lt-ltb, not-true}
-use Rattle.format.specs.Words.{wordAt}
-use Rattle.format.specs.Answers.{fine, refused}
-use Rattle.format.specs.Sections.{nodeAt, nodesFrom}
+use Rattle.format.specs.Answers.{fine}
+use Rattle.format.specs.Contents.{item, noSession, noNode}
+use Rattle.format.specs.declared.Session.{Session}
 use Rattle.format.specs.declared.Node.{Node}
-use Rattle.format.specs.declared.Head.{Head}
-use Rattle.trees.specs.Ends.{top, rest, grown, following}
-use Rattle.trees.specs.Shape.{
-  boundOf,
-  rootFits,
-  binds,
-  unusedFit,
-  secondFits,
-  roomFor,
-  nodeFits,
-  boundBelow,
-  onward,
-  shapeFrom,
-  rootsFrom,
-  shapeAnswer,
-}
+use Rattle.trees.specs.Ends.{top, rest, following}
+use Rattle.trees.specs.Shape.{boundOf, rootFits, binds, unusedFit, secondFits, boundBelow, onward, shapeFrom, roots}
 use Rattle.trees.specs.declared.Due.{Due}
 use Rattle.trees.specs.declared.Due.the-variants.{Root, Below}
+use Rattle.format.proofs.ContentsLaws.{from-item, none-past}
 use Rattle.trees.proofs.FitsLaws.{Fitting, passed}
 use Rattle.trees.proofs.ShapeLaws.{pile, pile-push, pile-top}
 
@@ -171,53 +158,49 @@ module _ (t : ℕ) where
           passed i n ns d ds (r, leb-true (n .tag) 8 lt, u, not-fork n e′ (eqb-false (n .tag) 1 e), rw bd (room b (binds (n .tag)) (p .0))) ∙ left
 
 -- the sessions' trees wait in order, and below them is the number after the last node
-unfoldable pub waitsFrom : List ℕ → ℕ → ℕ → ℕ → List Waiting
-waitsFrom f p zero t = waiting t 0 ∷ []
-waitsFrom f p (suc k) t = waiting (wordAt f (p + 2)) 0 ∷ waitsFrom f (p + 3) k t
+unfoldable pub waits : List Session → ℕ → List Waiting
+waits [] t = waiting t 0 ∷ []
+waits (s ∷ ss) t = waiting (s .root) 0 ∷ waits ss t
 
-waits-match : (f : List ℕ) (p k t : ℕ) → Matches t (waitsFrom f p k t) (rootsFrom f p k)
-unfolding waitsFrom rootsFrom
-waits-match f p zero t = refl
-waits-match f p (suc k) t = (refl, eq-eqb (wordAt f (p + 2)) (wordAt f (p + 2)) refl, waits-match f (p + 3) k t)
+waits-match : (ss : List Session) (t : ℕ) → Matches t (waits ss t) (roots ss)
+unfolding waits roots
+waits-match [] t = refl
+waits-match (s ∷ ss) t = (refl, eq-eqb (s .root) (s .root) refl, waits-match ss t)
 
 same-head : {A : Type 0} {a b : A} {x y : List A} → a ∷ x ≡ b ∷ y → (a ≡ b) × (x ≡ y)
 same-head e = (cc, cc)
 
-pub starts : (f : List ℕ) (p k t : ℕ) (ns : List Node) (w : Waiting) (st : List Waiting) → w ∷ st ≡ waitsFrom f p k t → w .number ≡ 1 → 1 + length ns ≡ t
-    → accepts 1 ns 0 st ≡ true → shapeFrom 1 ns (rootsFrom f p k) ≡ fine
-unfolding waitsFrom rootsFrom shapeFrom
-starts f p zero t [] w st e one l h = refl
-starts f p zero t (n ∷ ns) w st e one l h =
+pub starts : (ss : List Session) (t : ℕ) (ns : List Node) (w : Waiting) (st : List Waiting) → w ∷ st ≡ waits ss t → w .number ≡ 1 → 1 + length ns ≡ t
+    → accepts 1 ns 0 st ≡ true → shapeFrom 1 ns (roots ss) ≡ fine
+unfolding waits roots shapeFrom
+starts [] t [] w st e one l h = refl
+starts [] t (n ∷ ns) w st e one l h =
     let t1 : t ≡ 1 = sym (ap (λ (x : Waiting). x .number) (same-head e .0)) ∙ one in
     let no : ⊥ = omega arith in
     absurd no
-starts f p (suc k) t ns w st e one l h =
-    let at-one : wordAt f (p + 2) ≡ 1 = sym (ap (λ (x : Waiting). x .number) (same-head e .0)) ∙ one in
-    accepts-shape t 1 ns 0 st (Root (wordAt f (p + 2))) (rootsFrom f (p + 3) k) l (rw (same-head e .1) (waits-match f (p + 3) k t)) refl
-    (eq-eqb (wordAt f (p + 2)) 1 at-one) h
+starts (s ∷ ss) t ns w st e one l h =
+    let at-one : s .root ≡ 1 = sym (ap (λ (x : Waiting). x .number) (same-head e .0)) ∙ one in
+    accepts-shape t 1 ns 0 st (Root (s .root)) (roots ss) l (rw (same-head e .1) (waits-match ss t)) refl (eq-eqb (s .root) 1 at-one) h
 
--- the same look as the loop goes: node i of n, whose words begin at p + 3 * (i - 1)
-module _ (f : List ℕ) (p n i : ℕ) (pos : 1 ≤ i) (h : i ≤ n) (node : Node) (its : node ≡ nodeAt f (p + 3 * (i - 1))) where
+-- the same look as the loop goes, at node i
+module _ (ns : List Node) (i : ℕ) (pos : 1 ≤ i) (h : i ≤ length ns) (node : Node) (its : node ≡ item noNode ns i) where
   -- from this node on, and from the next one
   abbrev pub Here : ℕ → List Waiting → Type 0
-  Here b st = accepts i (nodesFrom f (p + 3 * (i - 1)) (n + 1 - i)) b st ≡ true
+  Here b st = accepts i (drop (i - 1) ns) b st ≡ true
 
   abbrev pub Next : ℕ → List Waiting → Type 0
-  Next b st = accepts (i + 1) (nodesFrom f (p + 3 * (i + 1 - 1)) (n + 1 - (i + 1))) b st ≡ true
+  Next b st = accepts (i + 1) (drop (i + 1 - 1) ns) b st ≡ true
 
   turned : (b : ℕ) (st : List Waiting)
       → ((leb (node .tag) 8 && unusedFit node)
-      && cond (eqb (node .tag) 0) (resumed (accepts (i + 1) (nodesFrom f (p + 3 * (i + 1 - 1)) (n + 1 - (i + 1)))) (i + 1) st)
-      (cond (eqb (node .tag) 1) (accepts (i + 1) (nodesFrom f (p + 3 * (i + 1 - 1)) (n + 1 - (i + 1))) b (waiting (node .f1) b ∷ st))
-      (not (binds (node .tag) && leb 8 b) && accepts (i + 1) (nodesFrom f (p + 3 * (i + 1 - 1)) (n + 1 - (i + 1))) (boundBelow (node .tag) b) st)))
-      ≡ accepts i (nodesFrom f (p + 3 * (i - 1)) (n + 1 - i)) b st
-  unfolding accepts nodesFrom
+      && cond (eqb (node .tag) 0) (resumed (accepts (i + 1) (drop (i + 1 - 1) ns)) (i + 1) st)
+      (cond (eqb (node .tag) 1) (accepts (i + 1) (drop (i + 1 - 1) ns) b (waiting (node .f1) b ∷ st))
+      (not (binds (node .tag) && leb 8 b) && accepts (i + 1) (drop (i + 1 - 1) ns) (boundBelow (node .tag) b) st)))
+      ≡ accepts i (drop (i - 1) ns) b st
+  unfolding accepts
   turned b st =
-      let more : n + 1 - i ≡ suc (n - i) = omega arith in
-      let along : p + 3 * (i - 1) + 3 ≡ p + 3 * i = omega arith in
       let back : i + 1 - 1 ≡ i = omega arith in
-      let left : n + 1 - (i + 1) ≡ n - i = omega arith in
-      rw (more, along, back, left, add-one i, its)
+      rw (from-item noNode ns i pos h, back, add-one i, its)
 
   pub on-end : (b : ℕ) (w : Waiting) (st : List Waiting) → node .tag ≡ 0 → node .f1 ≡ 0 → node .f2 ≡ 0 → w .number ≡ i + 1 → Next (w .bound) st → Here b (w ∷ st)
   on-end b w st t u v e a = sym (turned b (w ∷ st)) ∙ rw (t, u, v, eq-eqb (w .number) (i + 1) e) a
@@ -239,9 +222,9 @@ module _ (f : List ℕ) (p n i : ℕ) (pos : 1 ≤ i) (h : i ≤ n) (node : Node
       leb-false 8 b (not-true (leb 8 b) (rw one at (p .1)))
 
 -- past the last node nothing may wait
-pub on-last : (f : List ℕ) (p n i b : ℕ) → n < i → accepts i (nodesFrom f p (n + 1 - i)) b [] ≡ true
-unfolding accepts nodesFrom
-on-last f p n i b h = let done : n + 1 - i ≡ 0 = omega arith in rw done
+pub on-last : (ns : List Node) (i b : ℕ) → length ns < i → accepts i (drop (i - 1) ns) b [] ≡ true
+unfolding accepts
+on-last ns i b h = rw (none-past ns (i - 1) (omega arith))
 
 -- what waits, each as one number in an array
 abbrev pub unpack : ℕ → Waiting
@@ -263,11 +246,10 @@ held-push a d x b h small =
 pub held-top : (a : List ℕ) (d : ℕ) → 0 < d → held a d ≡ unpack (getD a (d - 1) 0) ∷ held a (d - 1)
 held-top a d pos = ap (map unpack) (pile-top 0 a d pos)
 
-pub waits-push : (f : List ℕ) (p s d t x : ℕ) (a : List ℕ) → d < s → d + 1 < length a → x < 65536 → x ≡ wordAt f (p + 3 * (s - d - 1) + 2)
-    → held a (d + 1) ≡ waitsFrom f (p + 3 * (s - d)) d t
-    → held (set a (d + 1) (x + 65536 * 0)) (d + 1 + 1) ≡ waitsFrom f (p + 3 * (s - (d + 1))) (d + 1) t
-unfolding waitsFrom
-waits-push f p s d t x a h l small its e =
-    let one : s - suc d ≡ s - d - 1 = omega arith in
-    let along : p + 3 * (s - d - 1) + 3 ≡ p + 3 * (s - d) = omega arith in
-    held-push a (d + 1) x 0 l small ∙ ap₂ _∷_ (ap (λ k. waiting k 0) its) e ∙ rw (add-one d, one, along)
+pub waits-push : (ss : List Session) (s d t x : ℕ) (a : List ℕ) → length ss ≡ s → d < s → d + 1 < length a → x < 65536 → x ≡ item noSession ss (s - d) .root
+    → held a (d + 1) ≡ waits (drop (s - d) ss) t
+    → held (set a (d + 1) (x + 65536 * 0)) (d + 1 + 1) ≡ waits (drop (s - (d + 1)) ss) t
+unfolding waits
+waits-push ss s d t x a all h l small its e =
+    let one : s - (d + 1) ≡ s - d - 1 = omega arith in
+    held-push a (d + 1) x 0 l small ∙ ap₂ _∷_ (ap (λ k. waiting k 0) its) e ∙ rw (one, from-item noSession ss (s - d) (omega arith) (omega arith))

@@ -13,7 +13,8 @@ ghost use mathlib.Core.Path.{_≡_};
 ghost use mathlib.Core.Bool.{Bool, true, false};
 ghost use Prim.Native.Nat.{ℕ, _+_, _*_, _≤_, _<_};
 ghost use lib.ListN.{length};
-ghost use Rattle.format.specs.Sections.{nodesFrom};
+ghost use Rattle.format.specs.Header.{Laid};
+ghost use Rattle.format.specs.Contents.{contentsAt};
 ghost use Rattle.trees.specs.Ends.{tableOf};
 ghost use Rattle.trees.specs.Shape.{boundOf, rootFits, binds, used, unusedFit, secondFits, nodeFits, boundBelow, depthAfter, shapeAnswer};
 
@@ -108,8 +109,8 @@ fn depth_after(tag: u16, depth: usize) -> usize
 
 // The first node at which the trees go wrong. Of the stack as many are in use as there are trees due, the next one last.
 fn walk(file: &[u8], head: Head, ends: &[u16]) -> Verdict
-    requires { ⌜ (head .count .nodes ≤ 1024) × (head .count .sessions ≤ 32) × (now ends ≡ tableOf (nodesFrom (now file) (head .at .nodes) (head .count .nodes))) ⌝ }
-    ensures { λ r. ⌜ r ≡ shapeAnswer (now (file .entry)) head ⌝ }
+    requires { ⌜ Laid (now file) head × (now ends ≡ tableOf (contentsAt (now file) head .nodes)) ⌝ }
+    ensures { λ r. ⌜ r ≡ shapeAnswer (contentsAt (now (file .entry)) head) ⌝ }
 {
     let mut stack = [Due::Below(0); 1057];
     let sessions = wide(head.count.sessions);
@@ -156,17 +157,17 @@ fn walk(file: &[u8], head: Head, ends: &[u16]) -> Verdict
 
 // 8, with a table of the trees' ends lent to work in.
 fn shape_by(file: &[u8], head: Head, table: &mut [u16]) -> Verdict
-    requires { ⌜ (head .count .nodes ≤ 1024) × (head .count .sessions ≤ 32) × (length (now table) ≡ head .count .nodes + 2) ⌝ }
-    ensures { λ r. ⌜ r ≡ shapeAnswer (now (file .entry)) head ⌝ }
+    requires { ⌜ Laid (now file) head × (length (now table) ≡ head .count .nodes + 2) ⌝ }
+    ensures { λ r. ⌜ r ≡ shapeAnswer (contentsAt (now (file .entry)) head) ⌝ }
 {
-    ends(file, wide(head.at.nodes), wide(head.count.nodes), table);
+    ends(file, head, table);
     walk(file, head, table)
 }
 
 // 8, at the lowest place. The quicker look comes first, since most files have nothing wrong.
 pub fn shape(file: &[u8], head: Head) -> Verdict
-    requires { ⌜ (head .count .nodes ≤ 1024) × (head .count .sessions ≤ 32) ⌝ }
-    ensures { λ r. ⌜ r ≡ shapeAnswer (now (file .entry)) head ⌝ }
+    requires { ⌜ Laid (now file) head ⌝ }
+    ensures { λ r. ⌜ r ≡ shapeAnswer (contentsAt (now (file .entry)) head) ⌝ }
 {
     if sound_shape(file, head) {
         return Verdict {

@@ -14,6 +14,8 @@ ghost use mathlib.Core.Bool.{true, not, _&&_};
 ghost use Prim.Native.Nat.{_/_, _%_, _≤_};
 ghost use lib.Dec.{leb};
 ghost use Rattle.format.specs.Answers.{fine};
+ghost use Rattle.format.specs.Header.{Laid};
+ghost use Rattle.format.specs.Contents.{contentsAt};
 ghost use Rattle.trees.specs.Shape.{binds, unusedFit, shapeAnswer};
 
 // The number that names a tree that waits, and the variables bound above it, as one number on the stack.
@@ -39,8 +41,8 @@ fn goes_on(n: Node, bound: u16) -> bool
 // True only where 8 refuses nothing. The stack has the trees that wait, each with the number that names it, and below them all the number
 // after the last node. An end is followed by the tree on top.
 pub fn sound_shape(file: &[u8], head: Head) -> bool
-    requires { ⌜ (head .count .nodes ≤ 1024) × (head .count .sessions ≤ 32) ⌝ }
-    ensures { λ r. ⌜ (r ≡ true → shapeAnswer (now (file .entry)) head ≡ fine) ⌝ }
+    requires { ⌜ Laid (now file) head ⌝ }
+    ensures { λ r. ⌜ (r ≡ true → shapeAnswer (contentsAt (now (file .entry)) head) ≡ fine) ⌝ }
 {
     let nodes = head.count.nodes;
     let sessions = wide(head.count.sessions);

@@ -1,180 +1,183 @@
 -- The check gives the first refusal in the paper's order: 1 to 8 by number and place, then 9 and 10 together by node, then 11 to 13 by node.
 use Prim.Native.Nat.{ℕ, _≤_, _<_}
-use mathlib.Core.Path.{_≡_, refl, sym, ap, ap₂, _∙_}
-use mathlib.Core.Logic.{_⊎_, inl, inr}
-use mathlib.Core.Bool.{Bool, true, false}
+use mathlib.Core.Path.{_≡_, refl, sym, ap, _∙_, subst}
+use mathlib.Core.Logic.{_↔_, inl, inr}
+use mathlib.Core.Bool.{Bool, true, false, cond}
 use mathlib.Core.List.{List}
 use native.Mathlib.Omega.{arith}
 use lib.Dec.{eqb, leb}
 use lib.ListN.{length}
-use borrow.Author.Tests.{eqb-true, eqb-false, leb-true, leb-false}
+use borrow.Author.Tests.{eqb-false, leb-true, leb-false, le-leb, lt-leb}
+use Rattle.format.specs.Contents.{Contents, contentsOf}
 use Rattle.format.specs.Answers.{fine, orElse}
 use Rattle.format.specs.Header.{headAt}
 use Rattle.format.specs.declared.Verdict.{Verdict}
-use Rattle.format.specs.declared.Head.{Head}
 use Rattle.format.specs.declared.Node.{Node}
+use Rattle.format.proofs.AnswerLaws.{loud-first}
 use Rattle.reading.specs.Reading.{reading}
 use Rattle.reading.proofs.ReadingLaws.{reading-iff}
 use Rattle.rules.specs.Schema.{Schema, schemaOf}
 use Rattle.rules.specs.Rules.{Context, wrong, barred}
-use Rattle.rules.specs.Checking.{openings, nodesIn, namesAnswer, rolesAnswer}
+use Rattle.rules.specs.Checking.{openings, namesAnswer, rolesAnswer}
 use Rattle.clinic.specs.File.{InCount}
-use Rattle.clinic.specs.Refusals.{nth, misshapen, bad-tag, Refusable}
-use Rattle.clinic.proofs.Firsts.{Both}
-use Rattle.clinic.proofs.FirstRefusal.{first-refusal}
+use Rattle.clinic.specs.Order.{Sooner, First}
+use Rattle.clinic.specs.Refusals.{nth, misshapen, Refusable, readingOrder}
+use Rattle.clinic.proofs.FirstLaws.{first-raise, first-zero, first-clear, first-map, first-split, both-fine}
+use Rattle.clinic.proofs.ShapeFirst.{low-tag}
+use Rattle.clinic.proofs.FirstRefusal.{first-refusal, refusable-number, reading-zero, reading-fine}
 use Rattle.checking.specs.Check.{readingNames, checking}
-use Rattle.typing.specs.Faults.{Fault, Objection, of-file, of-node, rank, Sooner, Soonest}
-use Rattle.typing.proofs.OperandKinds.{Ranged}
-use Rattle.typing.proofs.Quiets.{refusable-number}
-use Rattle.typing.proofs.FirstNode.{Stands, FirstBad, first-by}
+use Rattle.typing.specs.Faults.{Objection, of-file, of-node, checkOrder}
+use Rattle.typing.proofs.OperandKinds.{Ranged, laid-ranged}
+use Rattle.typing.proofs.FirstNode.{Stands, Refuses, first-by, all-held}
 use Rattle.typing.proofs.NameFaults.{wrong-fault, fault-wrong}
 use Rattle.typing.proofs.RoleFaults.{barred-fault, fault-barred, fault-number}
-use Rattle.typing.proofs.Soonests.{low-rank, names-rank, roles-rank, first-soonest, soonest-map, soonest-or}
+
+-- The stages of numbers.
+
+abbrev stage : ℕ → ℕ
+stage = checkOrder .stage
+
+low-stage : (n : ℕ) → n ≤ 8 → stage n ≡ n
+low-stage n l = rw (le-leb n 8 l)
+
+names-stage : (n : ℕ) → 8 < n → n ≤ 10 → stage n ≡ 9
+names-stage n l h = rw (lt-leb n 8 l, le-leb n 10 h)
+
+roles-stage : (n : ℕ) → 10 < n → stage n ≡ 11
+roles-stage n l = rw (lt-leb n 8 (omega arith), lt-leb n 10 l)
+
+-- those of 1 to 10 are over before 11
+past-ten : (n m : ℕ) → n ≤ 10 → 10 < m → stage n < stage m
+past-ten n m l h = go (leb n 8) refl
+  where
+    go : (b : Bool) → leb n 8 ≡ b → stage n < stage m
+    go true e = omega (arith, low-stage n (leb-true n 8 e), roles-stage m h)
+    go false e = omega (arith, names-stage n (leb-false n 8 e) l, roles-stage m h)
+
+-- and of those 1 to 8 before 9
+past-eight : (n m : ℕ) → n ≤ 8 → 8 < m → stage n < stage m
+past-eight n m l h = go (leb m 10) refl
+  where
+    go : (b : Bool) → leb m 10 ≡ b → stage n < stage m
+    go true e = omega (arith, low-stage n l, names-stage m h (leb-true m 10 e))
+    go false e = omega (arith, low-stage n l, roles-stage m (leb-false m 10 e))
+
+-- among 1 to 8 the order is that of reading
+reading-sooner : (n p m q : ℕ) → n ≤ 8 → m ≤ 8 → Sooner readingOrder n p m q → Sooner checkOrder n p m q
+reading-sooner n p m q l h (inl b) = inl (omega (arith, low-stage n l, low-stage m h))
+reading-sooner n p m q l h (inr (e, b)) = inr (ap stage e, b)
+
+pub objection-number : (f : List ℕ) (n p : ℕ) → Objection f n p → 1 ≤ n
+objection-number f n p (of-file r) = refusable-number f n p r .0
+objection-number f n p (of-node c s i h) = omega (arith, fault-number _ c _ n h)
 
 module _ (f : List ℕ) where
-  abbrev head : Head
-  head = headAt f
+  abbrev C : Contents
+  C = contentsOf f
 
   abbrev D : Schema
-  D = schemaOf f head
+  D = schemaOf C
 
   abbrev ns : List Node
-  ns = nodesIn f head
+  ns = C .nodes
 
   abbrev os : List Context
-  os = openings f head
+  os = openings C
 
-  -- a fault of number n at node p
-  abbrev At : ℕ → ℕ → Type 0
-  At n p = (c : Context) × Stands D ns os p c × Fault D c (nth ns p) n
-
-  at-number : (n p : ℕ) → At n p → 9 ≤ n
-  at-number n p (c, s, h) = fault-number D c (nth ns p) n h
-
-  -- 9 and 10, and 11 to 13
-  abbrev NameFault : ℕ → ℕ → Type 0
-  NameFault n p = At n p × (n ≤ 10)
-
-  abbrev RoleFault : ℕ → ℕ → Type 0
-  RoleFault n p = At n p × (11 ≤ n)
-
-  -- a rule that tells the faults of some numbers, all of one rank
-  module _ (rule : Context → Node → ℕ) (Of : ℕ → Type 0) (r : ℕ) (ranked : (n p : ℕ) → At n p → Of n → rank n ≡ r)
-      (tells : (p : ℕ) (c : Context) → Stands D ns os p c → (rule c (nth ns p) ≡ 0 → ⊥) → Fault D c (nth ns p) (rule c (nth ns p)) × Of (rule c (nth ns p)))
-      (told : (p n : ℕ) (c : Context) → Fault D c (nth ns p) n → Of n → rule c (nth ns p) ≡ n) where
-    loud : (n p : ℕ) (c : Context) → Stands D ns os p c → Fault D c (nth ns p) n → Of n → rule c (nth ns p) ≡ 0 → ⊥
-    loud n p c s h o z = omega (arith, told p n c h o, at-number n p (c, s, h))
-
-    rule-soonest : (v : Verdict) → FirstBad D ns os rule v → Soonest (λ n p. At n p × Of n) v
-    rule-soonest v (inl (e, clear)) = inl (e, λ n p ((c, s, h), o). loud n p c s h o (clear p c s))
-    rule-soonest v (inr (p, c, e, s, w, least)) = inr (n, p, e, (here, tells p c s w .1), sooner)
-      where
-        n : ℕ
-        n = rule c (nth ns p)
-
-        here : At n p
-        here = (c, s, tells p c s w .0)
-
-        -- at one node there is one context, and so one number
-        sooner : (m q : ℕ) → At m q × Of m → Sooner n p m q
-        sooner m q ((d, t, h), o) = inr (ranked n p here (tells p c s w .1) ∙ sym (ranked m q (d, t, h) o), go (least q d t (loud m q d t h o)))
-          where
-            go : (p < q) ⊎ ((p ≡ q) × (c ≡ d)) → (p < q) ⊎ ((p ≡ q) × (n ≤ m))
-            go (inl l) = inl l
-            go (inr (i, j)) = let same : n ≡ m = ap₂ rule j (ap (nth ns) i) ∙ told q m d h o in inr (i, omega arith)
+  abbrev UpToTen : ℕ → ℕ → Type 0
+  UpToTen n p = Objection f n p × (n ≤ 10)
 
   -- a file that 1 to 8 leave clean
-  module _ (clean : reading f ≡ fine) (none : (n p : ℕ) → Refusable f n p → ⊥) where
+  module _ (none : (n p : ℕ) → Refusable f n p → ⊥) where
     low : (i : ℕ) → InCount (length ns) i → nth ns i .tag ≤ 8
-    low i c = go (leb (nth ns i .tag) 8) refl
-      where
-        go : (b : Bool) → leb (nth ns i .tag) 8 ≡ b → nth ns i .tag ≤ 8
-        go true e = leb-true (nth ns i .tag) 8 e
-        go false e = absurd (none 8 i (misshapen refl (bad-tag c (leb-false (nth ns i .tag) 8 e))))
+    low = low-tag ns _ (λ p m. none 8 p (misshapen refl m))
 
     R : Ranged D
-    R = let d = reading-iff f .0 clean .0 in record { users = omega (arith, d .laid .users); channels = omega (arith, d .laid .channels) }
+    R = laid-ranged f (headAt f) (reading-iff f .0 (reading-fine f .1 none) .0 .laid)
 
-    names-soonest : Soonest NameFault (namesAnswer f head)
+    names : First checkOrder (λ n p. UpToTen n p × (8 < n)) (namesAnswer C)
     unfolding namesAnswer
-    names-soonest =
-        rule-soonest (wrong D) (λ n. n ≤ 10) 9 (λ n p h l. names-rank n (at-number n p h) l)
-        (λ p c s. wrong-fault D R c (nth ns p) (low p (s .1)))
-        (λ p n c h l. fault-wrong D R c (nth ns p) n h l)
-        _
-        (first-by D ns os (wrong D) low)
+    names =
+        first-map checkOrder (Refuses D ns os (wrong D)) _ _ to from
+        (first-by D ns os (wrong D) checkOrder low (λ n p m q a b. nine (to n p a) ∙ sym (nine (to m q b))))
+      where
+        to : (n p : ℕ) → Refuses D ns os (wrong D) n p → UpToTen n p × (8 < n)
+        to n p (c, s, e, z) =
+            let (h, l) = wrong-fault D R c (nth ns p) (low p (s .1)) (λ w. z (sym e ∙ w)) in
+            subst (λ (k : ℕ). UpToTen k p × (8 < k)) e ((of-node c (s .0) (s .1) h, l), fault-number D c (nth ns p) _ h)
+
+        from : (n p : ℕ) → UpToTen n p × (8 < n) → Refuses D ns os (wrong D) n p
+        from n p ((of-file r, l), h) = absurd (omega (arith, refusable-number f n p r))
+        from n p ((of-node c s i x, l), h) = (c, (s, i), fault-wrong D R c (nth ns p) n x l, λ z. omega arith)
+
+        nine : {n p : ℕ} → UpToTen n p × (8 < n) → stage n ≡ 9
+        nine {n} ((_, l), h) = names-stage n h l
 
     -- where 9 and 10 find nothing
-    roles-soonest : ((n p : ℕ) → NameFault n p → ⊥) → Soonest RoleFault (rolesAnswer f head)
-    unfolding rolesAnswer
-    roles-soonest named =
-        rule-soonest (barred D) (λ n. 11 ≤ n) 11 (λ n p h l. roles-rank n l)
-        (λ p c s. barred-fault D R c (nth ns p) (low p (s .1)) (clear p c s))
-        (λ p n c h l. fault-barred D R c (nth ns p) n h l)
-        _
-        (first-by D ns os (barred D) low)
+    roles : ((n p : ℕ) → UpToTen n p → ⊥) → First checkOrder (λ n p. Objection f n p × (10 < n)) (rolesAnswer C)
+    unfolding namesAnswer rolesAnswer
+    roles named =
+        first-map checkOrder (Refuses D ns os (barred D)) _ _ to from
+        (first-by D ns os (barred D) checkOrder low (λ n p m q a b. roles-stage n (to n p a .1) ∙ sym (roles-stage m (to m q b .1))))
       where
         clear : (p : ℕ) (c : Context) → Stands D ns os p c → wrong D c (nth ns p) ≡ 0
-        clear p c s = go (eqb (wrong D c (nth ns p)) 0) refl
-          where
-            go : (b : Bool) → eqb (wrong D c (nth ns p)) 0 ≡ b → wrong D c (nth ns p) ≡ 0
-            go true e = eqb-true (wrong D c (nth ns p)) 0 e
-            go false e =
-                let (h, l) = wrong-fault D R c (nth ns p) (low p (s .1)) (eqb-false (wrong D c (nth ns p)) 0 e) in
-                absurd (named (wrong D c (nth ns p)) p ((c, s, h), l))
+        clear = all-held D ns os (wrong D) low (first-clear checkOrder (λ n p. UpToTen n p × (8 < n)) (namesAnswer C) names (λ n p h. named n p (h .0)))
 
-    rules-soonest : Soonest (Both NameFault RoleFault) (orElse (namesAnswer f head) (rolesAnswer f head))
-    rules-soonest =
-        soonest-or NameFault RoleFault (namesAnswer f head) (rolesAnswer f head) (λ n p (h, l). omega (arith, at-number n p h))
-        (λ n p m q (h, l) (g, k). inl (omega (arith, names-rank n (at-number n p h) l, roles-rank m k)))
-        names-soonest
-        (λ e. roles-soonest)
+        to : (n p : ℕ) → Refuses D ns os (barred D) n p → Objection f n p × (10 < n)
+        to n p (c, s, e, z) =
+            let (h, l) = barred-fault D R c (nth ns p) (low p (s .1)) (clear p c s) (λ w. z (sym e ∙ w)) in
+            subst (λ (k : ℕ). Objection f k p × (10 < k)) e (of-node c (s .0) (s .1) h, l)
 
-  file-soonest : Soonest (Refusable f) (reading f)
-  file-soonest = first-soonest (Refusable f) (reading f) (λ n p r. refusable-number f n p r .1) (first-refusal f)
+        from : (n p : ℕ) → Objection f n p × (10 < n) → Refuses D ns os (barred D) n p
+        from n p (of-file r, h) = absurd (omega (arith, refusable-number f n p r))
+        from n p (of-node c s i x, h) = (c, (s, i), fault-barred D R c (nth ns p) n x h, λ z. omega arith)
 
-  -- a refusal of 1 to 8 comes before every fault
-  name-after : (n p m q : ℕ) → Refusable f n p → NameFault m q → Sooner n p m q
-  name-after n p m q r (h, l) = inl (omega (arith, low-rank n (refusable-number f n p r .1), refusable-number f n p r, names-rank m (at-number m q h) l))
+  -- 1 to 8
+  eight : (n p : ℕ) → Refusable f n p → UpToTen n p × (n ≤ 8)
+  eight n p r = ((of-file r, omega (arith, refusable-number f n p r)), refusable-number f n p r .1)
 
-  fault-after : (n p m q : ℕ) → Refusable f n p → Both NameFault RoleFault m q → Sooner n p m q
-  fault-after n p m q r (inl h) = name-after n p m q r h
-  fault-after n p m q r (inr (h, l)) = inl (omega (arith, low-rank n (refusable-number f n p r .1), refusable-number f n p r, roles-rank m l))
-
-  positive : (n p : ℕ) → Refusable f n p → 1 ≤ n
-  positive n p r = refusable-number f n p r .0
+  file : First checkOrder (λ n p. UpToTen n p × (n ≤ 8)) (reading f)
+  file =
+      first-map checkOrder (Refusable f) _ (reading f) eight from
+      (first-raise readingOrder checkOrder (Refusable f) (reading f)
+      (λ n p m q r s. reading-sooner n p m q (refusable-number f n p r .1) (refusable-number f m q s .1)) (first-refusal f))
+    where
+      from : (n p : ℕ) → UpToTen n p × (n ≤ 8) → Refusable f n p
+      from n p ((of-file r, _), l) = r
+      from n p ((of-node c s i h, _), l) = absurd (omega (arith, fault-number D c (nth ns p) n h))
 
   -- 1 to 10
-  pub names-first : Soonest (λ n p. Objection f n p × (n ≤ 10)) (readingNames f)
+  pub names-first : First checkOrder (λ n p. Objection f n p × (n ≤ 10)) (readingNames f)
   unfolding readingNames
   names-first =
-      soonest-map (Both (Refusable f) NameFault) _ _ to from
-      (soonest-or (Refusable f) NameFault (reading f) (namesAnswer f head) positive name-after file-soonest names-soonest)
-    where
-      to : (n p : ℕ) → Both (Refusable f) NameFault n p → Objection f n p × (n ≤ 10)
-      to n p (inl r) = (of-file r, omega (arith, refusable-number f n p r))
-      to n p (inr ((c, (s, i), h), l)) = (of-node c s i h, l)
+      first-split checkOrder UpToTen 8 (reading f) (namesAnswer C) (λ n p h. objection-number f n p (h .0)) past-eight file
+      (λ none. names (λ n p r. none n p (eight n p r)))
 
-      from : (n p : ℕ) → Objection f n p × (n ≤ 10) → Both (Refusable f) NameFault n p
-      from n p (of-file r, l) = inl r
-      from n p (of-node c s i h, l) = inr ((c, (s, i), h), l)
+  in-turn : checking f ≡ orElse (readingNames f) (rolesAnswer C)
+  unfolding checking readingNames
+  in-turn = go (eqb (reading f .number) 0) refl
+    where
+      go : (b : Bool) → eqb (reading f .number) 0 ≡ b → cond b (orElse (namesAnswer C) (rolesAnswer C)) (reading f) ≡ orElse (cond b (namesAnswer C) (reading f)) (rolesAnswer C)
+      go true e = refl
+      go false e = sym (loud-first (reading f) (rolesAnswer C) (eqb-false (reading f .number) 0 e))
 
   -- 1 to 13
-  pub check-first : Soonest (Objection f) (checking f)
-  unfolding checking
+  pub check-first : First checkOrder (Objection f) (checking f)
   check-first =
-      soonest-map (Both (Refusable f) (Both NameFault RoleFault)) _ _ to from
-      (soonest-or (Refusable f) (Both NameFault RoleFault) (reading f) (orElse (namesAnswer f head) (rolesAnswer f head)) positive fault-after file-soonest rules-soonest)
-    where
-      to : (n p : ℕ) → Both (Refusable f) (Both NameFault RoleFault) n p → Objection f n p
-      to n p (inl r) = of-file r
-      to n p (inr (inl ((c, (s, i), h), l))) = of-node c s i h
-      to n p (inr (inr ((c, (s, i), h), l))) = of-node c s i h
+      subst (First checkOrder (Objection f)) (sym in-turn)
+      (first-split checkOrder (Objection f) 10 (readingNames f) (rolesAnswer C) (objection-number f) past-ten names-first
+      (λ none. roles (λ n p r. none n p (eight n p r .0)) none))
 
-      from : (n p : ℕ) → Objection f n p → Both (Refusable f) (Both NameFault RoleFault) n p
-      from n p (of-file r) = inl r
-      from n p (of-node c s i h) = inr (go (leb n 10) refl)
-        where
-          go : (b : Bool) → leb n 10 ≡ b → Both NameFault RoleFault n p
-          go true e = inl ((c, (s, i), h), leb-true n 10 e)
-          go false e = inr ((c, (s, i), h), omega (arith, leb-false n 10 e))
+  -- An answer of number 0 is fine, and so are the stages that it is made of.
+
+  pub names-zero : readingNames f .number ≡ 0 → readingNames f ≡ fine
+  names-zero z = first-zero checkOrder UpToTen (readingNames f) (λ n p h. objection-number f n p (h .0)) names-first z .0
+
+  pub names-fine : (readingNames f ≡ fine) ↔ ((reading f ≡ fine) × (namesAnswer C ≡ fine))
+  unfolding readingNames
+  names-fine = both-fine (reading f) (namesAnswer C) (λ z. reading-zero f z .0)
+
+  pub check-fine : (checking f ≡ fine) ↔ ((readingNames f ≡ fine) × (rolesAnswer C ≡ fine))
+  check-fine =
+      subst (λ (v : Verdict). (v ≡ fine) ↔ ((readingNames f ≡ fine) × (rolesAnswer C ≡ fine))) (sym in-turn)
+      (both-fine (readingNames f) (rolesAnswer C) names-zero)

@@ -1,7 +1,7 @@
--- `firstBy` refuses the first node that the rule refuses in its context.
+-- `firstBy` refuses the first node that the rule refuses in its context, where the rule's numbers are of one stage.
 use Prim.Native.Nat.{ℕ, suc, _-_, _≤_, _<_}
 use mathlib.Core.Path.{_≡_, refl, sym, ap, ap₂, _∙_, subst}
-use mathlib.Core.Logic.{_⊎_, inl, inr}
+use mathlib.Core.Logic.{_⊎_, inl, inr, _≢_}
 use mathlib.Core.Bool.{Bool, true, false, cond}
 use mathlib.Core.List.{List, [], _∷_}
 use native.Mathlib.Omega.{arith}
@@ -9,13 +9,14 @@ use lib.Dec.{eqb}
 use lib.ListN.{length, getD, drop, length-drop}
 use borrow.Author.Tests.{eqb-true, eqb-false}
 use Rattle.format.specs.Answers.{fine, refused}
-use Rattle.format.specs.declared.Verdict.{Verdict}
 use Rattle.format.specs.declared.Node.{Node}
 use Rattle.rules.specs.Schema.{Schema}
 use Rattle.rules.specs.Rules.{Context, after}
 use Rattle.rules.specs.Checking.{firstBy}
 use Rattle.clinic.specs.File.{InCount}
+use Rattle.clinic.specs.Order.{Order, First}
 use Rattle.clinic.specs.Refusals.{nth}
+use Rattle.clinic.proofs.FirstLaws.{number-of, first-zero}
 use Rattle.clinic.proofs.FollowedEnds.{at-node}
 use Rattle.typing.specs.Faults.{InContext}
 use Rattle.typing.proofs.ContextStack.{stackAt, stack-step, none-after, reached-stack}
@@ -26,39 +27,20 @@ abbrev pub Stands : Schema → List Node → List Context → ℕ → Context �
 Stands D ns os p c = InContext D ns os p c × InCount (length ns) p
 
 module _ (D : Schema) (ns : List Node) (os : List Context) (rule : Context → Node → ℕ) where
-  -- the rule refuses node p in its context c
-  abbrev Bad : ℕ → Context → Type 0
-  Bad p c = Stands D ns os p c × (rule c (nth ns p) ≡ 0 → ⊥)
+  -- the rule refuses node p with the number n, in its context
+  abbrev pub Refuses : ℕ → ℕ → Type 0
+  Refuses n p = (c : Context) × Stands D ns os p c × (rule c (nth ns p) ≡ n) × (n ≢ 0)
 
-  -- the answer refuses the first bad node, with the rule's number
-  abbrev pub FirstBad : Verdict → Type 0
-  FirstBad v =
-      ((v ≡ fine) × ((q : ℕ) (d : Context) → Stands D ns os q d → rule d (nth ns q) ≡ 0))
-      ⊎ ((p : ℕ) × (c : Context) × (v ≡ refused (rule c (nth ns p)) p) × Stands D ns os p c × (rule c (nth ns p) ≡ 0 → ⊥)
-      × ((q : ℕ) (d : Context) → Stands D ns os q d → (rule d (nth ns q) ≡ 0 → ⊥) → (p < q) ⊎ ((p ≡ q) × (c ≡ d))))
-
-  none-bad : ((q : ℕ) (d : Context) → Bad q d → ⊥) → (q : ℕ) (d : Context) → Stands D ns os q d → rule d (nth ns q) ≡ 0
-  none-bad never q d s = go (eqb (rule d (nth ns q)) 0) refl
-    where
-      go : (b : Bool) → eqb (rule d (nth ns q)) 0 ≡ b → rule d (nth ns q) ≡ 0
-      go true e = eqb-true (rule d (nth ns q)) 0 e
-      go false e = absurd (never q d (s, eqb-false (rule d (nth ns q)) 0 e))
-
-  module _ (low : (i : ℕ) → InCount (length ns) i → nth ns i .tag ≤ 8) where
-    -- from node i on, with the contexts that wait there and no bad node before
+  module _ (o : Order) (low : (i : ℕ) → InCount (length ns) i → nth ns i .tag ≤ 8) (staged : (n p m q : ℕ) → Refuses n p → Refuses m q → o .stage n ≡ o .stage m) where
+    -- from node i on, with the contexts that wait there and no node refused before
     walk : (l : List Node) (i : ℕ) (st : List Context) → 1 ≤ i → drop (i - 1) ns ≡ l → stackAt D ns os i ≡ st → Chain D ns os i st
-        → ((q : ℕ) (d : Context) → Bad q d → i ≤ q) → FirstBad (firstBy rule D i l st)
+        → ((n q : ℕ) → Refuses n q → i ≤ q) → First o Refuses (firstBy rule D i l st)
     unfolding firstBy
     walk [] i st p e s h n =
         let last : length ns < i = omega (arith, length-drop (i - 1) ns, ap length e) in
-        inl (refl, none-bad (λ q d b. omega (arith, n q d b, b .0 .1)))
+        inl (refl, λ k q b. omega (arith, n k q b, b .1 .1))
     walk (x ∷ l) i [] p e s h n =
-        inl (
-          refl,
-          none-bad (λ q d b.
-              let (st, z) = reached-stack D ns os (b .0 .0) in
-              omega (arith, ap length (sym (none-after D ns os q i p (n q d b) s) ∙ z))),
-        )
+        inl (refl, λ k q b. let (st, z) = reached-stack D ns os (b .1 .0) in omega (arith, ap length (sym (none-after D ns os q i p (n k q b) s) ∙ z)))
     walk (x ∷ l) i (c ∷ st) p e s h n =
         go (eqb (rule c x) 0) refl (walk l (suc i) (after D c x st) (omega arith) z stacked chained)
       where
@@ -80,38 +62,49 @@ module _ (D : Schema) (ns : List Node) (os : List Context) (rule : Context → N
         chained : Chain D ns os (suc i) (after D c x st)
         chained = subst (λ r. Chain D ns os (suc i) (after D c r st)) node (chain-step D ns os i c st m (low i m) h)
 
-        -- one context a node
-        same : (d : Context) → InContext D ns os i d → c ≡ d
-        same d r = let (st′, t) = reached-stack D ns os r in ap (λ (w : List Context). getD w 0 c) (sym s ∙ t)
+        -- one context a node, and so one number
+        same : (d : Context) → InContext D ns os i d → rule d (nth ns i) ≡ rule c x
+        same d r = let (st′, t) = reached-stack D ns os r in ap₂ rule (ap (λ (w : List Context). getD w 0 c) (sym t ∙ s)) node
 
-        here : (q : ℕ) (d : Context) → Bad q d → (i < q) ⊎ ((i ≡ q) × (c ≡ d))
-        here q d b = at (eqb q i) refl
+        here : (k q : ℕ) → Refuses k q → (i < q) ⊎ ((i ≡ q) × (rule c x ≡ k))
+        here k q b = at (eqb q i) refl
           where
-            at : (y : Bool) → eqb q i ≡ y → (i < q) ⊎ ((i ≡ q) × (c ≡ d))
-            at true y = let j : q ≡ i = eqb-true q i y in inr (sym j, same d (subst (λ (k : ℕ). InContext D ns os k d) j (b .0 .0)))
-            at false y = inl (omega (arith, eqb-false q i y, n q d b))
+            at : (y : Bool) → eqb q i ≡ y → (i < q) ⊎ ((i ≡ q) × (rule c x ≡ k))
+            at true y =
+                let (d, s, w, _) = subst (Refuses k) (eqb-true q i y) b in
+                inr (sym (eqb-true q i y), sym (same d (s .0)) ∙ w)
+            at false y = inl (omega (arith, eqb-false q i y, n k q b))
 
-        fits : rule c x ≡ 0 → (q : ℕ) (d : Context) → Bad q d → suc i ≤ q
-        fits f q d b = of (here q d b)
+        go : (b : Bool) → eqb (rule c x) 0 ≡ b → (((n q : ℕ) → Refuses n q → suc i ≤ q) → First o Refuses (firstBy rule D (suc i) l (after D c x st)))
+            → First o Refuses (cond b (firstBy rule D (suc i) l (after D c x st)) (refused (rule c x) i))
+        go true f rec = rec (λ k q b. later k q b (here k q b))
           where
-            of : (i < q) ⊎ ((i ≡ q) × (c ≡ d)) → suc i ≤ q
-            of (inl k) = k
-            of (inr (j, y)) = absurd (b .1 (ap₂ rule (sym y) (ap (nth ns) (sym j) ∙ node) ∙ f))
+            later : (k q : ℕ) → Refuses k q → (i < q) ⊎ ((i ≡ q) × (rule c x ≡ k)) → suc i ≤ q
+            later k q b (inl g) = g
+            later k q b (inr (_, y)) = absurd (b .3 (sym y ∙ eqb-true (rule c x) 0 f))
+        go false f rec = inr (rule c x, i, refl, (found, λ k q b. inr (staged (rule c x) i k q found b, first k q (here k q b))))
+          where
+            found : Refuses (rule c x) i
+            found = (c, (h .0, m), ap (rule c) node, eqb-false (rule c x) 0 f)
 
-        go : (b : Bool) → eqb (rule c x) 0 ≡ b → (((q : ℕ) (d : Context) → Bad q d → suc i ≤ q) → FirstBad (firstBy rule D (suc i) l (after D c x st)))
-            → FirstBad (cond b (firstBy rule D (suc i) l (after D c x st)) (refused (rule c x) i))
-        go true f rec = rec (fits (eqb-true (rule c x) 0 f))
-        go false f rec =
-            let k : rule c (nth ns i) ≡ rule c x = ap (rule c) node in
-            inr (
-              i,
-              c,
-              ap (λ (w : ℕ). refused w i) (sym k),
-              (h .0, m),
-              (λ y. eqb-false (rule c x) 0 f (sym k ∙ y)),
-              λ q d b y. here q d (b, y),
-            )
+            first : (k q : ℕ) → (i < q) ⊎ ((i ≡ q) × (rule c x ≡ k)) → (i < q) ⊎ ((i ≡ q) × (o .turn (rule c x) ≤ o .turn k))
+            first k q (inl g) = inl g
+            first k q (inr (j, y)) = inr (j, omega (arith, ap (o .turn) y))
 
-    pub first-by : FirstBad (firstBy rule D 1 ns os)
+    pub first-by : First o Refuses (firstBy rule D 1 ns os)
     unfolding stackAt
-    first-by = walk ns 1 os (omega arith) refl refl (chain-start D ns os) (λ q d b. b .0 .1 .0)
+    first-by = walk ns 1 os (omega arith) refl refl (chain-start D ns os) (λ n q b. b .1 .1 .0)
+
+  -- where none is refused the rule holds at every node
+  pub all-held : ((i : ℕ) → InCount (length ns) i → nth ns i .tag ≤ 8) → firstBy rule D 1 ns os ≡ fine
+      → (p : ℕ) (c : Context) → Stands D ns os p c → rule c (nth ns p) ≡ 0
+  all-held low e p c s = go (eqb (rule c (nth ns p)) 0) refl
+    where
+      flat : Order
+      flat = record { stage = λ n. 0; turn = λ n. n }
+
+      go : (b : Bool) → eqb (rule c (nth ns p)) 0 ≡ b → rule c (nth ns p) ≡ 0
+      go true z = eqb-true (rule c (nth ns p)) 0 z
+      go false z =
+          absurd (first-zero flat Refuses (firstBy rule D 1 ns os) (λ n q b. omega (arith, b .3)) (first-by flat low (λ n p m q a b. refl)) (number-of e) .1
+          (rule c (nth ns p)) p (c, s, refl, eqb-false (rule c (nth ns p)) 0 z))

@@ -2,20 +2,16 @@
 pub mod PermittedRoles
 pub mod OperandKinds
 pub mod StepRules
--- whole trees, and the tables
-pub mod ClearTrees
-pub mod KindedTrees
-pub mod TypedTrees
-pub mod SameRules
-pub mod FileSchema
-pub mod Quiets
-pub mod FileRules
-pub mod CheckExact
+pub mod KnownKinds
 -- the first refusal
 pub mod ContextStack
 pub mod ContextChain
 pub mod FirstNode
 pub mod NameFaults
 pub mod RoleFaults
-pub mod Soonests
 pub mod CheckFirst
+-- whole trees, and what a file holds
+pub mod ClearTrees
+pub mod TreeRules
+pub mod FileRules
+pub mod CheckExact

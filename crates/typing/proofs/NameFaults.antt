@@ -7,11 +7,12 @@ use mathlib.Core.List.{List}
 use native.Mathlib.Omega.{arith}
 use lib.Dec.{eqb, ltb}
 use borrow.Author.Tests.{eqb-false, ne-eqb, ltb-false}
+use Rattle.format.specs.Contents.{inCount}
 use Rattle.format.specs.declared.Node.{Node}
 use Rattle.format.proofs.BoolLaws.{and-fails}
-use Rattle.tables.proofs.RecordLaws.{inCount-iff}
+use Rattle.format.proofs.ContentsLaws.{inCount-iff}
 use Rattle.rules.specs.Schema.{Schema}
-use Rattle.rules.specs.Names.{Bound, within, named, kindOf, mine}
+use Rattle.rules.specs.Names.{Bound, named, kindOf, mine}
 use Rattle.rules.specs.Rules.{Context, namesFit, kindsFit, wrong}
 use Rattle.clinic.specs.Tree.{words}
 use Rattle.clinic.specs.File.{InCount}
@@ -49,8 +50,8 @@ module _ (D : Schema) (R : Ranged D) (vs : List Bound) where
   nothing-iff x =
       (λ e k h. false≢true (sym e ∙ kind-named D R vs x k h), λ h. not-eq-not .0 (λ e. h (kindOf D vs x) (named-kind D R vs x e)))
 
-  out-iff : (n x : ℕ) → (within n x ≡ false) ↔ (InCount n x → ⊥)
-  out-iff n x = fails-iff (within n x) (InCount n x) (inCount-iff n x)
+  out-iff : (n x : ℕ) → (inCount n x ≡ false) ↔ (InCount n x → ⊥)
+  out-iff n x = fails-iff (inCount n x) (InCount n x) (inCount-iff n x)
 
   -- one of two operands names nothing
   pair-iff : (x y : ℕ) → ((named D vs x && named D vs y) ≡ false) ↔ (Nothing D vs x ⊎ Nothing D vs y)

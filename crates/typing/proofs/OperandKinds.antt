@@ -8,9 +8,12 @@ use native.Mathlib.Omega.{arith}
 use lib.Dec.{eqb, leb}
 use lib.ListN.{length, getD}
 use borrow.Author.Tests.{eqb-true, eq-eqb, ltb-true, lt-ltb, lt-leb}
+use Rattle.format.specs.Header.{Laid}
+use Rattle.format.specs.Contents.{contentsAt}
+use Rattle.format.specs.declared.Head.{Head}
 use Rattle.format.proofs.BoolLaws.{le-iff, and-iff}
-use Rattle.tables.proofs.RecordLaws.{inCount-iff}
-use Rattle.rules.specs.Schema.{Schema}
+use Rattle.format.proofs.ContentsLaws.{inCount-iff, users-held, channels-held}
+use Rattle.rules.specs.Schema.{Schema, schemaOf}
 use Rattle.rules.specs.Names.{Bound, unbound, isUser, isChannel, isVariable, named, kindOf, mine}
 use Rattle.clinic.specs.File.{InCount}
 use Rattle.typing.specs.Typing.{HasKind, a-user, a-channel, a-variable, Receivable, own-channel, own-new}
@@ -30,6 +33,10 @@ or-right false b h = h
 pub record Ranged (D : Schema) : Type 0 where
   pub users : D .users ≤ 256
   pub channels : D .channels ≤ 255
+
+-- as in every file whose head is laid out
+pub laid-ranged : (f : List ℕ) (h : Head) → Laid f h → Ranged (schemaOf (contentsAt f h))
+laid-ranged f h l = record { users = omega (arith, users-held f h); channels = omega (arith, channels-held f h) }
 
 module _ (D : Schema) where
   channel-iff : (x : ℕ) → (isChannel D x ≡ true) ↔ ((256 < x) × (x ≤ 256 + D .channels))

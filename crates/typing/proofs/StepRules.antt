@@ -7,7 +7,7 @@ use mathlib.Core.List.{List}
 use native.Mathlib.Omega.{arith}
 use lib.Dec.{eqb, ltb}
 use borrow.Author.Tests.{eqb-true, eq-eqb, ltb-true, lt-ltb}
-use Rattle.tables.proofs.RecordLaws.{inCount-iff}
+use Rattle.format.proofs.ContentsLaws.{inCount-iff}
 use Rattle.rules.specs.Schema.{Schema}
 use Rattle.rules.specs.Names.{Bound, named, kindOf}
 use Rattle.rules.specs.Rules.{Context, namesFit, kindsFit, wrong}

@@ -1,5 +1,5 @@
 -- What each of the refusals 9 to 13 objects to, and where, in the words of the paper; and the order of all the check's refusals.
-use Prim.Native.Nat.{ℕ, suc, _-_, _≤_, _<_}
+use Prim.Native.Nat.{ℕ, suc, _-_}
 use mathlib.Core.Path.{_≡_}
 use mathlib.Core.Logic.{_⊎_, _≢_}
 use mathlib.Core.Bool.{false, cond}
@@ -7,16 +7,15 @@ use mathlib.Core.List.{List, []}
 use lib.Dec.{leb}
 use lib.ListN.{length, getD}
 use Rattle.masks.specs.Mask.{has}
-use Rattle.format.specs.Answers.{fine, refused}
-use Rattle.format.specs.Header.{headAt}
-use Rattle.format.specs.declared.Verdict.{Verdict}
+use Rattle.format.specs.Contents.{contentsOf}
 use Rattle.format.specs.declared.Node.{Node}
 use Rattle.rules.specs.declared.Way.the-variants.{Sends, Receives}
 use Rattle.rules.specs.Schema.{Schema, schemaOf}
 use Rattle.rules.specs.Names.{Bound}
 use Rattle.rules.specs.Rules.{Context, childOf}
-use Rattle.rules.specs.Checking.{openings, nodesIn}
+use Rattle.rules.specs.Checking.{openings}
 use Rattle.clinic.specs.File.{InCount}
+use Rattle.clinic.specs.Order.{Order}
 use Rattle.clinic.specs.Refusals.{nth, OneChild, Follows, Begins, Refusable}
 use Rattle.typing.specs.Typing.{HasKind, Receivable, Permitted}
 
@@ -71,19 +70,9 @@ pub data Objection (f : List ℕ) (n p : ℕ) : Type 0 where
   -- 1 to 8
   of-file : Refusable f n p → Objection f n p
   -- 9 to 13; the place is the node
-  of-node : (c : Context) → InContext (schemaOf f (headAt f)) (nodesIn f (headAt f)) (openings f (headAt f)) p c → InCount (length (nodesIn f (headAt f))) p
-      → Fault (schemaOf f (headAt f)) c (nth (nodesIn f (headAt f)) p) n → Objection f n p
+  of-node : (c : Context) → InContext (schemaOf (contentsOf f)) (contentsOf f .nodes) (openings (contentsOf f)) p c → InCount (length (contentsOf f .nodes)) p
+      → Fault (schemaOf (contentsOf f)) c (nth (contentsOf f .nodes) p) n → Objection f n p
 
--- the order: 1 to 8 by number, then 9 and 10 together, then 11 to 13 together
-abbrev pub rank : ℕ → ℕ
-rank n = cond (leb n 8) n (cond (leb n 10) 9 11)
-
--- within a rank the lowest place first, and at one place the lower number
-abbrev pub Sooner : ℕ → ℕ → ℕ → ℕ → Type 0
-Sooner n p m q = (rank n < rank m) ⊎ ((rank n ≡ rank m) × ((p < q) ⊎ ((p ≡ q) × (n ≤ m))))
-
--- the answer is the first in that order of the refusals that hold, and refuses nothing where none does
-abbrev pub Soonest : (ℕ → ℕ → Type 0) → Verdict → Type 0
-Soonest R v =
-    ((v ≡ fine) × ((n p : ℕ) → R n p → ⊥))
-    ⊎ ((n : ℕ) × (p : ℕ) × (v ≡ refused n p) × R n p × ((m q : ℕ) → R m q → Sooner n p m q))
+-- the order: 1 to 8 by number, then 9 and 10 together, then 11 to 13 together; at one place the lower number
+abbrev pub checkOrder : Order
+checkOrder = record { stage = λ n. cond (leb n 8) n (cond (leb n 10) 9 11); turn = λ n. n }

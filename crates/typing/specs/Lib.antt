@@ -1,4 +1,3 @@
 pub mod Tables
 pub mod Typing
-pub mod Kinding
 pub mod Faults

@@ -1,5 +1,5 @@
--- The rules as judgements: for values, for processes under a user, variables and an active set, and for a whole file.
-use Prim.Native.Nat.{ℕ, zero, suc, _+_, _≤_, _<_}
+-- The rules as judgements: for values, for processes under a user, variables and an active set, and for whole files.
+use Prim.Native.Nat.{ℕ, _+_, _≤_, _<_}
 use mathlib.Core.Path.{_≡_}
 use mathlib.Core.Bool.{Bool, true, false}
 use mathlib.Core.List.{List, [], _∷_, _++_}
@@ -10,7 +10,7 @@ use Rattle.rules.specs.declared.Way.the-variants.{Sends, Receives}
 use Rattle.rules.specs.Schema.{Schema, permits}
 use Rattle.rules.specs.Names.{Bound, unbound}
 use Rattle.clinic.specs.Lists.{All}
-use Rattle.clinic.specs.Tree.{Tree, end, fork, step, switch, repeat, new, compare, receive, send, on, off}
+use Rattle.clinic.specs.Tree.{Switch, Tree, end, fork, step, switch, repeat, new, compare, receive, send, on, off}
 use Rattle.clinic.specs.File.{File, Routine, InCount}
 use Rattle.typing.specs.Tables.{schemaFor}
 
@@ -32,32 +32,53 @@ Permitted D m w k = (r : ℕ) × InCount (D .roles) r × (has m r ≡ true) × (
 abbrev pub bound : List Bound → ℕ → Bool → List Bound
 bound vs k fresh = vs ++ (record { sort = k; fresh = fresh } ∷ [])
 
--- Processes: 004's judgement, with the active set m of rule 5 for its roles. 004's rules are named where there is one.
-pub data Typed (D : Schema) (u : ℕ) : List Bound → ℕ → Tree → Type 0 where
+-- Names, kinds and rules 1 to 4: what 9 and 10 stand for, of which the active set is no part. The rules of 004 are named where there is one.
+pub data Kinded (D : Schema) (u : ℕ) : List Bound → Tree → Type 0 where
   -- (T-Nil)
-  t-end : {vs : List Bound} {m : ℕ} → Typed D u vs m end
-  -- (T-Par); each branch goes on with its own copy of the active set
-  t-fork : {vs : List Bound} {m : ℕ} {a b : Tree} → Typed D u vs m a → Typed D u vs m b → Typed D u vs m (fork a b)
+  k-end : {vs : List Bound} → Kinded D u vs end
+  -- (T-Par)
+  k-fork : {vs : List Bound} {a b : Tree} → Kinded D u vs a → Kinded D u vs b → Kinded D u vs (fork a b)
   -- (T-Repl)
-  t-repeat : {vs : List Bound} {m : ℕ} {t : Tree} → Typed D u vs m t → Typed D u vs m (step repeat t)
+  k-repeat : {vs : List Bound} {t : Tree} → Kinded D u vs t → Kinded D u vs (step repeat t)
   -- (T-Res); the variable has the kind named
-  t-new : {vs : List Bound} {m : ℕ} {t : Tree} {k : ℕ} → InCount (D .kinds) k → Typed D u (bound vs k true) m t → Typed D u vs m (step (new k) t)
+  k-new : {vs : List Bound} {t : Tree} {k : ℕ} → InCount (D .kinds) k → Kinded D u (bound vs k true) t → Kinded D u vs (step (new k) t)
   -- (T-Match); rule 4: both plain, or both channels of one kind
-  t-compare : {vs : List Bound} {m : ℕ} {t : Tree} {a b : ℕ} (k : ℕ) → HasKind D vs a k → HasKind D vs b k → Typed D u vs m t
-      → Typed D u vs m (step (compare a b) t)
-  -- (T-Input); rules 3 and 6; the variable has what the channel's kind carries
-  t-receive : {vs : List Bound} {m : ℕ} {t : Tree} {c : ℕ} (k : ℕ) → HasKind D vs c k → Receivable D u vs c → Permitted D m Receives k
-      → Typed D u (bound vs (D .carries k) false) m t → Typed D u vs m (step (receive c) t)
-  -- (T-Output); rules 2 and 6
-  t-send : {vs : List Bound} {m : ℕ} {t : Tree} {c v : ℕ} (k : ℕ) → HasKind D vs c k → 1 ≤ k → HasKind D vs v (D .carries k) → Permitted D m Sends k
-      → Typed D u vs m t → Typed D u vs m (step (send c v) t)
-  -- (T-Role); rule 5: on adds a role assigned to the user
-  t-on : {vs : List Bound} {m : ℕ} {t : Tree} {r : ℕ} → InCount (D .roles) r → has (D .assigned u) r ≡ true → Typed D u vs (with m r) t
-      → Typed D u vs m (switch on r t)
-  -- (T-Yield); rule 5: off removes a role that is there
-  t-off : {vs : List Bound} {m : ℕ} {t : Tree} {r : ℕ} → InCount (D .roles) r → has m r ≡ true → Typed D u vs (without m r) t
-      → Typed D u vs m (switch off r t)
+  k-compare : {vs : List Bound} {t : Tree} {a b : ℕ} (k : ℕ) → HasKind D vs a k → HasKind D vs b k → Kinded D u vs t → Kinded D u vs (step (compare a b) t)
+  -- (T-Input); rule 3; the variable has what the channel's kind carries
+  k-receive : {vs : List Bound} {t : Tree} {c : ℕ} (k : ℕ) → HasKind D vs c k → Receivable D u vs c → Kinded D u (bound vs (D .carries k) false) t
+      → Kinded D u vs (step (receive c) t)
+  -- (T-Output); rule 2
+  k-send : {vs : List Bound} {t : Tree} {c v : ℕ} (k : ℕ) → HasKind D vs c k → 1 ≤ k → HasKind D vs v (D .carries k) → Kinded D u vs t
+      → Kinded D u vs (step (send c v) t)
+  -- (T-Role), (T-Yield): there is such a role
+  k-switch : {vs : List Bound} {t : Tree} {w : Switch} {r : ℕ} → InCount (D .roles) r → Kinded D u vs t → Kinded D u vs (switch w r t)
 
--- A whole file: each session's tree under its user and starting mask, nothing bound.
+-- Rules 5 and 6: what 11 to 13 stand for, under the active set m. Rule 6 speaks of kinds: variables have those of rule 1.
+pub data ByRoles (D : Schema) (u : ℕ) : List Bound → ℕ → Tree → Type 0 where
+  r-end : {vs : List Bound} {m : ℕ} → ByRoles D u vs m end
+  -- (T-Par); rule 5: each branch goes on with its own copy of the active set
+  r-fork : {vs : List Bound} {m : ℕ} {a b : Tree} → ByRoles D u vs m a → ByRoles D u vs m b → ByRoles D u vs m (fork a b)
+  r-repeat : {vs : List Bound} {m : ℕ} {t : Tree} → ByRoles D u vs m t → ByRoles D u vs m (step repeat t)
+  r-new : {vs : List Bound} {m : ℕ} {t : Tree} {k : ℕ} → ByRoles D u (bound vs k true) m t → ByRoles D u vs m (step (new k) t)
+  r-compare : {vs : List Bound} {m : ℕ} {t : Tree} {a b : ℕ} → ByRoles D u vs m t → ByRoles D u vs m (step (compare a b) t)
+  -- (T-Input); rule 6: one active role may receive on the channel's kind
+  r-receive : {vs : List Bound} {m : ℕ} {t : Tree} {c : ℕ} (k : ℕ) → HasKind D vs c k → Permitted D m Receives k
+      → ByRoles D u (bound vs (D .carries k) false) m t → ByRoles D u vs m (step (receive c) t)
+  -- (T-Output); rule 6: one active role may send on the channel's kind
+  r-send : {vs : List Bound} {m : ℕ} {t : Tree} {c v : ℕ} (k : ℕ) → HasKind D vs c k → Permitted D m Sends k → ByRoles D u vs m t
+      → ByRoles D u vs m (step (send c v) t)
+  -- (T-Role); rule 5: on adds a role assigned to the user
+  r-on : {vs : List Bound} {m : ℕ} {t : Tree} {r : ℕ} → has (D .assigned u) r ≡ true → ByRoles D u vs (with m r) t → ByRoles D u vs m (switch on r t)
+  -- (T-Yield); rule 5: off removes a role that is there
+  r-off : {vs : List Bound} {m : ℕ} {t : Tree} {r : ℕ} → has m r ≡ true → ByRoles D u vs (without m r) t → ByRoles D u vs m (switch off r t)
+
+-- Processes: 004's judgement, with the active set m of rule 5 for its roles; each of its rules is the two constructors that name it.
+abbrev pub Typed : Schema → ℕ → List Bound → ℕ → Tree → Type 0
+Typed D u vs m t = Kinded D u vs t × ByRoles D u vs m t
+
+-- A whole file: each session's tree under its user, nothing bound; rules 1 to 4 alone, and all of them under its starting mask.
+abbrev pub WellKinded : File → Type 0
+WellKinded F = All (λ (s : Routine). Kinded (schemaFor F) (s .user) [] (s .tree)) (F .sessions)
+
 abbrev pub Obeys : File → Type 0
 Obeys F = All (λ (s : Routine). Typed (schemaFor F) (s .user) [] (s .mask) (s .tree)) (F .sessions)

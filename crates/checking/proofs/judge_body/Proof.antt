@@ -1,4 +1,5 @@
 use mathlib.Core.Path.{_≡_, sym, ap, _∙_}
+use Rattle.format.specs.Contents.{contentsAt}
 use Rattle.format.specs.Answers.{fine}
 use Rattle.format.specs.declared.Verdict.{Verdict}
 use Rattle.rules.specs.declared.Judged.{Judged}
@@ -23,8 +24,9 @@ body-requires c κs = search needs
 returns : tie.Need-returns
 returns c =
     let a = c .before .before .before .before .before .args in
-    let loud : bodyAnswer (a .file .now) (a .head) .number ≡ 0 → ⊥ = λ e. c .if1 .taken (ap (λ (x : Verdict). x .number) (c .before .before .body .ensures) ∙ e) in
-    (ap (λ (x : Verdict). judged x fine) (c .before .before .body .ensures) ∙ sym (body-refuses (a .file .now) (a .head) loud), sym (table-stays (a .file .now) (a .head) (a .table .now) loud))
+    let C = contentsAt (a .file .now) (a .head) in
+    let loud : bodyAnswer (a .head) C .number ≡ 0 → ⊥ = λ e. c .if1 .taken (ap (λ (x : Verdict). x .number) (c .before .before .body .ensures) ∙ e) in
+    (ap (λ (x : Verdict). judged x fine) (c .before .before .body .ensures) ∙ sym (body-refuses (a .head) C loud), sym (table-stays (a .head) C (a .table .now) loud))
 
 -- src/lib.rt:36:5
 judge-requires : tie.Need-judge-requires
@@ -38,8 +40,9 @@ same-length c = search needs
 returns-2 : tie.Need-returns-2
 returns-2 c =
     let a = c .before .before .before .before .before .before .before .before .before .args in
-    let quiet : bodyAnswer (a .file .now) (a .head) .number ≡ 0 = sym (ap (λ (x : Verdict). x .number) (c .before .before .before .before .before .before .body .ensures)) ∙ c .before .before .before .before .if1 .left in
-    (c .before .before .judge .ensures .0 ∙ sym (body-passes (a .file .now) (a .head) quiet), c .before .before .judge .ensures .1 ∙ sym (table-filled (a .file .now) (a .head) (a .table .now) quiet))
+    let C = contentsAt (a .file .now) (a .head) in
+    let quiet : bodyAnswer (a .head) C .number ≡ 0 = sym (ap (λ (x : Verdict). x .number) (c .before .before .before .before .before .before .body .ensures)) ∙ c .before .before .before .before .if1 .left in
+    (c .before .before .judge .ensures .0 ∙ sym (body-passes (a .head) C quiet), c .before .before .judge .ensures .1 ∙ sym (table-filled (a .head) C (a .table .now) quiet))
 
 pub judge-body-spec : {M : Type 1} → statement M
 judge-body-spec = tie.close (tie.spec body-requires returns judge-requires same-length returns-2)

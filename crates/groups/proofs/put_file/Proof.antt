@@ -1,92 +1,67 @@
+use mathlib.Core.Path.{ap, _∙_}
 use native.Mathlib.Omega.{arith}
-use mathlib.Core.Path.{_≡_, sym, ap, _∙_}
-use Prim.Native.Nat.{ℕ}
-use Rattle.groups.specs.Groups.{sizesOf, turnsIn}
-use Rattle.groups.proofs.WriteLaws.{file-put}
+use lib.Seq.{sets}
+use Rattle.format.specs.Words.{bytesOf}
+use Rattle.format.specs.Header.{headWords}
+use Rattle.groups.specs.Groups.{withNodes, turnsIn}
+use Rattle.groups.proofs.WriteLaws.{turns-counted, file-put}
 use borrow.Author.Needs.{needs}
 use Rattle.groups.proofs.put_file.Statement.{statement}
 use Rattle.groups.proofs.put_file.Tie as tie
 use Rattle.groups.proofs.put_file.Reads as reads
 use Rattle.groups.proofs.put_file.Lts as lts
-use Rattle.format.proofs.words.wide.Reads as wide-reads
+use Rattle.format.proofs.writing.put_head.Reads as put-head-reads
+use Rattle.format.proofs.writing.put_tables.Reads as put-tables-reads
 use Rattle.groups.proofs.put_groups.Reads as put-groups-reads
-use Rattle.groups.proofs.put_head.Reads as put-head-reads
 use Rattle.groups.proofs.put_sessions.Reads as put-sessions-reads
-use Rattle.groups.proofs.put_words.Reads as put-words-reads
+use Rattle.groups.proofs.with_nodes.Reads as with-nodes-reads
 
--- src/lib.rt:181:5
+-- src/lib.rt:204:19
+with-nodes-requires : tie.Need-with-nodes-requires
+with-nodes-requires c κs = search needs
+
+-- src/lib.rt:204:5
 put-head-requires : tie.Need-put-head-requires
 put-head-requires c κs = search needs
 
--- src/lib.rt:182:25
-wide-requires : tie.Need-wide-requires
-wide-requires c κs = search needs
+-- src/lib.rt:205:5
+put-tables-requires : tie.Need-put-tables-requires
+put-tables-requires c κs = search needs
 
--- src/lib.rt:182:5
-put-words-requires : tie.Need-put-words-requires
-put-words-requires c κs = search needs
-
--- src/lib.rt:183:24
-wide-requires-2 : tie.Need-wide-requires-2
-wide-requires-2 c κs = search needs
-
--- src/lib.rt:183:43
-wide-requires-3 : tie.Need-wide-requires-3
-wide-requires-3 c κs = search needs
-
--- src/lib.rt:183:5
+-- src/lib.rt:206:5
 put-sessions-requires : tie.Need-put-sessions-requires
 put-sessions-requires c κs = search needs
 
--- src/lib.rt:184:22
-wide-requires-4 : tie.Need-wide-requires-4
-wide-requires-4 c κs = search needs
-
--- src/lib.rt:184:38
-wide-requires-5 : tie.Need-wide-requires-5
-wide-requires-5 c κs = search needs
-
--- src/lib.rt:184:5
+-- src/lib.rt:207:5
 put-groups-requires : tie.Need-put-groups-requires
-put-groups-requires c κs =
-    let a = c .before .before .before .before .before .before .before .before .before .before .before .before .before .before .before .before .before .before .before .before .before .before .before .before .args in
-    let pre = c .before .before .before .before .before .before .before .before .before .before .before .before .before .before .before .before .before .before .before .before .before .before .before .before .pre in
-    let d = pre .0 in
-    let at = c .before .before .wide4 .ensures .0 in
-    let n = c .before .wide5 in
-    let sizes : sizesOf (turnsIn (a .turns .now) (n .result)) ≡ a .nodes = ap (λ (k : ℕ). sizesOf (turnsIn (a .turns .now) k)) (n .ensures .0) ∙ sym (pre .4) in
-    (omega (arith, d, n .ensures .0), omega (arith, d, at, n .ensures .0), pre .2, omega (arith, d, at, sizes))
+put-groups-requires c κs = search needs
 
--- src/lib.rt:174:1
+-- src/lib.rt:199:1
 same-length : tie.Need-same-length
 same-length c = search needs
 
--- src/lib.rt:174:1
+-- src/lib.rt:199:1
 returns : tie.Need-returns
 returns c =
-    let a = c .before .before .before .before .before .before .before .before .before .before .before .before .before .before .before .before .before .before .before .before .before .before .before .before .before .before .before .args in
-    let pre = c .before .before .before .before .before .before .before .before .before .before .before .before .before .before .before .before .before .before .before .before .before .before .before .before .before .before .before .pre in
-    let one = c .before .before .before .before .before .before .before .before .before .before .before .before .before .before .before .before .before .before .before .put-head in
-    let two = c .before .before .before .before .before .before .before .before .before .before .before .before .before .before .put-words in
-    let three = c .before .before .before .before .before .before .before .before .put-sessions in
+    let a = c .before .before .before .before .before .before .before .before .before .before .before .before .before .before .before .before .before .before .before .before .before .args in
+    let pre = c .before .before .before .before .before .before .before .before .before .before .before .before .before .before .before .before .before .before .before .before .before .pre in
+    let one = c .before .before .before .before .before .before .before .before .before .before .before .before .before .before .put-head in
+    let two = c .before .before .before .before .before .before .before .before .before .before .put-tables in
+    let three = c .before .before .before .before .before .before .put-sessions in
     let four = c .before .before .put-groups in
-    file-put (a .file .now) (a .turns .now) (a .starts .now) (a .head) (a .nodes) _ _ _ _ _
-    (a .out .now) (one .last .0) (two .last .1 .1 .1 .0) (three .last .1 .1 .1 .1 .0) (four .last .1 .1 .1 .1 .1 .0)
-    (pre .0) (pre .4) (c .before .before .before .before .before .before .before .before .before .before .before .before .before .before .before .before .wide .ensures .0) (c .before .before .before .before .before .before .before .before .before .before .before .wide2 .ensures .0) (c .before .before .before .before .before .before .before .before .before .before .wide3 .ensures .0) (c .before .before .before .before .before .wide4 .ensures .0) (c .before .before .before .before .wide5 .ensures .0)
-    (one .ensures) (two .ensures) (three .ensures) (four .ensures)
+    let n = a .head .count .nodes in
+    let head = one .ensures ∙ ap (λ h. sets (a .out .now) 0 (bytesOf (headWords h))) (c .before .before .before .before .before .before .before .before .before .before .before .before .before .before .before .with-nodes .ensures ∙ ap (withNodes (a .head)) (pre .4)) in
+    file-put (a .file .now) (a .head) (turnsIn (a .turns .now) n) (a .starts .now) (a .out .now) (one .last .0) (two .last .1 .1 .0) (three .last .1 .1 .1 .0) (four .last .1 .1 .1 .1 .0)
+    (pre .0) (pre .1) (turns-counted (a .turns .now) n (omega (arith, pre .0 .nodes, pre .2))) head (two .ensures) (three .ensures) (four .ensures)
 
 pub put-file-spec : {M : Type 1} → statement M
 put-file-spec =
     tie.close
     (tie.spec
+    with-nodes-requires
     put-head-requires
-    wide-requires
-    put-words-requires
-    wide-requires-2
-    wide-requires-3
+    put-tables-requires
     put-sessions-requires
-    wide-requires-4
-    wide-requires-5
     put-groups-requires
     same-length
     returns)

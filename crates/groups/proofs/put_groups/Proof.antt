@@ -1,97 +1,112 @@
+use Prim.Native.Nat.{_+_, _*_, _-_, _≤_}
+use mathlib.Core.Path.{_≡_, refl, sym, ap, ap₂, _∙_}
+use mathlib.Core.List.{[], _∷_, _++_}
 use native.Mathlib.Omega.{arith}
-use Prim.Native.Nat.{ℕ, _+_, _*_, _-_, _≤_}
-use mathlib.Core.Path.{_≡_, refl, ap}
-use mathlib.Core.List.{List}
-use lib.ListN.{length}
+use lib.ListN.{length, getD}
 use lib.Seq.{sets}
 use Rattle.format.specs.Words.{bytesOf}
-use Rattle.format.specs.Sections.{nodeWords, nodesFrom}
-use Rattle.groups.specs.Groups.{sizesOf, groupsFrom, turnsIn}
+use Rattle.format.specs.Contents.{contentsAt}
+use Rattle.format.specs.Writing.{nodeWords}
+use Rattle.format.proofs.ContentsLaws.{nodes-held}
+use Rattle.states.specs.States.{unpacked}
+use Rattle.groups.specs.Groups.{before, sizeOf, sizesOf, moved, groupsFrom, turnsIn}
 use Rattle.groups.proofs.WriteLaws.{turnsAfter, turns-all, sizes-more, groupsAfter, groups-all, groups-none, groups-turn, puts-end}
 use borrow.Author.Needs.{needs}
 use Rattle.groups.proofs.put_groups.Statement.{statement}
 use Rattle.groups.proofs.put_groups.Tie as tie
 use Rattle.groups.proofs.put_groups.Reads as reads
 use Rattle.groups.proofs.put_groups.Lts as lts
+use Rattle.format.proofs.sections.node.Reads as node-reads
+use Rattle.format.proofs.words.wide.Reads as wide-reads
 use Rattle.groups.proofs.put_group.Reads as put-group-reads
 
 abbrev Inv-loop : tie.InvT-loop
-Inv-loop file base nodes turns starts out₀ at₀ i₀ out at i =
-    (i ≤ nodes) × (length out ≡ length out₀) × (at + 3 * sizesOf (turnsAfter turns i nodes) ≡ base + 3 * sizesOf (turnsIn turns nodes))
-    × (sets out (2 * at) (bytesOf (groupsAfter file base nodes turns starts i)) ≡ sets out₀ (2 * base) (bytesOf (nodeWords (groupsFrom starts (nodesFrom file base nodes) (turnsIn turns nodes)))))
+Inv-loop file head turns starts out₀ nodes at₀ n₀ out at n =
+    (n ≤ head .count .nodes) × (1 ≤ at) × (length out ≡ length out₀)
+    × (at + sizesOf (turnsAfter turns n (head .count .nodes)) ≡ 1 + sizesOf (turnsIn turns (head .count .nodes)))
+    × (sets out (2 * (head .at .nodes + 3 * (at - 1))) (bytesOf (nodeWords (groupsAfter (contentsAt file head .nodes) (head .count .nodes) turns starts n)))
+    ≡ sets out₀ (2 * head .at .nodes) (bytesOf (nodeWords (groupsFrom starts (contentsAt file head .nodes) (turnsIn turns (head .count .nodes))))))
 
 abbrev μ-loop : tie.MeasureT-loop
-μ-loop file base nodes turns starts out₀ at₀ i₀ out at i = nodes - i
+μ-loop file head turns starts out₀ nodes at₀ n₀ out at n = head .count .nodes - n
 
--- src/lib.rt:120:5
+-- src/lib.rt:149:5
 loop-holds : tie.Need-loop-holds Inv-loop μ-loop
 loop-holds c =
-    let a = c .before .before .before .before .args in (
+    let a = c .before .before .before .before .args in
+    let n = a .head .count .nodes in
+    let here : a .head .at .nodes + 3 * (1 - 1) ≡ a .head .at .nodes = omega arith in (
+      omega arith,
       omega arith,
       refl,
-      rw (turns-all (a .turns .now) (a .nodes)),
-      ap (λ (ws : List ℕ). sets (a .out .now) (2 * a .base) (bytesOf ws)) (groups-all (a .file .now) (a .base) (a .nodes) (a .turns .now) (a .starts .now)),
+      ap (λ ts. 1 + sizesOf ts) (turns-all (a .turns .now) n),
+      ap₂ (λ p ns. sets (a .out .now) (2 * p) (bytesOf (nodeWords ns))) here (groups-all (contentsAt (a .file .now) (a .head) .nodes) n (a .turns .now) (a .starts .now)),
     )
 
--- src/lib.rt:121:37
+-- src/lib.rt:150:9
+add-n : tie.Need-add-n Inv-loop μ-loop
+add-n c = omega arith
+
+-- src/lib.rt:151:45
+wide-requires : tie.Need-wide-requires Inv-loop μ-loop
+wide-requires c κs = omega arith
+
+-- src/lib.rt:151:39
 mul-put-group : tie.Need-mul-put-group Inv-loop μ-loop
-mul-put-group c = search needs
+mul-put-group c = omega arith
 
--- src/lib.rt:121:30
-add-put-group : tie.Need-add-put-group Inv-loop μ-loop
-add-put-group c = search needs
-
--- src/lib.rt:121:50
-add-put-group-2 : tie.Need-add-put-group-2 Inv-loop μ-loop
-add-put-group-2 c = search needs
-
--- src/lib.rt:121:44
-mul-put-group-2 : tie.Need-mul-put-group-2 Inv-loop μ-loop
-mul-put-group-2 c = search needs
-
--- src/lib.rt:121:44
+-- src/lib.rt:151:39
 shared-slice-read-put-group : tie.Need-shared-slice-read-put-group Inv-loop μ-loop
-shared-slice-read-put-group c = search needs
+shared-slice-read-put-group c = omega arith
 
--- src/lib.rt:121:9
+-- src/lib.rt:151:55
+node-requires : tie.Need-node-requires Inv-loop μ-loop
+node-requires c κs = c .before .before .before .before .before .before .before .before .before .pre .0
+
+-- src/lib.rt:151:9
 put-group-requires : tie.Need-put-group-requires Inv-loop μ-loop
 put-group-requires c κs =
-    let a = c .before .before .before .before .before .before .before .before .args in
-    let l = c .before .before .before .loop in
-    (omega arith, omega (arith, sizes-more (a .turns .now) (l .i) (a .nodes) (omega arith) (omega arith), l .inv .2))
+    let a = c .before .before .before .before .before .before .before .before .before .before .args in
+    let l = c .before .before .before .before .before .loop in
+    let more = sizes-more (a .turns .now) (l .n) (a .head .count .nodes) (omega arith) (omega arith) in
+    let same = ap (λ k. sizeOf (unpacked (getD (a .turns .now) k 0))) (c .before .before .wide .ensures .0) in
+    (omega arith, omega (arith, more, same, l .inv .3), omega (arith, more, same, l .inv .3))
 
--- src/lib.rt:122:9
-add-i : tie.Need-add-i Inv-loop μ-loop
-add-i c = search needs
-
--- src/lib.rt:120:5
+-- src/lib.rt:149:5
 loop-less : tie.Need-loop-less Inv-loop μ-loop
-loop-less c = search needs
+loop-less c = omega arith
 
--- src/lib.rt:120:5
+-- src/lib.rt:149:5
 loop-again : tie.Need-loop-again Inv-loop μ-loop
 loop-again c =
-    let a = c .before .before .before .before .before .before .before .before .before .before .before .args in
-    let l = c .before .before .before .before .before .before .loop in
+    let a = c .before .before .before .before .before .before .before .before .before .before .before .before .before .args in
+    let l = c .before .before .before .before .before .before .before .before .loop in
     let g = c .before .before .put-group in
-    let more = sizes-more (a .turns .now) (l .i) (a .nodes) (omega arith) (omega arith) in (
+    let n = a .head .count .nodes in
+    let ns = contentsAt (a .file .now) (a .head) .nodes in
+    let index = c .before .before .before .before .before .wide .ensures .0 in
+    let more = sizes-more (a .turns .now) (l .n) n (omega arith) (omega arith) in
+    let step = g .ensures .0 ∙ ap (λ k. l .at + sizeOf (unpacked (getD (a .turns .now) k 0))) index in
+    let put = g .ensures .1 ∙ ap₂ (λ k it. sets (l .out) (2 * (a .head .at .nodes + 3 * (l .at - 1))) (bytesOf (nodeWords (before (unpacked (getD (a .turns .now) k 0)) ++ moved (a .starts .now) it ∷ [])))) index (c .before .before .before .node .ensures) in (
       omega arith,
+      omega (arith, step),
       search needs,
-      omega (arith, g .ensures .0, more, l .inv .2),
-      groups-turn (a .file .now) (a .turns .now) (a .starts .now) (l .out) (g .last .1 .1 .1 .1 .0) _ (a .base) (a .nodes) (l .i) (l .at) (g .result) (omega arith) (omega arith) (g .ensures .0) (g .ensures .1) (l .inv .3),
+      omega (arith, step, more, l .inv .3),
+      groups-turn ns (a .turns .now) (a .starts .now) (l .out) (g .last .0) _ (a .head .at .nodes) n (l .n) (l .at) (g .result) (omega arith) (sym (nodes-held (a .file .now) (a .head))) (omega arith) (omega arith) step put (l .inv .4),
     )
 
--- src/lib.rt:114:1
+-- src/lib.rt:140:1
 same-length : tie.Need-same-length Inv-loop μ-loop
 same-length c = search needs
 
--- src/lib.rt:114:1
+-- src/lib.rt:140:1
 returns : tie.Need-returns Inv-loop μ-loop
 returns c =
     let a = c .before .before .before .before .before .before .args in
     let l = c .before .loop in
-    puts-end (l .out) _ (groupsAfter (a .file .now) (a .base) (a .nodes) (a .turns .now) (a .starts .now) (l .i)) (2 * l .at)
-    (groups-none (a .file .now) (a .base) (a .nodes) (a .turns .now) (a .starts .now) (l .i) (omega arith)) (l .inv .3)
+    let ns = contentsAt (a .file .now) (a .head) .nodes in
+    puts-end (l .out) _ (nodeWords (groupsAfter ns (a .head .count .nodes) (a .turns .now) (a .starts .now) (l .n))) (2 * (a .head .at .nodes + 3 * (l .at - 1)))
+    (groups-none ns (a .head .count .nodes) (a .turns .now) (a .starts .now) (l .n) (omega (arith, nodes-held (a .file .now) (a .head)))) (l .inv .4)
 
 pub put-groups-spec : {M : Type 1} → statement M
 put-groups-spec =
@@ -100,13 +115,12 @@ put-groups-spec =
     Inv-loop
     μ-loop
     loop-holds
+    add-n
+    wide-requires
     mul-put-group
-    add-put-group
-    add-put-group-2
-    mul-put-group-2
     shared-slice-read-put-group
+    node-requires
     put-group-requires
-    add-i
     loop-less
     loop-again
     same-length

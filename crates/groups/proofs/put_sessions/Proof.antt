@@ -1,107 +1,88 @@
-use native.Mathlib.Omega.{arith}
 use Prim.Native.Nat.{_+_, _*_, _-_, _≤_}
-use mathlib.Core.Path.{_≡_, refl}
-use lib.ListN.{length}
+use mathlib.Core.Path.{_≡_, refl, ap, _∙_}
+use mathlib.Core.List.{[], _∷_}
+use native.Mathlib.Omega.{arith}
+use lib.ListN.{length, drop}
 use lib.Seq.{sets}
 use Rattle.format.specs.Words.{bytesOf}
-use Rattle.groups.specs.Groups.{sessionsFrom}
+use Rattle.format.specs.Contents.{contentsAt}
+use Rattle.format.specs.Writing.{sessionWords}
+use Rattle.format.proofs.ContentsLaws.{sessions-held}
+use Rattle.groups.specs.Groups.{rerooted, sessionsFrom}
 use Rattle.groups.proofs.WriteLaws.{sessions-none, sessions-turn, puts-end}
 use borrow.Author.Needs.{needs}
 use Rattle.groups.proofs.put_sessions.Statement.{statement}
 use Rattle.groups.proofs.put_sessions.Tie as tie
 use Rattle.groups.proofs.put_sessions.Reads as reads
 use Rattle.groups.proofs.put_sessions.Lts as lts
-use Rattle.format.proofs.words.inner_word.Reads as inner-word-reads
-use Rattle.groups.proofs.put_three.Reads as put-three-reads
+use Rattle.format.proofs.sections.session.Reads as session-reads
+use Rattle.format.proofs.writing.put_session.Reads as put-session-reads
 use Rattle.groups.proofs.renamed.Reads as renamed-reads
 
 abbrev Inv-loop : tie.InvT-loop
-Inv-loop file base sessions starts out₀ i₀ out i =
-    (i ≤ sessions) × (length out ≡ length out₀)
-    × (sets out (2 * (base + 3 * i)) (bytesOf (sessionsFrom starts file (base + 3 * i) (sessions - i))) ≡ sets out₀ (2 * base) (bytesOf (sessionsFrom starts file base sessions)))
+Inv-loop file head starts out₀ sessions n₀ out n =
+    (n ≤ head .count .sessions) × (length out ≡ length out₀)
+    × (sets out (2 * (head .at .sessions + 3 * n)) (bytesOf (sessionWords (sessionsFrom starts (drop n (contentsAt file head .sessions)))))
+    ≡ sets out₀ (2 * head .at .sessions) (bytesOf (sessionWords (sessionsFrom starts (contentsAt file head .sessions)))))
 
 abbrev μ-loop : tie.MeasureT-loop
-μ-loop file base sessions starts out₀ i₀ out i = sessions - i
+μ-loop file head starts out₀ sessions n₀ out n = head .count .sessions - n
 
--- src/lib.rt:132:5
+-- src/lib.rt:162:5
 loop-holds : tie.Need-loop-holds Inv-loop μ-loop
 loop-holds c =
     let a = c .before .before .before .args in
-    let here : a .base + 3 * 0 ≡ a .base = omega arith in
-    let all : a .sessions - 0 ≡ a .sessions = omega arith in
-    (omega arith, refl, rw (here, all))
+    let here : a .head .at .sessions + 3 * 0 ≡ a .head .at .sessions = omega arith in
+    (omega arith, refl, ap (λ p. sets (a .out .now) (2 * p) (bytesOf (sessionWords (sessionsFrom (a .starts .now) (contentsAt (a .file .now) (a .head) .sessions))))) here)
 
--- src/lib.rt:133:25
-mul-at : tie.Need-mul-at Inv-loop μ-loop
-mul-at c = search needs
+-- src/lib.rt:163:9
+add-n : tie.Need-add-n Inv-loop μ-loop
+add-n c = omega arith
 
--- src/lib.rt:133:18
-add-at : tie.Need-add-at Inv-loop μ-loop
-add-at c = search needs
+-- src/lib.rt:164:13
+session-requires : tie.Need-session-requires Inv-loop μ-loop
+session-requires c κs = c .before .before .before .before .before .pre .0
 
--- src/lib.rt:134:59
-add-inner-word : tie.Need-add-inner-word Inv-loop μ-loop
-add-inner-word c = search needs
-
--- src/lib.rt:134:42
-inner-word-requires : tie.Need-inner-word-requires Inv-loop μ-loop
-inner-word-requires c κs = search needs
-
--- src/lib.rt:134:13
+-- src/lib.rt:172:23
 renamed-requires : tie.Need-renamed-requires Inv-loop μ-loop
-renamed-requires c κs = search needs
+renamed-requires c κs = omega arith
 
--- src/lib.rt:138:13
-inner-word-requires-2 : tie.Need-inner-word-requires-2 Inv-loop μ-loop
-inner-word-requires-2 c κs = search needs
+-- src/lib.rt:165:9
+put-session-requires : tie.Need-put-session-requires Inv-loop μ-loop
+put-session-requires c κs = omega arith
 
--- src/lib.rt:139:30
-add-inner-word-2 : tie.Need-add-inner-word-2 Inv-loop μ-loop
-add-inner-word-2 c = search needs
-
--- src/lib.rt:139:13
-inner-word-requires-3 : tie.Need-inner-word-requires-3 Inv-loop μ-loop
-inner-word-requires-3 c κs = search needs
-
--- src/lib.rt:135:9
-put-three-requires : tie.Need-put-three-requires Inv-loop μ-loop
-put-three-requires c κs = search needs
-
--- src/lib.rt:142:9
-add-i : tie.Need-add-i Inv-loop μ-loop
-add-i c = search needs
-
--- src/lib.rt:132:5
+-- src/lib.rt:162:5
 loop-less : tie.Need-loop-less Inv-loop μ-loop
-loop-less c = search needs
+loop-less c = omega arith
 
--- src/lib.rt:132:5
+-- src/lib.rt:162:5
 loop-again : tie.Need-loop-again Inv-loop μ-loop
 loop-again c =
-    let a = c .before .before .before .before .before .before .before .before .before .before .before .before .before .args in
-    let l = c .before .before .before .before .before .before .before .before .before .loop in
-    let old = c .before .before .before .before .before .before .before .inner-word in
-    let root = c .before .before .before .before .before .before .renamed in
-    let user = c .before .before .before .before .inner-word2 in
-    let mask = c .before .before .before .inner-word3 in
-    let g = c .before .before .put-three in (
+    let a = c .before .before .before .before .before .before .before .before .before .before .before .args in
+    let l = c .before .before .before .before .before .before .before .loop in
+    let g = c .before .before .put-session in
+    let it = c .before .before .before .before .before .session in
+    let p = a .head .at .sessions + 3 * (l .n + 1 - 1) in
+    let put = g .ensures ∙ ap (λ r. sets (l .out) (2 * p) (bytesOf (sessionWords (record { user = it .result .user; mask = it .result .mask; root = r } ∷ [])))) (c .before .before .before .renamed .ensures)
+    ∙ ap (λ s. sets (l .out) (2 * p) (bytesOf (sessionWords (rerooted (a .starts .now) s ∷ [])))) (it .ensures) in (
       omega arith,
       search needs,
-      sessions-turn (a .file .now) (a .starts .now) (l .out) (g .last .0) _ (a .base) (a .sessions) (l .i) (user .result) (mask .result) (old .result) (root .result) (omega arith)
-          (user .ensures) (mask .ensures) (old .ensures) (root .ensures) (g .ensures) (l .inv .2),
+      sessions-turn (contentsAt (a .file .now) (a .head) .sessions) (a .starts .now) (l .out) (g .last .0) _ (a .head .at .sessions) (l .n)
+          (omega (arith, sessions-held (a .file .now) (a .head))) put (l .inv .2),
     )
 
--- src/lib.rt:127:1
+-- src/lib.rt:156:1
 same-length : tie.Need-same-length Inv-loop μ-loop
 same-length c = search needs
 
--- src/lib.rt:127:1
+-- src/lib.rt:156:1
 returns : tie.Need-returns Inv-loop μ-loop
 returns c =
     let a = c .before .before .before .before .before .args in
     let l = c .before .loop in
-    puts-end (l .out) _ (sessionsFrom (a .starts .now) (a .file .now) (a .base + 3 * l .i) (a .sessions - l .i)) (2 * (a .base + 3 * l .i))
-    (sessions-none (a .starts .now) (a .file .now) (a .base + 3 * l .i) (a .sessions) (l .i) (omega arith)) (l .inv .2)
+    let ss = contentsAt (a .file .now) (a .head) .sessions in
+    puts-end (l .out) _ (sessionWords (sessionsFrom (a .starts .now) (drop (l .n) ss))) (2 * (a .head .at .sessions + 3 * l .n))
+    (sessions-none ss (a .starts .now) (l .n) (omega (arith, sessions-held (a .file .now) (a .head)))) (l .inv .2)
 
 pub put-sessions-spec : {M : Type 1} → statement M
 put-sessions-spec =
@@ -110,16 +91,10 @@ put-sessions-spec =
     Inv-loop
     μ-loop
     loop-holds
-    mul-at
-    add-at
-    add-inner-word
-    inner-word-requires
+    add-n
+    session-requires
     renamed-requires
-    inner-word-requires-2
-    add-inner-word-2
-    inner-word-requires-3
-    put-three-requires
-    add-i
+    put-session-requires
     loop-less
     loop-again
     same-length

@@ -1,32 +1,32 @@
-use borrow.Author.Tests.{eq-eqb, ne-eqb}
-use native.Mathlib.Omega.{arith}
 use mathlib.Core.Path.{refl}
+use native.Mathlib.Omega.{arith}
+use borrow.Author.Tests.{eq-eqb, ne-eqb}
 use Rattle.format.specs.Words.{bytesOf}
-use Rattle.format.specs.Sections.{nodeWords}
+use Rattle.format.specs.Writing.{nodeWords}
 use borrow.Author.Needs.{needs}
 use Rattle.groups.proofs.put_switch.Statement.{statement}
 use Rattle.groups.proofs.put_switch.Tie as tie
 use Rattle.groups.proofs.put_switch.Reads as reads
 use Rattle.groups.proofs.put_switch.Lts as lts
-use Rattle.groups.proofs.put_three.Reads as put-three-reads
+use Rattle.format.proofs.writing.put_node.Reads as put-node-reads
 
--- src/lib.rt:81:9
+-- src/lib.rt:90:9
 returns : tie.Need-returns
 unfolding bytesOf nodeWords
 returns c = rw (eq-eqb _ _ (c .if1 .taken)) (omega arith, refl)
 
--- src/lib.rt:84:9
+-- src/lib.rt:93:9
 returns-2 : tie.Need-returns-2
 unfolding bytesOf nodeWords
 returns-2 c = rw (ne-eqb _ _ (c .before .if1 .left), eq-eqb _ _ (c .if2 .taken)) (omega arith, refl)
 
--- src/lib.rt:86:5
-put-three-requires : tie.Need-put-three-requires
-put-three-requires c κs =
+-- src/lib.rt:95:5
+put-node-requires : tie.Need-put-node-requires
+put-node-requires c κs =
     let p = rw (ne-eqb _ _ (c .before .before .if1 .left), ne-eqb _ _ (c .before .if2 .left)) at (c .before .before .before .before .pre) in
     omega arith
 
--- src/lib.rt:87:5
+-- src/lib.rt:105:5
 add-result : tie.Need-add-result
 add-result c = search needs
 
@@ -36,9 +36,8 @@ same-length c = search needs
 
 -- src/lib.rt:76:1
 returns-3 : tie.Need-returns-3
-unfolding nodeWords
-returns-3 c = rw (ne-eqb _ _ (c .before .before .before .before .before .if1 .left), ne-eqb _ _ (c .before .before .before .before .if2 .left)) (omega arith, c .before .before .put-three .ensures)
+returns-3 c = rw (ne-eqb _ _ (c .before .before .before .before .before .if1 .left), ne-eqb _ _ (c .before .before .before .before .if2 .left)) (omega arith, c .before .before .put-node .ensures)
 
 pub put-switch-spec : {M : Type 1} → statement M
 put-switch-spec =
-    tie.close (tie.spec returns returns-2 put-three-requires add-result same-length returns-3)
+    tie.close (tie.spec returns returns-2 put-node-requires add-result same-length returns-3)

@@ -1,5 +1,5 @@
 use Rattle.format.specs.Answers.{orElse}
-use mathlib.Core.Path.{_≡_, ap₂, _∙_}
+use mathlib.Core.Path.{ap₂, _∙_}
 use borrow.Author.Needs.{needs}
 use Rattle.reading.proofs.body.Statement.{statement}
 use Rattle.reading.proofs.body.Tie as tie

@@ -1,3 +1,4 @@
+use Rattle.format.specs.Contents.{contentsAt}
 use Rattle.steps.specs.Choice.{clinicOf}
 use Rattle.choices.specs.Choices.{start, run}
 use Rattle.running.proofs.EntryLaws.{place-word, stopped-by, pair-stopped, pair-found}
@@ -28,7 +29,7 @@ stopped-at-requires : tie.Need-stopped-at-requires
 stopped-at-requires c κs =
     let a = c .before .before .before .before .before .before .before .args in
     let done = c .before .before .run-list in
-    place-word (clinicOf (a .file .now) (a .head)) (start (a .file .now) (a .head)) (a .choices .now) (done .result) (done .ensures .0) (c .before .before .before .before .before .before .before .pre .1)
+    place-word (clinicOf (contentsAt (a .file .now) (a .head))) (start (contentsAt (a .file .now) (a .head))) (a .choices .now) (done .result) (done .ensures .0) (c .before .before .before .before .before .before .before .pre .1)
 
 -- src/lib.rt:174:9
 no-pair-requires : tie.Need-no-pair-requires
@@ -40,7 +41,7 @@ returns c =
     let a = c .before .before .before .before .before .before .before .before .before .before .before .args in
     let done = c .before .before .before .before .before .before .run-list in
     let v = c .before .before .before .stopped-at in
-    let R = run (clinicOf (a .file .now) (a .head)) (start (a .file .now) (a .head)) (a .choices .now) in
+    let R = run (clinicOf (contentsAt (a .file .now) (a .head))) (start (contentsAt (a .file .now) (a .head))) (a .choices .now) in
     pair-stopped R (v .result) (stopped-by R (done .result) (done .ensures .0) (v .result) (v .ensures)) _ (c .no-pair .result) (c .before .if1 .taken) (c .no-pair .ensures)
 
 -- src/lib.rt:176:39
@@ -61,8 +62,8 @@ returns-2 c =
     let a = c .before .before .before .before .before .before .before .before .before .before .before .before .before .args in
     let done = c .before .before .before .before .before .before .before .before .run-list in
     let v = c .before .before .before .before .before .stopped-at in
-    let C = clinicOf (a .file .now) (a .head) in
-    let R = run C (start (a .file .now) (a .head)) (a .choices .now) in
+    let C = clinicOf (contentsAt (a .file .now) (a .head)) in
+    let R = run C (start (contentsAt (a .file .now) (a .head))) (a .choices .now) in
     pair-found R (v .result) (stopped-by R (done .result) (done .ensures .0) (v .result) (v .ensures)) C _ (c .pair-after .result) (c .before .before .before .if1 .left) (done .ensures .1) (c .pair-after .ensures)
 
 pub ready-in-spec : {M : Type 1} → statement M

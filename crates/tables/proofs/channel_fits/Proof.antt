@@ -1,14 +1,15 @@
+use Rattle.format.specs.Contents.{inCount}
 use Rattle.format.specs.declared.Channel.{Channel}
-use Rattle.tables.specs.Records.{inCount}
 use mathlib.Core.Bool.{_&&_}
 use mathlib.Core.Path.{ap, ap₂, _∙_}
+use Rattle.format.proofs.ContentsLaws.{users-held, kinds-held}
 use Rattle.tables.specs.Records.{recordFits}
 use borrow.Author.Needs.{needs}
 use Rattle.tables.proofs.channel_fits.Statement.{statement}
 use Rattle.tables.proofs.channel_fits.Tie as tie
 use Rattle.tables.proofs.channel_fits.Reads as reads
 use Rattle.tables.proofs.channel_fits.Lts as lts
-use Rattle.tables.proofs.in_count.Reads as in-count-reads
+use Rattle.format.proofs.sections.in_count.Reads as in-count-reads
 use Rattle.format.proofs.sections.channel.Reads as channel-reads
 
 -- src/records.rt:40:9
@@ -27,8 +28,10 @@ in-count-requires-2 c κs = search needs
 returns : tie.Need-returns
 unfolding recordFits
 returns c =
-    ap₂ _&&_ (c .before .in-count .ensures ∙ ap (λ (x : Channel). inCount (c .before .before .before .before .args .head .count .users) (x .owner)) (c .before .before .channel .ensures))
-    (c .in-count2 .ensures ∙ ap (λ (x : Channel). inCount (c .before .before .before .before .args .head .count .kinds) (x .kind .0)) (c .before .before .channel .ensures))
+    let a = c .before .before .before .before .args in
+    rw (users-held (a .file .now) (a .head), kinds-held (a .file .now) (a .head))
+    (ap₂ _&&_ (c .before .in-count .ensures ∙ ap (λ (x : Channel). inCount (a .head .count .users) (x .owner)) (c .before .before .channel .ensures))
+    (c .in-count2 .ensures ∙ ap (λ (x : Channel). inCount (a .head .count .kinds) (x .kind .0)) (c .before .before .channel .ensures)))
 
 pub channel-fits-spec : {M : Type 1} → statement M
 channel-fits-spec =

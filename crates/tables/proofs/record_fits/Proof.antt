@@ -1,5 +1,6 @@
 use lib.Dec.{leb}
 use mathlib.Core.Path.{ap}
+use Rattle.format.proofs.ContentsLaws.{kinds-held}
 use Rattle.tables.specs.Records.{recordFits}
 use borrow.Author.Needs.{needs}
 use Rattle.tables.proofs.record_fits.Statement.{statement}
@@ -67,7 +68,9 @@ returns-2 c = cc
 -- src/records.rt:55:1
 returns-3 : tie.Need-returns-3
 unfolding recordFits
-returns-3 c = rw (c .before .before .enum-told3 .given .1) (ap (λ x. leb x (c .before .before .before .before .before .args .head .count .kinds)) (c .before .carries .ensures))
+returns-3 c =
+    let a = c .before .before .before .before .before .args in
+    rw (c .before .before .enum-told3 .given .1, kinds-held (a .file .now) (a .head)) (ap (λ x. leb x (a .head .count .kinds)) (c .before .carries .ensures))
 
 -- src/records.rt:55:1
 returns-4 : tie.Need-returns-4

@@ -1,7 +1,9 @@
 use Rattle.format.proofs.HeadLaws.{few, place-fits}
 use mathlib.Core.Bool.{true, false}
 use Rattle.format.proofs.AnswerLaws.{first-stops, first-goes-on, first-ends}
-use Rattle.tables.specs.Records.{recordFits, refusalOf, sectionAnswer}
+use Rattle.tables.specs.Records.{recordFits, refusalOf, sectionAnswer, countIn}
+use Rattle.tables.proofs.RecordLaws.{counted}
+use Rattle.format.specs.Contents.{contentsAt}
 use Rattle.format.specs.Sections.{part}
 use Rattle.format.specs.Answers.{firstOf}
 use borrow.Author.Tests.{not-true, not-false}
@@ -19,7 +21,7 @@ use Rattle.format.proofs.sections.part_of.Reads as part-of-reads
 
 abbrev Inv-loop : tie.InvT-loop
 Inv-loop file head section count n₀ n =
-    (1 ≤ n) × (count ≡ part section (head .count)) × (n ≤ count + 1) × (firstOf (recordFits file head section) (refusalOf head section) n (count + 1 - n) ≡ sectionAnswer file head section)
+    (1 ≤ n) × (count ≡ part section (head .count)) × (n ≤ count + 1) × (firstOf (recordFits (contentsAt file head) section) (refusalOf head section) n (count + 1 - n) ≡ sectionAnswer head (contentsAt file head) section)
 
 abbrev μ-loop : tie.MeasureT-loop
 μ-loop file head section count n₀ n = count + 1 - n
@@ -33,8 +35,9 @@ loop-holds : tie.Need-loop-holds Inv-loop μ-loop
 unfolding sectionAnswer
 loop-holds c =
     let a = c .before .before .args in
-    let all : c .part-of .result + 1 - 1 ≡ part (a .section) (a .head .count) = omega (arith, c .part-of .ensures) in
-    (omega arith, c .part-of .ensures, omega arith, ap (firstOf (recordFits (a .file .now) (a .head) (a .section)) (refusalOf (a .head) (a .section)) 1) all)
+    let all : c .part-of .result + 1 - 1 ≡ countIn (a .section) (contentsAt (a .file .now) (a .head)) =
+    omega (arith, c .part-of .ensures, counted (a .file .now) (a .head) (a .section)) in
+    (omega arith, c .part-of .ensures, omega arith, ap (firstOf (recordFits (contentsAt (a .file .now) (a .head)) (a .section)) (refusalOf (a .head) (a .section)) 1) all)
 
 -- src/records.rt:103:13
 record-fits-requires : tie.Need-record-fits-requires Inv-loop μ-loop
@@ -45,17 +48,17 @@ refusal-of-requires : tie.Need-refusal-of-requires Inv-loop μ-loop
 refusal-of-requires c κs =
     let a = c .before .before .before .before .before .before .args in
     let l = c .before .before .before .loop in
-    (omega arith, place-fits (a .head) (c .before .before .before .before .before .before .pre) (a .section) (l .n) (omega arith))
+    (omega arith, place-fits (a .file .now) (a .head) (c .before .before .before .before .before .before .pre) (a .section) (l .n) (omega arith))
 
 -- src/records.rt:104:13
 returns : tie.Need-returns Inv-loop μ-loop
 returns c =
     let a = c .before .before .before .before .before .before .before .args in
     let l = c .before .before .before .before .loop in
-    let wrong : recordFits (a .file .now) (a .head) (a .section) (l .n) ≡ false =
+    let wrong : recordFits (contentsAt (a .file .now) (a .head)) (a .section) (l .n) ≡ false =
     sym (c .before .before .record-fits .ensures) ∙ not-true _ (c .before .if1 .taken) in
     c .refusal-of .ensures
-    ∙ sym (first-stops (recordFits (a .file .now) (a .head) (a .section)) (refusalOf (a .head) (a .section)) (l .n) (c .before .before .before .before .before .part-of .result) (omega arith) wrong)
+    ∙ sym (first-stops (recordFits (contentsAt (a .file .now) (a .head)) (a .section)) (refusalOf (a .head) (a .section)) (l .n) (c .before .before .before .before .before .part-of .result) (omega arith) wrong)
     ∙ l .inv .3
 
 -- src/records.rt:106:9
@@ -63,7 +66,7 @@ add-n : tie.Need-add-n Inv-loop μ-loop
 add-n c =
     let a = c .before .before .before .before .before .before .args in
     let small : c .before .before .before .loop .n ≤ 1024 =
-    omega (arith, few (a .head) (c .before .before .before .before .before .before .pre) (a .section)) in
+    omega (arith, few (a .file .now) (a .head) (c .before .before .before .before .before .before .pre) (a .section)) in
     omega arith
 
 -- src/records.rt:102:5
@@ -75,11 +78,11 @@ loop-again : tie.Need-loop-again Inv-loop μ-loop
 loop-again c =
     let a = c .before .before .before .before .before .before .args in
     let l = c .before .before .before .loop in
-    let right : recordFits (a .file .now) (a .head) (a .section) (l .n) ≡ true = sym (c .before .record-fits .ensures) ∙ not-false _ (c .if1 .left) in (
+    let right : recordFits (contentsAt (a .file .now) (a .head)) (a .section) (l .n) ≡ true = sym (c .before .record-fits .ensures) ∙ not-false _ (c .if1 .left) in (
       omega arith,
       l .inv .1,
       omega arith,
-      sym (first-goes-on (recordFits (a .file .now) (a .head) (a .section)) (refusalOf (a .head) (a .section)) (l .n) (c .before .before .before .before .part-of .result) (omega arith) right)
+      sym (first-goes-on (recordFits (contentsAt (a .file .now) (a .head)) (a .section)) (refusalOf (a .head) (a .section)) (l .n) (c .before .before .before .before .part-of .result) (omega arith) right)
           ∙ l .inv .3,
     )
 
@@ -88,7 +91,7 @@ returns-2 : tie.Need-returns-2 Inv-loop μ-loop
 returns-2 c =
     let a = c .before .before .before .before .args in
     let l = c .before .loop in
-    sym (first-ends (recordFits (a .file .now) (a .head) (a .section)) (refusalOf (a .head) (a .section)) (l .n) (c .before .before .part-of .result) (omega arith))
+    sym (first-ends (recordFits (contentsAt (a .file .now) (a .head)) (a .section)) (refusalOf (a .head) (a .section)) (l .n) (c .before .before .part-of .result) (omega arith))
     ∙ l .inv .3
 
 pub section-answer-spec : {M : Type 1} → statement M

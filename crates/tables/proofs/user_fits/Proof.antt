@@ -1,3 +1,6 @@
+use mathlib.Core.Path.{ap, _∙_}
+use Rattle.masks.specs.Mask.{namesOnly}
+use Rattle.format.proofs.ContentsLaws.{roles-held}
 use Rattle.tables.specs.Records.{recordFits}
 use borrow.Author.Needs.{needs}
 use Rattle.tables.proofs.user_fits.Statement.{statement}
@@ -22,7 +25,9 @@ names-only-requires c κs = search needs
 -- src/records.rt:21:1
 returns : tie.Need-returns
 unfolding recordFits
-returns c = cc
+returns c =
+    let a = c .before .before .before .args in
+    rw (roles-held (a .file .now) (a .head)) (c .names-only .ensures ∙ ap (namesOnly (a .head .count .roles)) (c .before .user-roles .ensures))
 
 pub user-fits-spec : {M : Type 1} → statement M
 user-fits-spec =

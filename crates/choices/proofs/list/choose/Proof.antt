@@ -3,48 +3,49 @@ use mathlib.Core.Bool.{true, false}
 use native.Mathlib.Omega.{arith}
 use lib.ListN.{getD}
 use borrow.Author.Tests.{not-true, not-false}
-use Rattle.rules.specs.Names.{within}
+use Rattle.format.specs.Contents.{inCount, contentsAt}
+use Rattle.format.proofs.ContentsLaws.{in-count}
 use Rattle.steps.specs.Choice.{Chosen, clinicOf}
 use Rattle.steps.specs.Kept.{threadsIn, stateIn, Carried}
-use Rattle.choices.proofs.ChoiceLaws.{within-both, looked, acted-placed, choice-by, choice-none, thread-read}
+use Rattle.choices.proofs.ChoiceLaws.{looked, acted-placed, choice-by, choice-none, thread-read}
 use Rattle.choices.proofs.TableLaws.{threads-length}
 use borrow.Author.Needs.{needs}
 use Rattle.choices.proofs.list.choose.Statement.{statement}
 use Rattle.choices.proofs.list.choose.Tie as tie
 use Rattle.choices.proofs.list.choose.Reads as reads
 use Rattle.choices.proofs.list.choose.Lts as lts
+use Rattle.format.proofs.sections.in_count.Reads as in-count-reads
 use Rattle.format.proofs.words.wide.Reads as wide-reads
 use Rattle.steps.proofs.act.act.Reads as act-reads
-use Rattle.choices.proofs.list.is_thread.Reads as is-thread-reads
 use Rattle.choices.proofs.list.looked_at.Reads as looked-at-reads
 use Rattle.choices.proofs.list.store.Reads as store-reads
 use Rattle.choices.proofs.state.thread_at.Reads as thread-at-reads
 
 -- the thread is in count
-inside : (c : tie.Else1) → within (getD (c .before .before .before .before .before .before .before .before .args .beside .now) 0 0) (c .before .before .before .before .before .before .before .before .args .i) ≡ true
-inside c = sym (c .before .is-thread .ensures) ∙ not-false _ (c .if1 .left)
+inside : (c : tie.Else1) → inCount (getD (c .before .before .before .before .before .before .before .before .args .beside .now) 0 0) (c .before .before .before .before .before .before .before .before .args .i) ≡ true
+inside c = sym (c .before .in-count .ensures) ∙ not-false _ (c .if1 .left)
 
 -- src/list.rt:108:17
 slice-read-count : tie.Need-slice-read-count
 slice-read-count c = search needs
 
 -- src/list.rt:109:9
-is-thread-requires : tie.Need-is-thread-requires
-is-thread-requires c κs = search needs
+in-count-requires : tie.Need-in-count-requires
+in-count-requires c κs = search needs
 
 -- src/list.rt:110:9
 returns : tie.Need-returns
 returns c =
     let a = c .before .before .before .before .before .before .before .before .args in
-    let C = clinicOf (a .file .now) (a .head) in
-    let outside : within (getD (a .beside .now) 0 0) (a .i) ≡ false = sym (c .before .is-thread .ensures) ∙ not-true _ (c .if1 .taken) in
+    let C = clinicOf (contentsAt (a .file .now) (a .head)) in
+    let outside : inCount (getD (a .beside .now) 0 0) (a .i) ≡ false = sym (c .before .in-count .ensures) ∙ not-true _ (c .if1 .taken) in
     (subst (λ (x : Chosen). Carried x 18 (stateIn (a .threads .now) (a .beside .now)) (stateIn (a .threads .now) (a .beside .now))) (sym (choice-none C (stateIn (a .threads .now) (a .beside .now)) (getD (a .beside .now) 0 0) (a .i) (a .p) (threads-length (a .threads .now) 0 (getD (a .beside .now) 0 0)) outside)) (refl, refl), c .before .before .before .before .before .before .before .before .pre .3)
 
 -- src/list.rt:112:39
 sub-wide : tie.Need-sub-wide
 sub-wide c =
     let a = c .before .before .before .before .before .before .before .before .before .args in
-    let some = within-both (getD (a .beside .now) 0 0) (a .i) (inside (c .before)) in
+    let some = in-count (getD (a .beside .now) 0 0) (a .i) (inside (c .before)) in
     omega (arith, some .0)
 
 -- src/list.rt:112:34
@@ -55,7 +56,7 @@ wide-requires c κs = search needs
 thread-at-requires : tie.Need-thread-at-requires
 thread-at-requires c κs =
     let s = c .before .before .before .before .before .before .before .before .before .before in
-    let some = within-both (getD (s .args .beside .now) 0 0) (s .args .i) (inside (c .before .before)) in
+    let some = in-count (getD (s .args .beside .now) 0 0) (s .args .i) (inside (c .before .before)) in
     omega (arith, some .0, some .1, c .wide .ensures .0, s .pre .3 .words, s .pre .3 .threads)
 
 -- src/list.rt:113:9
@@ -90,8 +91,8 @@ store-requires : tie.Need-store-requires
 store-requires c κs =
     let s = c .before .before .before .before .before .before .before .before .before .before .before .before .before .before .before .before .before .before .before in
     let a = s .args in
-    let C = clinicOf (a .file .now) (a .head) in
-    let some = within-both (getD (a .beside .now) 0 0) (a .i) (inside (c .before .before .before .before .before .before .before .before .before .before .before)) in (
+    let C = clinicOf (contentsAt (a .file .now) (a .head)) in
+    let some = in-count (getD (a .beside .now) 0 0) (a .i) (inside (c .before .before .before .before .before .before .before .before .before .before .before)) in (
       s .pre .3,
       some .0,
       some .1,
@@ -110,7 +111,7 @@ same-length-2 c = search needs
 returns-2 : tie.Need-returns-2
 returns-2 c =
     let a = c .before .before .before .before .before .before .before .before .before .before .before .before .before .before .before .before .before .before .before .before .before .before .before .before .args in
-    let C = clinicOf (a .file .now) (a .head) in
+    let C = clinicOf (contentsAt (a .file .now) (a .head)) in
     let own = c .before .before .before .before .before .before .before .before .before .before .before .before .before .thread-at in
     let at = c .before .before .before .before .before .before .before .before .before .before .before .before .before .before .wide in
     let q = c .before .before .before .before .before .before .before .before .before .before .before .before .looked-at in
@@ -121,7 +122,7 @@ returns-2 c =
     let n = getD (a .beside .now) 0 0 in
     let w = a .threads .now in
     let within-i = inside (c .before .before .before .before .before .before .before .before .before .before .before .before .before .before .before .before) in
-    let some = within-both n (a .i) within-i in
+    let some = in-count n (a .i) within-i in
     let some-q = looked n (a .i) (a .p) (q .result) within-i (q .ensures) in
     let mine = thread-read w n (at .result) (own .result) (omega (arith, some .0, some .1, at .ensures .0)) (own .ensures) in
     let theirs = thread-read w n (to .result) (other .result) (omega (arith, some-q .0, some-q .1, to .ensures .0)) (other .ensures) in
@@ -133,7 +134,7 @@ choose-spec =
     tie.close
     (tie.spec
     slice-read-count
-    is-thread-requires
+    in-count-requires
     returns
     sub-wide
     wide-requires

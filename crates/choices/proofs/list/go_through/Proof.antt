@@ -3,6 +3,7 @@ use Prim.Native.Nat.{_-_, _/_, _≤_}
 use native.Mathlib.Omega.{arith}
 use borrow.Author.Needs.{needs}
 use lib.ListN.{length}
+use Rattle.format.specs.Contents.{contentsAt}
 use Rattle.steps.specs.Choice.{clinicOf}
 use Rattle.choices.specs.Choices.{run}
 use Rattle.steps.specs.Kept.{stateIn, Sized}
@@ -16,7 +17,7 @@ use Rattle.choices.proofs.list.choose.Reads as choose-reads
 
 abbrev Inv-loop : tie.InvT-loop
 Inv-loop file head sends receives choices threads₀ beside₀ n k₀ threads beside k =
-    (k ≤ length choices / 2) × (length choices ≤ 131070) × Sized threads beside × Left (clinicOf file head) (stateIn threads₀ beside₀) choices k (stateIn threads beside)
+    (k ≤ length choices / 2) × (length choices ≤ 131070) × Sized threads beside × Left (clinicOf (contentsAt file head)) (stateIn threads₀ beside₀) choices k (stateIn threads beside)
 
 abbrev μ-loop : tie.MeasureT-loop
 μ-loop file head sends receives choices threads₀ beside₀ n k₀ threads beside k = length choices / 2 - k
@@ -26,7 +27,7 @@ loop-holds : tie.Need-loop-holds Inv-loop μ-loop
 loop-holds c =
     let a = c .before .before .before .before .before .before .args in
     let p = c .before .before .before .before .before .before .pre in
-    (omega arith, p .3, p .4, left-begin (clinicOf (a .file .now) (a .head)) (stateIn (a .threads .now) (a .beside .now)) (a .choices .now))
+    (omega arith, p .3, p .4, left-begin (clinicOf (contentsAt (a .file .now) (a .head))) (stateIn (a .threads .now) (a .beside .now)) (a .choices .now))
 
 -- src/list.rt:136:25
 mul-i : tie.Need-mul-i Inv-loop μ-loop
@@ -80,7 +81,7 @@ returns c =
     let a = c .before .before .before .before .before .before .before .before .before .before .before .before .before .before .before .before .before .before .before .args in
     let l = c .before .before .before .before .before .before .before .before .before .before .before .before .loop in
     let chosen = c .before .before .before .before .before .before .choose in
-    let C = clinicOf (a .file .now) (a .head) in
+    let C = clinicOf (contentsAt (a .file .now) (a .head)) in
     let s = stateIn (a .threads .now) (a .beside .now) in
     let all = left-halts C s (a .choices .now) (l .k) (stateIn (l .threads) (l .beside)) (stateIn (chosen .last .1 .1 .1 .1 .0) (chosen .last .1 .1 .1 .1 .1 .0)) (chosen .result) (omega arith) (l .inv .3) (chosen .ensures .0) (c .before .if1 .taken) in
     gone (run C s (a .choices .now)) (l .k) _ _ (c .narrow .result) (chosen .result) all (c .narrow .ensures) (chosen .ensures .1)
@@ -99,7 +100,7 @@ loop-again c =
     let a = c .before .before .before .before .before .before .before .before .before .before .before .before .before .before .before .before .before .before .args in
     let l = c .before .before .before .before .before .before .before .before .before .before .before .loop in
     let chosen = c .before .before .before .before .before .choose in
-    let C = clinicOf (a .file .now) (a .head) in
+    let C = clinicOf (contentsAt (a .file .now) (a .head)) in
     let s = stateIn (a .threads .now) (a .beside .now) in
     let left = left-goes C s (a .choices .now) (l .k) (stateIn (l .threads) (l .beside)) (stateIn (chosen .last .1 .1 .1 .1 .0) (chosen .last .1 .1 .1 .1 .1 .0)) (chosen .result) (omega arith) (l .inv .3) (chosen .ensures .0) (c .if1 .left) in
     (omega arith, l .inv .1, chosen .ensures .1, left)
@@ -121,7 +122,7 @@ returns-2 : tie.Need-returns-2 Inv-loop μ-loop
 returns-2 c =
     let a = c .before .before .before .before .before .before .before .before .before .args in
     let l = c .before .before .loop in
-    let C = clinicOf (a .file .now) (a .head) in
+    let C = clinicOf (contentsAt (a .file .now) (a .head)) in
     let s = stateIn (a .threads .now) (a .beside .now) in
     let all = left-ends C s (a .choices .now) (l .k) (stateIn (l .threads) (l .beside)) (omega arith) (l .inv .3) in
     gone (run C s (a .choices .now)) (l .k) _ _ (c .narrow2 .result) 0 all (c .narrow2 .ensures) (l .inv .2)

@@ -1,30 +1,30 @@
 use mathlib.Core.Path.{_≡_, sym, _∙_}
 use mathlib.Core.Bool.{true, false}
-use Rattle.rules.specs.Names.{within}
 use borrow.Author.Needs.{needs}
+use Rattle.format.specs.Contents.{inCount}
 use Rattle.choices.proofs.list.looked_at.Statement.{statement}
 use Rattle.choices.proofs.list.looked_at.Tie as tie
 use Rattle.choices.proofs.list.looked_at.Reads as reads
 use Rattle.choices.proofs.list.looked_at.Lts as lts
-use Rattle.choices.proofs.list.is_thread.Reads as is-thread-reads
+use Rattle.format.proofs.sections.in_count.Reads as in-count-reads
 
 -- src/list.rt:86:8
-is-thread-requires : tie.Need-is-thread-requires
-is-thread-requires c κs = search needs
+in-count-requires : tie.Need-in-count-requires
+in-count-requires c κs = search needs
 
 -- src/list.rt:87:9
 returns : tie.Need-returns
 returns c =
     let a = c .before .before .args in
-    let inside : within (a .count) (a .p) ≡ true = sym (c .before .is-thread .ensures) ∙ c .if1 .taken in
+    let inside : inCount (a .count) (a .p) ≡ true = sym (c .before .in-count .ensures) ∙ c .if1 .taken in
     sym (rw inside)
 
 -- src/list.rt:83:1
 returns-2 : tie.Need-returns-2
 returns-2 c =
     let a = c .before .before .args in
-    let outside : within (a .count) (a .p) ≡ false = sym (c .before .is-thread .ensures) ∙ c .if1 .left in
+    let outside : inCount (a .count) (a .p) ≡ false = sym (c .before .in-count .ensures) ∙ c .if1 .left in
     sym (rw outside)
 
 pub looked-at-spec : {M : Type 1} → statement M
-looked-at-spec = tie.close (tie.spec is-thread-requires returns returns-2)
+looked-at-spec = tie.close (tie.spec in-count-requires returns returns-2)

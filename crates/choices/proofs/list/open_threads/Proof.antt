@@ -1,16 +1,17 @@
 -- The invariant: the threads of the first sessions stand in the table.
-use Prim.Native.Nat.{ℕ, _+_, _*_, _-_, _≤_}
+use Prim.Native.Nat.{_*_, _-_, _≤_}
 use mathlib.Core.Path.{_≡_, refl, ap, subst, _∙_}
 use native.Mathlib.Omega.{arith}
 use borrow.Author.Needs.{needs}
 use lib.ListN.{length, length-set}
-use Rattle.format.specs.Words.{wordAt}
+use Rattle.format.specs.Contents.{contentsAt, item, noSession}
 use Rattle.format.specs.declared.Session.{Session}
+use Rattle.format.proofs.ContentsLaws.{sessions-held}
 use Rattle.steps.specs.Threads.{zeros}
 use Rattle.choices.specs.Choices.{threadsFrom}
 use Rattle.steps.specs.Kept.{threadsIn}
 use Rattle.choices.proofs.TableLaws.{stored-length}
-use Rattle.choices.proofs.RunLaws.{open-more, open-state}
+use Rattle.choices.proofs.RunLaws.{Opened, open-more, open-state}
 use Rattle.choices.proofs.list.open_threads.Statement.{statement}
 use Rattle.choices.proofs.list.open_threads.Tie as tie
 use Rattle.choices.proofs.list.open_threads.Reads as reads
@@ -23,7 +24,7 @@ use Rattle.choices.proofs.state.put_thread.Reads as put-thread-reads
 
 abbrev Inv-loop : tie.InvT-loop
 Inv-loop file head threads₀ beside sessions n i₀ threads i =
-    (i ≤ n) × (length threads ≡ 704) × (threadsIn threads 0 i ≡ threadsFrom file (head .at .sessions) i)
+    (i ≤ n) × (length threads ≡ 704) × Opened (contentsAt file head .sessions) threads i
 
 abbrev μ-loop : tie.MeasureT-loop
 μ-loop file head threads₀ beside sessions n i₀ threads i = n - i
@@ -47,7 +48,7 @@ narrow-requires c κs = omega (arith, c .before .before .before .before .before 
 
 -- src/list.rt:174:13
 session-requires : tie.Need-session-requires Inv-loop μ-loop
-session-requires c κs = omega (arith, c .narrow .ensures)
+session-requires c κs = search needs
 
 -- src/list.rt:175:32
 opened-requires : tie.Need-opened-requires Inv-loop μ-loop
@@ -71,13 +72,15 @@ loop-again c =
     let a = c .before .before .before .before .before .before .before .before .before .before .before .before .before .args in
     let l = c .before .before .before .before .before .before .before .before .loop in
     let put = c .before .before .put-thread .ensures in
-    let at = a .head .at .sessions in
-    let here : c .before .before .before .before .before .before .narrow .result - 1 ≡ l .i = omega (arith, c .before .before .before .before .before .before .narrow .ensures) in
-    let is = c .before .before .before .opened .ensures ∙ ap (λ (x : Session). record { user = x .user; node = x .root; mask = x .mask; vars = zeros }) (c .before .before .before .before .before .session .ensures)
-    ∙ ap (λ (k : ℕ). record { user = wordAt (a .file .now) (at + 3 * k); node = wordAt (a .file .now) (at + 3 * k + 2); mask = wordAt (a .file .now) (at + 3 * k + 1); vars = zeros }) here in (
+    let ss = contentsAt (a .file .now) (a .head) .sessions in
+    let is = c .before .before .before .opened .ensures
+    ∙ ap (λ (x : Session). record { user = x .user; node = x .root; mask = x .mask; vars = zeros }) (c .before .before .before .before .before .session .ensures ∙ ap (item noSession ss) (c .before .before .before .before .before .before .narrow .ensures)) in
+    let held = sessions-held (a .file .now) (a .head) in
+    let few = c .before .before .before .before .before .before .before .before .before .before .before .before .before .pre .0 .sessions in
+    let all = c .before .before .before .before .before .before .before .before .before .wide .ensures .0 in (
       omega arith,
       ap length (put .0) ∙ stored-length (l .threads) (11 * l .i) (c .before .before .before .opened .result) ∙ l .inv .1,
-      open-more (a .file .now) at (l .threads) _ (l .i) (c .before .before .before .opened .result) (omega (arith, c .before .before .before .before .before .before .before .before .before .before .before .before .before .pre .0 .sessions, c .before .before .before .before .before .before .before .before .before .wide .ensures .0, l .inv .1)) is put (l .inv .2),
+      open-more ss (l .threads) _ (l .i) (c .before .before .before .opened .result) (omega (arith, few, all, l .inv .1)) (omega (arith, held, all)) is put (l .inv .2),
     )
 
 -- src/list.rt:178:5
@@ -102,8 +105,8 @@ returns c =
     let a = c .before .before .before .before .before .before .args in
     let l = c .before .loop in
     let all : l .i ≡ a .head .count .sessions = omega (arith, c .before .before .wide .ensures .0) in
-    open-state (a .file .now) (a .head) (l .threads) (a .beside .now) (a .head .count .sessions) (l .inv .1) (c .before .before .before .before .before .before .pre .2) (c .before .before .before .before .before .before .pre .0 .sessions) refl
-    (subst (λ (k : ℕ). threadsIn (l .threads) 0 k ≡ threadsFrom (a .file .now) (a .head .at .sessions) k) all (l .inv .2))
+    open-state (contentsAt (a .file .now) (a .head)) (l .threads) (a .beside .now) (a .head .count .sessions) (l .inv .1) (c .before .before .before .before .before .before .pre .2) (c .before .before .before .before .before .before .pre .0 .sessions) (sessions-held (a .file .now) (a .head))
+    (subst (Opened (contentsAt (a .file .now) (a .head) .sessions) (l .threads)) all (l .inv .2))
 
 pub open-threads-spec : {M : Type 1} → statement M
 open-threads-spec =

@@ -1,5 +1,6 @@
 use mathlib.Core.Path.{sym, ap, _∙_}
 use lib.ListN.{length}
+use Rattle.format.specs.Contents.{contentsAt}
 use Rattle.steps.specs.Choice.{clinicOf}
 use Rattle.steps.proofs.ThreadLaws.{unmapped}
 use Rattle.lent.proofs.DecisionLaws.{refused-decided, done-thread, done-decided}
@@ -35,7 +36,7 @@ returns c =
     let a = s .args in
     let q = s .pre in
     let went = c .before .before .before .before .before .before .go-through in
-    refused-decided (clinicOf (a .file .now) (a .head)) (a .all .threads) (a .beside .now) (a .list .now) (a .words .now) (a .kept .now) (went .last .1 .1 .1 .1 .1 .0) (went .last .1 .1 .1 .1 .1 .1 .0) (went .result) (q .3) (q .4) (q .5) (q .6) (went .ensures) (c .refusing .result) (a .all) (c .before .if1 .taken) (c .refusing .ensures)
+    refused-decided (clinicOf (contentsAt (a .file .now) (a .head))) (a .all .threads) (a .beside .now) (a .list .now) (a .words .now) (a .kept .now) (went .last .1 .1 .1 .1 .1 .0) (went .last .1 .1 .1 .1 .1 .1 .0) (went .result) (q .3) (q .4) (q .5) (q .6) (went .ensures) (c .refusing .result) (a .all) (c .before .if1 .taken) (c .refusing .ensures)
 
 -- src/choosing.rt:164:42
 shared-slice-read-store-back : tie.Need-shared-slice-read-store-back
@@ -52,7 +53,7 @@ store-back-requires c κs =
     let a = s .args in
     let q = s .pre in
     let went = c .before .before .before .before .before .before .before .before .before .before .go-through in
-    (went .ensures .2, ap length (sym (q .5)) ∙ q .4 .beside, done-thread (clinicOf (a .file .now) (a .head)) (a .all .threads) (a .beside .now) (a .list .now) (a .words .now) (a .kept .now) (went .last .1 .1 .1 .1 .1 .0) (went .last .1 .1 .1 .1 .1 .1 .0) (went .result) (q .3) (q .4) (q .5) (q .6) (went .ensures) (c .before .before .before .before .before .if1 .left))
+    (went .ensures .2, ap length (sym (q .5)) ∙ q .4 .beside, done-thread (clinicOf (contentsAt (a .file .now) (a .head))) (a .all .threads) (a .beside .now) (a .list .now) (a .words .now) (a .kept .now) (went .last .1 .1 .1 .1 .1 .0) (went .last .1 .1 .1 .1 .1 .1 .0) (went .result) (q .3) (q .4) (q .5) (q .6) (went .ensures) (c .before .before .before .before .before .if1 .left))
 
 -- src/choosing.rt:136:1
 same-length-3 : tie.Need-same-length-3
@@ -74,7 +75,7 @@ returns-2 c =
     let q = s .pre in
     let went = c .before .before .before .before .before .before .before .before .before .before .before .before .before .go-through in
     let long = unmapped _ (a .all .threads) 64 (s .good .1 .1 .1 .1 .1 .1 .1 .0 .1 .1 .0 .1 .0 .1) in
-    done-decided (clinicOf (a .file .now) (a .head)) (a .all .threads) (a .beside .now) (a .list .now) (a .words .now) (a .kept .now) (went .last .1 .1 .1 .1 .1 .0) (went .last .1 .1 .1 .1 .1 .1 .0) (went .result) (q .3) (q .4) (q .5) (q .6) (went .ensures) (c .before .before .before .before .before .before .before .before .if1 .left) (c .before .before .store-back .result) _ long (c .before .before .store-back .ensures)
+    done-decided (clinicOf (contentsAt (a .file .now) (a .head))) (a .all .threads) (a .beside .now) (a .list .now) (a .words .now) (a .kept .now) (went .last .1 .1 .1 .1 .1 .0) (went .last .1 .1 .1 .1 .1 .1 .0) (went .result) (q .3) (q .4) (q .5) (q .6) (went .ensures) (c .before .before .before .before .before .before .before .before .if1 .left) (c .before .before .store-back .result) _ long (c .before .before .store-back .ensures)
 
 pub choose-by-spec : {M : Type 1} → statement M
 choose-by-spec =

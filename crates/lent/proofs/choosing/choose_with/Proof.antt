@@ -1,8 +1,11 @@
 use Prim.Native.Nat.{ℕ}
-use mathlib.Core.Path.{_≡_, ap, subst, _∙_}
+use mathlib.Core.Path.{_≡_, sym, ap, subst, _∙_}
 use lib.ListN.{length, take}
+use Rattle.format.specs.Contents.{contentsAt}
+use Rattle.format.proofs.ContentsLaws.{roles-held}
 use Rattle.rules.specs.declared.Way.the-variants.{Sends, Receives}
 use Rattle.rules.specs.Schema.{schemaOf}
+use Rattle.rules.specs.Kept.{Beyond}
 use Rattle.rules.proofs.GrantLaws.{grants-filled, grants-length, granting}
 use Rattle.steps.specs.Kept.{threadsIn}
 use Rattle.lent.proofs.RecordLaws.{copied-whole}
@@ -44,7 +47,8 @@ choose-by-requires c κs =
     let s = c .before .before .before .before .before .before .before .before .before .before .before .before .before .before .before .before .before .before .before .before .before .before .before .before .before .before .before .before .before .before in
     let a = s .args in
     let q = s .pre in
-    let D = schemaOf (a .file .now) (a .head) in
+    let D = schemaOf (contentsAt (a .file .now) (a .head)) in
+    let roles = sym (roles-held (a .file .now) (a .head)) in
     let filled = c .before .before .before .before .before .before .before .before .before .before .before .before .before .before .before .before .before .before .before .before .fill-grants .ensures in
     let one = grants-filled D Sends _ (length (a .sends .now)) (filled .0) in
     let other = grants-filled D Receives _ (length (a .receives .now)) (filled .1) in
@@ -54,8 +58,8 @@ choose-by-requires c κs =
     let count = c .before .before .before .before .before .before .before .before .before .before .before .before .before .before .wide .ensures .0 in
     let same = copied ∙ copied-whole (a .kept .now) (a .beside .now) 130 (q .7) (q .8) in (
       q .0,
-      granting D Sends _ one (ap length (filled .0) ∙ grants-length D Sends (D .roles) 0 (length (a .sends .now)) ∙ q .1) (filled .2),
-      granting D Receives _ other (ap length (filled .1) ∙ grants-length D Receives (D .roles) 0 (length (a .receives .now)) ∙ q .2) (filled .3),
+      granting D Sends _ one (ap length (filled .0) ∙ grants-length D Sends (D .roles) 0 (length (a .sends .now)) ∙ q .1) (subst (Beyond D Sends) roles (filled .2)),
+      granting D Receives _ other (ap length (filled .1) ∙ grants-length D Receives (D .roles) 0 (length (a .receives .now)) ∙ q .2) (subst (Beyond D Receives) roles (filled .3)),
       q .5,
       table-sized _ _ (a .beside .now) (laid .0) same (q .8) (q .9) (q .10),
       same,

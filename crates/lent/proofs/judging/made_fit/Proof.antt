@@ -5,6 +5,8 @@ use native.Mathlib.Omega.{arith}
 use lib.ListN.{getD, drop}
 use borrow.Author.Tests.{not-true, not-false}
 use borrow.Author.Needs.{needs}
+use Rattle.format.specs.Contents.{contentsAt}
+use Rattle.format.proofs.ContentsLaws.{users-held, kinds-held}
 use Rattle.rules.specs.Schema.{schemaOf}
 use Rattle.steps.specs.Kept.{madeIn}
 use Rattle.lent.specs.Lent.{every, madeFits}
@@ -13,12 +15,12 @@ use Rattle.lent.proofs.judging.made_fit.Statement.{statement}
 use Rattle.lent.proofs.judging.made_fit.Tie as tie
 use Rattle.lent.proofs.judging.made_fit.Reads as reads
 use Rattle.lent.proofs.judging.made_fit.Lts as lts
+use Rattle.format.proofs.sections.in_count.Reads as in-count-reads
 use Rattle.format.proofs.words.wide.Reads as wide-reads
-use Rattle.rules.proofs.names.is_within.Reads as is-within-reads
 
 abbrev Inv-loop : tie.InvT-loop
 Inv-loop head beside n k₀ k =
-    (k ≤ n) × ((bytes : List ℕ) → every (madeFits (schemaOf bytes head)) (drop k (madeIn beside 2 (getD beside 1 0))) ≡ every (madeFits (schemaOf bytes head)) (madeIn beside 2 (getD beside 1 0)))
+    (k ≤ n) × ((bytes : List ℕ) → every (madeFits (schemaOf (contentsAt bytes head))) (drop k (madeIn beside 2 (getD beside 1 0))) ≡ every (madeFits (schemaOf (contentsAt bytes head))) (madeIn beside 2 (getD beside 1 0)))
 
 abbrev μ-loop : tie.MeasureT-loop
 μ-loop head beside n k₀ k = n - k
@@ -36,61 +38,61 @@ loop-holds : tie.Need-loop-holds Inv-loop μ-loop
 loop-holds c = (omega arith, λ bytes. refl)
 
 -- src/judging.rt:39:48
-mul-is-within : tie.Need-mul-is-within Inv-loop μ-loop
-mul-is-within c = search needs
+mul-in-count : tie.Need-mul-in-count Inv-loop μ-loop
+mul-in-count c = search needs
 
 -- src/judging.rt:39:48
-add-is-within : tie.Need-add-is-within Inv-loop μ-loop
-add-is-within c = search needs
+add-in-count : tie.Need-add-in-count Inv-loop μ-loop
+add-in-count c = search needs
 
 -- src/judging.rt:39:41
-mul-is-within-2 : tie.Need-mul-is-within-2 Inv-loop μ-loop
-mul-is-within-2 c = search needs
+mul-in-count-2 : tie.Need-mul-in-count-2 Inv-loop μ-loop
+mul-in-count-2 c = search needs
 
 -- src/judging.rt:39:41
-shared-slice-read-is-within : tie.Need-shared-slice-read-is-within Inv-loop μ-loop
-shared-slice-read-is-within c = search needs
+shared-slice-read-in-count : tie.Need-shared-slice-read-in-count Inv-loop μ-loop
+shared-slice-read-in-count c = search needs
 
 -- src/judging.rt:39:13
-is-within-requires : tie.Need-is-within-requires Inv-loop μ-loop
-is-within-requires c κs = search needs
+in-count-requires : tie.Need-in-count-requires Inv-loop μ-loop
+in-count-requires c κs = search needs
 
 -- src/judging.rt:40:13
 returns : tie.Need-returns Inv-loop μ-loop
 returns c =
     let a = c .before .before .before .before .before .before .before .before .args in
     let l = c .before .before .before .before .loop in
-    let owner = sym (c .before .is-within .ensures) ∙ not-true _ (c .if1 .taken) in
-    λ bytes. sym (made-owner (schemaOf bytes (a .head)) (a .beside .now) (getD (a .beside .now) 1 0) (l .k) (omega arith) owner) ∙ l .inv .1 bytes
+    let owner = sym (c .before .in-count .ensures) ∙ not-true _ (c .if1 .taken) in
+    λ bytes. sym (made-owner (schemaOf (contentsAt bytes (a .head))) (a .beside .now) (getD (a .beside .now) 1 0) (l .k) (a .head .count .users) (a .head .count .kinds) (users-held bytes (a .head)) (kinds-held bytes (a .head)) (omega arith) owner) ∙ l .inv .1 bytes
 
 -- src/judging.rt:42:48
-mul-is-within-3 : tie.Need-mul-is-within-3 Inv-loop μ-loop
-mul-is-within-3 c = search needs
+mul-in-count-3 : tie.Need-mul-in-count-3 Inv-loop μ-loop
+mul-in-count-3 c = search needs
 
 -- src/judging.rt:42:48
-add-is-within-2 : tie.Need-add-is-within-2 Inv-loop μ-loop
-add-is-within-2 c = search needs
+add-in-count-2 : tie.Need-add-in-count-2 Inv-loop μ-loop
+add-in-count-2 c = search needs
 
 -- src/judging.rt:42:41
-mul-is-within-4 : tie.Need-mul-is-within-4 Inv-loop μ-loop
-mul-is-within-4 c = search needs
+mul-in-count-4 : tie.Need-mul-in-count-4 Inv-loop μ-loop
+mul-in-count-4 c = search needs
 
 -- src/judging.rt:42:41
-shared-slice-read-is-within-2 : tie.Need-shared-slice-read-is-within-2 Inv-loop μ-loop
-shared-slice-read-is-within-2 c = search needs
+shared-slice-read-in-count-2 : tie.Need-shared-slice-read-in-count-2 Inv-loop μ-loop
+shared-slice-read-in-count-2 c = search needs
 
 -- src/judging.rt:42:13
-is-within-requires-2 : tie.Need-is-within-requires-2 Inv-loop μ-loop
-is-within-requires-2 c κs = search needs
+in-count-requires-2 : tie.Need-in-count-requires-2 Inv-loop μ-loop
+in-count-requires-2 c κs = search needs
 
 -- src/judging.rt:43:13
 returns-2 : tie.Need-returns-2 Inv-loop μ-loop
 returns-2 c =
     let a = c .before .before .before .before .before .before .before .before .before .before .before .args in
     let l = c .before .before .before .before .before .before .before .loop in
-    let owner = sym (c .before .before .before .before .is-within .ensures) ∙ not-false _ (c .before .before .before .if1 .left) in
-    let kind = sym (c .before .is-within2 .ensures) ∙ not-true _ (c .if2 .taken) in
-    λ bytes. sym (made-kind (schemaOf bytes (a .head)) (a .beside .now) (getD (a .beside .now) 1 0) (l .k) (omega arith) owner kind) ∙ l .inv .1 bytes
+    let owner = sym (c .before .before .before .before .in-count .ensures) ∙ not-false _ (c .before .before .before .if1 .left) in
+    let kind = sym (c .before .in-count2 .ensures) ∙ not-true _ (c .if2 .taken) in
+    λ bytes. sym (made-kind (schemaOf (contentsAt bytes (a .head))) (a .beside .now) (getD (a .beside .now) 1 0) (l .k) (a .head .count .users) (a .head .count .kinds) (users-held bytes (a .head)) (kinds-held bytes (a .head)) (omega arith) owner kind) ∙ l .inv .1 bytes
 
 -- src/judging.rt:45:9
 add-k : tie.Need-add-k Inv-loop μ-loop
@@ -105,16 +107,16 @@ loop-again : tie.Need-loop-again Inv-loop μ-loop
 loop-again c =
     let a = c .before .before .before .before .before .before .before .before .before .before .before .args in
     let l = c .before .before .before .before .before .before .before .loop in
-    let owner = sym (c .before .before .before .before .is-within .ensures) ∙ not-false _ (c .before .before .before .if1 .left) in
-    let kind = sym (c .before .is-within2 .ensures) ∙ not-false _ (c .if2 .left) in
-    (omega arith, λ bytes. sym (made-fits (schemaOf bytes (a .head)) (a .beside .now) (getD (a .beside .now) 1 0) (l .k) (omega arith) owner kind) ∙ l .inv .1 bytes)
+    let owner = sym (c .before .before .before .before .in-count .ensures) ∙ not-false _ (c .before .before .before .if1 .left) in
+    let kind = sym (c .before .in-count2 .ensures) ∙ not-false _ (c .if2 .left) in
+    (omega arith, λ bytes. sym (made-fits (schemaOf (contentsAt bytes (a .head))) (a .beside .now) (getD (a .beside .now) 1 0) (l .k) (a .head .count .users) (a .head .count .kinds) (users-held bytes (a .head)) (kinds-held bytes (a .head)) (omega arith) owner kind) ∙ l .inv .1 bytes)
 
 -- src/judging.rt:32:1
 returns-3 : tie.Need-returns-3 Inv-loop μ-loop
 returns-3 c =
     let a = c .before .before .before .before .before .args in
     let l = c .before .loop in
-    λ bytes. sym (made-done (schemaOf bytes (a .head)) (a .beside .now) (getD (a .beside .now) 1 0) (l .k) (omega arith)) ∙ l .inv .1 bytes
+    λ bytes. sym (made-done (schemaOf (contentsAt bytes (a .head))) (a .beside .now) (getD (a .beside .now) 1 0) (l .k) (a .head .count .users) (a .head .count .kinds) (users-held bytes (a .head)) (kinds-held bytes (a .head)) (omega arith)) ∙ l .inv .1 bytes
 
 pub made-fit-spec : {M : Type 1} → statement M
 made-fit-spec =
@@ -125,17 +127,17 @@ made-fit-spec =
     shared-slice-read-wide
     wide-requires
     loop-holds
-    mul-is-within
-    add-is-within
-    mul-is-within-2
-    shared-slice-read-is-within
-    is-within-requires
+    mul-in-count
+    add-in-count
+    mul-in-count-2
+    shared-slice-read-in-count
+    in-count-requires
     returns
-    mul-is-within-3
-    add-is-within-2
-    mul-is-within-4
-    shared-slice-read-is-within-2
-    is-within-requires-2
+    mul-in-count-3
+    add-in-count-2
+    mul-in-count-4
+    shared-slice-read-in-count-2
+    in-count-requires-2
     returns-2
     add-k
     loop-less

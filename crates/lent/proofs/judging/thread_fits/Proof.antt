@@ -1,31 +1,39 @@
-use mathlib.Core.Path.{sym, ap, _∙_}
+use mathlib.Core.Path.{_≡_, sym, ap, _∙_}
+use mathlib.Core.Bool.{Bool}
 use native.Mathlib.Omega.{arith}
-use lib.ListN.{getD}
+use lib.ListN.{length, getD}
 use borrow.Author.Tests.{not-true, not-false}
 use borrow.Author.Needs.{needs}
-use Rattle.masks.specs.Mask.{within as withinMask}
+use Rattle.masks.specs.Mask.{within}
+use Rattle.format.specs.Contents.{inCount, contentsAt}
+use Rattle.format.proofs.ContentsLaws.{in-count, nodes-held}
 use Rattle.steps.specs.Kept.{madeIn}
-use Rattle.steps.proofs.ActLaws.{in-count}
 use Rattle.lent.proofs.JudgeLaws.{thread-nowhere, thread-user, thread-mask, thread-vars}
 use Rattle.lent.proofs.judging.thread_fits.Statement.{statement}
 use Rattle.lent.proofs.judging.thread_fits.Tie as tie
 use Rattle.lent.proofs.judging.thread_fits.Reads as reads
 use Rattle.lent.proofs.judging.thread_fits.Lts as lts
+use Rattle.format.proofs.sections.in_count.Reads as in-count-reads
+use Rattle.format.proofs.sections.user_roles.Reads as user-roles-reads
 use Rattle.format.proofs.words.wide.Reads as wide-reads
 use Rattle.lent.proofs.judging.vars_fit.Reads as vars-fit-reads
 use Rattle.masks.proofs.roles_within.Reads as roles-within-reads
-use Rattle.rules.proofs.names.assigned_to.Reads as assigned-to-reads
-use Rattle.steps.proofs.act.is_node.Reads as is-node-reads
+
+-- the thread's node is in count, or not
+counted : (c : tie.After-in-count) {b : Bool} → c .in-count .result ≡ b → let a = c .before .before .before .before .args in inCount (length (contentsAt (a .file .now) (a .head) .nodes)) (a .t .node) ≡ b
+counted c h =
+    let a = c .before .before .before .before .args in
+    ap (λ k. inCount k (a .t .node)) (nodes-held (a .file .now) (a .head)) ∙ sym (c .in-count .ensures) ∙ h
 
 -- src/judging.rt:108:9
-is-node-requires : tie.Need-is-node-requires
-is-node-requires c κs = search needs
+in-count-requires : tie.Need-in-count-requires
+in-count-requires c κs = search needs
 
 -- src/judging.rt:109:9
 returns : tie.Need-returns
 returns c =
     let a = c .before .before .before .before .before .args in
-    thread-nowhere (a .file .now) (a .head) (madeIn (a .beside .now) 2 (getD (a .beside .now) 1 0)) (a .t) (sym (c .before .is-node .ensures) ∙ not-true _ (c .if1 .taken))
+    thread-nowhere (contentsAt (a .file .now) (a .head)) (madeIn (a .beside .now) 2 (getD (a .beside .now) 1 0)) (a .t) (counted (c .before) (not-true _ (c .if1 .taken)))
 
 -- src/judging.rt:111:19
 wide-requires : tie.Need-wide-requires
@@ -39,8 +47,8 @@ mul-w c = search needs
 shared-slice-read-w : tie.Need-shared-slice-read-w
 shared-slice-read-w c =
     let a = c .before .before .before .before .before .before .before .args in
-    let few = in-count (a .head .count .nodes) (a .t .node) (sym (c .before .before .before .is-node .ensures) ∙ not-false _ (c .before .before .if1 .left)) in
-    omega (arith, few, c .before .before .before .before .before .before .before .pre .0 .nodes, c .before .wide .ensures)
+    let few = in-count (length (contentsAt (a .file .now) (a .head) .nodes)) (a .t .node) (counted (c .before .before .before) (not-false _ (c .before .before .if1 .left))) in
+    omega (arith, few, nodes-held (a .file .now) (a .head), c .before .before .before .before .before .before .before .pre .0 .nodes, c .before .wide .ensures)
 
 -- src/judging.rt:112:9
 cast-if2 : tie.Need-cast-if2
@@ -50,12 +58,12 @@ cast-if2 c = search needs
 returns-2 : tie.Need-returns-2
 returns-2 c =
     let a = c .before .before .before .before .before .before .before .before .before .args in
-    let node = sym (c .before .before .before .before .before .is-node .ensures) ∙ not-false _ (c .before .before .before .before .if1 .left) in
-    thread-user (a .file .now) (a .head) (madeIn (a .beside .now) 2 (getD (a .beside .now) 1 0)) (a .t) (a .table .now) (c .before .before .before .wide .result) (c .before .before .before .before .before .before .before .before .before .pre .2) (c .before .before .before .wide .ensures .0) node (c .if2 .taken)
+    let node = counted (c .before .before .before .before .before) (not-false _ (c .before .before .before .before .if1 .left)) in
+    thread-user (contentsAt (a .file .now) (a .head)) (madeIn (a .beside .now) 2 (getD (a .beside .now) 1 0)) (a .t) (a .table .now) (c .before .before .before .wide .result) (c .before .before .before .before .before .before .before .before .before .pre .2) (c .before .before .before .wide .ensures .0) node (c .if2 .taken)
 
 -- src/judging.rt:115:30
-assigned-to-requires : tie.Need-assigned-to-requires
-assigned-to-requires c κs = search needs
+user-roles-requires : tie.Need-user-roles-requires
+user-roles-requires c κs = search needs
 
 -- src/judging.rt:115:9
 roles-within-requires : tie.Need-roles-within-requires
@@ -65,9 +73,9 @@ roles-within-requires c κs = search needs
 returns-3 : tie.Need-returns-3
 returns-3 c =
     let a = c .before .before .before .before .before .before .before .before .before .before .before .before .args in
-    let node = sym (c .before .before .before .before .before .before .before .before .is-node .ensures) ∙ not-false _ (c .before .before .before .before .before .before .before .if1 .left) in
-    let mask = ap (withinMask (a .t .mask)) (sym (c .before .before .assigned-to .ensures)) ∙ sym (c .before .roles-within .ensures) ∙ not-true _ (c .if3 .taken) in
-    thread-mask (a .file .now) (a .head) (madeIn (a .beside .now) 2 (getD (a .beside .now) 1 0)) (a .t) (a .table .now) (c .before .before .before .before .before .before .wide .result) (c .before .before .before .before .before .before .before .before .before .before .before .before .pre .2) (c .before .before .before .before .before .before .wide .ensures .0) node (c .before .before .before .if2 .left) mask
+    let node = counted (c .before .before .before .before .before .before .before .before) (not-false _ (c .before .before .before .before .before .before .before .if1 .left)) in
+    let mask = ap (within (a .t .mask)) (sym (c .before .before .user-roles .ensures)) ∙ sym (c .before .roles-within .ensures) ∙ not-true _ (c .if3 .taken) in
+    thread-mask (contentsAt (a .file .now) (a .head)) (madeIn (a .beside .now) 2 (getD (a .beside .now) 1 0)) (a .t) (a .table .now) (c .before .before .before .before .before .before .wide .result) (c .before .before .before .before .before .before .before .before .before .before .before .before .pre .2) (c .before .before .before .before .before .before .wide .ensures .0) node (c .before .before .before .if2 .left) mask
 
 -- src/judging.rt:119:5
 vars-fit-requires : tie.Need-vars-fit-requires
@@ -77,22 +85,22 @@ vars-fit-requires c κs = search needs
 returns-4 : tie.Need-returns-4
 returns-4 c =
     let a = c .before .before .before .before .before .before .before .before .before .before .before .before .before .before .args in
-    let node = sym (c .before .before .before .before .before .before .before .before .before .before .is-node .ensures) ∙ not-false _ (c .before .before .before .before .before .before .before .before .before .if1 .left) in
-    let mask = ap (withinMask (a .t .mask)) (sym (c .before .before .before .before .assigned-to .ensures)) ∙ sym (c .before .before .before .roles-within .ensures) ∙ not-false _ (c .before .before .if3 .left) in
-    thread-vars (a .file .now) (a .head) (madeIn (a .beside .now) 2 (getD (a .beside .now) 1 0)) (a .t) (a .table .now) (c .before .before .before .before .before .before .before .before .wide .result) (c .before .before .before .before .before .before .before .before .before .before .before .before .before .before .pre .2) (c .before .before .before .before .before .before .before .before .wide .ensures .0) node (c .vars-fit .result) (c .before .before .before .before .before .if2 .left) mask (c .vars-fit .ensures)
+    let node = counted (c .before .before .before .before .before .before .before .before .before .before) (not-false _ (c .before .before .before .before .before .before .before .before .before .if1 .left)) in
+    let mask = ap (within (a .t .mask)) (sym (c .before .before .before .before .user-roles .ensures)) ∙ sym (c .before .before .before .roles-within .ensures) ∙ not-false _ (c .before .before .if3 .left) in
+    thread-vars (contentsAt (a .file .now) (a .head)) (madeIn (a .beside .now) 2 (getD (a .beside .now) 1 0)) (a .t) (a .table .now) (c .before .before .before .before .before .before .before .before .wide .result) (c .before .before .before .before .before .before .before .before .before .before .before .before .before .before .pre .2) (c .before .before .before .before .before .before .before .before .wide .ensures .0) node (c .vars-fit .result) (c .before .before .before .before .before .if2 .left) mask (c .vars-fit .ensures)
 
 pub thread-fits-spec : {M : Type 1} → statement M
 thread-fits-spec =
     tie.close
     (tie.spec
-    is-node-requires
+    in-count-requires
     returns
     wide-requires
     mul-w
     shared-slice-read-w
     cast-if2
     returns-2
-    assigned-to-requires
+    user-roles-requires
     roles-within-requires
     returns-3
     vars-fit-requires

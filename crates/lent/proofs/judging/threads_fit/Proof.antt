@@ -5,6 +5,7 @@ use native.Mathlib.Omega.{arith}
 use lib.ListN.{length, getD, take, drop}
 use borrow.Author.Tests.{not-true, not-false}
 use borrow.Author.Needs.{needs}
+use Rattle.format.specs.Contents.{contentsAt}
 use Rattle.steps.specs.Kept.{madeIn}
 use Rattle.steps.proofs.ThreadLaws.{unmapped}
 use Rattle.lent.specs.Lent.{threadFits, every}
@@ -18,8 +19,8 @@ use Rattle.lent.proofs.judging.thread_fits.Reads as thread-fits-reads
 
 abbrev Inv-loop : tie.InvT-loop
 Inv-loop file head table beside all n k₀ k =
-    (k ≤ n) × (every (threadFits file head (madeIn beside 2 (getD beside 1 0))) (drop k (take (getD beside 0 0) (all .threads)))
-    ≡ every (threadFits file head (madeIn beside 2 (getD beside 1 0))) (take (getD beside 0 0) (all .threads)))
+    (k ≤ n) × (every (threadFits (contentsAt file head) (madeIn beside 2 (getD beside 1 0))) (drop k (take (getD beside 0 0) (all .threads)))
+    ≡ every (threadFits (contentsAt file head) (madeIn beside 2 (getD beside 1 0))) (take (getD beside 0 0) (all .threads)))
 
 abbrev μ-loop : tie.MeasureT-loop
 μ-loop file head table beside all n k₀ k = n - k
@@ -55,7 +56,7 @@ returns c =
     let l = c .before .before .before .before .loop in
     let long = unmapped _ (a .t4 .threads) 64 (c .before .before .before .before .before .before .before .before .before .before .good .1 .1 .1 .0 .1 .1 .0 .1 .0 .1) in
     let few : getD (a .beside .now) 0 0 ≤ length (a .t4 .threads) = omega (arith, long, c .before .before .before .before .before .before .before .before .before .before .pre .4) in
-    sym (first-step (threadFits (a .file .now) (a .head) (madeIn (a .beside .now) 2 (getD (a .beside .now) 1 0))) (a .t4 .threads) (getD (a .beside .now) 0 0) (l .k) _ false (c .before .thread-fits .result) (omega arith) few (c .before .thread-fits .ensures) (not-true _ (c .if1 .taken))) ∙ l .inv .1
+    sym (first-step (threadFits (contentsAt (a .file .now) (a .head)) (madeIn (a .beside .now) 2 (getD (a .beside .now) 1 0))) (a .t4 .threads) (getD (a .beside .now) 0 0) (l .k) _ false (c .before .thread-fits .result) (omega arith) few (c .before .thread-fits .ensures) (not-true _ (c .if1 .taken))) ∙ l .inv .1
 
 -- src/judging.rt:135:9
 add-k : tie.Need-add-k Inv-loop μ-loop
@@ -72,7 +73,7 @@ loop-again c =
     let l = c .before .before .before .before .loop in
     let long = unmapped _ (a .t4 .threads) 64 (c .before .before .before .before .before .before .before .before .before .before .good .1 .1 .1 .0 .1 .1 .0 .1 .0 .1) in
     let few : getD (a .beside .now) 0 0 ≤ length (a .t4 .threads) = omega (arith, long, c .before .before .before .before .before .before .before .before .before .before .pre .4) in
-    (omega arith, sym (first-step (threadFits (a .file .now) (a .head) (madeIn (a .beside .now) 2 (getD (a .beside .now) 1 0))) (a .t4 .threads) (getD (a .beside .now) 0 0) (l .k) _ true (c .before .thread-fits .result) (omega arith) few (c .before .thread-fits .ensures) (not-false _ (c .if1 .left))) ∙ l .inv .1)
+    (omega arith, sym (first-step (threadFits (contentsAt (a .file .now) (a .head)) (madeIn (a .beside .now) 2 (getD (a .beside .now) 1 0))) (a .t4 .threads) (getD (a .beside .now) 0 0) (l .k) _ true (c .before .thread-fits .result) (omega arith) few (c .before .thread-fits .ensures) (not-false _ (c .if1 .left))) ∙ l .inv .1)
 
 -- src/judging.rt:123:1
 returns-2 : tie.Need-returns-2 Inv-loop μ-loop
@@ -81,7 +82,7 @@ returns-2 c =
     let l = c .before .loop in
     let long = unmapped _ (a .t4 .threads) 64 (c .before .before .before .before .before .before .before .good .1 .1 .1 .0 .1 .1 .0 .1 .0 .1) in
     let few : getD (a .beside .now) 0 0 ≤ length (a .t4 .threads) = omega (arith, long, c .before .before .before .before .before .before .before .pre .4) in
-    sym (first-done (threadFits (a .file .now) (a .head) (madeIn (a .beside .now) 2 (getD (a .beside .now) 1 0))) (a .t4 .threads) (getD (a .beside .now) 0 0) (l .k) (omega arith) few) ∙ l .inv .1
+    sym (first-done (threadFits (contentsAt (a .file .now) (a .head)) (madeIn (a .beside .now) 2 (getD (a .beside .now) 1 0))) (a .t4 .threads) (getD (a .beside .now) 0 0) (l .k) (omega arith) few) ∙ l .inv .1
 
 pub threads-fit-spec : {M : Type 1} → statement M
 threads-fit-spec =

@@ -6,6 +6,7 @@ use native.Mathlib.Omega.{arith}
 use lib.ListN.{length, getD, drop}
 use borrow.Author.Tests.{not-true, not-false, ne-eqb, eq-eqb}
 use borrow.Author.Needs.{needs}
+use Rattle.format.specs.Contents.{contentsAt}
 use Rattle.rules.specs.Rules.{Context}
 use Rattle.rules.specs.Schema.{schemaOf}
 use Rattle.steps.specs.Kept.{madeIn}
@@ -23,7 +24,7 @@ use Rattle.lent.proofs.scopes.kind_at.Reads as kind-at-reads
 abbrev Inv-loop : tie.InvT-loop
 Inv-loop file head beside w vars bound k₀ k =
     (k ≤ 8) × ((x : Context) → w ≡ scopeOf x → Narrow x
-    → varsFit (schemaOf file head) (madeIn beside 2 (getD beside 1 0)) (drop k (x .vars)) (drop k vars) ≡ varsFit (schemaOf file head) (madeIn beside 2 (getD beside 1 0)) (x .vars) vars)
+    → varsFit (schemaOf (contentsAt file head)) (madeIn beside 2 (getD beside 1 0)) (drop k (x .vars)) (drop k vars) ≡ varsFit (schemaOf (contentsAt file head)) (madeIn beside 2 (getD beside 1 0)) (x .vars) vars)
 
 abbrev μ-loop : tie.MeasureT-loop
 μ-loop file head beside w vars bound k₀ k = 8 - k
@@ -58,7 +59,7 @@ returns c =
     let a = c .before .before .before .before .before .before .before .before .before .args in
     let l = c .before .before .before .before .before .loop in
     let long : length (a .t5) ≡ 8 = search needs in
-    λ x e narrow. sym (vars-bound (schemaOf (a .file .now) (a .head)) (madeIn (a .beside .now) 2 (getD (a .beside .now) 1 0)) (a .t5) x (a .w) e narrow (l .k) false (c .before .value-fits .result) (c .before .before .kind-at .result) (omega arith) (omega arith) (c .before .before .kind-at .ensures) (c .before .value-fits .ensures) (not-true _ (c .if2 .taken))) ∙ l .inv .1 x e narrow
+    λ x e narrow. sym (vars-bound (schemaOf (contentsAt (a .file .now) (a .head))) (madeIn (a .beside .now) 2 (getD (a .beside .now) 1 0)) (a .t5) x (a .w) e narrow (l .k) false (c .before .value-fits .result) (c .before .before .kind-at .result) (omega arith) (omega arith) (c .before .before .kind-at .ensures) (c .before .value-fits .ensures) (not-true _ (c .if2 .taken))) ∙ l .inv .1 x e narrow
 
 -- src/judging.rt:95:17
 returns-2 : tie.Need-returns-2 Inv-loop μ-loop
@@ -66,7 +67,7 @@ returns-2 c =
     let a = c .before .before .before .before .before .before .before .args in
     let l = c .before .before .before .loop in
     let long : length (a .t5) ≡ 8 = search needs in
-    λ x e narrow. sym (vars-free (schemaOf (a .file .now) (a .head)) (madeIn (a .beside .now) 2 (getD (a .beside .now) 1 0)) (a .t5) x (a .w) e narrow (l .k) false (omega arith) (omega arith) (ne-eqb _ 0 (c .if3 .taken))) ∙ l .inv .1 x e narrow
+    λ x e narrow. sym (vars-free (schemaOf (contentsAt (a .file .now) (a .head))) (madeIn (a .beside .now) 2 (getD (a .beside .now) 1 0)) (a .t5) x (a .w) e narrow (l .k) false (omega arith) (omega arith) (ne-eqb _ 0 (c .if3 .taken))) ∙ l .inv .1 x e narrow
 
 -- src/judging.rt:98:9
 add-k : tie.Need-add-k Inv-loop μ-loop
@@ -84,8 +85,8 @@ loop-again c =
     let long : length (a .t5) ≡ 8 = search needs in (
       omega arith,
       λ x e narrow. ⊎-elim
-          (λ m. sym (vars-bound (schemaOf (a .file .now) (a .head)) (madeIn (a .beside .now) 2 (getD (a .beside .now) 1 0)) (a .t5) x (a .w) e narrow (l .k) true (m .2 .result) (m .1 .result) (omega (arith, m .0 .taken)) (omega arith) (m .1 .ensures) (m .2 .ensures) (not-false _ (m .3 .left))) ∙ l .inv .1 x e narrow)
-          (λ m. sym (vars-free (schemaOf (a .file .now) (a .head)) (madeIn (a .beside .now) 2 (getD (a .beside .now) 1 0)) (a .t5) x (a .w) e narrow (l .k) true (omega (arith, m .0 .left)) (omega arith) (eq-eqb _ 0 (m .1 .left))) ∙ l .inv .1 x e narrow)
+          (λ m. sym (vars-bound (schemaOf (contentsAt (a .file .now) (a .head))) (madeIn (a .beside .now) 2 (getD (a .beside .now) 1 0)) (a .t5) x (a .w) e narrow (l .k) true (m .2 .result) (m .1 .result) (omega (arith, m .0 .taken)) (omega arith) (m .1 .ensures) (m .2 .ensures) (not-false _ (m .3 .left))) ∙ l .inv .1 x e narrow)
+          (λ m. sym (vars-free (schemaOf (contentsAt (a .file .now) (a .head))) (madeIn (a .beside .now) 2 (getD (a .beside .now) 1 0)) (a .t5) x (a .w) e narrow (l .k) true (omega (arith, m .0 .left)) (omega arith) (eq-eqb _ 0 (m .1 .left))) ∙ l .inv .1 x e narrow)
           (c .if1 .came),
     )
 
@@ -95,7 +96,7 @@ returns-3 c =
     let a = c .before .before .before .before .before .args in
     let l = c .before .loop in
     let long : length (a .t5) ≡ 8 = search needs in
-    λ x e narrow. sym (vars-done (schemaOf (a .file .now) (a .head)) (madeIn (a .beside .now) 2 (getD (a .beside .now) 1 0)) (a .t5) x (a .w) e narrow (l .k) (omega arith) (omega arith)) ∙ l .inv .1 x e narrow
+    λ x e narrow. sym (vars-done (schemaOf (contentsAt (a .file .now) (a .head))) (madeIn (a .beside .now) 2 (getD (a .beside .now) 1 0)) (a .t5) x (a .w) e narrow (l .k) (omega arith) (omega arith)) ∙ l .inv .1 x e narrow
 
 pub vars-fit-spec : {M : Type 1} → statement M
 vars-fit-spec =

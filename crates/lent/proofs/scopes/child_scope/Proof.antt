@@ -1,14 +1,15 @@
 use mathlib.Core.Path.{_∙_}
 use borrow.Author.Needs.{needs}
+use Rattle.format.specs.Contents.{contentsAt}
 use Rattle.rules.specs.Schema.{schemaOf}
 use Rattle.lent.proofs.FillLaws.{child-new, child-receive, child-other}
 use Rattle.lent.proofs.scopes.child_scope.Statement.{statement}
 use Rattle.lent.proofs.scopes.child_scope.Tie as tie
 use Rattle.lent.proofs.scopes.child_scope.Reads as reads
 use Rattle.lent.proofs.scopes.child_scope.Lts as lts
+use Rattle.format.proofs.sections.carries.Reads as carries-reads
 use Rattle.lent.proofs.scopes.bind.Reads as bind-reads
 use Rattle.lent.proofs.scopes.kind_named.Reads as kind-named-reads
-use Rattle.rules.proofs.names.carried_by.Reads as carried-by-reads
 
 -- src/scopes.rt:74:14
 bind-requires : tie.Need-bind-requires
@@ -19,8 +20,8 @@ kind-named-requires : tie.Need-kind-named-requires
 kind-named-requires c κs = search needs
 
 -- src/scopes.rt:75:22
-carried-by-requires : tie.Need-carried-by-requires
-carried-by-requires c κs = search needs
+carries-requires : tie.Need-carries-requires
+carries-requires c κs = search needs
 
 -- src/scopes.rt:75:14
 bind-requires-2 : tie.Need-bind-requires-2
@@ -30,20 +31,20 @@ bind-requires-2 c κs = search needs
 returns : tie.Need-returns
 returns c =
     let a = c .before .before .before .args in
-    c .bind .ensures ∙ child-new (schemaOf (a .file .now) (a .head)) (a .w) (a .it) (c .before .match .keys1)
+    c .bind .ensures ∙ child-new (schemaOf (contentsAt (a .file .now) (a .head))) (a .w) (a .it) (c .before .match .keys1)
 
 -- src/scopes.rt:68:1
 returns-2 : tie.Need-returns-2
 returns-2 c =
     let a = c .before .before .before .before .before .args in
     c .bind2 .ensures
-    ∙ child-receive (schemaOf (a .file .now) (a .head)) (a .w) (a .it) (c .before .before .kind-named .result) (c .before .carried-by .result) (c .before .before .before .match .keys2) (c .before .before .kind-named .ensures) (c .before .carried-by .ensures)
+    ∙ child-receive (schemaOf (contentsAt (a .file .now) (a .head))) (a .w) (a .it) (c .before .before .kind-named .result) (c .before .carries .result) (c .before .before .before .match .keys2) (c .before .before .kind-named .ensures) (c .before .carries .ensures)
 
 -- src/scopes.rt:68:1
 returns-3 : tie.Need-returns-3
 returns-3 c =
     let a = c .before .before .args in
-    child-other (schemaOf (a .file .now) (a .head)) (a .w) (a .it) (c .match .rest .0 .1) (c .match .rest .1)
+    child-other (schemaOf (contentsAt (a .file .now) (a .head))) (a .w) (a .it) (c .match .rest .0 .1) (c .match .rest .1)
 
 pub child-scope-spec : {M : Type 1} → statement M
 child-scope-spec =
@@ -51,7 +52,7 @@ child-scope-spec =
     (tie.spec
     bind-requires
     kind-named-requires
-    carried-by-requires
+    carries-requires
     bind-requires-2
     returns
     returns-2

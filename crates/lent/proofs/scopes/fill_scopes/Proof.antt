@@ -5,6 +5,8 @@ use mathlib.Core.Path.{_≡_, refl, sym, ap, _∙_}
 use native.Mathlib.Omega.{arith}
 use lib.ListN.{length, length-set}
 use borrow.Author.Needs.{needs}
+use Rattle.format.specs.Contents.{contentsAt}
+use Rattle.format.proofs.ContentsLaws.{nodes-held}
 use Rattle.rules.specs.Kept.{stacked}
 use Rattle.rules.proofs.StackLaws.{stacked-top}
 use Rattle.lent.proofs.FillLaws.{Filled, stacked-more, stacked-none, fill-begins, fill-runs-out, fill-ends, fill-end, fill-fork, fill-one}
@@ -20,7 +22,7 @@ use Rattle.lent.proofs.scopes.open_scopes.Reads as open-scopes-reads
 abbrev Inv-loop : tie.InvT-loop
 Inv-loop file head table₀ stack₀ depth₀ here₀ nodes i₀ table stack depth here i =
     (1 ≤ i) × (i ≤ nodes + 1) × (length stack ≡ 1057) × (length table ≡ 1025) × (depth ≤ 30 + i)
-    × Filled file head table₀ i (here ∷ stacked stack depth) table
+    × Filled (contentsAt file head) table₀ i (here ∷ stacked stack depth) table
 
 abbrev μ-loop : tie.MeasureT-loop
 μ-loop file head table₀ stack₀ depth₀ here₀ nodes i₀ table stack depth here i = nodes + 1 - i
@@ -40,7 +42,7 @@ returns c =
     let os = c .before .before .open-scopes .ensures in
     let stack = c .before .before .open-scopes .last .1 .1 .0 in
     let none = ap (stacked stack) (c .if1 .taken) ∙ stacked-none stack in
-    fill-runs-out (a .file .now) (a .head) (a .table .now) 1 (stacked stack (c .before .before .open-scopes .result)) (a .table .now) none (fill-begins (a .file .now) (a .head) (a .table .now) _ (os .2))
+    fill-runs-out (contentsAt (a .file .now) (a .head)) (a .table .now) 1 (stacked stack (c .before .before .open-scopes .result)) (a .table .now) none (fill-begins (contentsAt (a .file .now) (a .head)) (a .table .now) _ (os .2))
 
 -- src/scopes.rt:106:5
 sub-depth : tie.Need-sub-depth Inv-loop μ-loop
@@ -67,7 +69,7 @@ loop-holds c =
       os .1,
       c .before .before .before .before .before .before .pre .1,
       omega (arith, os .0, c .before .before .before .before .before .before .pre .0 .sessions),
-      fill-begins (a .file .now) (a .head) (a .table .now) _ (sym (stacked-top stack r pos) ∙ os .2),
+      fill-begins (contentsAt (a .file .now) (a .head)) (a .table .now) _ (sym (stacked-top stack r pos) ∙ os .2),
     )
 
 -- src/scopes.rt:111:13
@@ -101,7 +103,7 @@ returns-2 c =
     let l = c .before .before .before .before .before .loop in
     let it = c .before .before .before .node in
     let none = ap (stacked (l .stack)) (c .if2 .taken) ∙ stacked-none (l .stack) in
-    fill-runs-out (a .file .now) (a .head) (a .table .now) (l .i + 1) (stacked (l .stack) (l .depth)) _ none (fill-end (a .file .now) (a .head) (a .table .now) (l .i) (c .before .before .wide .result) (l .here) (stacked (l .stack) (l .depth)) (l .table) (it .result) (l .inv .0) (c .before .before .before .before .loop-test .taken) (it .ensures) (c .before .before .wide .ensures .0) (l .inv .5) _ (c .before .match .keys1) refl)
+    fill-runs-out (contentsAt (a .file .now) (a .head)) (a .table .now) (l .i + 1) (stacked (l .stack) (l .depth)) _ none (fill-end (contentsAt (a .file .now) (a .head)) (a .table .now) (l .i) (c .before .before .wide .result) (l .here) (stacked (l .stack) (l .depth)) (l .table) (it .result) (l .inv .0) (omega (arith, nodes-held (a .file .now) (a .head), c .before .before .before .before .loop-test .taken)) (it .ensures) (c .before .before .wide .ensures .0) (l .inv .5) _ (c .before .match .keys1) refl)
 
 -- src/scopes.rt:120:17
 sub-depth-2 : tie.Need-sub-depth-2 Inv-loop μ-loop
@@ -131,7 +133,7 @@ loop-again c =
       l .inv .2,
       simp length-set (l .inv .3),
       omega (arith, l .inv .4),
-      fill-end (a .file .now) (a .head) (a .table .now) (l .i) (c .before .before .wide .result) (l .here) (stacked (l .stack) (l .depth)) (l .table) (it .result) (l .inv .0) (c .before .before .before .before .loop-test .taken) (it .ensures) (c .before .before .wide .ensures .0) (l .inv .5) _ (c .before .match .keys1) (sym (stacked-top (l .stack) (l .depth) pos)),
+      fill-end (contentsAt (a .file .now) (a .head)) (a .table .now) (l .i) (c .before .before .wide .result) (l .here) (stacked (l .stack) (l .depth)) (l .table) (it .result) (l .inv .0) (omega (arith, nodes-held (a .file .now) (a .head), c .before .before .before .before .loop-test .taken)) (it .ensures) (c .before .before .wide .ensures .0) (l .inv .5) _ (c .before .match .keys1) (sym (stacked-top (l .stack) (l .depth) pos)),
     )
 
 -- src/scopes.rt:124:17
@@ -162,7 +164,7 @@ loop-again-2 c =
       simp length-set (l .inv .2),
       simp length-set (l .inv .3),
       omega (arith, l .inv .4),
-      fill-fork (a .file .now) (a .head) (a .table .now) (l .i) (c .before .wide .result) (l .here) (stacked (l .stack) (l .depth)) (l .table) (it .result) (l .inv .0) (c .before .before .before .loop-test .taken) (it .ensures) (c .before .wide .ensures .0) (l .inv .5) _ (c .match .keys2) (stacked-more (l .stack) (l .depth) (l .here) room),
+      fill-fork (contentsAt (a .file .now) (a .head)) (a .table .now) (l .i) (c .before .wide .result) (l .here) (stacked (l .stack) (l .depth)) (l .table) (it .result) (l .inv .0) (omega (arith, nodes-held (a .file .now) (a .head), c .before .before .before .loop-test .taken)) (it .ensures) (c .before .wide .ensures .0) (l .inv .5) _ (c .match .keys2) (stacked-more (l .stack) (l .depth) (l .here) room),
     )
 
 -- src/scopes.rt:128:17
@@ -184,7 +186,7 @@ loop-again-3 c =
       l .inv .2,
       simp length-set (l .inv .3),
       omega (arith, l .inv .4),
-      fill-one (a .file .now) (a .head) (a .table .now) (l .i) (c .before .before .wide .result) (l .here) (stacked (l .stack) (l .depth)) (l .table) (it .result) (l .inv .0) (c .before .before .before .before .loop-test .taken) (it .ensures) (c .before .before .wide .ensures .0) (l .inv .5) (c .child-scope .result) (c .before .match .rest .0 .1) (c .before .match .rest .1) (c .child-scope .ensures),
+      fill-one (contentsAt (a .file .now) (a .head)) (a .table .now) (l .i) (c .before .before .wide .result) (l .here) (stacked (l .stack) (l .depth)) (l .table) (it .result) (l .inv .0) (omega (arith, nodes-held (a .file .now) (a .head), c .before .before .before .before .loop-test .taken)) (it .ensures) (c .before .before .wide .ensures .0) (l .inv .5) (c .child-scope .result) (c .before .match .rest .0 .1) (c .before .match .rest .1) (c .child-scope .ensures),
     )
 
 -- src/scopes.rt:97:1
@@ -196,7 +198,7 @@ returns-3 : tie.Need-returns-3 Inv-loop μ-loop
 returns-3 c =
     let a = c .before .before .before .before .before .before .before .before .args in
     let l = c .before .loop in
-    fill-ends (a .file .now) (a .head) (a .table .now) (l .i) _ (l .table) (c .loop-test .left) (l .inv .5)
+    fill-ends (contentsAt (a .file .now) (a .head)) (a .table .now) (l .i) _ (l .table) (omega (arith, nodes-held (a .file .now) (a .head), c .loop-test .left)) (l .inv .5)
 
 pub fill-scopes-spec : {M : Type 1} → statement M
 fill-scopes-spec =

@@ -1,6 +1,9 @@
 use mathlib.Core.Path.{ap, _∙_}
+use native.Mathlib.Omega.{arith}
 use borrow.Author.Needs.{needs}
+use Rattle.format.specs.Contents.{contentsAt}
 use Rattle.format.specs.declared.Channel.{Channel}
+use Rattle.format.proofs.ContentsLaws.{users-held, channels-held}
 use Rattle.rules.specs.Schema.{schemaOf}
 use Rattle.lent.proofs.FillLaws.{kind-low, kind-channel, kind-between, kind-variable, kind-above}
 use Rattle.lent.proofs.scopes.kind_named.Statement.{statement}
@@ -12,7 +15,7 @@ use Rattle.lent.proofs.scopes.kind_at.Reads as kind-at-reads
 
 -- src/scopes.rt:52:9
 returns : tie.Need-returns
-returns c = let a = c .before .before .args in kind-low (schemaOf (a .file .now) (a .head)) (a .w) (a .x) (c .if1 .taken)
+returns c = let a = c .before .before .args in kind-low (schemaOf (contentsAt (a .file .now) (a .head))) (a .w) (a .x) (c .if1 .taken)
 
 -- src/scopes.rt:54:13
 add-if2 : tie.Need-add-if2
@@ -31,13 +34,13 @@ returns-2 : tie.Need-returns-2
 returns-2 c =
     let a = c .before .before .before .before .before .args in
     ap (λ (y : Channel). y .kind .0) (c .channel .ensures)
-    ∙ kind-channel (schemaOf (a .file .now) (a .head)) (a .w) (a .x) (c .before .before .before .before .before .pre .users) (c .before .before .before .if1 .left) (c .before .if2 .taken)
+    ∙ kind-channel (schemaOf (contentsAt (a .file .now) (a .head))) (a .w) (a .x) (omega (arith, users-held (a .file .now) (a .head), c .before .before .before .before .before .pre .users)) (a .head .count .channels) (channels-held (a .file .now) (a .head)) (c .before .before .before .if1 .left) (c .before .if2 .taken)
 
 -- src/scopes.rt:59:9
 returns-3 : tie.Need-returns-3
 returns-3 c =
     let a = c .before .before .before .before .before .args in
-    kind-between (schemaOf (a .file .now) (a .head)) (a .w) (a .x) (c .before .before .before .before .before .pre .users) (c .before .if2 .left) (c .if3 .taken)
+    kind-between (schemaOf (contentsAt (a .file .now) (a .head))) (a .w) (a .x) (omega (arith, users-held (a .file .now) (a .head), c .before .before .before .before .before .pre .users)) (a .head .count .channels) (channels-held (a .file .now) (a .head)) (c .before .if2 .left) (c .if3 .taken)
 
 -- src/scopes.rt:62:27
 cast-kind-at : tie.Need-cast-kind-at
@@ -52,13 +55,13 @@ returns-4 : tie.Need-returns-4
 returns-4 c =
     let a = c .before .before .before .before .before .before .before .args in
     c .kind-at .ensures
-    ∙ kind-variable (schemaOf (a .file .now) (a .head)) (a .w) (a .x) (c .before .before .before .before .before .before .before .pre .users) (c .before .before .before .if2 .left) (c .before .before .if3 .left) (c .before .if4 .taken)
+    ∙ kind-variable (schemaOf (contentsAt (a .file .now) (a .head))) (a .w) (a .x) (omega (arith, users-held (a .file .now) (a .head), c .before .before .before .before .before .before .before .pre .users)) (a .head .count .channels) (channels-held (a .file .now) (a .head)) (c .before .before .before .if2 .left) (c .before .before .if3 .left) (c .before .if4 .taken)
 
 -- src/scopes.rt:47:1
 returns-5 : tie.Need-returns-5
 returns-5 c =
     let a = c .before .before .before .before .before .before .args in
-    kind-above (schemaOf (a .file .now) (a .head)) (a .w) (a .x) (c .before .before .before .before .before .before .pre .users) (c .before .before .if2 .left) (c .if4 .left)
+    kind-above (schemaOf (contentsAt (a .file .now) (a .head))) (a .w) (a .x) (omega (arith, users-held (a .file .now) (a .head), c .before .before .before .before .before .before .pre .users)) (a .head .count .channels) (channels-held (a .file .now) (a .head)) (c .before .before .if2 .left) (c .if4 .left)
 
 pub kind-named-spec : {M : Type 1} → statement M
 kind-named-spec =

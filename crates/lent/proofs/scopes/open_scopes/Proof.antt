@@ -1,12 +1,14 @@
-use Prim.Native.Nat.{_+_, _*_, _-_, _≤_}
-use mathlib.Core.Path.{_≡_, refl, ap, ap₂, _∙_}
+use Prim.Native.Nat.{_-_, _≤_}
+use mathlib.Core.Path.{_≡_, ap, _∙_}
+use mathlib.Core.List.{[]}
 use native.Mathlib.Omega.{arith}
-use lib.ListN.{length, length-set}
+use lib.ListN.{length, drop, length-set}
 use borrow.Author.Needs.{needs}
+use Rattle.format.specs.Contents.{item, noSession, contentsAt}
 use Rattle.format.specs.declared.Session.{Session}
-use Rattle.format.specs.Words.{wordAt}
+use Rattle.format.proofs.ContentsLaws.{sessions-held, none-past}
 use Rattle.rules.specs.Kept.{stacked}
-use Rattle.lent.specs.Scopes.{openScopesFrom}
+use Rattle.lent.specs.Scopes.{openScopes}
 use Rattle.lent.proofs.FillLaws.{pushes}
 use Rattle.lent.proofs.scopes.open_scopes.Statement.{statement}
 use Rattle.lent.proofs.scopes.open_scopes.Tie as tie
@@ -18,7 +20,7 @@ use Rattle.format.proofs.words.wide.Reads as wide-reads
 
 abbrev Inv-loop : tie.InvT-loop
 Inv-loop file head stack₀ sessions depth₀ stack depth =
-    (depth ≤ sessions) × (length stack ≡ 1057) × (stacked stack depth ≡ openScopesFrom file (head .at .sessions + 3 * (sessions - depth)) depth)
+    (depth ≤ sessions) × (length stack ≡ 1057) × (stacked stack depth ≡ openScopes (drop (sessions - depth) (contentsAt file head .sessions)))
 
 abbrev μ-loop : tie.MeasureT-loop
 μ-loop file head stack₀ sessions depth₀ stack depth = sessions - depth
@@ -29,8 +31,12 @@ wide-requires c κs = search needs
 
 -- src/scopes.rt:88:5
 loop-holds : tie.Need-loop-holds Inv-loop μ-loop
-unfolding stacked openScopesFrom
-loop-holds c = (omega arith, omega arith, refl)
+unfolding stacked openScopes
+loop-holds c =
+    let a = c .before .before .before .args in
+    let S = contentsAt (a .file .now) (a .head) .sessions in
+    let none : drop (c .wide .result - 0) S ≡ [] = none-past S (c .wide .result - 0) (omega (arith, sessions-held (a .file .now) (a .head), c .wide .ensures .0)) in
+    (omega arith, omega arith, rw none)
 
 -- src/scopes.rt:89:45
 sub-narrow : tie.Need-sub-narrow Inv-loop μ-loop
@@ -69,13 +75,14 @@ loop-again : tie.Need-loop-again Inv-loop μ-loop
 loop-again c =
     let a = c .before .before .before .before .before .before .before .before .args in
     let l = c .before .before .before .before .loop in
-    let s = c .before .before .before .before .before .wide .result in
+    let s = c .before .before .before .before .before .wide in
     let it = c .before .session .result in
-    let user : it .user ≡ wordAt (a .file .now) (a .head .at .sessions + 3 * (s - l .depth - 1)) =
-    ap (λ (x : Session). x .user) (c .before .session .ensures) ∙ ap (λ k. wordAt (a .file .now) (a .head .at .sessions + 3 * (k - 1))) (c .before .before .narrow .ensures) in (
+    let S = contentsAt (a .file .now) (a .head) .sessions in
+    let user : it .user ≡ item noSession S (s .result - l .depth) .user =
+    ap (λ (x : Session). x .user) (c .before .session .ensures ∙ ap (item noSession S) (c .before .before .narrow .ensures)) in (
       omega arith,
       simp length-set (l .inv .1),
-      pushes (a .file .now) (a .head .at .sessions) s (l .depth) (it .user) (l .stack) (omega arith) (omega arith) user (l .inv .2),
+      pushes S (s .result) (l .depth) (it .user) (l .stack) (omega arith) (omega (arith, sessions-held (a .file .now) (a .head), s .ensures .0)) (omega arith) user (l .inv .2),
     )
 
 -- src/scopes.rt:81:1
@@ -89,8 +96,8 @@ returns c =
     let l = c .before .loop in
     let s = c .before .before .wide .result in
     let all : l .depth ≡ a .head .count .sessions = omega (arith, c .before .before .wide .ensures .0) in
-    let from : a .head .at .sessions + 3 * (s - l .depth) ≡ a .head .at .sessions = omega arith in
-    (all, l .inv .1, l .inv .2 ∙ ap₂ (openScopesFrom (a .file .now)) from all)
+    let none : s - l .depth ≡ 0 = omega arith in
+    (all, l .inv .1, l .inv .2 ∙ ap (λ k. openScopes (drop k (contentsAt (a .file .now) (a .head) .sessions))) none)
 
 pub open-scopes-spec : {M : Type 1} → statement M
 open-scopes-spec =

@@ -1,16 +1,15 @@
-use Rattle.format.specs.declared.Session.{Session}
-use Rattle.format.specs.declared.Node.{Node}
+use Prim.Native.Nat.{_+_, _-_, _≤_}
 use mathlib.Core.Bool.{true, false}
 use mathlib.Core.Path.{_≡_, refl, sym, ap, _∙_}
-use Prim.Native.Nat.{ℕ, _+_, _-_, _≤_}
 use native.Mathlib.Omega.{arith}
-use lib.Dec.{eqb, ltb}
+use lib.Dec.{eqb}
 use borrow.Author.Needs.{needs}
-use borrow.Author.Tests.{ne-eqb, eq-eqb, lt-ltb, le-ltb}
+use borrow.Author.Tests.{ne-eqb, eq-eqb}
 use Rattle.format.specs.Answers.{refused, firstOf}
-use Rattle.format.specs.Sections.{placeOf, sessionOf, nodeAt}
-use Rattle.format.specs.declared.Section.the-variants.{Nodes}
+use Rattle.format.specs.Contents.{item, noSession, contentsAt}
+use Rattle.format.specs.declared.Session.{Session}
 use Rattle.format.proofs.AnswerLaws.{first-stops, first-goes-on, first-ends}
+use Rattle.format.proofs.ContentsLaws.{sessions-held}
 use Rattle.placing.specs.Placing.{masksAnswer}
 use Rattle.placing.proofs.bare.masks.Statement.{statement}
 use Rattle.placing.proofs.bare.masks.Tie as tie
@@ -20,54 +19,55 @@ use Rattle.format.proofs.sections.session.Reads as session-reads
 
 abbrev Inv-loop : tie.InvT-loop
 Inv-loop file head count n₀ n =
-    (1 ≤ n) × (count ≡ head .count .sessions) × (n ≤ count + 1) × (firstOf (λ k. eqb (sessionOf file head k .mask) 0) (λ k. refused 14 0) n (count + 1 - n) ≡ masksAnswer file head)
+    (1 ≤ n) × (count ≡ head .count .sessions) × (n ≤ count + 1) × (firstOf (λ k. eqb (item noSession (contentsAt file head .sessions) k .mask) 0) (λ k. refused 14 0) n (count + 1 - n) ≡ masksAnswer (contentsAt file head))
 
 abbrev μ-loop : tie.MeasureT-loop
 μ-loop file head count n₀ n = count + 1 - n
 
--- src/bare.rt:18:5
+-- src/bare.rt:19:5
 loop-holds : tie.Need-loop-holds Inv-loop μ-loop
 unfolding masksAnswer
 loop-holds c =
     let a = c .before .args in
+    let C = contentsAt (a .file .now) (a .head) in
     let all : a .head .count .sessions + 1 - 1 ≡ a .head .count .sessions = omega arith in
-    (omega arith, refl, omega arith, ap (firstOf (λ k. eqb (sessionOf (a .file .now) (a .head) k .mask) 0) (λ k. refused 14 0) 1) all)
+    (omega arith, refl, omega arith, ap (firstOf (λ k. eqb (item noSession (C .sessions) k .mask) 0) (λ k. refused 14 0) 1) (all ∙ sym (sessions-held (a .file .now) (a .head))))
 
--- src/bare.rt:19:13
+-- src/bare.rt:20:13
 session-requires : tie.Need-session-requires Inv-loop μ-loop
 session-requires c κs = search needs
 
--- src/bare.rt:21:13
+-- src/bare.rt:22:13
 returns : tie.Need-returns Inv-loop μ-loop
 returns c =
     let a = c .before .before .before .before .before .before .args in
     let l = c .before .before .before .before .loop in
-    let wrong : eqb (sessionOf (a .file .now) (a .head) (l .n) .mask) 0 ≡ false = ne-eqb (sessionOf (a .file .now) (a .head) (l .n) .mask) 0 (λ z. c .if1 .taken (ap (λ (s : Session). s .mask) (c .before .before .session .ensures) ∙ z)) in
-    sym (first-stops (λ k. eqb (sessionOf (a .file .now) (a .head) k .mask) 0) (λ k. refused 14 0) (l .n) (a .head .count .sessions) (omega arith) wrong) ∙ l .inv .3
+    let wrong : eqb (item noSession (contentsAt (a .file .now) (a .head) .sessions) (l .n) .mask) 0 ≡ false = ne-eqb (item noSession (contentsAt (a .file .now) (a .head) .sessions) (l .n) .mask) 0 (λ z. c .if1 .taken (ap (λ (s : Session). s .mask) (c .before .before .session .ensures) ∙ z)) in
+    sym (first-stops (λ k. eqb (item noSession (contentsAt (a .file .now) (a .head) .sessions) k .mask) 0) (λ k. refused 14 0) (l .n) (a .head .count .sessions) (omega arith) wrong) ∙ l .inv .3
 
--- src/bare.rt:26:9
+-- src/bare.rt:27:9
 add-n : tie.Need-add-n Inv-loop μ-loop
 add-n c =
     omega (arith, c .before .before .before .before .before .before .pre)
 
--- src/bare.rt:18:5
+-- src/bare.rt:19:5
 loop-less : tie.Need-loop-less Inv-loop μ-loop
 loop-less c = search needs
 
--- src/bare.rt:18:5
+-- src/bare.rt:19:5
 loop-again : tie.Need-loop-again Inv-loop μ-loop
 loop-again c =
     let a = c .before .before .before .before .before .before .args in
     let l = c .before .before .before .before .loop in
-    let right : eqb (sessionOf (a .file .now) (a .head) (l .n) .mask) 0 ≡ true = eq-eqb (sessionOf (a .file .now) (a .head) (l .n) .mask) 0 (sym (ap (λ (s : Session). s .mask) (c .before .before .session .ensures)) ∙ c .if1 .left) in
-    (omega arith, refl, omega arith, sym (first-goes-on (λ k. eqb (sessionOf (a .file .now) (a .head) k .mask) 0) (λ k. refused 14 0) (l .n) (a .head .count .sessions) (omega arith) right) ∙ l .inv .3)
+    let right : eqb (item noSession (contentsAt (a .file .now) (a .head) .sessions) (l .n) .mask) 0 ≡ true = eq-eqb (item noSession (contentsAt (a .file .now) (a .head) .sessions) (l .n) .mask) 0 (sym (ap (λ (s : Session). s .mask) (c .before .before .session .ensures)) ∙ c .if1 .left) in
+    (omega arith, refl, omega arith, sym (first-goes-on (λ k. eqb (item noSession (contentsAt (a .file .now) (a .head) .sessions) k .mask) 0) (λ k. refused 14 0) (l .n) (a .head .count .sessions) (omega arith) right) ∙ l .inv .3)
 
--- src/bare.rt:12:1
+-- src/bare.rt:13:1
 returns-2 : tie.Need-returns-2 Inv-loop μ-loop
 returns-2 c =
     let a = c .before .before .before .args in
     let l = c .before .loop in
-    sym (first-ends (λ k. eqb (sessionOf (a .file .now) (a .head) k .mask) 0) (λ k. refused 14 0) (l .n) (a .head .count .sessions) (omega arith)) ∙ l .inv .3
+    sym (first-ends (λ k. eqb (item noSession (contentsAt (a .file .now) (a .head) .sessions) k .mask) 0) (λ k. refused 14 0) (l .n) (a .head .count .sessions) (omega arith)) ∙ l .inv .3
 
 pub masks-spec : {M : Type 1} → statement M
 masks-spec =

@@ -4,10 +4,11 @@ use Prim.Native.Nat.{ℕ}
 use native.Mathlib.Omega.{arith}
 use lib.ListN.{drop}
 use lib.Seq.{sets}
+use Rattle.format.specs.Contents.{contentsAt}
 use Rattle.format.specs.Answers.{fine, refused}
 use Rattle.format.specs.declared.Verdict.{Verdict}
 use Rattle.format.proofs.AnswerLaws.{Quiet}
-use Rattle.rules.specs.Checking.{nodesIn}
+use Rattle.format.proofs.ContentsLaws.{nodes-held}
 use Rattle.states.specs.States.{Label, labelled, turnsOf}
 use Rattle.groups.specs.Groups.{startsFrom, turnsIn}
 use Rattle.groups.specs.declared.Sums.{Sums}
@@ -28,19 +29,19 @@ use Rattle.states.proofs.turns.Reads as turns-reads
 abbrev decision : Verdict → Sums → Decision
 decision v k = record { verdict = v; sums = k }
 
--- src/decide.rt:38:9
+-- src/decide.rt:39:9
 unserved-requires : tie.Need-unserved-requires
 unserved-requires c κs = search needs
 
--- src/decide.rt:40:9
+-- src/decide.rt:41:9
 refused-requires : tie.Need-refused-requires
 refused-requires c κs = search needs
 
--- src/decide.rt:40:9
+-- src/decide.rt:41:9
 returns : tie.Need-returns
 returns c =
     let a = c .before .before .before .before .before .before .before .before .args in
-    let ls : List Label = labelled (nodesIn (a .file .now) (a .head)) (drop 1 (a .roles .now)) in
+    let ls : List Label = labelled (contentsAt (a .file .now) (a .head) .nodes) (drop 1 (a .roles .now)) in
     let e = c .before .before .before .unserved .ensures in
     let loud : Quiet (unservedFrom 1 ls) → ⊥ = λ q. c .before .if1 .taken (ap (λ (x : Verdict). x .number) e ∙ q) in
     let s : settling ls ≡ unservedFrom 1 ls = unserved-loud ls loud in (
@@ -50,41 +51,42 @@ returns c =
       λ z. absurd (c .before .if1 .taken (sym (ap (λ (d : Decision). d .verdict .number) (c .refused .ensures)) ∙ z)),
     )
 
--- src/decide.rt:42:5
+-- src/decide.rt:43:5
 turns-requires : tie.Need-turns-requires
 turns-requires c κs =
     let a = c .before .before .before .before .before .before .before .before .args in
     let pre = c .before .before .before .before .before .before .before .before .pre in
-    let ls : List Label = labelled (nodesIn (a .file .now) (a .head)) (drop 1 (a .roles .now)) in
+    let ls : List Label = labelled (contentsAt (a .file .now) (a .head) .nodes) (drop 1 (a .roles .now)) in
     let quiet : Quiet (unservedFrom 1 ls) = sym (ap (λ (x : Verdict). x .number) (c .before .before .before .unserved .ensures)) ∙ c .before .if1 .left in
-    (pre .0 .nodes, pre .1, pre .2, all-served 1 ls quiet)
+    (pre .0, pre .1, pre .2, all-served 1 ls quiet)
 
--- src/decide.rt:43:9
+-- src/decide.rt:44:9
 starts-requires : tie.Need-starts-requires
 starts-requires c κs = search needs
 
--- src/decide.rt:45:9
+-- src/decide.rt:46:9
 refused-requires-2 : tie.Need-refused-requires-2
 refused-requires-2 c κs = search needs
 
--- src/decide.rt:45:9
+-- src/decide.rt:46:9
 same-length : tie.Need-same-length
 same-length c = search needs
 
--- src/decide.rt:45:9
+-- src/decide.rt:46:9
 same-length-2 : tie.Need-same-length-2
 same-length-2 c = search needs
 
--- src/decide.rt:45:9
+-- src/decide.rt:46:9
 returns-2 : tie.Need-returns-2
 returns-2 c =
     let a = c .before .before .before .before .before .before .before .before .before .before .before .before .before .before .before .before .before .before .before .args in
-    let ls : List Label = labelled (nodesIn (a .file .now) (a .head)) (drop 1 (a .roles .now)) in
+    let ls : List Label = labelled (contentsAt (a .file .now) (a .head) .nodes) (drop 1 (a .roles .now)) in
     let quiet : Quiet (unservedFrom 1 ls) = sym (ap (λ (x : Verdict). x .number) (c .before .before .before .before .before .before .before .before .before .before .before .before .before .before .unserved .ensures)) ∙ c .before .before .before .before .before .before .before .before .before .before .before .before .if1 .left in
-    let few = c .before .before .before .before .before .before .before .before .before .before .before .before .before .before .before .before .before .before .before .pre .0 .nodes in
+    let pre = c .before .before .before .before .before .before .before .before .before .before .before .before .before .before .before .before .before .before .before .pre in
+    let held = nodes-held (a .file .now) (a .head) in
     let t : List ℕ = c .before .before .before .before .before .before .before .before .before .before .turns .last .1 .1 .1 .0 in
     let written : turnsIn t (a .head .count .nodes) ≡ turnsOf ls =
-    turns-written (a .file .now) (a .head) (a .roles .now) (a .turns .now) t (omega (arith, few, c .before .before .before .before .before .before .before .before .before .before .before .before .before .before .before .before .before .before .before .pre .1)) (omega (arith, few, c .before .before .before .before .before .before .before .before .before .before .before .before .before .before .before .before .before .before .before .pre .2)) (c .before .before .before .before .before .before .before .before .before .before .turns .ensures) in
+    ap (turnsIn t) (sym held) ∙ turns-written (contentsAt (a .file .now) (a .head) .nodes) (a .roles .now) (a .turns .now) t (omega (arith, held, pre .0 .nodes, pre .1)) (omega (arith, held, pre .0 .nodes, pre .2)) (c .before .before .before .before .before .before .before .before .before .before .turns .ensures) in
     let sums : c .before .before .before .before .before .starts .result ≡ summed (turnsOf ls) = c .before .before .before .before .before .starts .ensures .0 ∙ ap summed written in
     let s : settling ls ≡ refused 16 0 = too-large ls quiet (omega (arith, c .before .if2 .taken, ap (λ (x : Sums). x .nodes) sums)) in
     let loud : Quiet (settling ls) → ⊥ = λ q. let no-way : ⊥ = omega (arith, sym (ap (λ (x : Verdict). x .number) s) ∙ q) in no-way in (
@@ -94,24 +96,25 @@ returns-2 c =
       λ z. let no-way : ⊥ = omega (arith, sym (ap (λ (d : Decision). d .verdict .number) (c .refused2 .ensures)) ∙ z) in absurd no-way,
     )
 
--- src/decide.rt:33:1
+-- src/decide.rt:34:1
 same-length-3 : tie.Need-same-length-3
 same-length-3 c = search needs
 
--- src/decide.rt:33:1
+-- src/decide.rt:34:1
 same-length-4 : tie.Need-same-length-4
 same-length-4 c = search needs
 
--- src/decide.rt:33:1
+-- src/decide.rt:34:1
 returns-3 : tie.Need-returns-3
 returns-3 c =
     let a = c .before .before .before .before .before .before .before .before .before .before .before .before .before .before .before .before .before .before .args in
-    let ls : List Label = labelled (nodesIn (a .file .now) (a .head)) (drop 1 (a .roles .now)) in
+    let ls : List Label = labelled (contentsAt (a .file .now) (a .head) .nodes) (drop 1 (a .roles .now)) in
     let quiet : Quiet (unservedFrom 1 ls) = sym (ap (λ (x : Verdict). x .number) (c .before .before .before .before .before .before .before .before .before .before .before .before .before .unserved .ensures)) ∙ c .before .before .before .before .before .before .before .before .before .before .before .if1 .left in
-    let few = c .before .before .before .before .before .before .before .before .before .before .before .before .before .before .before .before .before .before .pre .0 .nodes in
+    let pre = c .before .before .before .before .before .before .before .before .before .before .before .before .before .before .before .before .before .before .pre in
+    let held = nodes-held (a .file .now) (a .head) in
     let t : List ℕ = c .before .before .before .before .before .before .before .before .before .turns .last .1 .1 .1 .0 in
     let written : turnsIn t (a .head .count .nodes) ≡ turnsOf ls =
-    turns-written (a .file .now) (a .head) (a .roles .now) (a .turns .now) t (omega (arith, few, c .before .before .before .before .before .before .before .before .before .before .before .before .before .before .before .before .before .before .pre .1)) (omega (arith, few, c .before .before .before .before .before .before .before .before .before .before .before .before .before .before .before .before .before .before .pre .2)) (c .before .before .before .before .before .before .before .before .before .turns .ensures) in
+    ap (turnsIn t) (sym held) ∙ turns-written (contentsAt (a .file .now) (a .head) .nodes) (a .roles .now) (a .turns .now) t (omega (arith, held, pre .0 .nodes, pre .1)) (omega (arith, held, pre .0 .nodes, pre .2)) (c .before .before .before .before .before .before .before .before .before .turns .ensures) in
     let sums : c .before .before .before .before .starts .result ≡ summed (turnsOf ls) = c .before .before .before .before .starts .ensures .0 ∙ ap summed written in
     let s : settling ls ≡ fine = not-too-large ls quiet (omega (arith, c .if2 .left, ap (λ (x : Sums). x .nodes) sums)) in (
       ap₂ (λ v k. decision v k) (sym s) sums ∙ sym (decided-quiet (settling ls) (turnsOf ls) (ap (λ (x : Verdict). x .number) s)),

@@ -1,48 +1,48 @@
-use mathlib.Core.Bool.{true, false, _&&_}
-use lib.Dec.{eqb}
-use mathlib.Core.Path.{_≡_, refl, sym, ap, ap₂, _∙_}
-use Prim.Native.Nat.{ℕ, _+_, _*_, _-_, _≤_}
+use Prim.Native.Nat.{_+_, _-_, _≤_}
+use mathlib.Core.Bool.{_&&_}
+use mathlib.Core.Path.{_≡_, refl, sym, ap₂, _∙_}
 use native.Mathlib.Omega.{arith}
-use lib.ListN.{length, getD, drop}
+use lib.Dec.{eqb}
+use lib.ListN.{getD, drop}
 use borrow.Author.Needs.{needs}
-use Rattle.format.specs.Sections.{nodeAt, nodesFrom}
-use Rattle.format.specs.declared.Node.{Node}
+use Rattle.format.specs.Contents.{item, noNode, contentsAt}
+use Rattle.format.proofs.ContentsLaws.{nodes-held}
 use Rattle.states.specs.States.{needs as needy, labelled}
 use Rattle.placing.specs.Placing.{unservedFrom}
-use Rattle.placing.proofs.ServedLaws.{labelsLeft, left-all, left-served, left-unserved, left-none}
+use Rattle.placing.proofs.ServedLaws.{labelsLeft, left-served, left-unserved, left-none}
 use Rattle.placing.proofs.served.unserved.Statement.{statement}
 use Rattle.placing.proofs.served.unserved.Tie as tie
 use Rattle.placing.proofs.served.unserved.Reads as reads
 use Rattle.placing.proofs.served.unserved.Lts as lts
-use Rattle.format.proofs.sections.node.Reads as node-reads
+use Rattle.format.proofs.sections.node_tag.Reads as node-tag-reads
 use Rattle.format.proofs.words.wide.Reads as wide-reads
 use Rattle.placing.proofs.served.is_unserved.Reads as is-unserved-reads
 
 abbrev Inv-loop : tie.InvT-loop
 Inv-loop file head roles count n₀ n =
-    (1 ≤ n) × (count ≡ head .count .nodes) × (n ≤ count + 1) × (unservedFrom n (labelsLeft file (head .at .nodes) roles n count) ≡ unservedFrom 1 (labelled (nodesFrom file (head .at .nodes) (head .count .nodes)) (drop 1 roles)))
+    (1 ≤ n) × (count ≡ head .count .nodes) × (n ≤ count + 1)
+    × (unservedFrom n (labelsLeft (contentsAt file head .nodes) roles n) ≡ unservedFrom 1 (labelled (contentsAt file head .nodes) (drop 1 roles)))
 
 abbrev μ-loop : tie.MeasureT-loop
 μ-loop file head roles count n₀ n = count + 1 - n
 
--- src/served.rt:28:5
+-- src/served.rt:29:5
 loop-holds : tie.Need-loop-holds Inv-loop μ-loop
-loop-holds c =
-    let a = c .before .before .args in (omega arith, refl, omega arith, ap (unservedFrom 1) (left-all (a .file .now) (a .head .at .nodes) (a .roles .now) (a .head .count .nodes)))
+loop-holds c = (omega arith, refl, omega arith, refl)
 
--- src/served.rt:29:13
-node-requires : tie.Need-node-requires Inv-loop μ-loop
-node-requires c κs = search needs
+-- src/served.rt:30:24
+node-tag-requires : tie.Need-node-tag-requires Inv-loop μ-loop
+node-tag-requires c κs = search needs
 
--- src/served.rt:30:38
+-- src/served.rt:30:55
 wide-requires : tie.Need-wide-requires Inv-loop μ-loop
 wide-requires c κs = search needs
 
--- src/served.rt:30:32
+-- src/served.rt:30:49
 mul-is-unserved : tie.Need-mul-is-unserved Inv-loop μ-loop
 mul-is-unserved c = search needs
 
--- src/served.rt:30:32
+-- src/served.rt:30:49
 shared-slice-read-is-unserved : tie.Need-shared-slice-read-is-unserved Inv-loop μ-loop
 shared-slice-read-is-unserved c = search needs
 
@@ -55,40 +55,39 @@ returns : tie.Need-returns Inv-loop μ-loop
 returns c =
     let a = c .before .before .before .before .before .before .before .before .before .args in
     let l = c .before .before .before .before .before .before .loop in
-    let found : c .before .is-unserved .result ≡ (needy (nodeAt (a .file .now) (a .head .at .nodes + 3 * (l .n - 1)) .tag) && eqb (getD (a .roles .now) (l .n) 0) 0) =
-    c .before .is-unserved .ensures
-    ∙ ap₂ (λ t j. needy t && eqb (getD (a .roles .now) j 0) 0) (ap (λ (x : Node). x .tag) (c .before .before .before .before .node .ensures)) (c .before .before .before .wide .ensures .0) in
-    sym (left-unserved (a .file .now) (a .head .at .nodes) (a .roles .now) (l .n) (a .head .count .nodes) (omega arith) (omega arith) (omega (arith, c .before .before .before .before .before .before .before .before .before .pre)) (sym found ∙ c .if1 .taken)) ∙ l .inv .3
+    let ns = contentsAt (a .file .now) (a .head) .nodes in
+    let found : c .before .is-unserved .result ≡ (needy (item noNode ns (l .n) .tag) && eqb (getD (a .roles .now) (l .n) 0) 0) =
+    c .before .is-unserved .ensures ∙ ap₂ (λ t j. needy t && eqb (getD (a .roles .now) j 0) 0) (c .before .before .before .before .node-tag .ensures) (c .before .before .before .wide .ensures .0) in
+    sym (left-unserved ns (a .roles .now) (l .n) (omega arith) (omega (arith, nodes-held (a .file .now) (a .head))) (omega (arith, c .before .before .before .before .before .before .before .before .before .pre)) (sym found ∙ c .if1 .taken)) ∙ l .inv .3
 
 -- src/served.rt:36:9
 add-n : tie.Need-add-n Inv-loop μ-loop
-add-n c =
-    omega (arith, c .before .before .before .before .before .before .before .before .before .pre)
+add-n c = omega (arith, c .before .before .before .before .before .before .before .before .before .pre)
 
--- src/served.rt:28:5
+-- src/served.rt:29:5
 loop-less : tie.Need-loop-less Inv-loop μ-loop
 loop-less c = search needs
 
--- src/served.rt:28:5
+-- src/served.rt:29:5
 loop-again : tie.Need-loop-again Inv-loop μ-loop
 loop-again c =
     let a = c .before .before .before .before .before .before .before .before .before .args in
     let l = c .before .before .before .before .before .before .loop in
-    let found : c .before .is-unserved .result ≡ (needy (nodeAt (a .file .now) (a .head .at .nodes + 3 * (l .n - 1)) .tag) && eqb (getD (a .roles .now) (l .n) 0) 0) =
-    c .before .is-unserved .ensures
-    ∙ ap₂ (λ t j. needy t && eqb (getD (a .roles .now) j 0) 0) (ap (λ (x : Node). x .tag) (c .before .before .before .before .node .ensures)) (c .before .before .before .wide .ensures .0) in (
+    let ns = contentsAt (a .file .now) (a .head) .nodes in
+    let found : c .before .is-unserved .result ≡ (needy (item noNode ns (l .n) .tag) && eqb (getD (a .roles .now) (l .n) 0) 0) =
+    c .before .is-unserved .ensures ∙ ap₂ (λ t j. needy t && eqb (getD (a .roles .now) j 0) 0) (c .before .before .before .before .node-tag .ensures) (c .before .before .before .wide .ensures .0) in (
       omega arith,
       refl,
       omega arith,
-      sym (left-served (a .file .now) (a .head .at .nodes) (a .roles .now) (l .n) (a .head .count .nodes) (omega arith) (omega arith) (omega (arith, c .before .before .before .before .before .before .before .before .before .pre)) (sym found ∙ c .if1 .left)) ∙ l .inv .3,
+      sym (left-served ns (a .roles .now) (l .n) (omega arith) (omega (arith, nodes-held (a .file .now) (a .head))) (omega (arith, c .before .before .before .before .before .before .before .before .before .pre)) (sym found ∙ c .if1 .left)) ∙ l .inv .3,
     )
 
--- src/served.rt:22:1
+-- src/served.rt:23:1
 returns-2 : tie.Need-returns-2 Inv-loop μ-loop
 returns-2 c =
     let a = c .before .before .before .before .args in
     let l = c .before .loop in
-    sym (left-none (a .file .now) (a .head .at .nodes) (a .roles .now) (l .n) (a .head .count .nodes) (omega arith)) ∙ l .inv .3
+    sym (left-none (contentsAt (a .file .now) (a .head) .nodes) (a .roles .now) (l .n) (omega (arith, nodes-held (a .file .now) (a .head)))) ∙ l .inv .3
 
 pub unserved-spec : {M : Type 1} → statement M
 unserved-spec =
@@ -97,7 +96,7 @@ unserved-spec =
     Inv-loop
     μ-loop
     loop-holds
-    node-requires
+    node-tag-requires
     wide-requires
     mul-is-unserved
     shared-slice-read-is-unserved

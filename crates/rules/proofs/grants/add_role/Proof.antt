@@ -1,6 +1,6 @@
 -- The invariant: from k on each mask has the role where it is to have it, and below k the table is as it was.
 use borrow.Author.Needs.{needs}
-use mathlib.Core.Path.{_≡_, refl, ap, ap₂, _∙_}
+use mathlib.Core.Path.{_≡_, refl, ap, _∙_}
 use mathlib.Core.Bool.{cond}
 use Prim.Native.Nat.{_≤_, _-_}
 use native.Mathlib.Omega.{arith}
@@ -8,7 +8,7 @@ use lib.ListN.{length, getD, take, drop, length-set}
 use Rattle.masks.specs.Mask.{has, with}
 use Rattle.rules.specs.Schema.{granted}
 use Rattle.rules.specs.Kept.{addRole}
-use Rattle.rules.proofs.GrantLaws.{add-none, add-more, item-some}
+use Rattle.rules.proofs.GrantLaws.{add-none, add-more}
 use Rattle.rules.proofs.grants.add_role.Statement.{statement}
 use Rattle.rules.proofs.grants.add_role.Tie as tie
 use Rattle.rules.proofs.grants.add_role.Reads as reads
@@ -73,7 +73,7 @@ loop-again c =
     let l = c .before .before .before .before .before .loop in
     let can : c .before .role-permits .result ≡ has (granted (a .way) (a .it)) (l .k - 1) =
     c .before .role-permits .ensures
-    ∙ ap₂ has (item-some (a .role .0) (granted (a .way) (a .it)) (c .before .before .before .before .before .before .before .pre .0)) (c .before .before .before .narrow .ensures) in
+    ∙ ap (has (granted (a .way) (a .it))) (c .before .before .before .narrow .ensures) in
     let old = getD (l .table) (l .k - 1) 0 in
     let its = c .with-if .ensures ∙ ap (λ b. cond b (with old (a .role .0)) old) can in
     let more = add-more (granted (a .way) (a .it)) (a .role .0) (a .table .now) (l .table) (l .k) (c .with-if .result) (omega arith) (omega arith) (l .inv .1) its (l .inv .2) (l .inv .3) in

@@ -1,10 +1,12 @@
 -- The invariant: the tables have the roles 1 to n.
 use borrow.Author.Needs.{needs}
-use mathlib.Core.Path.{_≡_, refl, ap, _∙_}
+use mathlib.Core.Path.{_≡_, refl, sym, ap, _∙_}
 use Prim.Native.Nat.{_+_, _≤_, _-_}
 use native.Mathlib.Omega.{arith}
 use lib.ListN.{length}
+use Rattle.format.specs.Contents.{contentsAt}
 use Rattle.format.specs.declared.Role.{Role}
+use Rattle.format.proofs.ContentsLaws.{roles-held}
 use Rattle.rules.specs.declared.Way.the-variants.{Sends, Receives}
 use Rattle.rules.specs.Schema.{schemaOf}
 use Rattle.rules.specs.Kept.{grantsTo, addRole, Beyond}
@@ -19,8 +21,8 @@ use Rattle.rules.proofs.grants.add_role.Reads as add-role-reads
 abbrev Inv-loop : tie.InvT-loop
 Inv-loop file head sends₀ receives₀ n₀ sends receives n =
     (n ≤ head .count .roles) × (length sends ≡ length sends₀) × (length receives ≡ length receives₀)
-    × (sends ≡ grantsTo (schemaOf file head) Sends n 0 (length sends₀)) × (receives ≡ grantsTo (schemaOf file head) Receives n 0 (length receives₀))
-    × Beyond (schemaOf file head) Sends n × Beyond (schemaOf file head) Receives n
+    × (sends ≡ grantsTo (schemaOf (contentsAt file head)) Sends n 0 (length sends₀)) × (receives ≡ grantsTo (schemaOf (contentsAt file head)) Receives n 0 (length receives₀))
+    × Beyond (schemaOf (contentsAt file head)) Sends n × Beyond (schemaOf (contentsAt file head)) Receives n
 
 abbrev μ-loop : tie.MeasureT-loop
 μ-loop file head sends₀ receives₀ n₀ sends receives n = head .count .roles - n
@@ -28,7 +30,7 @@ abbrev μ-loop : tie.MeasureT-loop
 -- src/grants.rt:84:5
 loop-holds : tie.Need-loop-holds Inv-loop μ-loop
 loop-holds c = let a = c .before .before .before .args in
-    let D = schemaOf (a .file .now) (a .head) in
+    let D = schemaOf (contentsAt (a .file .now) (a .head)) in
     let p = c .before .before .before .pre in (
       omega arith,
       refl,
@@ -64,19 +66,19 @@ loop-again : tie.Need-loop-again Inv-loop μ-loop
 loop-again c =
     let a = c .before .before .before .before .before .before .before .before .before .before .before .before .before .before .before .args in
     let l = c .before .before .before .before .before .before .before .before .before .before .before .loop in
-    let D = schemaOf (a .file .now) (a .head) in
+    let D = schemaOf (contentsAt (a .file .now) (a .head)) in
     let it = c .before .before .before .before .before .before .before .before .role in
     let s = c .before .before .before .before .before .before .add-role .ensures ∙ ap (addRole (it .result .sends) (l .n + 1) 0) (l .inv .3)
-    ∙ grants-more (a .file .now) (a .head) Sends (it .result .sends) (l .n) 0 (length (a .sends .now)) (ap (λ (x : Role). x .sends) (it .ensures)) in
+    ∙ grants-more D Sends (it .result .sends) (l .n) 0 (length (a .sends .now)) (ap (λ (x : Role). x .sends) (it .ensures)) in
     let r = c .before .before .add-role2 .ensures ∙ ap (addRole (it .result .receives) (l .n + 1) 0) (l .inv .4)
-    ∙ grants-more (a .file .now) (a .head) Receives (it .result .receives) (l .n) 0 (length (a .receives .now)) (ap (λ (x : Role). x .receives) (it .ensures)) in (
+    ∙ grants-more D Receives (it .result .receives) (l .n) 0 (length (a .receives .now)) (ap (λ (x : Role). x .receives) (it .ensures)) in (
       omega arith,
       ap length s ∙ grants-length D Sends (l .n + 1) 0 (length (a .sends .now)),
       ap length r ∙ grants-length D Receives (l .n + 1) 0 (length (a .receives .now)),
       s,
       r,
-      beyond-more (a .file .now) (a .head) Sends (it .result .sends) (l .n) (ap (λ (x : Role). x .sends) (it .ensures)) (omega arith) (l .inv .5),
-      beyond-more (a .file .now) (a .head) Receives (it .result .receives) (l .n) (ap (λ (x : Role). x .receives) (it .ensures)) (omega arith) (l .inv .6),
+      beyond-more D Sends (it .result .sends) (l .n) (ap (λ (x : Role). x .sends) (it .ensures)) (omega arith) (l .inv .5),
+      beyond-more D Receives (it .result .receives) (l .n) (ap (λ (x : Role). x .receives) (it .ensures)) (omega arith) (l .inv .6),
     )
 
 -- src/grants.rt:78:1
@@ -93,7 +95,8 @@ returns c =
     let a = c .before .before .before .before .before .before .args in
     let l = c .before .before .loop in
     let all : l .n ≡ a .head .count .roles = omega arith in
-    (rw all at (l .inv .3), rw all at (l .inv .4), rw all at (l .inv .5), rw all at (l .inv .6))
+    let held : l .n ≡ length (contentsAt (a .file .now) (a .head) .roles) = all ∙ sym (roles-held (a .file .now) (a .head)) in
+    (rw held at (l .inv .3), rw held at (l .inv .4), rw all at (l .inv .5), rw all at (l .inv .6))
 
 pub fill-grants-spec : {M : Type 1} → statement M
 fill-grants-spec =

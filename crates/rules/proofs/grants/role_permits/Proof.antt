@@ -1,9 +1,5 @@
 use mathlib.Core.Path.{ap, _∙_}
-use mathlib.Core.Bool.{not, _&&_}
-use lib.Dec.{eqb}
 use Rattle.masks.specs.Mask.{has}
-use Rattle.rules.specs.Schema.{granted}
-use Rattle.rules.proofs.GrantLaws.{item-has}
 use borrow.Author.Needs.{needs}
 use Rattle.rules.proofs.grants.role_permits.Statement.{statement}
 use Rattle.rules.proofs.grants.role_permits.Tie as tie
@@ -12,19 +8,17 @@ use Rattle.rules.proofs.grants.role_permits.Lts as lts
 use Rattle.masks.proofs.has_kind.Reads as has-kind-reads
 use Rattle.rules.proofs.grants.granted_by.Reads as granted-by-reads
 
--- src/grants.rt:34:14
+-- src/grants.rt:36:14
 granted-by-requires : tie.Need-granted-by-requires
 granted-by-requires c κs = search needs
 
--- src/grants.rt:34:5
+-- src/grants.rt:36:5
 has-kind-requires : tie.Need-has-kind-requires
 has-kind-requires c κs = search needs
 
--- src/grants.rt:31:1
+-- src/grants.rt:33:1
 returns : tie.Need-returns
-returns c =
-    let a = c .before .before .before .args in
-    ap (λ b. not (eqb (a .role .0) 0) && b) (c .has-kind .ensures ∙ ap (λ g. has g (a .kind .0)) (c .before .granted-by .ensures)) ∙ item-has (a .role .0) (granted (a .way) (a .it)) (a .kind .0)
+returns c = let a = c .before .before .args in c .has-kind .ensures ∙ ap (λ g. has g (a .kind .0)) (c .before .granted-by .ensures)
 
 pub role-permits-spec : {M : Type 1} → statement M
 role-permits-spec = tie.close (tie.spec granted-by-requires has-kind-requires returns)

@@ -1,15 +1,16 @@
 use borrow.Author.Needs.{needs}
-use Prim.Native.Nat.{_+_, _*_, _-_, _≤_}
-use mathlib.Core.Path.{_≡_, refl, ap, ap₂, _∙_}
+use Prim.Native.Nat.{_+_, _-_, _≤_}
+use mathlib.Core.Path.{_≡_, ap, _∙_}
 use mathlib.Core.List.{[], map}
 use native.Mathlib.Omega.{arith}
-use lib.ListN.{length, length-set}
-use Rattle.format.specs.Words.{wordAt}
-use Rattle.format.specs.declared.Session.{Session}
+use lib.ListN.{length, drop, length-set}
+use Rattle.format.specs.Contents.{item, noSession, contentsAt}
+use Rattle.format.proofs.ContentsLaws.{sessions-held, from-item, none-past}
 use Rattle.rules.specs.Schema.{schemaOf}
-use Rattle.rules.specs.Checking.{openingsFrom}
-use Rattle.rules.specs.Kept.{contextOf, stacked, waiting, Waits}
-use Rattle.rules.proofs.StackLaws.{opened-push, opened-waits}
+use Rattle.rules.specs.Checking.{opened}
+use Rattle.rules.specs.declared.Point.{Point}
+use Rattle.rules.specs.Kept.{unpacking, contextOf, stacked, waiting, Waits, Given}
+use Rattle.rules.proofs.StackLaws.{contexts-push, waits-push, context-bare}
 use Rattle.rules.proofs.judge.open_sessions.Statement.{statement}
 use Rattle.rules.proofs.judge.open_sessions.Tie as tie
 use Rattle.rules.proofs.judge.open_sessions.Reads as reads
@@ -18,12 +19,12 @@ use Rattle.format.proofs.sections.session.Reads as session-reads
 use Rattle.format.proofs.words.narrow.Reads as narrow-reads
 use Rattle.format.proofs.words.wide.Reads as wide-reads
 use Rattle.rules.proofs.judge.packed.Reads as packed-reads
-use Rattle.rules.proofs.names.assigned_to.Reads as assigned-to-reads
+use Rattle.format.proofs.sections.user_roles.Reads as user-roles-reads
 
 abbrev Inv-loop : tie.InvT-loop
 Inv-loop file head stack₀ sessions depth₀ stack depth =
-    (depth ≤ sessions) × (length stack ≡ 1057) × Waits (schemaOf file head) 0 (waiting stack depth)
-    × (map (contextOf []) (waiting stack depth) ≡ openingsFrom file (head .at .sessions + 3 * (sessions - depth)) depth)
+    (depth ≤ sessions) × (length stack ≡ 1057) × Waits (Given (schemaOf (contentsAt file head))) 0 (waiting stack depth)
+    × (map (contextOf []) (waiting stack depth) ≡ opened (drop (sessions - depth) (contentsAt file head .sessions)))
 
 abbrev μ-loop : tie.MeasureT-loop
 μ-loop file head stack₀ sessions depth₀ stack depth = sessions - depth
@@ -34,8 +35,12 @@ wide-requires c κs = search needs
 
 -- src/judge.rt:56:5
 loop-holds : tie.Need-loop-holds Inv-loop μ-loop
-unfolding stacked openingsFrom
-loop-holds c = (omega arith, omega arith, tt, refl)
+unfolding stacked opened
+loop-holds c =
+    let a = c .before .before .before .args in
+    let none : drop (c .wide .result - 0) (contentsAt (a .file .now) (a .head) .sessions) ≡ [] =
+    none-past (contentsAt (a .file .now) (a .head) .sessions) (c .wide .result - 0) (omega (arith, sessions-held (a .file .now) (a .head), c .wide .ensures .0)) in
+    (omega arith, omega arith, tt, rw none)
 
 -- src/judge.rt:57:45
 sub-narrow : tie.Need-sub-narrow Inv-loop μ-loop
@@ -50,8 +55,8 @@ session-requires : tie.Need-session-requires Inv-loop μ-loop
 session-requires c κs = search needs
 
 -- src/judge.rt:58:13
-assigned-to-requires : tie.Need-assigned-to-requires Inv-loop μ-loop
-assigned-to-requires c κs = search needs
+user-roles-requires : tie.Need-user-roles-requires Inv-loop μ-loop
+user-roles-requires c κs = search needs
 
 -- src/judge.rt:59:24
 packed-requires : tie.Need-packed-requires Inv-loop μ-loop
@@ -75,21 +80,23 @@ loop-less c = search needs
 
 -- src/judge.rt:56:5
 loop-again : tie.Need-loop-again Inv-loop μ-loop
+unfolding opened
 loop-again c =
     let a = c .before .before .before .before .before .before .before .before .before .args in
     let l = c .before .before .before .before .before .loop in
     let s = c .before .before .before .before .before .before .wide .result in
-    let D = schemaOf (a .file .now) (a .head) in
-    let it = c .before .before .session .result in
-    let more = c .before .assigned-to in
-    let user : it .user ≡ wordAt (a .file .now) (a .head .at .sessions + 3 * (s - l .depth - 1)) =
-    ap (λ (x : Session). x .user) (c .before .before .session .ensures) ∙ ap (λ k. wordAt (a .file .now) (a .head .at .sessions + 3 * (k - 1))) (c .before .before .before .narrow .ensures) in
-    let mask : it .mask ≡ wordAt (a .file .now) (a .head .at .sessions + 3 * (s - l .depth - 1) + 1) =
-    ap (λ (x : Session). x .mask) (c .before .before .session .ensures) ∙ ap (λ k. wordAt (a .file .now) (a .head .at .sessions + 3 * (k - 1) + 1)) (c .before .before .before .narrow .ensures) in (
+    let S = contentsAt (a .file .now) (a .head) .sessions in
+    let it = c .before .before .session in
+    let more = c .before .user-roles in
+    let its : it .result ≡ item noSession S (s - l .depth) = it .ensures ∙ ap (item noSession S) (c .before .before .before .narrow .ensures) in
+    let turn = from-item noSession S (s - l .depth) (omega arith) (omega (arith, sessions-held (a .file .now) (a .head), c .before .before .before .before .before .before .wide .ensures .0)) in
+    let one : s - (l .depth + 1) ≡ s - l .depth - 1 = omega arith in
+    let p : Point = record { user = it .result .user; assigned = more .result; mask = it .result .mask; bound = 0 } in (
       omega arith,
       simp length-set (l .inv .1),
-      opened-waits D (a .file .now) (a .head .at .sessions) s (l .depth) (it .user) (more .result) (it .mask) (c .packed .result) (l .stack) (omega arith) (omega arith) (c .packed .ensures .1) (more .ensures) (l .inv .2),
-      opened-push D (a .file .now) (a .head .at .sessions) s (l .depth) (it .user) (more .result) (it .mask) (c .packed .result) (l .stack) (omega arith) (omega arith) (c .packed .ensures .1) user mask (l .inv .3),
+      waits-push unpacking (Given (schemaOf (contentsAt (a .file .now) (a .head)))) 0 (l .stack) (l .depth) (c .packed .result) p (omega arith) (c .packed .ensures .1) (omega arith) (more .ensures) (l .inv .2),
+      rw (one, turn, ← its)
+          (contexts-push unpacking [] (l .stack) (l .depth) (c .packed .result) p (omega arith) (c .packed .ensures .1) (context-bare (p .user) (p .assigned) (p .mask)) (l .inv .3)),
     )
 
 -- src/judge.rt:49:1
@@ -102,8 +109,8 @@ returns c = let a = c .before .before .before .before .before .args in
     let l = c .before .loop in
     let s = c .before .before .wide .result in
     let all : l .depth ≡ a .head .count .sessions = omega (arith, c .before .before .wide .ensures .0) in
-    let from : a .head .at .sessions + 3 * (s - l .depth) ≡ a .head .at .sessions = omega arith in
-    (all, l .inv .1, l .inv .2, l .inv .3 ∙ ap₂ (openingsFrom (a .file .now)) from all)
+    let none : s - l .depth ≡ 0 = omega arith in
+    (all, l .inv .1, l .inv .2, l .inv .3 ∙ ap (λ k. opened (drop k (contentsAt (a .file .now) (a .head) .sessions))) none)
 
 pub open-sessions-spec : {M : Type 1} → statement M
 open-sessions-spec =
@@ -116,7 +123,7 @@ open-sessions-spec =
     sub-narrow
     narrow-requires
     session-requires
-    assigned-to-requires
+    user-roles-requires
     packed-requires
     mul-stack
     slice-write-stack

@@ -1,22 +1,24 @@
 -- The invariant: i is the node due, `here` is its context, the contexts on the stack have fewer and fewer variables from its top down, and what is
 -- left from here gives what the whole gives.
 use Prim.Native.Nat.{_+_, _-_, _≤_, _<_}
-use mathlib.Core.Path.{_≡_, refl, sym, ap, subst, _∙_}
+use mathlib.Core.Path.{_≡_, sym, ap, subst, _∙_}
 use mathlib.Core.List.{List, [], _∷_, map}
 use native.Mathlib.Omega.{arith}
 use borrow.Author.Needs.{needs}
 use lib.ListN.{length, set, length-set}
+use Rattle.format.specs.Contents.{contentsAt}
 use Rattle.format.specs.Answers.{fine, orElse}
 use Rattle.format.specs.declared.Verdict.{Verdict}
+use Rattle.format.proofs.ContentsLaws.{users-held, channels-held, nodes-held}
 use Rattle.rules.specs.declared.Point.{Point}
 use Rattle.rules.specs.declared.Step.{Step}
 use Rattle.rules.specs.Schema.{schemaOf}
 use Rattle.rules.specs.Rules.{Context}
 use Rattle.rules.specs.Checking.{openings}
-use Rattle.rules.specs.Kept.{Named, contextOf, waiting, Waits, answerAt}
+use Rattle.rules.specs.Kept.{Named, unpacking, contextOf, waiting, Waits, Given, answerAt}
 use Rattle.rules.proofs.NameLaws.{Held, held-less, named-kept}
 use Rattle.rules.proofs.StepLaws.{Right, step-right}
-use Rattle.rules.proofs.StackLaws.{waiting-top, waiting-none, waiting-push, waits-more, contexts-kept, contexts-bare}
+use Rattle.rules.proofs.StackLaws.{waiting-top, waiting-none, waiting-push, waits-push, waits-more, contexts-kept, contexts-bare}
 use Rattle.rules.proofs.PassLaws.{Left, begins, goes-on, after-step, refuses, runs-out, ends, ends-tree, forks}
 use Rattle.rules.proofs.judge.walk.Statement.{statement}
 use Rattle.rules.proofs.judge.walk.Tie as tie
@@ -34,25 +36,28 @@ use Rattle.rules.proofs.steps.step_at.Reads as step-at-reads
 abbrev Inv-loop : tie.InvT-loop
 Inv-loop file head sends receives names₀ roles₀ fine stack₀ depth₀ here₀ first₀ nodes i₀ names roles stack depth here first i =
     (1 ≤ i) × (i ≤ nodes + 1) × (length stack ≡ 1057) × (length names ≡ 1537) × (length roles ≡ 1025) × (depth ≤ 30 + i) × (here .bound < i)
-    × (here .assigned ≡ schemaOf file head .assigned (here .user)) × Named (schemaOf file head) (head .count .users) (head .count .channels) names
-    × Held names (here .bound) × Waits (schemaOf file head) (here .bound) (waiting stack depth)
-    × Left file head roles₀ i (contextOf names here ∷ map (contextOf names) (waiting stack depth)) first roles
+    × (here .assigned ≡ schemaOf (contentsAt file head) .assigned (here .user)) × Named (schemaOf (contentsAt file head)) (head .count .users) (head .count .channels) names
+    × Held names (here .bound) × Waits (Given (schemaOf (contentsAt file head))) (here .bound) (waiting stack depth)
+    × Left (contentsAt file head) roles₀ i (contextOf names here ∷ map (contextOf names) (waiting stack depth)) first roles
 
 abbrev μ-loop : tie.MeasureT-loop
 μ-loop file head sends receives names₀ roles₀ fine stack₀ depth₀ here₀ first₀ nodes i₀ names roles stack depth here first i =
     nodes + 1 - i
 
 -- what the step tells of the node
-right-at : (c : tie.After-step-at Inv-loop μ-loop) → Right (schemaOf (c .before .before .before .before .before .before .before .before .before .before .before .before .before .before .before .before .args .file .now) (c .before .before .before .before .before .before .before .before .before .before .before .before .before .before .before .before .args .head)) (c .before .before .before .before .before .loop .names) (c .before .before .before .before .before .loop .here) (c .before .before .before .node .result) (c .step-at .result)
+right-at : (c : tie.After-step-at Inv-loop μ-loop) → Right (schemaOf (contentsAt (c .before .before .before .before .before .before .before .before .before .before .before .before .before .before .before .before .args .file .now) (c .before .before .before .before .before .before .before .before .before .before .before .before .before .before .before .before .args .head))) (c .before .before .before .before .before .loop .names) (c .before .before .before .before .before .loop .here) (c .before .before .before .node .result) (c .step-at .result)
 right-at c =
     let a = c .before .before .before .before .before .before .before .before .before .before .before .before .before .before .before .before .args in
     let pre = c .before .before .before .before .before .before .before .before .before .before .before .before .before .before .before .before .pre in
     let l = c .before .before .before .before .before .loop in
     let n = c .before .before .before .node .result in
-    let D = schemaOf (a .file .now) (a .head) in
+    let D = schemaOf (contentsAt (a .file .now) (a .head)) in
     let few : l .here .bound < 1024 = omega (arith, l .inv .6, c .before .before .before .before .loop-test .taken, pre .0 .nodes) in
+    let users = users-held (a .file .now) (a .head) in
+    let channels = channels-held (a .file .now) (a .head) in
+    let named = subst (λ k. Named D k (D .channels) (l .names)) (sym users) (subst (λ k. Named D (a .head .count .users) k (l .names)) (sym channels) (l .inv .8)) in
     subst (λ (s : Step). Right D (l .names) (l .here) n s) (sym (c .step-at .ensures .0))
-    (step-right D (l .names) (l .here) n (pre .0 .users) (pre .0 .channels) (l .inv .8) (omega (arith, few, l .inv .3)) (l .inv .9) (l .inv .7) (c .before .before .match .rest .0 .1) (c .before .before .match .rest .1) (omega arith) (c .step-at .ensures .1))
+    (step-right D (l .names) (l .here) n (omega (arith, users, pre .0 .users)) (omega (arith, channels, pre .0 .channels)) named (omega (arith, few, l .inv .3)) (l .inv .9) (l .inv .7) (c .before .before .match .rest .0 .1) (c .before .before .match .rest .1) (omega arith) (c .step-at .ensures .1))
 
 -- src/judge.rt:102:47
 slice-aggregate-open-sessions : tie.Need-slice-aggregate-open-sessions Inv-loop μ-loop
@@ -68,8 +73,8 @@ returns c =
     let a = c .before .before .before .before .before .before .before .before .before .args in
     let os = c .before .before .open-sessions .ensures in
     let stack = c .before .before .open-sessions .last .1 .1 .0 in
-    let none : [] ≡ openings (a .file .now) (a .head) = ap (map (contextOf [])) (sym (ap (waiting stack) (c .if1 .taken) ∙ waiting-none stack)) ∙ os .3 in
-    runs-out (a .file .now) (a .head) (a .roles .now) 1 fine (a .roles .now) (begins (a .file .now) (a .head) (a .roles .now) [] none)
+    let none : [] ≡ openings (contentsAt (a .file .now) (a .head)) = ap (map (contextOf [])) (sym (ap (waiting stack) (c .if1 .taken) ∙ waiting-none unpacking stack)) ∙ os .3 in
+    runs-out (contentsAt (a .file .now) (a .head)) (a .roles .now) 1 fine (a .roles .now) (begins (contentsAt (a .file .now) (a .head)) (a .roles .now) [] none)
 
 -- src/judge.rt:109:5
 sub-depth : tie.Need-sub-depth Inv-loop μ-loop
@@ -96,12 +101,12 @@ loop-holds c =
     let stack = c .before .before .before .open-sessions .last .1 .1 .0 in
     let r = c .before .before .before .open-sessions .result in
     let p = c .unpacked .result in
-    let D = schemaOf (a .file .now) (a .head) in
+    let D = schemaOf (contentsAt (a .file .now) (a .head)) in
     let pos : 0 < r = omega arith in
-    let top : waiting stack r ≡ p ∷ waiting stack (r - 1) = waiting-top stack r pos ∙ ap (λ (q : Point). q ∷ waiting stack (r - 1)) (sym (c .unpacked .ensures)) in
-    let w : Waits D 0 (p ∷ waiting stack (r - 1)) = subst (λ (ps : List Point). Waits D 0 ps) top (os .2) in
-    let st : contextOf (a .names .now) p ∷ map (contextOf (a .names .now)) (waiting stack (r - 1)) ≡ openings (a .file .now) (a .head) =
-    ap (map (contextOf (a .names .now))) (sym top) ∙ contexts-bare D (a .names .now) (waiting stack r) (os .2) ∙ os .3 in (
+    let top : waiting stack r ≡ p ∷ waiting stack (r - 1) = waiting-top unpacking stack r pos ∙ ap (λ (q : Point). q ∷ waiting stack (r - 1)) (sym (c .unpacked .ensures)) in
+    let w : Waits (Given D) 0 (p ∷ waiting stack (r - 1)) = subst (λ (ps : List Point). Waits (Given D) 0 ps) top (os .2) in
+    let st : contextOf (a .names .now) p ∷ map (contextOf (a .names .now)) (waiting stack (r - 1)) ≡ openings (contentsAt (a .file .now) (a .head)) =
+    ap (map (contextOf (a .names .now))) (sym top) ∙ contexts-bare (Given D) (a .names .now) (waiting stack r) (os .2) ∙ os .3 in (
       omega arith,
       omega arith,
       os .1,
@@ -113,7 +118,7 @@ loop-holds c =
       pre .4,
       (λ j low high. let no : ⊥ = omega (arith, low, high, w .0) in absurd no),
       w .2,
-      begins (a .file .now) (a .head) (a .roles .now) _ st,
+      begins (contentsAt (a .file .now) (a .head)) (a .roles .now) _ st,
     )
 
 -- src/judge.rt:115:13
@@ -150,9 +155,9 @@ returns-2 c =
     let a = c .before .before .before .before .before .before .before .before .before .before .before .before .before .before .before .before .args in
     let l = c .before .before .before .before .before .loop in
     let n = c .before .before .before .node in
-    let st : map (contextOf (l .names)) (waiting (l .stack) (l .depth)) ≡ [] = ap (λ d. map (contextOf (l .names)) (waiting (l .stack) d)) (c .if2 .taken) ∙ ap (map (contextOf (l .names))) (waiting-none (l .stack)) in
-    let left = ends-tree (a .file .now) (a .head) (a .roles .now) (l .i) (contextOf (l .names) (l .here)) _ (l .first) (l .roles) (l .here .assigned) (n .result) (l .inv .0) (c .before .before .before .before .loop-test .taken) (n .ensures) (c .before .before .match .keys1) (l .inv .7) (l .inv .11) in
-    let over = runs-out (a .file .now) (a .head) (a .roles .now) (l .i + 1) (l .first) (set (l .roles) (l .i) (l .here .assigned)) (subst (λ (x : List Context). Left (a .file .now) (a .head) (a .roles .now) (l .i + 1) x (l .first) (set (l .roles) (l .i) (l .here .assigned))) st left) in
+    let st : map (contextOf (l .names)) (waiting (l .stack) (l .depth)) ≡ [] = ap (λ d. map (contextOf (l .names)) (waiting (l .stack) d)) (c .if2 .taken) ∙ ap (map (contextOf (l .names))) (waiting-none unpacking (l .stack)) in
+    let left = ends-tree (contentsAt (a .file .now) (a .head)) (a .roles .now) (l .i) (contextOf (l .names) (l .here)) _ (l .first) (l .roles) (l .here .assigned) (n .result) (l .inv .0) (omega (arith, nodes-held (a .file .now) (a .head), c .before .before .before .before .loop-test .taken)) (n .ensures) (c .before .before .match .keys1) (l .inv .7) (l .inv .11) in
+    let over = runs-out (contentsAt (a .file .now) (a .head)) (a .roles .now) (l .i + 1) (l .first) (set (l .roles) (l .i) (l .here .assigned)) (subst (λ (x : List Context). Left (contentsAt (a .file .now) (a .head)) (a .roles .now) (l .i + 1) x (l .first) (set (l .roles) (l .i) (l .here .assigned))) st left) in
     (over .0, ap (λ j. set (l .roles) j (l .here .assigned)) (c .before .wide .ensures .0) ∙ over .1)
 
 -- src/judge.rt:128:17
@@ -181,13 +186,13 @@ loop-again c =
     let a = c .before .before .before .before .before .before .before .before .before .before .before .before .before .before .before .before .before .args in
     let l = c .before .before .before .before .before .before .loop in
     let n = c .before .before .before .before .node in
-    let D = schemaOf (a .file .now) (a .head) in
+    let D = schemaOf (contentsAt (a .file .now) (a .head)) in
     let p = c .unpacked2 .result in
     let pos : 0 < l .depth = omega arith in
     let top : waiting (l .stack) (l .depth) ≡ p ∷ waiting (l .stack) (l .depth - 1) =
-    waiting-top (l .stack) (l .depth) pos ∙ ap (λ (q : Point). q ∷ waiting (l .stack) (l .depth - 1)) (sym (c .unpacked2 .ensures)) in
-    let w : Waits D (l .here .bound) (p ∷ waiting (l .stack) (l .depth - 1)) = subst (λ (ps : List Point). Waits D (l .here .bound) ps) top (l .inv .10) in
-    let left = ends-tree (a .file .now) (a .head) (a .roles .now) (l .i) (contextOf (l .names) (l .here)) _ (l .first) (l .roles) (l .here .assigned) (n .result) (l .inv .0) (c .before .before .before .before .before .loop-test .taken) (n .ensures) (c .before .before .before .match .keys1) (l .inv .7) (l .inv .11) in
+    waiting-top unpacking (l .stack) (l .depth) pos ∙ ap (λ (q : Point). q ∷ waiting (l .stack) (l .depth - 1)) (sym (c .unpacked2 .ensures)) in
+    let w : Waits (Given D) (l .here .bound) (p ∷ waiting (l .stack) (l .depth - 1)) = subst (λ (ps : List Point). Waits (Given D) (l .here .bound) ps) top (l .inv .10) in
+    let left = ends-tree (contentsAt (a .file .now) (a .head)) (a .roles .now) (l .i) (contextOf (l .names) (l .here)) _ (l .first) (l .roles) (l .here .assigned) (n .result) (l .inv .0) (omega (arith, nodes-held (a .file .now) (a .head), c .before .before .before .before .before .loop-test .taken)) (n .ensures) (c .before .before .before .match .keys1) (l .inv .7) (l .inv .11) in
     let at : c .before .before .wide .result ≡ l .i = c .before .before .wide .ensures .0 in (
       omega arith,
       omega arith,
@@ -200,8 +205,8 @@ loop-again c =
       l .inv .8,
       held-less (l .names) (l .here .bound) (p .bound) (w .0) (l .inv .9),
       w .2,
-      subst (λ j. Left (a .file .now) (a .head) (a .roles .now) (l .i + 1) (contextOf (l .names) p ∷ map (contextOf (l .names)) (waiting (l .stack) (l .depth - 1))) (l .first) (set (l .roles) j (l .here .assigned))) (sym at)
-          (subst (λ (ps : List Point). Left (a .file .now) (a .head) (a .roles .now) (l .i + 1) (map (contextOf (l .names)) ps) (l .first) (set (l .roles) (l .i) (l .here .assigned))) top left),
+      subst (λ j. Left (contentsAt (a .file .now) (a .head)) (a .roles .now) (l .i + 1) (contextOf (l .names) p ∷ map (contextOf (l .names)) (waiting (l .stack) (l .depth - 1))) (l .first) (set (l .roles) j (l .here .assigned))) (sym at)
+          (subst (λ (ps : List Point). Left (contentsAt (a .file .now) (a .head)) (a .roles .now) (l .i + 1) (map (contextOf (l .names)) ps) (l .first) (set (l .roles) (l .i) (l .here .assigned))) top left),
     )
 
 -- src/judge.rt:132:23
@@ -242,13 +247,12 @@ loop-again-2 c =
     let a = c .before .before .before .before .before .before .before .before .before .before .before .before .before .before .before .before .args in
     let l = c .before .before .before .before .before .loop in
     let n = c .before .before .before .node in
-    let D = schemaOf (a .file .now) (a .head) in
+    let D = schemaOf (contentsAt (a .file .now) (a .head)) in
     let room : l .depth < length (l .stack) = omega (arith, l .inv .5, l .inv .2, c .before .before .before .before .loop-test .taken, c .before .before .before .before .before .before .before .before .before .before .before .before .before .before .before .before .pre .0 .nodes) in
     let push : waiting (set (l .stack) (l .depth) (c .packed .result)) (l .depth + 1) ≡ l .here ∷ waiting (l .stack) (l .depth) =
-    waiting-push (l .stack) (l .depth) (c .packed .result) (l .here) room (c .packed .ensures .1) in
-    let left = forks (a .file .now) (a .head) (a .roles .now) (l .i) (contextOf (l .names) (l .here)) (map (contextOf (l .names)) (waiting (l .stack) (l .depth))) (l .first) (l .roles) (l .here .assigned) (n .result) (l .inv .0) (c .before .before .before .before .loop-test .taken) (n .ensures) (c .before .before .match .keys2) (l .inv .7) (l .inv .11) in
-    let at : c .before .wide2 .result ≡ l .i = c .before .wide2 .ensures .0 in
-    let same : l .here .bound ≤ l .here .bound = omega arith in (
+    waiting-push unpacking (l .stack) (l .depth) (c .packed .result) (l .here) room (c .packed .ensures .1) in
+    let left = forks (contentsAt (a .file .now) (a .head)) (a .roles .now) (l .i) (contextOf (l .names) (l .here)) (map (contextOf (l .names)) (waiting (l .stack) (l .depth))) (l .first) (l .roles) (l .here .assigned) (n .result) (l .inv .0) (omega (arith, nodes-held (a .file .now) (a .head), c .before .before .before .before .loop-test .taken)) (n .ensures) (c .before .before .match .keys2) (l .inv .7) (l .inv .11) in
+    let at : c .before .wide2 .result ≡ l .i = c .before .wide2 .ensures .0 in (
       omega arith,
       omega arith,
       simp length-set (l .inv .2),
@@ -259,9 +263,9 @@ loop-again-2 c =
       l .inv .7,
       l .inv .8,
       l .inv .9,
-      subst (λ (ps : List Point). Waits D (l .here .bound) ps) (sym push) (same, l .inv .7, l .inv .10),
-      subst (λ j. Left (a .file .now) (a .head) (a .roles .now) (l .i + 1) (contextOf (l .names) (l .here) ∷ map (contextOf (l .names)) (waiting (set (l .stack) (l .depth) (c .packed .result)) (l .depth + 1))) (l .first) (set (l .roles) j (l .here .assigned))) (sym at)
-          (subst (λ (ps : List Point). Left (a .file .now) (a .head) (a .roles .now) (l .i + 1) (contextOf (l .names) (l .here) ∷ map (contextOf (l .names)) ps) (l .first) (set (l .roles) (l .i) (l .here .assigned))) (sym push) left),
+      waits-push unpacking (Given D) (l .here .bound) (l .stack) (l .depth) (c .packed .result) (l .here) room (c .packed .ensures .1) (omega arith) (l .inv .7) (l .inv .10),
+      subst (λ j. Left (contentsAt (a .file .now) (a .head)) (a .roles .now) (l .i + 1) (contextOf (l .names) (l .here) ∷ map (contextOf (l .names)) (waiting (set (l .stack) (l .depth) (c .packed .result)) (l .depth + 1))) (l .first) (set (l .roles) j (l .here .assigned))) (sym at)
+          (subst (λ (ps : List Point). Left (contentsAt (a .file .now) (a .head)) (a .roles .now) (l .i + 1) (contextOf (l .names) (l .here) ∷ map (contextOf (l .names)) ps) (l .first) (set (l .roles) (l .i) (l .here .assigned))) (sym push) left),
     )
 
 -- src/judge.rt:137:21
@@ -270,7 +274,7 @@ step-at-requires c κs =
     let pre = c .before .before .before .before .before .before .before .before .before .before .before .before .before .before .before .pre in
     let l = c .before .before .before .before .loop in
     let few : l .here .bound < 1024 = omega (arith, l .inv .6, c .before .before .before .loop-test .taken, pre .0 .nodes) in
-    (pre .0 .roles, omega (arith, few), omega (arith, few, l .inv .3), pre .1, pre .2)
+    (pre .0, omega (arith, few), omega (arith, few, l .inv .3), pre .1, pre .2)
 
 -- src/judge.rt:140:32
 answer-at-requires : tie.Need-answer-at-requires Inv-loop μ-loop
@@ -292,7 +296,7 @@ returns-3 c =
     let n = c .before .before .before .before .before .before .node in
     let s = c .before .before .before .step-at .result in
     let right = right-at (c .before .before .before) in
-    let over = refuses (a .file .now) (a .head) (a .roles .now) (l .i) (contextOf (l .names) (l .here)) _ (l .first) (l .roles) (s .wrong) (n .result) (l .inv .0) (c .before .before .before .before .before .before .before .loop-test .taken) (n .ensures) (right .wrong) (c .before .if3 .taken) (l .inv .11) in
+    let over = refuses (contentsAt (a .file .now) (a .head)) (a .roles .now) (l .i) (contextOf (l .names) (l .here)) _ (l .first) (l .roles) (s .wrong) (n .result) (l .inv .0) (omega (arith, nodes-held (a .file .now) (a .head), c .before .before .before .before .before .before .before .loop-test .taken)) (n .ensures) (right .wrong) (c .before .if3 .taken) (l .inv .11) in
     (ap (λ (x : Verdict). record { names = x; roles = fine }) (c .answer-at .ensures) ∙ over .0, over .1)
 
 -- src/judge.rt:144:40
@@ -341,7 +345,7 @@ loop-again-3 c =
     let a = c .before .before .before .before .before .before .before .before .before .before .before .before .before .before .before .before .before .before .before .before .before .before .before .args in
     let l = c .before .before .before .before .before .before .before .before .before .before .before .before .loop in
     let n = c .before .before .before .before .before .before .before .before .before .before .node in
-    let D = schemaOf (a .file .now) (a .head) in
+    let D = schemaOf (contentsAt (a .file .now) (a .head)) in
     let s = c .before .before .before .before .before .before .before .step-at .result in
     let right = right-at (c .before .before .before .before .before .before .before) in
     let good = c .before .before .before .before .before .if3 .left in
@@ -351,10 +355,10 @@ loop-again-3 c =
     let at : c .before .before .wide3 .result ≡ l .i = c .before .before .wide3 .ensures .0 in
     let to : 512 + c .before .wide4 .result ≡ 512 + l .here .bound = ap (λ k. 512 + k) (c .before .wide4 .ensures .0) in
     let same : l .here .bound ≤ l .here .bound = omega arith in
-    let rest = contexts-kept D (l .names) (l .here .bound) (s .binding) (l .here .bound) (waiting (l .stack) (l .depth)) same (l .inv .10) in
+    let rest = contexts-kept (Given D) (l .names) (l .here .bound) (s .binding) (l .here .bound) (waiting (l .stack) (l .depth)) same (l .inv .10) in
     let next = after-step D (contextOf (l .names) (l .here)) (n .result) (map (contextOf (l .names)) (waiting (l .stack) (l .depth))) (c .before .before .before .before .before .before .before .before .before .match .rest .0 .1) (c .before .before .before .before .before .before .before .before .before .match .rest .1) (goes .child) rest in
     let first : c .before .before .before .or-else .result ≡ orElse (l .first) (answerAt (s .barred) (l .i)) = c .before .before .before .or-else .ensures ∙ ap (orElse (l .first)) (c .before .before .before .before .answer-at2 .ensures) in
-    let left = goes-on (a .file .now) (a .head) (a .roles .now) (l .i) (contextOf (l .names) (l .here)) (map (contextOf (l .names)) (waiting (l .stack) (l .depth))) _ (l .first) (l .roles) (s .barred) (s .roles) (n .result) (l .inv .0) (c .before .before .before .before .before .before .before .before .before .before .before .loop-test .taken) (n .ensures)
+    let left = goes-on (contentsAt (a .file .now) (a .head)) (a .roles .now) (l .i) (contextOf (l .names) (l .here)) (map (contextOf (l .names)) (waiting (l .stack) (l .depth))) _ (l .first) (l .roles) (s .barred) (s .roles) (n .result) (l .inv .0) (omega (arith, nodes-held (a .file .now) (a .head), c .before .before .before .before .before .before .before .before .before .before .before .loop-test .taken)) (n .ensures)
     (sym (right .wrong) ∙ good) (goes .barred) (goes .roles) next (l .inv .11) in
     rw (to) (
       omega arith,
@@ -367,7 +371,7 @@ loop-again-3 c =
       goes .assigned ∙ l .inv .7 ∙ ap (D .assigned) (sym (goes .user)),
       named-kept D (a .head .count .users) (a .head .count .channels) (l .names) (l .here .bound) (s .binding) (l .inv .8),
       goes .held,
-      waits-more D (l .here .bound) (s .child .bound) (waiting (l .stack) (l .depth)) (goes .least) (l .inv .10),
+      waits-more (Given D) (l .here .bound) (s .child .bound) (waiting (l .stack) (l .depth)) (goes .least) (l .inv .10),
       rw (at, first) left,
     )
 
@@ -384,7 +388,7 @@ returns-4 : tie.Need-returns-4 Inv-loop μ-loop
 returns-4 c =
     let a = c .before .before .before .before .before .before .before .before .before .before .before .before .args in
     let l = c .before .loop in
-    ends (a .file .now) (a .head) (a .roles .now) (l .i) _ (l .first) (l .roles) (c .loop-test .left) (l .inv .11)
+    ends (contentsAt (a .file .now) (a .head)) (a .roles .now) (l .i) _ (l .first) (l .roles) (omega (arith, nodes-held (a .file .now) (a .head), c .loop-test .left)) (l .inv .11)
 
 pub walk-spec : {M : Type 1} → statement M
 walk-spec =

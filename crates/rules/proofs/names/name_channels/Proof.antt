@@ -3,6 +3,7 @@ use Prim.Native.Nat.{_+_, _-_, _≤_}
 use mathlib.Core.Path.{_≡_, refl, ap, _∙_}
 use native.Mathlib.Omega.{arith}
 use lib.ListN.{length, length-set}
+use Rattle.format.specs.Contents.{contentsAt}
 use Rattle.format.specs.declared.Channel.{Channel}
 use Rattle.rules.specs.Schema.{schemaOf}
 use Rattle.rules.specs.Kept.{Named}
@@ -17,14 +18,14 @@ use Rattle.rules.proofs.names.entry.Reads as entry-reads
 use Rattle.rules.proofs.names.owned_by.Reads as owned-by-reads
 
 abbrev Inv-loop : tie.InvT-loop
-Inv-loop file head names₀ n₀ names n = (n ≤ head .count .channels) × (length names ≡ 1537) × Named (schemaOf file head) (head .count .users) n names
+Inv-loop file head names₀ n₀ names n = (n ≤ head .count .channels) × (length names ≡ 1537) × Named (schemaOf (contentsAt file head)) (head .count .users) n names
 
 abbrev μ-loop : tie.MeasureT-loop
 μ-loop file head names₀ n₀ names n = head .count .channels - n
 
 -- src/names.rt:86:5
 loop-holds : tie.Need-loop-holds Inv-loop μ-loop
-loop-holds c = (omega arith, c .before .before .pre .2, c .before .before .pre .3)
+loop-holds c = (omega arith, c .before .before .pre .1, c .before .before .pre .2)
 
 -- src/names.rt:87:9
 add-n : tie.Need-add-n Inv-loop μ-loop
@@ -70,13 +71,13 @@ loop-again c =
     let it = c .before .before .before .channel .result in
     let its = c .before .before .before .channel .ensures in
     let at : c .wide .result ≡ l .n + 1 = c .wide .ensures .0 in
-    let owner : c .before .before .owned-by .result ≡ schemaOf (a .file .now) (a .head) .owner (l .n + 1) + 2 =
+    let owner : c .before .before .owned-by .result ≡ schemaOf (contentsAt (a .file .now) (a .head)) .owner (l .n + 1) + 2 =
     c .before .before .owned-by .ensures ∙ ap (λ (x : Channel). x .owner + 2) its in (
       omega arith,
       simp length-set (l .inv .1),
       rw (at, c .before .entry .ensures)
-          (channels-more (schemaOf (a .file .now) (a .head)) (a .head .count .users) (l .n) (l .n + 1) (it .kind .0) (c .before .before .owned-by .result) (l .names) refl
-          (c .before .before .before .before .before .before .before .before .before .pre .0) (omega arith) (ap (λ (x : Channel). x .kind .0) its) owner (omega arith) (l .inv .2)),
+          (channels-more (schemaOf (contentsAt (a .file .now) (a .head))) (a .head .count .users) (l .n) (l .n + 1) (it .kind .0) (c .before .before .owned-by .result) (l .names) refl
+          (c .before .before .before .before .before .before .before .before .before .pre .0 .users) (omega arith) (ap (λ (x : Channel). x .kind .0) its) owner (omega arith) (l .inv .2)),
     )
 
 -- src/names.rt:81:1

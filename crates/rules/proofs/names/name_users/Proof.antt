@@ -3,6 +3,7 @@ use Prim.Native.Nat.{_+_, _-_, _≤_}
 use mathlib.Core.Path.{_≡_, refl}
 use native.Mathlib.Omega.{arith}
 use lib.ListN.{length, length-set}
+use Rattle.format.specs.Contents.{contentsAt}
 use Rattle.rules.specs.Schema.{schemaOf}
 use Rattle.rules.specs.Kept.{Named}
 use Rattle.rules.proofs.NameLaws.{named-none, users-more}
@@ -14,14 +15,14 @@ use Rattle.format.proofs.words.wide.Reads as wide-reads
 use Rattle.rules.proofs.names.entry.Reads as entry-reads
 
 abbrev Inv-loop : tie.InvT-loop
-Inv-loop file head names₀ n₀ names n = (n ≤ head .count .users) × (length names ≡ 1537) × Named (schemaOf file head) n 0 names
+Inv-loop file head names₀ n₀ names n = (n ≤ head .count .users) × (length names ≡ 1537) × Named (schemaOf (contentsAt file head)) n 0 names
 
 abbrev μ-loop : tie.MeasureT-loop
 μ-loop file head names₀ n₀ names n = head .count .users - n
 
 -- src/names.rt:74:5
 loop-holds : tie.Need-loop-holds Inv-loop μ-loop
-loop-holds c = let a = c .before .before .args in (omega arith, c .before .before .pre .1, named-none (schemaOf (a .file .now) (a .head)) (a .names .now) (c .before .before .pre .2))
+loop-holds c = let a = c .before .before .args in (omega arith, c .before .before .pre .1, named-none (schemaOf (contentsAt (a .file .now) (a .head))) (a .names .now) (c .before .before .pre .2))
 
 -- src/names.rt:75:9
 add-n : tie.Need-add-n Inv-loop μ-loop
@@ -53,7 +54,7 @@ loop-again c =
     let a = c .before .before .before .before .before .before .before .args in
     let l = c .before .before .before .before .loop in
     let at : c .wide .result ≡ l .n + 1 = c .wide .ensures .0 in
-    (omega arith, simp length-set (l .inv .1), rw (at, c .before .entry .ensures) (users-more (schemaOf (a .file .now) (a .head)) (l .n) (l .n + 1) (l .names) refl (omega arith) (l .inv .2)))
+    (omega arith, simp length-set (l .inv .1), rw (at, c .before .entry .ensures) (users-more (schemaOf (contentsAt (a .file .now) (a .head))) (l .n) (l .n + 1) (l .names) refl (omega arith) (l .inv .2)))
 
 -- src/names.rt:69:1
 same-length : tie.Need-same-length Inv-loop μ-loop

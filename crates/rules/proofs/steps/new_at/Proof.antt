@@ -5,14 +5,14 @@ use Rattle.rules.proofs.steps.new_at.Tie as tie
 use Rattle.rules.proofs.steps.new_at.Reads as reads
 use Rattle.rules.proofs.steps.new_at.Lts as lts
 use Rattle.rules.proofs.names.entry.Reads as entry-reads
-use Rattle.rules.proofs.names.is_within.Reads as is-within-reads
+use Rattle.format.proofs.sections.in_count.Reads as in-count-reads
 use Rattle.rules.proofs.names.owned_by.Reads as owned-by-reads
 use Rattle.rules.proofs.steps.binding.Reads as binding-reads
 use Rattle.rules.proofs.steps.graded.Reads as graded-reads
 
 -- src/steps.rt:114:16
-is-within-requires : tie.Need-is-within-requires
-is-within-requires c κs = search needs
+in-count-requires : tie.Need-in-count-requires
+in-count-requires c κs = search needs
 
 -- src/steps.rt:114:9
 graded-requires : tie.Need-graded-requires
@@ -32,13 +32,13 @@ binding-requires c κs = search needs
 
 -- src/steps.rt:108:1
 returns : tie.Need-returns
-returns c = c .binding .ensures ∙ rw (c .before .entry .ensures, c .before .before .owned-by .ensures, c .before .before .before .graded .ensures, c .before .before .before .before .is-within .ensures)
+returns c = c .binding .ensures ∙ rw (c .before .entry .ensures, c .before .before .owned-by .ensures, c .before .before .before .graded .ensures, c .before .before .before .before .in-count .ensures)
 
 pub new-at-spec : {M : Type 1} → statement M
 new-at-spec =
     tie.close
     (tie.spec
-    is-within-requires
+    in-count-requires
     graded-requires
     owned-by-requires
     entry-requires

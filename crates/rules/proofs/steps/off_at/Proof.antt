@@ -1,7 +1,5 @@
-use mathlib.Core.Path.{sym, _∙_}
-use native.Mathlib.Omega.{arith}
+use mathlib.Core.Path.{_∙_}
 use borrow.Author.Tests.{not-true, not-false}
-use Rattle.rules.proofs.NameLaws.{between}
 use borrow.Author.Needs.{needs}
 use Rattle.rules.proofs.steps.off_at.Statement.{statement}
 use Rattle.rules.proofs.steps.off_at.Tie as tie
@@ -9,14 +7,14 @@ use Rattle.rules.proofs.steps.off_at.Reads as reads
 use Rattle.rules.proofs.steps.off_at.Lts as lts
 use Rattle.masks.proofs.has_role.Reads as has-role-reads
 use Rattle.masks.proofs.without_role.Reads as without-role-reads
-use Rattle.rules.proofs.names.is_within.Reads as is-within-reads
+use Rattle.format.proofs.sections.in_count.Reads as in-count-reads
 use Rattle.rules.proofs.steps.staying.Reads as staying-reads
 use Rattle.rules.proofs.steps.turning.Reads as turning-reads
 use Rattle.rules.proofs.steps.unless.Reads as unless-reads
 
 -- src/steps.rt:170:9
-is-within-requires : tie.Need-is-within-requires
-is-within-requires c κs = search needs
+in-count-requires : tie.Need-in-count-requires
+in-count-requires c κs = search needs
 
 -- src/steps.rt:171:9
 staying-requires : tie.Need-staying-requires
@@ -24,7 +22,7 @@ staying-requires c κs = search needs
 
 -- src/steps.rt:171:9
 returns : tie.Need-returns
-returns c = c .staying .ensures ∙ rw (← c .before .before .is-within .ensures, not-true (c .before .before .is-within .result) (c .before .if1 .taken))
+returns c = c .staying .ensures ∙ rw (← c .before .before .in-count .ensures, not-true (c .before .before .in-count .result) (c .before .if1 .taken))
 
 -- src/steps.rt:175:16
 has-role-requires : tie.Need-has-role-requires
@@ -45,13 +43,13 @@ turning-requires c κs = search needs
 -- src/steps.rt:167:1
 returns-2 : tie.Need-returns-2
 returns-2 c =
-    c .turning .ensures ∙ rw (c .before .without-role .ensures, c .before .before .unless .ensures, c .before .before .before .has-role .ensures, ← c .before .before .before .before .before .is-within .ensures, not-false (c .before .before .before .before .before .is-within .result) (c .before .before .before .before .if1 .left))
+    c .turning .ensures ∙ rw (c .before .without-role .ensures, c .before .before .unless .ensures, c .before .before .before .has-role .ensures, ← c .before .before .before .before .before .in-count .ensures, not-false (c .before .before .before .before .before .in-count .result) (c .before .before .before .before .if1 .left))
 
 pub off-at-spec : {M : Type 1} → statement M
 off-at-spec =
     tie.close
     (tie.spec
-    is-within-requires
+    in-count-requires
     staying-requires
     returns
     has-role-requires

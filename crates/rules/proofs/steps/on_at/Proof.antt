@@ -9,14 +9,14 @@ use Rattle.rules.proofs.steps.on_at.Reads as reads
 use Rattle.rules.proofs.steps.on_at.Lts as lts
 use Rattle.masks.proofs.has_role.Reads as has-role-reads
 use Rattle.masks.proofs.with_role.Reads as with-role-reads
-use Rattle.rules.proofs.names.is_within.Reads as is-within-reads
+use Rattle.format.proofs.sections.in_count.Reads as in-count-reads
 use Rattle.rules.proofs.steps.staying.Reads as staying-reads
 use Rattle.rules.proofs.steps.turning.Reads as turning-reads
 use Rattle.rules.proofs.steps.unless.Reads as unless-reads
 
 -- src/steps.rt:157:9
-is-within-requires : tie.Need-is-within-requires
-is-within-requires c κs = search needs
+in-count-requires : tie.Need-in-count-requires
+in-count-requires c κs = search needs
 
 -- src/steps.rt:158:9
 staying-requires : tie.Need-staying-requires
@@ -24,7 +24,7 @@ staying-requires c κs = search needs
 
 -- src/steps.rt:158:9
 returns : tie.Need-returns
-returns c = c .staying .ensures ∙ rw (← c .before .before .is-within .ensures, not-true (c .before .before .is-within .result) (c .before .if1 .taken))
+returns c = c .staying .ensures ∙ rw (← c .before .before .in-count .ensures, not-true (c .before .before .in-count .result) (c .before .if1 .taken))
 
 -- src/steps.rt:162:16
 has-role-requires : tie.Need-has-role-requires
@@ -36,7 +36,7 @@ unless-requires c κs = search needs
 
 -- src/steps.rt:163:9
 with-role-requires : tie.Need-with-role-requires
-with-role-requires c κs = let a = c .before .before .before .before .args in omega (arith, between 0 (a .head .count .roles) (a .role) (sym (c .before .before .before .is-within .ensures) ∙ not-false (c .before .before .before .is-within .result) (c .before .before .if1 .left)) .1, c .before .before .before .before .pre)
+with-role-requires c κs = let a = c .before .before .before .before .args in omega (arith, between 0 (a .head .count .roles) (a .role) (sym (c .before .before .before .in-count .ensures) ∙ not-false (c .before .before .before .in-count .result) (c .before .before .if1 .left)) .1, c .before .before .before .before .pre)
 
 -- src/steps.rt:160:5
 turning-requires : tie.Need-turning-requires
@@ -45,13 +45,13 @@ turning-requires c κs = search needs
 -- src/steps.rt:153:1
 returns-2 : tie.Need-returns-2
 returns-2 c =
-    c .turning .ensures ∙ rw (c .before .with-role .ensures, c .before .before .unless .ensures, c .before .before .before .has-role .ensures, ← c .before .before .before .before .before .is-within .ensures, not-false (c .before .before .before .before .before .is-within .result) (c .before .before .before .before .if1 .left))
+    c .turning .ensures ∙ rw (c .before .with-role .ensures, c .before .before .unless .ensures, c .before .before .before .has-role .ensures, ← c .before .before .before .before .before .in-count .ensures, not-false (c .before .before .before .before .before .in-count .result) (c .before .before .before .before .if1 .left))
 
 pub on-at-spec : {M : Type 1} → statement M
 on-at-spec =
     tie.close
     (tie.spec
-    is-within-requires
+    in-count-requires
     staying-requires
     returns
     has-role-requires

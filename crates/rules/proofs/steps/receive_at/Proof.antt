@@ -6,7 +6,7 @@ use Rattle.rules.proofs.steps.receive_at.Tie as tie
 use Rattle.rules.proofs.steps.receive_at.Reads as reads
 use Rattle.rules.proofs.steps.receive_at.Lts as lts
 use Rattle.rules.proofs.grants.grant_of.Reads as grant-of-reads
-use Rattle.rules.proofs.names.carried_by.Reads as carried-by-reads
+use Rattle.format.proofs.sections.carries.Reads as carries-reads
 use Rattle.rules.proofs.names.entry.Reads as entry-reads
 use Rattle.rules.proofs.names.is_mine.Reads as is-mine-reads
 use Rattle.rules.proofs.names.is_named.Reads as is-named-reads
@@ -45,8 +45,8 @@ unless-requires : tie.Need-unless-requires
 unless-requires c κs = search needs
 
 -- src/steps.rt:132:15
-carried-by-requires : tie.Need-carried-by-requires
-carried-by-requires c κs = search needs
+carries-requires : tie.Need-carries-requires
+carries-requires c κs = search needs
 
 -- src/steps.rt:132:9
 entry-requires : tie.Need-entry-requires
@@ -61,7 +61,7 @@ returns : tie.Need-returns
 returns c =
     let k = c .before .before .before .before .before .before .before .before .before .before .kind-in in
     let g = c .before .before .before .before .before .before .before .before .before .grant-of in
-    let carried = c .before .before .carried-by in (
+    let carried = c .before .before .carries in (
       c .binding .ensures
           ∙ rw (
             c .before .entry .ensures,
@@ -71,7 +71,7 @@ returns c =
             c .before .before .before .before .before .before .graded .ensures,
             c .before .before .before .before .before .before .before .is-mine .ensures,
             c .before .before .before .before .before .before .before .before .is-named .ensures,
-            g .ensures ∙ c .before .before .before .before .before .before .before .before .before .before .before .before .before .pre .1 (k .result),
+            g .ensures ∙ c .before .before .before .before .before .before .before .before .before .before .before .before .before .pre .2 (k .result),
             k .ensures,
           ),
       rw (← k .ensures) (omega (arith, carried .ensures)),
@@ -88,7 +88,7 @@ receive-at-spec =
     graded-requires
     is-able-requires
     unless-requires
-    carried-by-requires
+    carries-requires
     entry-requires
     binding-requires
     returns)

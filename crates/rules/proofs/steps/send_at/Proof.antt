@@ -5,7 +5,7 @@ use Rattle.rules.proofs.steps.send_at.Tie as tie
 use Rattle.rules.proofs.steps.send_at.Reads as reads
 use Rattle.rules.proofs.steps.send_at.Lts as lts
 use Rattle.rules.proofs.grants.grant_of.Reads as grant-of-reads
-use Rattle.rules.proofs.names.carried_by.Reads as carried-by-reads
+use Rattle.format.proofs.sections.carries.Reads as carries-reads
 use Rattle.rules.proofs.names.is_named.Reads as is-named-reads
 use Rattle.rules.proofs.names.kind_in.Reads as kind-in-reads
 use Rattle.rules.proofs.steps.graded.Reads as graded-reads
@@ -34,8 +34,8 @@ kind-in-requires-2 : tie.Need-kind-in-requires-2
 kind-in-requires-2 c κs = search needs
 
 -- src/steps.rt:146:45
-carried-by-requires : tie.Need-carried-by-requires
-carried-by-requires c κs = search needs
+carries-requires : tie.Need-carries-requires
+carries-requires c κs = search needs
 
 -- src/steps.rt:144:9
 graded-requires : tie.Need-graded-requires
@@ -63,11 +63,11 @@ returns c =
       c .before .before .unless .ensures,
       c .before .before .before .is-able .ensures,
       c .before .before .before .before .graded .ensures,
-      c .before .before .before .before .before .carried-by .ensures,
+      c .before .before .before .before .before .carries .ensures,
       c .before .before .before .before .before .before .kind-in2 .ensures,
       c .before .before .before .before .before .before .before .is-named2 .ensures,
       c .before .before .before .before .before .before .before .before .is-named .ensures,
-      g .ensures ∙ c .before .before .before .before .before .before .before .before .before .before .before .before .before .pre (k .result),
+      g .ensures ∙ c .before .before .before .before .before .before .before .before .before .before .before .before .before .pre .1 (k .result),
       k .ensures,
     )
 
@@ -80,7 +80,7 @@ send-at-spec =
     is-named-requires
     is-named-requires-2
     kind-in-requires-2
-    carried-by-requires
+    carries-requires
     graded-requires
     is-able-requires
     unless-requires

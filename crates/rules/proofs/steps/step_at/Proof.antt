@@ -1,5 +1,7 @@
 use mathlib.Core.Path.{ap, ap₂, _∙_}
 use native.Mathlib.Omega.{arith}
+use Rattle.format.specs.Contents.{contentsAt}
+use Rattle.format.proofs.ContentsLaws.{roles-held, kinds-held}
 use Rattle.rules.specs.Schema.{schemaOf}
 use Rattle.rules.specs.Kept.{receiveStep, sendStep}
 use Rattle.rules.proofs.StepLaws.{step-repeat, step-new, step-compare, step-receive, step-send, step-on, step-off, step-other}
@@ -9,7 +11,7 @@ use Rattle.rules.proofs.steps.step_at.Tie as tie
 use Rattle.rules.proofs.steps.step_at.Reads as reads
 use Rattle.rules.proofs.steps.step_at.Lts as lts
 use Rattle.rules.proofs.names.is_named.Reads as is-named-reads
-use Rattle.rules.proofs.names.is_within.Reads as is-within-reads
+use Rattle.format.proofs.sections.in_count.Reads as in-count-reads
 use Rattle.rules.proofs.names.kind_in.Reads as kind-in-reads
 use Rattle.rules.proofs.names.look.Reads as look-reads
 use Rattle.rules.proofs.steps.graded.Reads as graded-reads
@@ -89,8 +91,8 @@ off-at-requires : tie.Need-off-at-requires
 off-at-requires c κs = search needs
 
 -- src/steps.rt:229:20
-is-within-requires : tie.Need-is-within-requires
-is-within-requires c κs = search needs
+in-count-requires : tie.Need-in-count-requires
+in-count-requires c κs = search needs
 
 -- src/steps.rt:229:13
 graded-requires-2 : tie.Need-graded-requires-2
@@ -104,7 +106,7 @@ staying-requires-3 c κs = search needs
 returns : tie.Need-returns
 returns c =
     let a = c .before .before .before .before .before .before .args in
-    let D = schemaOf (a .file .now) (a .head) in
+    let D = schemaOf (contentsAt (a .file .now) (a .head)) in
     let law = step-repeat D (a .names .now) (a .here) (a .it) in (
       c .staying .ensures ∙ law (c .before .match .keys1),
       λ z. let no : ⊥ = omega (arith, c .before .match .keys1, z) in absurd no,
@@ -114,8 +116,8 @@ returns c =
 returns-2 : tie.Need-returns-2
 returns-2 c =
     let a = c .before .before .before .before .before .before .args in
-    let D = schemaOf (a .file .now) (a .head) in
-    let law = step-new D (a .names .now) (a .here) (a .it) in (
+    let D = schemaOf (contentsAt (a .file .now) (a .head)) in
+    let law = step-new D (a .names .now) (a .here) (a .it) (kinds-held (a .file .now) (a .head)) in (
       c .new-at .ensures ∙ law (c .before .match .keys2),
       λ z. let no : ⊥ = omega (arith, c .before .match .keys2, z) in absurd no,
     )
@@ -124,7 +126,7 @@ returns-2 c =
 returns-3 : tie.Need-returns-3
 returns-3 c =
     let a = c .before .before .before .before .before .before .before .before .before .before .before .before .before .args in
-    let D = schemaOf (a .file .now) (a .head) in
+    let D = schemaOf (contentsAt (a .file .now) (a .head)) in
     let law = step-compare D (a .names .now) (a .here) (a .it) in (
       c .staying2 .ensures
           ∙ rw (
@@ -143,7 +145,7 @@ returns-3 c =
 returns-4 : tie.Need-returns-4
 returns-4 c =
     let a = c .before .before .before .before .before .before .before .args in
-    let D = schemaOf (a .file .now) (a .head) in
+    let D = schemaOf (contentsAt (a .file .now) (a .head)) in
     let law = step-receive D (a .names .now) (a .here) (a .it) in (
       c .receive-at .ensures .0 ∙ ap (receiveStep D (a .here)) (c .before .look3 .ensures) ∙ law (c .before .before .match .keys4),
       λ z. rw (c .before .look3 .ensures) at (c .receive-at .ensures .1),
@@ -153,7 +155,7 @@ returns-4 c =
 returns-5 : tie.Need-returns-5
 returns-5 c =
     let a = c .before .before .before .before .before .before .before .before .args in
-    let D = schemaOf (a .file .now) (a .head) in
+    let D = schemaOf (contentsAt (a .file .now) (a .head)) in
     let law = step-send D (a .names .now) (a .here) (a .it) in (
       c .send-at .ensures ∙ ap₂ (sendStep D (a .here)) (c .before .before .look4 .ensures) (c .before .look5 .ensures) ∙ law (c .before .before .before .match .keys5),
       λ z. let no : ⊥ = omega (arith, c .before .before .before .match .keys5, z) in absurd no,
@@ -163,8 +165,8 @@ returns-5 c =
 returns-6 : tie.Need-returns-6
 returns-6 c =
     let a = c .before .before .before .before .before .before .args in
-    let D = schemaOf (a .file .now) (a .head) in
-    let law = step-on D (a .names .now) (a .here) (a .it) in (
+    let D = schemaOf (contentsAt (a .file .now) (a .head)) in
+    let law = step-on D (a .names .now) (a .here) (a .it) (roles-held (a .file .now) (a .head)) in (
       c .on-at .ensures ∙ law (c .before .match .keys6),
       λ z. let no : ⊥ = omega (arith, c .before .match .keys6, z) in absurd no,
     )
@@ -173,8 +175,8 @@ returns-6 c =
 returns-7 : tie.Need-returns-7
 returns-7 c =
     let a = c .before .before .before .before .before .before .args in
-    let D = schemaOf (a .file .now) (a .head) in
-    let law = step-off D (a .names .now) (a .here) (a .it) in (
+    let D = schemaOf (contentsAt (a .file .now) (a .head)) in
+    let law = step-off D (a .names .now) (a .here) (a .it) (roles-held (a .file .now) (a .head)) in (
       c .off-at .ensures ∙ law (c .before .match .keys7),
       λ z. let no : ⊥ = omega (arith, c .before .match .keys7, z) in absurd no,
     )
@@ -183,9 +185,9 @@ returns-7 c =
 returns-8 : tie.Need-returns-8
 returns-8 c =
     let a = c .before .before .before .before .before .before .before .before .args in
-    let D = schemaOf (a .file .now) (a .head) in
-    let law = step-other D (a .names .now) (a .here) (a .it) in (
-      c .staying3 .ensures ∙ rw (c .before .graded2 .ensures, c .before .before .is-within .ensures) (law (c .before .before .before .match .rest .0 .0 .0 .0 .0 .0 .1) (c .before .before .before .match .rest .0 .0 .0 .0 .0 .1) (c .before .before .before .match .rest .0 .0 .0 .0 .1) (c .before .before .before .match .rest .0 .0 .0 .1) (c .before .before .before .match .rest .0 .0 .1) (c .before .before .before .match .rest .0 .1) (c .before .before .before .match .rest .1)),
+    let D = schemaOf (contentsAt (a .file .now) (a .head)) in
+    let law = step-other D (a .names .now) (a .here) (a .it) (roles-held (a .file .now) (a .head)) in (
+      c .staying3 .ensures ∙ rw (c .before .graded2 .ensures, c .before .before .in-count .ensures) (law (c .before .before .before .match .rest .0 .0 .0 .0 .0 .0 .1) (c .before .before .before .match .rest .0 .0 .0 .0 .0 .1) (c .before .before .before .match .rest .0 .0 .0 .0 .1) (c .before .before .before .match .rest .0 .0 .0 .1) (c .before .before .before .match .rest .0 .0 .1) (c .before .before .before .match .rest .0 .1) (c .before .before .before .match .rest .1)),
       λ z. absurd (c .before .before .before .match .rest .0 .0 .0 .1 z),
     )
 
@@ -210,7 +212,7 @@ step-at-spec =
     send-at-requires
     on-at-requires
     off-at-requires
-    is-within-requires
+    in-count-requires
     graded-requires-2
     staying-requires-3
     returns

@@ -1,71 +1,73 @@
-use mathlib.Core.Path.{_≡_, sym, _∙_}
+use mathlib.Core.Path.{_≡_, sym, ap, _∙_}
 use mathlib.Core.Bool.{Bool}
-use lib.ListN.{getD}
+use lib.ListN.{length, getD}
 use borrow.Author.Tests.{not-true, not-false}
-use Rattle.rules.specs.Names.{within}
+use Rattle.format.specs.Contents.{inCount, contentsAt}
+use Rattle.format.proofs.ContentsLaws.{nodes-held}
 use Rattle.steps.specs.Choice.{clinicOf}
 use Rattle.steps.specs.Kept.{madeIn}
-use Rattle.steps.proofs.ActLaws.{in-count}
 use Rattle.running.proofs.PairLaws.{met-out, met-elsewhere, met-from-out, met-from-elsewhere, met}
 use borrow.Author.Needs.{needs}
 use Rattle.running.proofs.pairs.meets.Statement.{statement}
 use Rattle.running.proofs.pairs.meets.Tie as tie
 use Rattle.running.proofs.pairs.meets.Reads as reads
 use Rattle.running.proofs.pairs.meets.Lts as lts
+use Rattle.format.proofs.sections.in_count.Reads as in-count-reads
 use Rattle.format.proofs.sections.node.Reads as node-reads
-use Rattle.steps.proofs.act.is_node.Reads as is-node-reads
 use Rattle.running.proofs.pairs.agrees.Reads as agrees-reads
 
 -- a thread's node is in count, or not
-theirs-in : (c : tie.After-is-node) {b : Bool} → c .is-node .result ≡ b → let a = c .before .before .before .before .before .args in within (a .head .count .nodes) (a .other .node) ≡ b
-theirs-in c h = sym (c .is-node .ensures) ∙ h
+theirs-in : (c : tie.After-in-count) {b : Bool} → c .in-count .result ≡ b
+    → let a = c .before .before .before .before .before .args in inCount (length (contentsAt (a .file .now) (a .head) .nodes)) (a .other .node) ≡ b
+theirs-in c h =
+    let a = c .before .before .before .before .before .args in
+    ap (λ k. inCount k (a .other .node)) (nodes-held (a .file .now) (a .head)) ∙ sym (c .in-count .ensures) ∙ h
 
-own-in : (c : tie.After-is-node2) {b : Bool} → c .is-node2 .result ≡ b → let a = c .before .before .before .before .before .before .before .before .before .before .args in within (a .head .count .nodes) (a .own .node) ≡ b
-own-in c h = sym (c .is-node2 .ensures) ∙ h
+own-in : (c : tie.After-in-count2) {b : Bool} → c .in-count2 .result ≡ b
+    → let a = c .before .before .before .before .before .before .before .before .before .before .args in inCount (length (contentsAt (a .file .now) (a .head) .nodes)) (a .own .node) ≡ b
+own-in c h =
+    let a = c .before .before .before .before .before .before .before .before .before .before .args in
+    ap (λ k. inCount k (a .own .node)) (nodes-held (a .file .now) (a .head)) ∙ sym (c .in-count2 .ensures) ∙ h
 
 -- src/pairs.rt:64:9
-is-node-requires : tie.Need-is-node-requires
-is-node-requires c κs = search needs
+in-count-requires : tie.Need-in-count-requires
+in-count-requires c κs = search needs
 
 -- src/pairs.rt:65:9
 returns : tie.Need-returns
 returns c =
     let a = c .before .before .before .before .before .before .args in
-    met-out (clinicOf (a .file .now) (a .head)) (getD (a .beside .now) 0 0) (madeIn (a .beside .now) 2 (getD (a .beside .now) 1 0)) (a .own) (a .other) (theirs-in (c .before) (not-true _ (c .if1 .taken)))
+    met-out (clinicOf (contentsAt (a .file .now) (a .head))) (getD (a .beside .now) 0 0) (madeIn (a .beside .now) 2 (getD (a .beside .now) 1 0)) (a .own) (a .other) (theirs-in (c .before) (not-true _ (c .if1 .taken)))
 
 -- src/pairs.rt:67:9
 node-requires : tie.Need-node-requires
-node-requires c κs =
-    let a = c .before .before .before .before .before .before .args in
-    in-count (a .head .count .nodes) (a .other .node) (theirs-in (c .before) (not-false _ (c .if1 .left))) .0
+node-requires c κs = search needs
 
 -- src/pairs.rt:69:9
 returns-2 : tie.Need-returns-2
 returns-2 c =
     let a = c .before .before .before .before .before .before .before .before .before .args in
-    met-elsewhere (clinicOf (a .file .now) (a .head)) (getD (a .beside .now) 0 0) (madeIn (a .beside .now) 2 (getD (a .beside .now) 1 0)) (a .own) (a .other) (c .before .before .node .result) (c .before .before .node .ensures) (theirs-in (c .before .before .before .before) (not-false _ (c .before .before .before .if1 .left))) (c .if2 .taken)
+    met-elsewhere (clinicOf (contentsAt (a .file .now) (a .head))) (getD (a .beside .now) 0 0) (madeIn (a .beside .now) 2 (getD (a .beside .now) 1 0)) (a .own) (a .other) (c .before .before .node .result) (c .before .before .node .ensures) (theirs-in (c .before .before .before .before) (not-false _ (c .before .before .before .if1 .left))) (c .if2 .taken)
 
 -- src/pairs.rt:71:9
-is-node-requires-2 : tie.Need-is-node-requires-2
-is-node-requires-2 c κs = search needs
+in-count-requires-2 : tie.Need-in-count-requires-2
+in-count-requires-2 c κs = search needs
 
 -- src/pairs.rt:72:9
 returns-3 : tie.Need-returns-3
 returns-3 c =
     let a = c .before .before .before .before .before .before .before .before .before .before .before .args in
-    met-from-out (clinicOf (a .file .now) (a .head)) (getD (a .beside .now) 0 0) (madeIn (a .beside .now) 2 (getD (a .beside .now) 1 0)) (a .own) (a .other) (own-in (c .before) (not-true _ (c .if3 .taken)))
+    met-from-out (clinicOf (contentsAt (a .file .now) (a .head))) (getD (a .beside .now) 0 0) (madeIn (a .beside .now) 2 (getD (a .beside .now) 1 0)) (a .own) (a .other) (own-in (c .before) (not-true _ (c .if3 .taken)))
 
 -- src/pairs.rt:74:9
 node-requires-2 : tie.Need-node-requires-2
-node-requires-2 c κs =
-    let a = c .before .before .before .before .before .before .before .before .before .before .before .args in
-    in-count (a .head .count .nodes) (a .own .node) (own-in (c .before) (not-false _ (c .if3 .left))) .0
+node-requires-2 c κs = search needs
 
 -- src/pairs.rt:76:9
 returns-4 : tie.Need-returns-4
 returns-4 c =
     let a = c .before .before .before .before .before .before .before .before .before .before .before .before .before .before .args in
-    met-from-elsewhere (clinicOf (a .file .now) (a .head)) (getD (a .beside .now) 0 0) (madeIn (a .beside .now) 2 (getD (a .beside .now) 1 0)) (a .own) (a .other) (c .before .before .node2 .result) (c .before .before .node2 .ensures) (own-in (c .before .before .before .before) (not-false _ (c .before .before .before .if3 .left))) (c .if4 .taken)
+    met-from-elsewhere (clinicOf (contentsAt (a .file .now) (a .head))) (getD (a .beside .now) 0 0) (madeIn (a .beside .now) 2 (getD (a .beside .now) 1 0)) (a .own) (a .other) (c .before .before .node2 .result) (c .before .before .node2 .ensures) (own-in (c .before .before .before .before) (not-false _ (c .before .before .before .if3 .left))) (c .if4 .taken)
 
 -- src/pairs.rt:78:5
 agrees-requires : tie.Need-agrees-requires
@@ -75,18 +77,17 @@ agrees-requires c κs = c .before .before .before .before .before .before .befor
 returns-5 : tie.Need-returns-5
 returns-5 c =
     let a = c .before .before .before .before .before .before .before .before .before .before .before .before .before .before .before .args in
-    c .agrees .ensures
-    ∙ met (clinicOf (a .file .now) (a .head)) (getD (a .beside .now) 0 0) (madeIn (a .beside .now) 2 (getD (a .beside .now) 1 0)) (a .own) (a .other) (c .before .before .before .node2 .result) (c .before .before .before .before .before .before .before .before .node .result) (c .before .before .before .node2 .ensures) (c .before .before .before .before .before .before .before .before .node .ensures) (own-in (c .before .before .before .before .before) (not-false _ (c .before .before .before .before .if3 .left))) (c .before .if4 .left) (theirs-in (c .before .before .before .before .before .before .before .before .before .before) (not-false _ (c .before .before .before .before .before .before .before .before .before .if1 .left))) (c .before .before .before .before .before .before .if2 .left)
+    met (clinicOf (contentsAt (a .file .now) (a .head))) (getD (a .beside .now) 0 0) (madeIn (a .beside .now) 2 (getD (a .beside .now) 1 0)) (a .own) (a .other) (c .before .before .before .node2 .result) (c .before .before .before .before .before .before .before .before .node .result) (c .before .before .before .node2 .ensures) (c .before .before .before .before .before .before .before .before .node .ensures) (own-in (c .before .before .before .before .before) (not-false _ (c .before .before .before .before .if3 .left))) (c .before .if4 .left) (theirs-in (c .before .before .before .before .before .before .before .before .before .before) (not-false _ (c .before .before .before .before .before .before .before .before .before .if1 .left))) (c .before .before .before .before .before .before .if2 .left) (c .agrees .result) (c .agrees .ensures)
 
 pub meets-spec : {M : Type 1} → statement M
 meets-spec =
     tie.close
     (tie.spec
-    is-node-requires
+    in-count-requires
     returns
     node-requires
     returns-2
-    is-node-requires-2
+    in-count-requires-2
     returns-3
     node-requires-2
     returns-4

@@ -2,6 +2,8 @@ use native.Mathlib.Omega.{arith}
 use Prim.Native.Nat.{_+_, _*_, _-_, _≤_}
 use mathlib.Core.Path.{_≡_, refl}
 use lib.ListN.{getD}
+use Rattle.format.specs.Contents.{contentsAt}
+use Rattle.format.proofs.ContentsLaws.{nodes-held}
 use Rattle.steps.specs.Choice.{clinicOf}
 use Rattle.running.specs.Run.{receiverFrom, pairFrom, readyPair}
 use Rattle.steps.specs.Kept.{threadsIn, stateIn}
@@ -19,8 +21,8 @@ use Rattle.choices.proofs.state.thread_at.Reads as thread-at-reads
 abbrev Inv-loop : tie.InvT-loop
 Inv-loop file head sends receives threads beside count sender₀ receiver₀ i own j₀ sender receiver j =
     (j ≤ getD beside 0 0) × (sender ≡ 0) × (receiver ≡ 0)
-    × (receiverFrom (clinicOf file head) (stateIn threads beside) own (j + 1) (threadsIn threads (11 * j) (getD beside 0 0 - j))
-    ≡ receiverFrom (clinicOf file head) (stateIn threads beside) own 1 (threadsIn threads 0 (getD beside 0 0)))
+    × (receiverFrom (clinicOf (contentsAt file head)) (stateIn threads beside) own (j + 1) (threadsIn threads (11 * j) (getD beside 0 0 - j))
+    ≡ receiverFrom (clinicOf (contentsAt file head)) (stateIn threads beside) own 1 (threadsIn threads 0 (getD beside 0 0)))
 
 abbrev μ-loop : tie.MeasureT-loop
 μ-loop file head sends receives threads beside count sender₀ receiver₀ i own j₀ sender receiver j = getD beside 0 0 - j
@@ -28,7 +30,7 @@ abbrev μ-loop : tie.MeasureT-loop
 abbrev Inv-senders : tie.InvT-senders
 Inv-senders file head sends receives threads beside count sender₀ receiver₀ i₀ sender receiver i =
     (i ≤ getD beside 0 0) × (sender ≡ 0) × (receiver ≡ 0)
-    × (pairFrom (clinicOf file head) (stateIn threads beside) (i + 1) (threadsIn threads (11 * i) (getD beside 0 0 - i)) ≡ readyPair (clinicOf file head) (stateIn threads beside))
+    × (pairFrom (clinicOf (contentsAt file head)) (stateIn threads beside) (i + 1) (threadsIn threads (11 * i) (getD beside 0 0 - i)) ≡ readyPair (clinicOf (contentsAt file head)) (stateIn threads beside))
 
 abbrev μ-senders : tie.MeasureT-senders
 μ-senders file head sends receives threads beside count sender₀ receiver₀ i₀ sender receiver i = getD beside 0 0 - i
@@ -41,7 +43,7 @@ shared-slice-read-count c = search needs
 senders-holds : tie.Need-senders-holds Inv-loop μ-loop Inv-senders μ-senders
 senders-holds c =
     let a = c .before .before .before .before .before .before .args in
-    (omega arith, refl, refl, senders-begin (clinicOf (a .file .now) (a .head)) (a .threads .now) (a .beside .now))
+    (omega arith, refl, refl, senders-begin (clinicOf (contentsAt (a .file .now) (a .head))) (a .threads .now) (a .beside .now))
 
 -- src/pairs.rt:94:38
 wide-requires : tie.Need-wide-requires Inv-loop μ-loop Inv-senders μ-senders
@@ -64,7 +66,7 @@ loop-holds : tie.Need-loop-holds Inv-loop μ-loop Inv-senders μ-senders
 loop-holds c =
     let a = c .before .before .before .before .before .before .before .before .before .before .before .args in
     let s = c .before .before .before .before .senders in
-    let (le, all) = receivers-begin (clinicOf (a .file .now) (a .head)) (a .threads .now) (a .beside .now) (c .before .thread-at .result) (c .left-out .result) (c .left-out .ensures) in
+    let (le, all) = receivers-begin (clinicOf (contentsAt (a .file .now) (a .head))) (a .threads .now) (a .beside .now) (c .before .thread-at .result) (a .head .count .nodes) (c .left-out .result) (nodes-held (a .file .now) (a .head)) (c .left-out .ensures) in
     (le, s .inv .1, s .inv .2, all)
 
 -- src/pairs.rt:93:5
@@ -77,7 +79,7 @@ senders-again c =
     let a = c .before .before .before .before .before .before .before .before .before .before .before .before .before .args in
     let s = c .before .before .before .before .before .before .senders in
     let l = c .before .loop in
-    let C = clinicOf (a .file .now) (a .head) in
+    let C = clinicOf (contentsAt (a .file .now) (a .head)) in
     let w = a .threads .now in
     let b = a .beside .now in
     let own = c .before .before .before .thread-at in
@@ -109,7 +111,7 @@ loop-again : tie.Need-loop-again Inv-loop μ-loop Inv-senders μ-senders
 loop-again c =
     let a = c .before .before .before .before .before .before .before .before .before .before .before .before .before .before .before .before .before .args in
     let l = c .before .before .before .before .before .loop in
-    let C = clinicOf (a .file .now) (a .head) in
+    let C = clinicOf (contentsAt (a .file .now) (a .head)) in
     let w = a .threads .now in
     let b = a .beside .now in
     let own = c .before .before .before .before .before .before .before .thread-at .result in
@@ -127,7 +129,7 @@ returns : tie.Need-returns Inv-loop μ-loop Inv-senders μ-senders
 returns c =
     let a = c .before .before .before .before .before .before .before .before .args in
     let s = c .before .senders in
-    let C = clinicOf (a .file .now) (a .head) in
+    let C = clinicOf (contentsAt (a .file .now) (a .head)) in
     let w = a .threads .now in
     let b = a .beside .now in
     rw (s .inv .1, s .inv .2) (two (readyPair C (stateIn w b)) 0 0 (senders-end C w b (s .i) _ (omega arith) (s .inv .3)))
@@ -138,7 +140,7 @@ returns-2 c =
     let a = c .before .before .before .before .before .before .before .before .before .before .before .before .before .before .before .before .before .args in
     let s = c .before .before .before .before .before .before .before .before .before .before .senders in
     let l = c .before .before .before .before .before .loop in
-    let C = clinicOf (a .file .now) (a .head) in
+    let C = clinicOf (contentsAt (a .file .now) (a .head)) in
     let w = a .threads .now in
     let b = a .beside .now in
     let own = c .before .before .before .before .before .before .before .thread-at in

@@ -1,30 +1,34 @@
-use mathlib.Core.Path.{_≡_, sym, _∙_}
+use mathlib.Core.Path.{_≡_, sym, ap, _∙_}
 use mathlib.Core.Bool.{Bool}
 use native.Mathlib.Omega.{arith}
-use lib.ListN.{getD}
+use lib.ListN.{length, getD}
 use borrow.Author.Tests.{not-true, not-false}
-use Rattle.rules.specs.Names.{within}
+use Rattle.format.specs.Contents.{inCount, contentsAt}
+use Rattle.format.proofs.ContentsLaws.{in-count, nodes-held}
 use Rattle.steps.specs.Choice.{clinicOf}
 use Rattle.steps.specs.Kept.{madeIn}
-use Rattle.steps.proofs.ActLaws.{answered, in-count, length-made, acting-out, acting-send, acting-receive, acting-partner, acting-lone}
+use Rattle.steps.proofs.ActLaws.{answered, length-made, acting-out, acting-send, acting-receive, acting-partner, acting-lone}
 use borrow.Author.Needs.{needs}
 use Rattle.steps.proofs.act.act.Statement.{statement}
 use Rattle.steps.proofs.act.act.Tie as tie
 use Rattle.steps.proofs.act.act.Reads as reads
 use Rattle.steps.proofs.act.act.Lts as lts
+use Rattle.format.proofs.sections.in_count.Reads as in-count-reads
 use Rattle.format.proofs.sections.node.Reads as node-reads
-use Rattle.steps.proofs.act.is_node.Reads as is-node-reads
 use Rattle.steps.proofs.act.refused.Reads as refused-reads
 use Rattle.steps.proofs.act.send.Reads as send-reads
 use Rattle.steps.proofs.act.step.Reads as step-reads
 
 -- the thread's node is in count, or not
-counted : (c : tie.After-is-node) {b : Bool} → c .is-node .result ≡ b → let a = c .before .before .before .before .before .args in within (a .head .count .nodes) (a .own .node) ≡ b
-counted c h = sym (c .is-node .ensures) ∙ h
+counted : (c : tie.After-in-count) {b : Bool} → c .in-count .result ≡ b
+    → let a = c .before .before .before .before .before .args in inCount (length (contentsAt (a .file .now) (a .head) .nodes)) (a .own .node) ≡ b
+counted c h =
+    let a = c .before .before .before .before .before .args in
+    ap (λ k. inCount k (a .own .node)) (nodes-held (a .file .now) (a .head)) ∙ sym (c .in-count .ensures) ∙ h
 
 -- src/act.rt:251:9
-is-node-requires : tie.Need-is-node-requires
-is-node-requires c κs = search needs
+in-count-requires : tie.Need-in-count-requires
+in-count-requires c κs = search needs
 
 -- src/act.rt:252:9
 refused-requires : tie.Need-refused-requires
@@ -34,27 +38,25 @@ refused-requires c κs = search needs
 returns : tie.Need-returns
 returns c =
     let a = c .before .before .before .before .before .before .before .args in
-    answered (acting-out (clinicOf (a .file .now) (a .head)) (getD (a .beside .now) 0 0) (madeIn (a .beside .now) 2 (getD (a .beside .now) 1 0)) (a .own) (a .partner) (a .other) (counted (c .before .before) (not-true _ (c .before .if1 .taken)))) (c .refused .ensures)
+    answered (acting-out (clinicOf (contentsAt (a .file .now) (a .head))) (getD (a .beside .now) 0 0) (madeIn (a .beside .now) 2 (getD (a .beside .now) 1 0)) (a .own) (a .partner) (a .other) (counted (c .before .before) (not-true _ (c .before .if1 .taken)))) (c .refused .ensures)
 
 -- src/act.rt:254:9
 node-requires : tie.Need-node-requires
-node-requires c κs =
-    let a = c .before .before .before .before .before .before .args in
-    in-count (a .head .count .nodes) (a .own .node) (counted (c .before) (not-false _ (c .if1 .left))) .0
+node-requires c κs = search needs
 
 -- src/act.rt:256:9
 send-requires : tie.Need-send-requires
 send-requires c κs =
     let a = c .before .before .before .before .before .before .before .before .before .args in
-    let w = in-count (a .head .count .nodes) (a .own .node) (counted (c .before .before .before .before) (not-false _ (c .before .before .before .if1 .left))) in
+    let w = in-count (length (contentsAt (a .file .now) (a .head) .nodes)) (a .own .node) (counted (c .before .before .before .before) (not-false _ (c .before .before .before .if1 .left))) in
     let p = c .before .before .before .before .before .before .before .before .before .pre in
-    (p .0, omega (arith, p .0, w .1), p .1, p .2, p .3, p .4)
+    (p .0, omega (arith, p .0 .nodes, nodes-held (a .file .now) (a .head), w .1), p .1, p .2, p .3, p .4)
 
 -- src/act.rt:256:9
 returns-2 : tie.Need-returns-2
 returns-2 c =
     let a = c .before .before .before .before .before .before .before .before .before .before .args in
-    answered (acting-send (clinicOf (a .file .now) (a .head)) (getD (a .beside .now) 0 0) (madeIn (a .beside .now) 2 (getD (a .beside .now) 1 0)) (a .own) (a .partner) (a .other) (c .before .before .before .node .result) (c .before .before .before .node .ensures) (counted (c .before .before .before .before .before) (not-false _ (c .before .before .before .before .if1 .left))) (c .before .if2 .taken)) (c .send .ensures)
+    answered (acting-send (clinicOf (contentsAt (a .file .now) (a .head))) (getD (a .beside .now) 0 0) (madeIn (a .beside .now) 2 (getD (a .beside .now) 1 0)) (a .own) (a .partner) (a .other) (c .before .before .before .node .result) (c .before .before .before .node .ensures) (counted (c .before .before .before .before .before) (not-false _ (c .before .before .before .before .if1 .left))) (c .before .if2 .taken)) (c .send .ensures)
 
 -- src/act.rt:259:9
 refused-requires-2 : tie.Need-refused-requires-2
@@ -64,7 +66,7 @@ refused-requires-2 c κs = search needs
 returns-3 : tie.Need-returns-3
 returns-3 c =
     let a = c .before .before .before .before .before .before .before .before .before .before .before .before .args in
-    answered (acting-receive (clinicOf (a .file .now) (a .head)) (getD (a .beside .now) 0 0) (madeIn (a .beside .now) 2 (getD (a .beside .now) 1 0)) (a .own) (a .partner) (a .other) (c .before .before .before .before .before .node .result) (c .before .before .before .before .before .node .ensures) (counted (c .before .before .before .before .before .before .before) (not-false _ (c .before .before .before .before .before .before .if1 .left))) (c .before .if3 .taken)) (c .refused2 .ensures)
+    answered (acting-receive (clinicOf (contentsAt (a .file .now) (a .head))) (getD (a .beside .now) 0 0) (madeIn (a .beside .now) 2 (getD (a .beside .now) 1 0)) (a .own) (a .partner) (a .other) (c .before .before .before .before .before .node .result) (c .before .before .before .before .before .node .ensures) (counted (c .before .before .before .before .before .before .before) (not-false _ (c .before .before .before .before .before .before .if1 .left))) (c .before .if3 .taken)) (c .refused2 .ensures)
 
 -- src/act.rt:262:9
 refused-requires-3 : tie.Need-refused-requires-3
@@ -74,7 +76,7 @@ refused-requires-3 c κs = search needs
 returns-4 : tie.Need-returns-4
 returns-4 c =
     let a = c .before .before .before .before .before .before .before .before .before .before .before .before .before .args in
-    answered (acting-partner (clinicOf (a .file .now) (a .head)) (getD (a .beside .now) 0 0) (madeIn (a .beside .now) 2 (getD (a .beside .now) 1 0)) (a .own) (a .partner) (a .other) (c .before .before .before .before .before .before .node .result) (c .before .before .before .before .before .before .node .ensures) (counted (c .before .before .before .before .before .before .before .before) (not-false _ (c .before .before .before .before .before .before .before .if1 .left))) (c .before .before .before .before .if2 .left) (c .before .before .if3 .left) (c .before .if4 .taken)) (c .refused3 .ensures)
+    answered (acting-partner (clinicOf (contentsAt (a .file .now) (a .head))) (getD (a .beside .now) 0 0) (madeIn (a .beside .now) 2 (getD (a .beside .now) 1 0)) (a .own) (a .partner) (a .other) (c .before .before .before .before .before .before .node .result) (c .before .before .before .before .before .before .node .ensures) (counted (c .before .before .before .before .before .before .before .before) (not-false _ (c .before .before .before .before .before .before .before .if1 .left))) (c .before .before .before .before .if2 .left) (c .before .before .if3 .left) (c .before .if4 .taken)) (c .refused3 .ensures)
 
 -- src/act.rt:264:22
 shared-slice-read-step : tie.Need-shared-slice-read-step
@@ -88,20 +90,21 @@ shared-slice-read-step-2 c = search needs
 step-requires : tie.Need-step-requires
 step-requires c κs =
     let a = c .before .before .before .before .before .before .before .before .before .before .before .before .before .before .args in
-    let w = in-count (a .head .count .nodes) (a .own .node) (counted (c .before .before .before .before .before .before .before .before .before) (not-false _ (c .before .before .before .before .before .before .before .before .if1 .left))) in
-    omega (arith, c .before .before .before .before .before .before .before .before .before .before .before .before .before .before .pre .0, w .1)
+    let w = in-count (length (contentsAt (a .file .now) (a .head) .nodes)) (a .own .node) (counted (c .before .before .before .before .before .before .before .before .before) (not-false _ (c .before .before .before .before .before .before .before .before .if1 .left))) in
+    let p = c .before .before .before .before .before .before .before .before .before .before .before .before .before .before .pre in
+    (p .0, omega (arith, p .0 .nodes, nodes-held (a .file .now) (a .head), w .1))
 
 -- src/act.rt:238:1
 returns-5 : tie.Need-returns-5
 returns-5 c =
     let a = c .before .before .before .before .before .before .before .before .before .before .before .before .before .before .before .args in
-    answered (acting-lone (clinicOf (a .file .now) (a .head)) (getD (a .beside .now) 0 0) (madeIn (a .beside .now) 2 (getD (a .beside .now) 1 0)) (a .own) (a .partner) (a .other) (c .before .before .before .before .before .before .before .before .node .result) (getD (a .beside .now) 1 0) (c .before .before .before .before .before .before .before .before .node .ensures) (length-made (a .beside .now) 2 (getD (a .beside .now) 1 0)) (counted (c .before .before .before .before .before .before .before .before .before .before) (not-false _ (c .before .before .before .before .before .before .before .before .before .if1 .left))) (c .before .before .before .before .before .before .if2 .left) (c .before .before .before .before .if3 .left) (c .before .before .before .if4 .left)) (c .step .ensures)
+    answered (acting-lone (clinicOf (contentsAt (a .file .now) (a .head))) (getD (a .beside .now) 0 0) (madeIn (a .beside .now) 2 (getD (a .beside .now) 1 0)) (a .own) (a .partner) (a .other) (c .before .before .before .before .before .before .before .before .node .result) (getD (a .beside .now) 1 0) (c .before .before .before .before .before .before .before .before .node .ensures) (length-made (a .beside .now) 2 (getD (a .beside .now) 1 0)) (counted (c .before .before .before .before .before .before .before .before .before .before) (not-false _ (c .before .before .before .before .before .before .before .before .before .if1 .left))) (c .before .before .before .before .before .before .if2 .left) (c .before .before .before .before .if3 .left) (c .before .before .before .if4 .left)) (c .step .ensures)
 
 pub act-spec : {M : Type 1} → statement M
 act-spec =
     tie.close
     (tie.spec
-    is-node-requires
+    in-count-requires
     refused-requires
     returns
     node-requires

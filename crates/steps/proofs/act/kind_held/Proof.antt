@@ -1,4 +1,5 @@
 use Rattle.rules.specs.Schema.{schemaOf}
+use Rattle.format.specs.Contents.{contentsAt}
 use Rattle.format.specs.declared.Channel.{Channel}
 use Rattle.steps.proofs.ActLaws.{kind-plain, kind-channel, kind-of-made, kind-of-none}
 use native.Mathlib.Omega.{arith}
@@ -17,7 +18,7 @@ use Rattle.format.proofs.words.wide.Reads as wide-reads
 returns : tie.Need-returns
 returns c =
     let a = c .before .before .before .args in
-    kind-plain (schemaOf (now (a .file)) (a .head)) (now (a .beside)) (getD (now (a .beside)) 1 0) (a .v) (c .if1 .taken)
+    kind-plain (schemaOf (contentsAt (now (a .file)) (a .head))) (now (a .beside)) (getD (now (a .beside)) 1 0) (a .v) (c .if1 .taken)
 
 -- src/act.rt:48:38
 sub-channel : tie.Need-sub-channel
@@ -32,7 +33,7 @@ returns-2 : tie.Need-returns-2
 returns-2 c =
     let a = c .before .before .before .before .before .args in
     ap (λ (y : Channel). y .kind .0) (c .channel .ensures)
-    ∙ kind-channel (schemaOf (now (a .file)) (a .head)) (now (a .beside)) (getD (now (a .beside)) 1 0) (a .v) (c .before .before .if1 .left) (c .before .if2 .taken)
+    ∙ kind-channel (schemaOf (contentsAt (now (a .file)) (a .head))) (now (a .beside)) (getD (now (a .beside)) 1 0) (a .v) (c .before .before .if1 .left) (c .before .if2 .taken)
 
 -- src/act.rt:51:9
 wide-requires : tie.Need-wide-requires
@@ -67,14 +68,14 @@ returns-3 : tie.Need-returns-3
 returns-3 c =
     let w = c .before .before .before .before in
     let a = w .before .before .before .before .before .args in
-    kind-of-made (schemaOf (now (a .file)) (a .head)) (now (a .beside)) (getD (now (a .beside)) 1 0) (a .v) (w .wide .result) (w .before .if2 .left) (w .wide .ensures .0) (search needs)
+    kind-of-made (schemaOf (contentsAt (now (a .file)) (a .head))) (now (a .beside)) (getD (now (a .beside)) 1 0) (a .v) (w .wide .result) (w .before .if2 .left) (w .wide .ensures .0) (search needs)
 
 -- src/act.rt:40:1
 returns-4 : tie.Need-returns-4
 returns-4 c =
     let w = c .before .before .before in
     let a = w .before .before .before .before .before .args in
-    kind-of-none (schemaOf (now (a .file)) (a .head)) (now (a .beside)) (getD (now (a .beside)) 1 0) (a .v) (w .wide .result) (w .before .if2 .left) (w .wide .ensures .0) (search needs)
+    kind-of-none (schemaOf (contentsAt (now (a .file)) (a .head))) (now (a .beside)) (getD (now (a .beside)) 1 0) (a .v) (w .wide .result) (w .before .if2 .left) (w .wide .ensures .0) (search needs)
 
 pub kind-held-spec : {M : Type 1} → statement M
 kind-held-spec =

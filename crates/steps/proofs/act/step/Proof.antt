@@ -1,4 +1,5 @@
 use mathlib.Core.Path.{ap, _∙_}
+use Rattle.format.specs.Contents.{contentsAt}
 use Rattle.steps.specs.declared.Answer.the-variants as answers
 use Rattle.steps.specs.Choice.{clinicOf}
 use Rattle.steps.proofs.ActLaws.{answered, leaving, lone-end, lone-fork, lone-repeat, lone-new, lone-compare, lone-on, lone-off, lone-other}
@@ -92,50 +93,50 @@ refused-requires c κs = search needs
 returns : tie.Need-returns
 returns c =
     let a = c .before .before .before .before .args in
-    answered (lone-end (clinicOf (a .file .now) (a .head)) (a .threads) (a .made) (a .own) (a .it) (c .before .before .match .keys1)) (c .sole .ensures ∙ ap (leaving answers.Ends) (c .before .no-thread .ensures))
+    answered (lone-end (clinicOf (contentsAt (a .file .now) (a .head))) (a .threads) (a .made) (a .own) (a .it) (c .before .before .match .keys1)) (c .sole .ensures ∙ ap (leaving answers.Ends) (c .before .no-thread .ensures))
 
 -- src/act.rt:147:1
 returns-2 : tie.Need-returns-2
 returns-2 c =
     let a = c .before .before .before .before .before .args in
-    answered (lone-fork (clinicOf (a .file .now) (a .head)) (a .threads) (a .made) (a .own) (a .it) (c .before .before .before .match .keys2) (c .before .before .onward .result) (c .before .moved-to .result) (c .before .before .onward .ensures) (c .before .moved-to .ensures)) (c .adds .ensures)
+    answered (lone-fork (clinicOf (contentsAt (a .file .now) (a .head))) (a .threads) (a .made) (a .own) (a .it) (c .before .before .before .match .keys2) (c .before .before .onward .result) (c .before .moved-to .result) (c .before .before .onward .ensures) (c .before .moved-to .ensures)) (c .adds .ensures)
 
 -- src/act.rt:147:1
 returns-3 : tie.Need-returns-3
 returns-3 c =
     let a = c .before .before .before .before .args in
-    answered (lone-repeat (clinicOf (a .file .now) (a .head)) (a .threads) (a .made) (a .own) (a .it) (c .before .before .match .keys3) (c .before .onward2 .result) (c .before .onward2 .ensures)) (c .adds2 .ensures)
+    answered (lone-repeat (clinicOf (contentsAt (a .file .now) (a .head))) (a .threads) (a .made) (a .own) (a .it) (c .before .before .match .keys3) (c .before .onward2 .result) (c .before .onward2 .ensures)) (c .adds2 .ensures)
 
 -- src/act.rt:147:1
 returns-4 : tie.Need-returns-4
 returns-4 c =
     let a = c .before .before .before .args in
-    answered (lone-new (clinicOf (a .file .now) (a .head)) (a .threads) (a .made) (a .own) (a .it) (c .before .match .keys4)) (c .makes .ensures)
+    answered (lone-new (clinicOf (contentsAt (a .file .now) (a .head))) (a .threads) (a .made) (a .own) (a .it) (c .before .match .keys4)) (c .makes .ensures)
 
 -- src/act.rt:147:1
 returns-5 : tie.Need-returns-5
 returns-5 c =
     let a = c .before .before .before .before .before .before .args in
-    answered (lone-compare (clinicOf (a .file .now) (a .head)) (a .threads) (a .made) (a .own) (a .it) (c .before .before .before .before .match .keys5) (c .before .before .before .value .result) (c .before .before .value2 .result) (c .before .onward3 .result) (c .before .before .before .value .ensures) (c .before .before .value2 .ensures) (c .before .onward3 .ensures)) (c .moves-if .ensures)
+    answered (lone-compare (clinicOf (contentsAt (a .file .now) (a .head))) (a .threads) (a .made) (a .own) (a .it) (c .before .before .before .before .match .keys5) (c .before .before .before .value .result) (c .before .before .value2 .result) (c .before .onward3 .result) (c .before .before .before .value .ensures) (c .before .before .value2 .ensures) (c .before .onward3 .ensures)) (c .moves-if .ensures)
 
 -- src/act.rt:147:1
 returns-6 : tie.Need-returns-6
 returns-6 c =
     let a = c .before .before .before .args in
-    answered (lone-on (clinicOf (a .file .now) (a .head)) (a .threads) (a .made) (a .own) (a .it) (c .before .match .keys6)) (c .switches-on .ensures)
+    answered (lone-on (clinicOf (contentsAt (a .file .now) (a .head))) (a .threads) (a .made) (a .own) (a .it) (c .before .match .keys6)) (c .switches-on .ensures)
 
 -- src/act.rt:147:1
 returns-7 : tie.Need-returns-7
 returns-7 c =
     let a = c .before .before .before .before .before .args in
-    answered (lone-off (clinicOf (a .file .now) (a .head)) (a .threads) (a .made) (a .own) (a .it) (c .before .before .before .match .keys7) (c .before .before .has-role .result) (c .before .off .result) (c .before .before .has-role .ensures) (c .before .off .ensures)) (c .moves-if2 .ensures)
+    answered (lone-off (clinicOf (contentsAt (a .file .now) (a .head))) (a .threads) (a .made) (a .own) (a .it) (c .before .before .before .match .keys7) (c .before .before .has-role .result) (c .before .off .result) (c .before .before .has-role .ensures) (c .before .off .ensures)) (c .moves-if2 .ensures)
 
 -- src/act.rt:147:1
 returns-8 : tie.Need-returns-8
 returns-8 c =
     let g = c .before .match .rest in
     let a = c .before .before .before .args in
-    answered (lone-other (clinicOf (a .file .now) (a .head)) (a .threads) (a .made) (a .own) (a .it) (g .0 .0 .0 .0 .0 .0 .1) (g .0 .0 .0 .0 .0 .1) (g .0 .0 .0 .0 .1) (g .0 .0 .0 .1) (g .0 .0 .1) (g .0 .1) (g .1)) (c .refused .ensures)
+    answered (lone-other (clinicOf (contentsAt (a .file .now) (a .head))) (a .threads) (a .made) (a .own) (a .it) (g .0 .0 .0 .0 .0 .0 .1) (g .0 .0 .0 .0 .0 .1) (g .0 .0 .0 .0 .1) (g .0 .0 .0 .1) (g .0 .0 .1) (g .0 .1) (g .1)) (c .refused .ensures)
 
 pub step-spec : {M : Type 1} → statement M
 step-spec =

@@ -1,4 +1,4 @@
-use mathlib.Core.Path.{_≡_, refl, sym, ap, ap₂, _∙_}
+use mathlib.Core.Path.{sym, ap, _∙_}
 use lib.Seq.{length-take-le}
 use lib.ListN.{replicate}
 use Prim.Native.Nat.{_+_}
@@ -39,7 +39,7 @@ slice-aggregate-shape-by c = sym (length-take-le (c .before .wide .result + 2) (
 -- src/shape.rt:176:5
 shape-by-requires : tie.Need-shape-by-requires
 shape-by-requires c κs =
-    (omega arith, omega arith, length-take-le (c .before .wide .result + 2) (replicate 1026 0) (omega arith) ∙ ap (λ k. k + 2) (c .before .wide .ensures .0))
+    (c .before .before .before .before .before .pre, length-take-le (c .before .wide .result + 2) (replicate 1026 0) (omega arith) ∙ ap (λ k. k + 2) (c .before .wide .ensures .0))
 
 -- src/shape.rt:167:1
 returns-2 : tie.Need-returns-2

@@ -1,15 +1,14 @@
-use Prim.Native.Nat.{ℕ, _+_, _*_, _-_, _≤_, _<_}
+use Prim.Native.Nat.{_+_, _-_, _≤_, _<_}
 use mathlib.Core.Path.{_≡_, refl, sym, ap, ap₂, _∙_}
 use mathlib.Core.Bool.{cond}
 use native.Mathlib.Omega.{arith}
 use borrow.Author.Needs.{needs}
 use borrow.Author.Tests.{not-true, not-false}
-use lib.ListN.{length, getD, set, length-set}
-use Rattle.format.specs.Words.{wordAt}
-use denote.Ref.{now}
+use lib.ListN.{length, getD, set, length-set, drop}
+use Rattle.format.specs.Contents.{contentsAt, item, noSession}
 use Rattle.format.specs.Answers.{refused}
-use Rattle.format.specs.Sections.{nodesFrom}
-use Rattle.trees.specs.Shape.{boundBelow, boundOf, onward, shapeFrom, rootsFrom, shapeAnswer}
+use Rattle.format.proofs.ContentsLaws.{sessions-held, nodes-held, none-past}
+use Rattle.trees.specs.Shape.{boundBelow, boundOf, onward, shapeFrom, roots, shapeAnswer}
 use Rattle.format.specs.declared.Session.{Session}
 use Rattle.trees.specs.declared.Due.the-variants.{Root, Below}
 use Rattle.trees.proofs.FitsLaws.{fits-room}
@@ -29,7 +28,7 @@ use Rattle.format.proofs.words.wide.Reads as wide-reads
 
 abbrev Inv-loop : tie.InvT-loop
 Inv-loop file head ends stack₀ sessions depth₀ stack depth =
-    (depth ≤ sessions) × (length stack ≡ 1057) × (pile blank stack depth ≡ rootsFrom file (head .at .sessions + 3 * (sessions - depth)) depth)
+    (depth ≤ sessions) × (length stack ≡ 1057) × (pile blank stack depth ≡ roots (drop (sessions - depth) (contentsAt file head .sessions)))
 
 abbrev μ-loop : tie.MeasureT-loop
 μ-loop file head ends stack₀ sessions depth₀ stack depth = sessions - depth
@@ -37,7 +36,7 @@ abbrev μ-loop : tie.MeasureT-loop
 abbrev Inv-loop2 : tie.InvT-loop2
 Inv-loop2 file head ends stack₀ sessions depth₀ nodes i₀ stack depth i =
     (1 ≤ i) × (i ≤ nodes + 1) × (length stack ≡ 1057) × (depth ≤ 31 + i)
-    × (shapeFrom i (nodesFrom file (head .at .nodes + 3 * (i - 1)) (nodes + 1 - i)) (pile blank stack depth) ≡ shapeAnswer file head)
+    × (shapeFrom i (drop (i - 1) (contentsAt file head .nodes)) (pile blank stack depth) ≡ shapeAnswer (contentsAt file head))
 
 abbrev μ-loop2 : tie.MeasureT-loop2
 μ-loop2 file head ends stack₀ sessions depth₀ nodes i₀ stack depth i = nodes + 1 - i
@@ -46,18 +45,19 @@ abbrev μ-loop2 : tie.MeasureT-loop2
 module _ (c : tie.After-node-fits Inv-loop μ-loop Inv-loop2 μ-loop2) where
   going : cond (c .node-fits .result)
       (shapeFrom (c .before .before .before .before .before .before .before .loop2 .i + 1)
-      (nodesFrom (c .before .before .before .before .before .before .before .before .before .before .before .before .before .args .file .now) (c .before .before .before .before .before .before .before .before .before .before .before .before .before .args .head .at .nodes + 3 * (c .before .before .before .before .before .before .before .loop2 .i + 1 - 1)) (c .before .before .before .before .before .before .before .before .before .before .before .before .before .args .head .count .nodes + 1 - (c .before .before .before .before .before .before .before .loop2 .i + 1)))
+      (drop (c .before .before .before .before .before .before .before .loop2 .i + 1 - 1) (contentsAt (c .before .before .before .before .before .before .before .before .before .before .before .before .before .args .file .now) (c .before .before .before .before .before .before .before .before .before .before .before .before .before .args .head) .nodes))
       (onward (c .before .before .before .node .result) (getD (c .before .before .before .before .before .before .before .loop2 .stack) (c .before .before .before .before .before .before .before .loop2 .depth - 1) blank) (pile blank (c .before .before .before .before .before .before .before .loop2 .stack) (c .before .before .before .before .before .before .before .loop2 .depth - 1))))
       (refused 8 (c .before .before .before .before .before .before .before .loop2 .i))
-      ≡ shapeAnswer (c .before .before .before .before .before .before .before .before .before .before .before .before .before .args .file .now) (c .before .before .before .before .before .before .before .before .before .before .before .before .before .args .head)
+      ≡ shapeAnswer (contentsAt (c .before .before .before .before .before .before .before .before .before .before .before .before .before .args .file .now) (c .before .before .before .before .before .before .before .before .before .before .before .before .before .args .head))
   going =
       let a = c .before .before .before .before .before .before .before .before .before .before .before .before .before .args in
       let l = c .before .before .before .before .before .before .before .loop2 in
-      judged (a .file .now) (a .ends .now) (a .head .at .nodes) (a .head .count .nodes) (l .i) (getD (l .stack) (l .depth - 1) blank)
-      (pile blank (l .stack) (l .depth - 1)) (shapeAnswer (a .file .now) (a .head)) (c .before .before .before .node .result) (c .node-fits .result)
-      (getD (a .ends .now) (c .before .before .wide2 .result + 1) 0) (c .before .before .before .before .before .before .before .before .before .before .before .before .before .pre .2) (omega arith) (omega arith) (c .before .before .before .node .ensures)
+      let held : length (contentsAt (a .file .now) (a .head) .nodes) ≡ a .head .count .nodes = nodes-held (a .file .now) (a .head) in
+      judged (a .ends .now) (contentsAt (a .file .now) (a .head) .nodes) (l .i) (getD (l .stack) (l .depth - 1) blank)
+      (pile blank (l .stack) (l .depth - 1)) (shapeAnswer (contentsAt (a .file .now) (a .head))) (c .before .before .before .node .result) (c .node-fits .result)
+      (getD (a .ends .now) (c .before .before .wide2 .result + 1) 0) (c .before .before .before .before .before .before .before .before .before .before .before .before .before .pre .1) (omega arith) (omega arith) (c .before .before .before .node .ensures)
       (ap (λ k. getD (a .ends .now) (k + 1) 0) (c .before .before .wide2 .ensures .0)) (c .node-fits .ensures)
-      (ap (shapeFrom (l .i) (nodesFrom (a .file .now) (a .head .at .nodes + 3 * (l .i - 1)) (a .head .count .nodes + 1 - l .i)))
+      (ap (shapeFrom (l .i) (drop (l .i - 1) (contentsAt (a .file .now) (a .head) .nodes)))
       (sym (pile-top blank (l .stack) (l .depth) (omega arith))) ∙ l .inv .4)
 
 -- src/shape.rt:109:9
@@ -66,8 +66,10 @@ wide-requires c κs = omega arith
 
 -- src/shape.rt:111:5
 loop-holds : tie.Need-loop-holds Inv-loop μ-loop Inv-loop2 μ-loop2
-unfolding rootsFrom
-loop-holds c = (omega arith, refl, refl)
+unfolding roots
+loop-holds c =
+    let a = c .before .before .before .args in
+    (omega arith, refl, rw (none-past (contentsAt (a .file .now) (a .head) .sessions) (c .wide .result - 0) (omega (arith, sessions-held (a .file .now) (a .head)))))
 
 -- src/shape.rt:112:45
 sub-narrow : tie.Need-sub-narrow Inv-loop μ-loop Inv-loop2 μ-loop2
@@ -79,7 +81,7 @@ narrow-requires c κs = omega arith
 
 -- src/shape.rt:112:13
 session-requires : tie.Need-session-requires Inv-loop μ-loop Inv-loop2 μ-loop2
-session-requires c κs = omega arith
+session-requires c κs = search needs
 
 -- src/shape.rt:113:9
 mul-stack : tie.Need-mul-stack Inv-loop μ-loop Inv-loop2 μ-loop2
@@ -103,13 +105,14 @@ loop-again c =
     let a = c .before .before .before .before .before .before .before .args in
     let l = c .before .before .before .loop in
     let s = c .before .before .before .before .wide .result in
-    let root : c .session .result .root ≡ wordAt (a .file .now) (a .head .at .sessions + 3 * (s - l .depth - 1) + 2) =
-    ap (λ (x : Session). x .root) (c .session .ensures)
-    ∙ ap (λ k. wordAt (a .file .now) (a .head .at .sessions + 3 * (k - 1) + 2)) (c .before .narrow .ensures) in (
+    let ss = contentsAt (a .file .now) (a .head) .sessions in
+    let all : length ss ≡ s = omega (arith, sessions-held (a .file .now) (a .head)) in
+    let root : c .session .result .root ≡ item noSession ss (s - l .depth) .root =
+    ap (λ (x : Session). x .root) (c .session .ensures) ∙ ap (λ k. item noSession ss k .root) (c .before .narrow .ensures) in (
       omega arith,
       simp length-set (omega arith),
       ap (λ x. pile blank (set (l .stack) (l .depth) (Root x)) (l .depth + 1)) root
-          ∙ roots-push (a .file .now) (a .head .at .sessions) s (l .depth) (l .stack) (omega arith) (omega arith) (l .inv .2),
+          ∙ roots-push ss s (l .depth) (l .stack) all (omega arith) (omega arith) (l .inv .2),
     )
 
 -- src/shape.rt:118:5
@@ -118,23 +121,18 @@ unfolding shapeAnswer
 loop2-holds c =
     let a = c .before .before .before .before .before .args in
     let l = c .before .loop in
-    let s = c .before .before .wide .result in
-    let all : l .depth ≡ a .head .count .sessions = omega (arith, c .before .before .wide .ensures .0) in
-    let from : a .head .at .sessions + 3 * (s - l .depth) ≡ a .head .at .sessions = omega arith in
-    let st : pile blank (l .stack) (l .depth) ≡ rootsFrom (a .file .now) (a .head .at .sessions) (a .head .count .sessions) =
-    l .inv .2 ∙ ap₂ (rootsFrom (a .file .now)) from all in
-    let at : a .head .at .nodes + 3 * (1 - 1) ≡ a .head .at .nodes = omega arith in
-    let n : a .head .count .nodes + 1 - 1 ≡ a .head .count .nodes = omega arith in
-    (omega arith, omega arith, l .inv .1, omega arith, rw (at, n, st))
+    let none : c .before .before .wide .result - l .depth ≡ 0 = omega arith in
+    let st : pile blank (l .stack) (l .depth) ≡ roots (contentsAt (a .file .now) (a .head) .sessions) = rw none at (l .inv .2) in
+    (omega arith, omega arith, l .inv .1, omega arith, ap (shapeFrom 1 (contentsAt (a .file .now) (a .head) .nodes)) st)
 
 -- src/shape.rt:120:13
 returns : tie.Need-returns Inv-loop μ-loop Inv-loop2 μ-loop2
 returns c =
     let a = c .before .before .before .before .before .before .before .before .args in
     let l = c .before .before .loop2 in
-    let from : ℕ = a .head .at .nodes + 3 * (l .i - 1) in
-    sym (left-over (a .file .now) from (a .head .count .nodes) (l .i) (omega arith))
-    ∙ ap (λ d. shapeFrom (l .i) (nodesFrom (a .file .now) from (a .head .count .nodes + 1 - l .i)) (pile blank (l .stack) d)) (sym (c .if1 .taken)) ∙ l .inv .4
+    let ns = contentsAt (a .file .now) (a .head) .nodes in
+    sym (left-over ns (l .i) (l .inv .0) (omega (arith, nodes-held (a .file .now) (a .head))))
+    ∙ ap (λ d. shapeFrom (l .i) (drop (l .i - 1) ns) (pile blank (l .stack) d)) (sym (c .if1 .taken)) ∙ l .inv .4
 
 -- src/shape.rt:122:25
 sub-due : tie.Need-sub-due Inv-loop μ-loop Inv-loop2 μ-loop2
@@ -150,7 +148,7 @@ array-copy-out-due c = omega arith
 
 -- src/shape.rt:123:13
 node-requires : tie.Need-node-requires Inv-loop μ-loop Inv-loop2 μ-loop2
-node-requires c κs = omega arith
+node-requires c κs = search needs
 
 -- src/shape.rt:124:40
 wide-requires-2 : tie.Need-wide-requires-2 Inv-loop μ-loop Inv-loop2 μ-loop2
@@ -169,7 +167,7 @@ shared-slice-read-node-fits :
     tie.Need-shared-slice-read-node-fits Inv-loop μ-loop Inv-loop2 μ-loop2
 shared-slice-read-node-fits c =
     let a = c .before .before .before .before .before .before .before .before .before .before .before .before .args in
-    omega (arith, table-size (a .file .now) (a .ends .now) (a .head .at .nodes) (a .head .count .nodes) (c .before .before .before .before .before .before .before .before .before .before .before .before .pre .2), c .before .wide2 .ensures .0)
+    omega (arith, table-size (a .ends .now) (contentsAt (a .file .now) (a .head) .nodes) (c .before .before .before .before .before .before .before .before .before .before .before .before .pre .1), nodes-held (a .file .now) (a .head), c .before .wide2 .ensures .0)
 
 -- src/shape.rt:124:13
 node-fits-requires : tie.Need-node-fits-requires Inv-loop μ-loop Inv-loop2 μ-loop2
@@ -250,19 +248,19 @@ returns-3 : tie.Need-returns-3 Inv-loop μ-loop Inv-loop2 μ-loop2
 returns-3 c =
     let a = c .before .before .before .before .before .before .before .before .args in
     let l = c .before .before .loop2 in
-    let from : ℕ = a .head .at .nodes + 3 * (l .i - 1) in
-    sym (over-empty (a .file .now) from (a .head .count .nodes) (l .i) (omega arith))
-    ∙ ap (λ d. shapeFrom (l .i) (nodesFrom (a .file .now) from (a .head .count .nodes + 1 - l .i)) (pile blank (l .stack) d)) (sym (c .if3 .taken)) ∙ l .inv .4
+    let ns = contentsAt (a .file .now) (a .head) .nodes in
+    sym (over-empty ns (l .i) (omega (arith, nodes-held (a .file .now) (a .head))))
+    ∙ ap (λ d. shapeFrom (l .i) (drop (l .i - 1) ns) (pile blank (l .stack) d)) (sym (c .if3 .taken)) ∙ l .inv .4
 
 -- src/shape.rt:104:1
 returns-4 : tie.Need-returns-4 Inv-loop μ-loop Inv-loop2 μ-loop2
 returns-4 c =
     let a = c .before .before .before .before .before .before .before .before .args in
     let l = c .before .before .loop2 in
-    let from : ℕ = a .head .at .nodes + 3 * (l .i - 1) in
+    let ns = contentsAt (a .file .now) (a .head) .nodes in
     let some : 0 < l .depth = omega arith in
-    sym (over-due (a .file .now) from (a .head .count .nodes) (l .i) (getD (l .stack) (l .depth - 1) blank) (pile blank (l .stack) (l .depth - 1)) (omega arith))
-    ∙ ap (shapeFrom (l .i) (nodesFrom (a .file .now) from (a .head .count .nodes + 1 - l .i))) (sym (pile-top blank (l .stack) (l .depth) some)) ∙ l .inv .4
+    sym (over-due ns (l .i) (getD (l .stack) (l .depth - 1) blank) (pile blank (l .stack) (l .depth - 1)) (omega (arith, nodes-held (a .file .now) (a .head))))
+    ∙ ap (shapeFrom (l .i) (drop (l .i - 1) ns)) (sym (pile-top blank (l .stack) (l .depth) some)) ∙ l .inv .4
 
 pub walk-spec : {M : Type 1} → statement M
 walk-spec =

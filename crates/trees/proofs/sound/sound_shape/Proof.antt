@@ -1,20 +1,19 @@
-use Prim.Native.Nat.{ℕ, zero, suc, _+_, _*_, _-_, _/_, _%_, _≤_, _<_}
-use mathlib.Core.Path.{_≡_, refl, sym, ap, ap₂, _∙_}
+use Prim.Native.Nat.{_+_, _-_, _/_, _≤_, _<_}
+use mathlib.Core.Path.{_≡_, refl, sym, ap, _∙_}
 use mathlib.Core.Bool.{Bool, true, false, not, _&&_, false≢true, and-eq-true-iff}
-use mathlib.Core.List.{List, [], _∷_}
+use mathlib.Core.List.{_∷_}
 use native.Mathlib.Omega.{arith}
 use native.Mathlib.Numerals.{add-one}
 use borrow.Author.Needs.{needs}
-use borrow.Author.Tests.{not-false, eqb-true, ltb-true}
-use lib.ListN.{length, getD, set, length-set, replicate}
-use lib.Dec.{eqb, ltb}
-use Rattle.format.specs.Words.{wordAt}
+use borrow.Author.Tests.{not-false, eqb-true}
+use lib.ListN.{length, getD, set, drop, length-set, replicate}
+use lib.Dec.{eqb}
+use Rattle.format.specs.Contents.{contentsAt, item, noSession}
 use Rattle.format.specs.Answers.{fine}
-use Rattle.format.specs.Sections.{nodesFrom}
+use Rattle.format.proofs.ContentsLaws.{sessions-held, nodes-held, none-past}
 use Rattle.format.specs.declared.Session.{Session}
 use Rattle.trees.specs.Shape.{shapeAnswer}
-use Rattle.trees.proofs.ShapeLaws.{pile, length-nodes}
-use Rattle.trees.proofs.SoundLaws.{Waiting, waiting, unpack, unpacked, held, held-push, held-top, accepts, waitsFrom, waits-push, starts, on-end, on-fork, on-other, has-room, on-last}
+use Rattle.trees.proofs.SoundLaws.{waiting, unpack, held, held-push, held-top, accepts, waits, waits-push, starts, on-end, on-fork, on-other, has-room, on-last}
 use Rattle.trees.proofs.sound.sound_shape.Statement.{statement}
 use Rattle.trees.proofs.sound.sound_shape.Tie as tie
 use Rattle.trees.proofs.sound.sound_shape.Reads as reads
@@ -32,7 +31,7 @@ use Rattle.trees.proofs.sound.named.Reads as named-reads
 abbrev Inv-loop : tie.InvT-loop
 Inv-loop file head nodes sessions stack₀ depth₀ stack depth =
     (depth ≤ sessions) × (length stack ≡ 1058)
-    × (held stack (depth + 1) ≡ waitsFrom file (head .at .sessions + 3 * (sessions - depth)) depth (nodes + 1))
+    × (held stack (depth + 1) ≡ waits (drop (sessions - depth) (contentsAt file head .sessions)) (nodes + 1))
 
 abbrev μ-loop : tie.MeasureT-loop
 μ-loop file head nodes sessions stack₀ depth₀ stack depth = sessions - depth
@@ -40,7 +39,7 @@ abbrev μ-loop : tie.MeasureT-loop
 abbrev Inv-loop2 : tie.InvT-loop2
 Inv-loop2 file head nodes sessions stack₀ depth₀ bound₀ i₀ stack depth bound i =
     (1 ≤ i) × (i ≤ nodes + 1) × (length stack ≡ 1058) × (depth ≤ 31 + i)
-    × (accepts i (nodesFrom file (head .at .nodes + 3 * (i - 1)) (nodes + 1 - i)) bound (held stack depth) ≡ true → shapeAnswer file head ≡ fine)
+    × (accepts i (drop (i - 1) (contentsAt file head .nodes)) bound (held stack depth) ≡ true → shapeAnswer (contentsAt file head) ≡ fine)
 
 abbrev μ-loop2 : tie.MeasureT-loop2
 μ-loop2 file head nodes sessions stack₀ depth₀ bound₀ i₀ stack depth bound i = nodes + 1 - i
@@ -67,12 +66,14 @@ array-write-stack c = omega arith
 
 -- src/sound.rt:38:5
 loop-holds : tie.Need-loop-holds Inv-loop μ-loop Inv-loop2 μ-loop2
-unfolding waitsFrom
+unfolding waits
 loop-holds c =
-    let n = c .before .before .before .args .head .count .nodes in (
+    let a = c .before .before .before .args in
+    let n = a .head .count .nodes in
+    let none = none-past (contentsAt (a .file .now) (a .head) .sessions) (c .before .wide .result - 0) (omega (arith, sessions-held (a .file .now) (a .head))) in (
       omega arith,
       refl,
-      ap (λ v. held (set (replicate 1058 0) 0 v) 1) (c .paired .ensures) ∙ held-push (replicate 1058 0) 0 (n + 1) 0 (omega arith) (omega arith),
+      rw none (ap (λ v. held (set (replicate 1058 0) 0 v) 1) (c .paired .ensures) ∙ held-push (replicate 1058 0) 0 (n + 1) 0 (omega arith) (omega arith)),
     )
 
 -- src/sound.rt:39:45
@@ -85,7 +86,7 @@ narrow-requires c κs = omega arith
 
 -- src/sound.rt:39:13
 session-requires : tie.Need-session-requires Inv-loop μ-loop Inv-loop2 μ-loop2
-session-requires c κs = omega arith
+session-requires c κs = search needs
 
 -- src/sound.rt:40:9
 add-depth : tie.Need-add-depth Inv-loop μ-loop Inv-loop2 μ-loop2
@@ -114,13 +115,14 @@ loop-again c =
     let l = c .before .before .before .before .loop in
     let s = c .before .before .before .before .before .before .wide .result in
     let x = c .before .session .result .root in
-    let root : x ≡ wordAt (a .file .now) (a .head .at .sessions + 3 * (s - l .depth - 1) + 2) =
-    ap (λ (y : Session). y .root) (c .before .session .ensures)
-    ∙ ap (λ k. wordAt (a .file .now) (a .head .at .sessions + 3 * (k - 1) + 2)) (c .before .before .narrow .ensures) in (
+    let ss = contentsAt (a .file .now) (a .head) .sessions in
+    let all : length ss ≡ s = omega (arith, sessions-held (a .file .now) (a .head)) in
+    let root : x ≡ item noSession ss (s - l .depth) .root =
+    ap (λ (y : Session). y .root) (c .before .session .ensures) ∙ ap (λ k. item noSession ss k .root) (c .before .before .narrow .ensures) in (
       omega arith,
       simp length-set (omega arith),
       ap (λ v. held (set (l .stack) (l .depth + 1) v) (l .depth + 1 + 1)) (c .paired2 .ensures)
-          ∙ waits-push (a .file .now) (a .head .at .sessions) s (l .depth) (a .head .count .nodes + 1) x (l .stack) (omega arith) (omega arith) (omega arith) root (l .inv .2),
+          ∙ waits-push ss s (l .depth) (a .head .count .nodes + 1) x (l .stack) all (omega arith) (omega arith) (omega arith) root (l .inv .2),
     )
 
 -- src/sound.rt:43:14
@@ -145,28 +147,23 @@ unfolding shapeAnswer
 loop2-holds c =
     let a = c .before .before .before .before .before .before .before .args in
     let l = c .before .before .before .loop in
-    let s = c .before .before .before .before .before .wide .result in
+    let C = contentsAt (a .file .now) (a .head) in
     let n = a .head .count .nodes in
     let top = unpack (getD (l .stack) (l .depth) 0) in
-    let all : l .depth ≡ a .head .count .sessions = omega (arith, c .before .before .before .before .before .wide .ensures .0) in
-    let from : a .head .at .sessions + 3 * (s - l .depth) ≡ a .head .at .sessions = omega arith in
-    let st : top ∷ held (l .stack) (l .depth) ≡ waitsFrom (a .file .now) (a .head .at .sessions) (a .head .count .sessions) (n + 1) =
-    sym (ap (held (l .stack)) (add-one (l .depth))) ∙ l .inv .2 ∙ ap₂ (λ p k. waitsFrom (a .file .now) p k (n + 1)) from all in
-    let one : top .number ≡ 1 = sym (c .before .named .ensures) ∙ c .if1 .left in
-    let at : a .head .at .nodes + 3 * (1 - 1) ≡ a .head .at .nodes = omega arith in
-    let count : n + 1 - 1 ≡ n = omega arith in
-    let long : 1 + length (nodesFrom (a .file .now) (a .head .at .nodes) n) ≡ n + 1 = omega (arith, length-nodes (a .file .now) (a .head .at .nodes) n) in (
+    let none : c .before .before .before .before .before .wide .result - l .depth ≡ 0 = omega arith in
+    let st : top ∷ held (l .stack) (l .depth) ≡ waits (C .sessions) (n + 1) =
+    sym (ap (held (l .stack)) (add-one (l .depth))) ∙ l .inv .2 ∙ ap (λ k. waits (drop k (C .sessions)) (n + 1)) none in
+    let one : top .number ≡ 1 = sym (c .before .named .ensures) ∙ c .if1 .left in (
       omega arith,
       omega arith,
       l .inv .1,
       omega arith,
-      λ h. starts (a .file .now) (a .head .at .sessions) (a .head .count .sessions) (n + 1) (nodesFrom (a .file .now) (a .head .at .nodes) n)
-          top (held (l .stack) (l .depth)) st one long (rw (at, count) at h),
+      starts (C .sessions) (n + 1) (C .nodes) top (held (l .stack) (l .depth)) st one (omega (arith, nodes-held (a .file .now) (a .head))),
     )
 
 -- src/sound.rt:49:13
 node-requires : tie.Need-node-requires Inv-loop μ-loop Inv-loop2 μ-loop2
-node-requires c κs = omega arith
+node-requires c κs = search needs
 
 -- src/sound.rt:51:9
 add-i : tie.Need-add-i Inv-loop μ-loop Inv-loop2 μ-loop2
@@ -214,7 +211,7 @@ loop2-again c =
     let a = c .before .before .before .before .before .before .before .before .before .before .before .before .before .before .before .before .before .before .args in
     let l = c .before .before .before .before .before .before .before .before .before .before .loop2 in
     let node = c .before .before .before .before .before .before .before .before .node .result in
-    let law = on-end (a .file .now) (a .head .at .nodes) (a .head .count .nodes) (l .i) (omega arith) (omega arith) node (c .before .before .before .before .before .before .before .before .node .ensures) in
+    let law = on-end (contentsAt (a .file .now) (a .head) .nodes) (l .i) (omega arith) (omega (arith, nodes-held (a .file .now) (a .head))) node (c .before .before .before .before .before .before .before .before .node .ensures) in
     let w = unpack (getD (l .stack) (l .depth - 1) 0) in
     let zeros = both (eqb (node .f1) 0) (eqb (node .f2) 0) (c .before .before .before .before .if2 .left) in
     let pos : 0 < l .depth = omega arith in
@@ -257,7 +254,7 @@ loop2-again-2 c =
     let a = c .before .before .before .before .before .before .before .before .before .before .before .before .before .before .args in
     let l = c .before .before .before .before .before .before .loop2 in
     let node = c .before .before .before .before .node .result in
-    let law = on-fork (a .file .now) (a .head .at .nodes) (a .head .count .nodes) (l .i) (omega arith) (omega arith) node (c .before .before .before .before .node .ensures) in
+    let law = on-fork (contentsAt (a .file .now) (a .head) .nodes) (l .i) (omega arith) (omega (arith, nodes-held (a .file .now) (a .head))) node (c .before .before .before .before .node .ensures) in
     let room : l .depth < length (l .stack) = omega arith in
     let pushed : held (set (l .stack) (l .depth) (c .paired3 .result)) (l .depth + 1) ≡ waiting (node .f1) (l .bound) ∷ held (l .stack) (l .depth) =
     ap (λ v. held (set (l .stack) (l .depth) v) (l .depth + 1)) (c .paired3 .ensures) ∙ held-push (l .stack) (l .depth) (node .f1) (l .bound) room (omega arith) in (
@@ -282,7 +279,7 @@ bound-below-requires c κs =
     let a = c .before .before .before .before .before .before .before .before .before .before .before .before .before .args in
     let l = c .before .before .before .before .before .loop2 in
     let node = c .before .before .before .node .result in
-    has-room (a .file .now) (a .head .at .nodes) (a .head .count .nodes) (l .i) (omega arith) (omega arith) node (c .before .before .before .node .ensures) (l .bound)
+    has-room (contentsAt (a .file .now) (a .head) .nodes) (l .i) (omega arith) (omega (arith, nodes-held (a .file .now) (a .head))) node (c .before .before .before .node .ensures) (l .bound)
     (sym (c .before .goes-on .ensures) ∙ not-false (c .before .goes-on .result) (c .if6 .left))
 
 -- src/sound.rt:48:5
@@ -296,7 +293,7 @@ loop2-again-3 c =
     let l = c .before .before .before .before .before .before .loop2 in
     let node = c .before .before .before .before .node .result in
     let m = c .before .before .before .match .rest in
-    let law = on-other (a .file .now) (a .head .at .nodes) (a .head .count .nodes) (l .i) (omega arith) (omega arith) node (c .before .before .before .before .node .ensures) in (
+    let law = on-other (contentsAt (a .file .now) (a .head) .nodes) (l .i) (omega arith) (omega (arith, nodes-held (a .file .now) (a .head))) node (c .before .before .before .before .node .ensures) in (
       omega arith,
       omega arith,
       l .inv .2,
@@ -310,7 +307,7 @@ returns-7 : tie.Need-returns-7 Inv-loop μ-loop Inv-loop2 μ-loop2
 returns-7 c =
     λ e. let a = c .before .before .before .before .before .before .before .before .before .args in
     let l = c .before .loop2 in
-    l .inv .4 (rw (eqb-true (l .depth) 0 e) (on-last (a .file .now) (a .head .at .nodes + 3 * (l .i - 1)) (a .head .count .nodes) (l .i) (l .bound) (omega arith)))
+    l .inv .4 (rw (eqb-true (l .depth) 0 e) (on-last (contentsAt (a .file .now) (a .head) .nodes) (l .i) (l .bound) (omega (arith, nodes-held (a .file .now) (a .head)))))
 
 pub sound-shape-spec : {M : Type 1} → statement M
 sound-shape-spec =

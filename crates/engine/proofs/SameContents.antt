@@ -1,0 +1,27 @@
+-- What is answered of a file is answered of what it holds: of its bytes only the head and where the nodes begin count besides.
+use mathlib.Core.Path.{_≡_}
+use Prim.Native.Nat.{ℕ}
+use mathlib.Core.List.{List}
+use Rattle.format.specs.Header.{headAt}
+use Rattle.format.specs.Contents.{contentsOf}
+use Rattle.reading.specs.Reading.{reading}
+use Rattle.checking.specs.Check.{readingNames, checking}
+use Rattle.placing.specs.Placing.{judging, placing, placedBytes}
+use Rattle.running.specs.Run.{running, ready}
+use Rattle.lent.specs.Lent.{lending, choosing, recordsOver, besideOver}
+use Rattle.engine.specs.Alike.{Alike}
+
+pub alike : (f g : List ℕ) → reading f ≡ reading g → headAt f .at .nodes ≡ headAt g .at .nodes → contentsOf f ≡ contentsOf g → Alike f g
+unfolding readingNames checking judging placing placedBytes running ready lending choosing recordsOver besideOver
+alike f g r n c = record {
+  read = rw (r, c);
+  check = rw (r, c);
+  place = λ room. rw (r, c, n);
+  placed = rw c;
+  run = λ ws room. rw (r, c);
+  ran = λ ws. rw c;
+  pair = λ ws. rw (r, c);
+  choose = λ l b i p. rw (r, c);
+  records = λ l b i p. rw (r, c);
+  beside = λ l b i p. rw (r, c);
+}

@@ -1,0 +1,35 @@
+use Prim.Native.Nat.{_*_}
+use mathlib.Core.Path.{ap, _∙_}
+use mathlib.Core.List.{[], _∷_}
+use lib.Seq.{sets}
+use Rattle.format.specs.Words.{bytesOf}
+use Rattle.format.specs.Writing.{sessionWords}
+use borrow.Author.Needs.{needs}
+use Rattle.format.proofs.writing.put_session.Statement.{statement}
+use Rattle.format.proofs.writing.put_session.Tie as tie
+use Rattle.format.proofs.writing.put_session.Reads as reads
+use Rattle.format.proofs.writing.put_session.Lts as lts
+use Rattle.format.proofs.sections.place_of.Reads as place-of-reads
+use Rattle.format.proofs.writing.put_three.Reads as put-three-reads
+
+-- src/writing.rt:71:9
+place-of-requires : tie.Need-place-of-requires
+place-of-requires c κs = search needs
+
+-- src/writing.rt:69:5
+put-three-requires : tie.Need-put-three-requires
+put-three-requires c κs = search needs
+
+-- src/writing.rt:65:1
+same-length : tie.Need-same-length
+same-length c = search needs
+
+-- src/writing.rt:65:1
+returns : tie.Need-returns
+unfolding sessionWords
+returns c =
+    let a = c .before .before .before .before .before .before .args in
+    c .before .before .put-three .ensures ∙ ap (λ p. sets (a .out .now) (2 * p) (bytesOf (sessionWords (a .it ∷ [])))) (c .before .before .before .place-of .ensures .0)
+
+pub put-session-spec : {M : Type 1} → statement M
+put-session-spec = tie.close (tie.spec place-of-requires put-three-requires same-length returns)

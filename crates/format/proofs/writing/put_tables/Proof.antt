@@ -1,0 +1,41 @@
+use Prim.Native.Nat.{_*_, _-_}
+use mathlib.Core.Path.{ap, ap₂, _∙_}
+use lib.Seq.{sets}
+use Rattle.format.specs.Words.{bytesOf}
+use Rattle.format.specs.Sections.{wordsFrom}
+use Rattle.format.proofs.WriteLaws.{tables-words}
+use borrow.Author.Needs.{needs}
+use Rattle.format.proofs.writing.put_tables.Statement.{statement}
+use Rattle.format.proofs.writing.put_tables.Tie as tie
+use Rattle.format.proofs.writing.put_tables.Reads as reads
+use Rattle.format.proofs.writing.put_tables.Lts as lts
+use Rattle.format.proofs.words.wide.Reads as wide-reads
+use Rattle.format.proofs.writing.put_words.Reads as put-words-reads
+
+-- src/writing.rt:62:21
+wide-requires : tie.Need-wide-requires
+wide-requires c κs = search needs
+
+-- src/writing.rt:62:42
+wide-requires-2 : tie.Need-wide-requires-2
+wide-requires-2 c κs = search needs
+
+-- src/writing.rt:62:5
+put-words-requires : tie.Need-put-words-requires
+put-words-requires c κs = search needs
+
+-- src/writing.rt:58:1
+same-length : tie.Need-same-length
+same-length c = search needs
+
+-- src/writing.rt:58:1
+returns : tie.Need-returns
+returns c =
+    let a = c .before .before .before .before .before .before .before .before .args in
+    c .before .before .put-words .ensures
+    ∙ ap₂ (λ p q. sets (a .out .now) (2 * p) (bytesOf (wordsFrom (a .file .now) p (q - p)))) (c .before .before .before .before .before .wide .ensures .0) (c .before .before .before .before .wide2 .ensures .0)
+    ∙ ap (λ ws. sets (a .out .now) (2 * a .head .at .users) (bytesOf ws)) (tables-words (a .file .now) (a .head) (c .before .before .before .before .before .before .before .before .pre .0) (λ x. c .before .before .before .before .before .before .before .shared-slice-known .given x .fits))
+
+pub put-tables-spec : {M : Type 1} → statement M
+put-tables-spec =
+    tie.close (tie.spec wide-requires wide-requires-2 put-words-requires same-length returns)

@@ -1,0 +1,57 @@
+use Prim.Native.Nat.{_+_}
+use mathlib.Core.List.{[], _∷_}
+use native.Mathlib.Omega.{arith}
+use Rattle.format.proofs.PutRuns.{puts-then}
+use borrow.Author.Needs.{needs}
+use Rattle.format.proofs.writing.put_three.Statement.{statement}
+use Rattle.format.proofs.writing.put_three.Tie as tie
+use Rattle.format.proofs.writing.put_three.Reads as reads
+use Rattle.format.proofs.writing.put_three.Lts as lts
+use Rattle.format.proofs.words.put_word.Reads as put-word-reads
+
+-- src/writing.rt:26:5
+put-word-requires : tie.Need-put-word-requires
+put-word-requires c κs = search needs
+
+-- src/writing.rt:27:19
+add-put-word : tie.Need-add-put-word
+add-put-word c = search needs
+
+-- src/writing.rt:27:5
+put-word-requires-2 : tie.Need-put-word-requires-2
+put-word-requires-2 c κs = search needs
+
+-- src/writing.rt:28:19
+add-put-word-2 : tie.Need-add-put-word-2
+add-put-word-2 c = search needs
+
+-- src/writing.rt:28:5
+put-word-requires-3 : tie.Need-put-word-requires-3
+put-word-requires-3 c κs = search needs
+
+-- src/writing.rt:22:1
+same-length : tie.Need-same-length
+same-length c = search needs
+
+-- src/writing.rt:22:1
+returns : tie.Need-returns
+returns c =
+    let a = c .before .before .before .before .before .before .before .before .before .before .before .before .before .args in
+    let one = c .before .before .before .before .before .before .before .before .before .before .put-word in
+    let two = c .before .before .before .before .before .before .put-word2 in
+    let three = c .before .before .put-word3 in
+    let l = a .out .now in
+    let done = puts-then l (one .last .0) (two .last .0) (a .at) (a .at + 1) (a .first ∷ []) (a .second ∷ []) (one .ensures) (omega arith) (two .ensures) in
+    puts-then l (two .last .0) (three .last .0) (a .at) (a .at + 2) (a .first ∷ a .second ∷ []) (a .third ∷ []) done (omega arith) (three .ensures)
+
+pub put-three-spec : {M : Type 1} → statement M
+put-three-spec =
+    tie.close
+    (tie.spec
+    put-word-requires
+    add-put-word
+    put-word-requires-2
+    add-put-word-2
+    put-word-requires-3
+    same-length
+    returns)

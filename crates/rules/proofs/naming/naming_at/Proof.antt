@@ -1,0 +1,269 @@
+use mathlib.Core.Path.{ap, _∙_}
+use native.Mathlib.Omega.{arith}
+use Rattle.format.specs.Contents.{contentsAt}
+use Rattle.format.proofs.ContentsLaws.{roles-held, kinds-held}
+use Rattle.rules.specs.Schema.{schemaOf}
+use Rattle.rules.specs.Kept.{barePoint, namingFrom}
+use Rattle.rules.proofs.StepLaws.{step-repeat, step-new, step-compare, step-receive, step-send, naming-other}
+use borrow.Author.Needs.{needs}
+use Rattle.rules.proofs.naming.naming_at.Statement.{statement}
+use Rattle.rules.proofs.naming.naming_at.Tie as tie
+use Rattle.rules.proofs.naming.naming_at.Reads as reads
+use Rattle.rules.proofs.naming.naming_at.Lts as lts
+use Rattle.format.proofs.sections.carries.Reads as carries-reads
+use Rattle.format.proofs.sections.in_count.Reads as in-count-reads
+use Rattle.rules.proofs.naming.binding.Reads as binding-reads
+use Rattle.rules.proofs.naming.kind_of.Reads as kind-of-reads
+use Rattle.rules.proofs.naming.look_up.Reads as look-up-reads
+use Rattle.rules.proofs.naming.owner_of.Reads as owner-of-reads
+use Rattle.rules.proofs.naming.staying.Reads as staying-reads
+use Rattle.rules.proofs.steps.graded.Reads as graded-reads
+
+-- src/naming.rt:78:14
+staying-requires : tie.Need-staying-requires
+staying-requires c κs = search needs
+
+-- src/naming.rt:80:20
+in-count-requires : tie.Need-in-count-requires
+in-count-requires c κs = search needs
+
+-- src/naming.rt:80:13
+graded-requires : tie.Need-graded-requires
+graded-requires c κs = search needs
+
+-- src/naming.rt:82:13
+add-binding : tie.Need-add-binding
+add-binding c = search needs
+
+-- src/naming.rt:79:14
+binding-requires : tie.Need-binding-requires
+binding-requires c κs = search needs
+
+-- src/naming.rt:86:17
+look-up-requires : tie.Need-look-up-requires
+look-up-requires c κs = search needs
+
+-- src/naming.rt:87:17
+look-up-requires-2 : tie.Need-look-up-requires-2
+look-up-requires-2 c κs = search needs
+
+-- src/naming.rt:88:26
+owner-of-requires : tie.Need-owner-of-requires
+owner-of-requires c κs = search needs
+
+-- src/naming.rt:88:49
+owner-of-requires-2 : tie.Need-owner-of-requires-2
+owner-of-requires-2 c κs = search needs
+
+-- src/naming.rt:89:35
+kind-of-requires : tie.Need-kind-of-requires
+kind-of-requires c κs = search needs
+
+-- src/naming.rt:89:51
+kind-of-requires-2 : tie.Need-kind-of-requires-2
+kind-of-requires-2 c κs = search needs
+
+-- src/naming.rt:89:21
+graded-requires-2 : tie.Need-graded-requires-2
+graded-requires-2 c κs = search needs
+
+-- src/naming.rt:89:13
+staying-requires-2 : tie.Need-staying-requires-2
+staying-requires-2 c κs = search needs
+
+-- src/naming.rt:92:17
+look-up-requires-3 : tie.Need-look-up-requires-3
+look-up-requires-3 c κs = search needs
+
+-- src/naming.rt:93:17
+owner-of-requires-3 : tie.Need-owner-of-requires-3
+owner-of-requires-3 c κs = search needs
+
+-- src/naming.rt:95:45
+add-graded : tie.Need-add-graded
+add-graded c = search needs
+
+-- src/naming.rt:95:17
+graded-requires-3 : tie.Need-graded-requires-3
+graded-requires-3 c κs = search needs
+
+-- src/naming.rt:96:37
+kind-of-requires-3 : tie.Need-kind-of-requires-3
+kind-of-requires-3 c κs = search needs
+
+-- src/naming.rt:96:17
+carries-requires : tie.Need-carries-requires
+carries-requires c κs = search needs
+
+-- src/naming.rt:94:13
+binding-requires-2 : tie.Need-binding-requires-2
+binding-requires-2 c κs = search needs
+
+-- src/naming.rt:102:17
+look-up-requires-4 : tie.Need-look-up-requires-4
+look-up-requires-4 c κs = search needs
+
+-- src/naming.rt:103:17
+look-up-requires-5 : tie.Need-look-up-requires-5
+look-up-requires-5 c κs = search needs
+
+-- src/naming.rt:104:17
+kind-of-requires-4 : tie.Need-kind-of-requires-4
+kind-of-requires-4 c κs = search needs
+
+-- src/naming.rt:105:26
+owner-of-requires-4 : tie.Need-owner-of-requires-4
+owner-of-requires-4 c κs = search needs
+
+-- src/naming.rt:105:48
+owner-of-requires-5 : tie.Need-owner-of-requires-5
+owner-of-requires-5 c κs = search needs
+
+-- src/naming.rt:106:41
+kind-of-requires-5 : tie.Need-kind-of-requires-5
+kind-of-requires-5 c κs = search needs
+
+-- src/naming.rt:106:59
+carries-requires-2 : tie.Need-carries-requires-2
+carries-requires-2 c κs = search needs
+
+-- src/naming.rt:107:21
+graded-requires-4 : tie.Need-graded-requires-4
+graded-requires-4 c κs = search needs
+
+-- src/naming.rt:107:13
+staying-requires-3 : tie.Need-staying-requires-3
+staying-requires-3 c κs = search needs
+
+-- src/naming.rt:109:29
+in-count-requires-2 : tie.Need-in-count-requires-2
+in-count-requires-2 c κs = search needs
+
+-- src/naming.rt:109:22
+graded-requires-5 : tie.Need-graded-requires-5
+graded-requires-5 c κs = search needs
+
+-- src/naming.rt:109:14
+staying-requires-4 : tie.Need-staying-requires-4
+staying-requires-4 c κs = search needs
+
+-- src/naming.rt:71:1
+returns : tie.Need-returns
+returns c =
+    let a = c .before .before .before .before .args in
+    let D = schemaOf (contentsAt (a .file .now) (a .head)) in (
+      c .staying .ensures ∙ ap namingFrom (step-repeat D (a .names .now) (barePoint D (a .user) (a .bound)) (a .it) (c .before .match .keys1)),
+      λ z. let no : ⊥ = omega (arith, c .before .match .keys1, z) in absurd no,
+    )
+
+-- src/naming.rt:71:1
+returns-2 : tie.Need-returns-2
+returns-2 c =
+    let a = c .before .before .before .before .before .before .args in
+    let D = schemaOf (contentsAt (a .file .now) (a .head)) in
+    let law = step-new D (a .names .now) (barePoint D (a .user) (a .bound)) (a .it) (kinds-held (a .file .now) (a .head)) (c .before .before .before .match .keys2) in (
+      c .binding .ensures ∙ rw (c .before .graded .ensures, c .before .before .in-count .ensures) (ap namingFrom law),
+      λ z. let no : ⊥ = omega (arith, c .before .before .before .match .keys2, z) in absurd no,
+    )
+
+-- src/naming.rt:71:1
+returns-3 : tie.Need-returns-3
+returns-3 c =
+    let a = c .before .before .before .before .before .before .before .before .before .before .before .args in
+    let D = schemaOf (contentsAt (a .file .now) (a .head)) in
+    let law = step-compare D (a .names .now) (barePoint D (a .user) (a .bound)) (a .it) (c .before .before .before .before .before .before .before .before .match .keys3) in (
+      c .staying2 .ensures
+          ∙ rw (
+            c .before .graded2 .ensures,
+            c .before .before .kind-of2 .ensures,
+            c .before .before .before .kind-of .ensures,
+            c .before .before .before .before .owner-of2 .ensures,
+            c .before .before .before .before .before .owner-of .ensures,
+            c .before .before .before .before .before .before .look-up2 .ensures,
+            c .before .before .before .before .before .before .before .look-up .ensures,
+          ) (ap namingFrom law),
+      λ z. let no : ⊥ = omega (arith, c .before .before .before .before .before .before .before .before .match .keys3, z) in absurd no,
+    )
+
+-- src/naming.rt:71:1
+returns-4 : tie.Need-returns-4
+returns-4 c =
+    let a = c .before .before .before .before .before .before .before .before .before .args in
+    let D = schemaOf (contentsAt (a .file .now) (a .head)) in
+    let law = step-receive D (a .names .now) (barePoint D (a .user) (a .bound)) (a .it) (c .before .before .before .before .before .before .match .keys4) in (
+      c .binding2 .ensures ∙ rw (c .before .carries .ensures, c .before .before .before .graded3 .ensures, c .before .before .kind-of3 .ensures, c .before .before .before .before .owner-of3 .ensures, c .before .before .before .before .before .look-up3 .ensures) (ap namingFrom law),
+      λ z. rw (← c .before .before .before .before .before .look-up3 .ensures, ← c .before .before .kind-of3 .ensures) (omega (arith, c .before .carries .ensures)),
+    )
+
+-- src/naming.rt:71:1
+returns-5 : tie.Need-returns-5
+returns-5 c =
+    let a = c .before .before .before .before .before .before .before .before .before .before .before .before .args in
+    let D = schemaOf (contentsAt (a .file .now) (a .head)) in
+    let law = step-send D (a .names .now) (barePoint D (a .user) (a .bound)) (a .it) (c .before .before .before .before .before .before .before .before .before .match .keys5) in (
+      c .staying3 .ensures
+          ∙ rw (
+            c .before .graded4 .ensures,
+            c .before .before .carries2 .ensures,
+            c .before .before .before .kind-of5 .ensures,
+            c .before .before .before .before .owner-of5 .ensures,
+            c .before .before .before .before .before .owner-of4 .ensures,
+            c .before .before .before .before .before .before .kind-of4 .ensures,
+            c .before .before .before .before .before .before .before .look-up5 .ensures,
+            c .before .before .before .before .before .before .before .before .look-up4 .ensures,
+          ) (ap namingFrom law),
+      λ z. let no : ⊥ = omega (arith, c .before .before .before .before .before .before .before .before .before .match .keys5, z) in absurd no,
+    )
+
+-- src/naming.rt:71:1
+returns-6 : tie.Need-returns-6
+returns-6 c =
+    let a = c .before .before .before .before .before .before .args in
+    let m = c .before .before .before .match .rest in
+    let law = naming-other (schemaOf (contentsAt (a .file .now) (a .head))) (a .names .now) (a .user) (a .bound) (a .it) (roles-held (a .file .now) (a .head)) in (
+      c .staying4 .ensures ∙ rw (c .before .graded5 .ensures, c .before .before .in-count2 .ensures) (law (m .0 .0 .0 .0 .1) (m .0 .0 .0 .1) (m .0 .0 .1) (m .0 .1) (m .1)),
+      λ z. absurd (m .0 .1 z),
+    )
+
+pub naming-at-spec : {M : Type 1} → statement M
+naming-at-spec =
+    tie.close
+    (tie.spec
+    staying-requires
+    in-count-requires
+    graded-requires
+    add-binding
+    binding-requires
+    look-up-requires
+    look-up-requires-2
+    owner-of-requires
+    owner-of-requires-2
+    kind-of-requires
+    kind-of-requires-2
+    graded-requires-2
+    staying-requires-2
+    look-up-requires-3
+    owner-of-requires-3
+    add-graded
+    graded-requires-3
+    kind-of-requires-3
+    carries-requires
+    binding-requires-2
+    look-up-requires-4
+    look-up-requires-5
+    kind-of-requires-4
+    owner-of-requires-4
+    owner-of-requires-5
+    kind-of-requires-5
+    carries-requires-2
+    graded-requires-4
+    staying-requires-3
+    in-count-requires-2
+    graded-requires-5
+    staying-requires-4
+    returns
+    returns-2
+    returns-3
+    returns-4
+    returns-5
+    returns-6)

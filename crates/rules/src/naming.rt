@@ -1,0 +1,218 @@
+// The pass over the nodes that finds 9 and 10 alone: no grants, no roles, no candidates. Its tables are lent, sized by the file.
+use super::NameStep;
+use super::steps::graded;
+use format::Head;
+use format::Node;
+use format::Verdict;
+use format::sections::carries;
+use format::sections::channel;
+use format::sections::in_count;
+use format::sections::node;
+use format::sections::session;
+use format::words::narrow;
+use format::words::paired;
+use format::words::wide;
+ghost use mathlib.Core.Path.{_≡_};
+ghost use mathlib.Core.List.{[], map};
+ghost use Prim.Native.Nat.{_+_, _≤_, _<_};
+ghost use lib.ListN.{length, replicate};
+ghost use Rattle.format.specs.Header.{Laid};
+ghost use Rattle.format.specs.Contents.{contentsAt};
+ghost use Rattle.rules.specs.Schema.{schemaOf};
+ghost use Rattle.rules.specs.Checking.{openings, namesAnswer};
+ghost use Rattle.rules.specs.Kept.{Named, kindIn, ownerIn, entry, look, contextOf, Waits, unmasked, queued, Ownable, Owned, namingOf};
+
+fn kind_of(e: u32) -> u16
+    ensures { λ r. ⌜ r ≡ kindIn e ⌝ }
+{
+    (e % 65536) as u16
+}
+
+fn owner_of(e: u32) -> u16
+    ensures { λ r. ⌜ r ≡ ownerIn e ⌝ }
+{
+    (e / 65536) as u16
+}
+
+// What an operand names, where so many variables are bound.
+fn look_up(names: &[u32], bound: u16, x: u16) -> u32
+    requires { ⌜ 512 + bound ≤ length (now names) ⌝ }
+    ensures { λ r. ⌜ r ≡ look (now (names .entry)) bound x ⌝ }
+{
+    let k = wide(x);
+    if k < 512 + wide(bound) {
+        return names[k];
+    }
+    0
+}
+
+fn staying(wrong: u16, bound: u16) -> NameStep
+    ensures { λ r. ⌜ r ≡ record { wrong = wrong; binding = 0; bound = bound } ⌝ }
+{
+    NameStep {
+        wrong,
+        binding: 0,
+        bound,
+    }
+}
+
+fn binding(wrong: u16, kind: u16, owner: u16, bound: u16) -> NameStep
+    requires { ⌜ bound < 65535 ⌝ }
+    ensures { λ r. ⌜ r ≡ record { wrong = wrong; binding = entry kind owner; bound = bound + 1 } ⌝ }
+{
+    NameStep {
+        wrong,
+        binding: paired(kind, owner),
+        bound: bound + 1,
+    }
+}
+
+// A node that is no end and no fork, in a session of a user, where so many variables are bound.
+fn naming_at(file: &[u8], head: Head, names: &[u32], user: u16, bound: u16, it: Node) -> NameStep
+    requires { ⌜ Laid (now file) head × (user < 65534) × (bound < 65535) × (512 + bound ≤ length (now names)) ⌝ }
+    ensures { λ r. ⌜ (r ≡ namingOf (schemaOf (contentsAt (now (file .entry)) head)) (now (names .entry)) user bound it)
+        × (it .tag ≡ 5 → schemaOf (contentsAt (now (file .entry)) head) .carries (kindIn (look (now (names .entry)) bound (it .f1))) < 65536) ⌝ }
+{
+    let tag = it.tag;
+    match tag {
+        2 => staying(0, bound),
+        3 => binding(
+            graded(in_count(head.count.kinds, it.f1), true),
+            it.f1,
+            user + 2,
+            bound,
+        ),
+        4 => {
+            let one = look_up(names, bound, it.f1);
+            let other = look_up(names, bound, it.f2);
+            let named = (owner_of(one) != 0) & (owner_of(other) != 0);
+            staying(graded(named, kind_of(one) == kind_of(other)), bound)
+        }
+        5 => {
+            let on = look_up(names, bound, it.f1);
+            let owner = owner_of(on);
+            binding(
+                graded(owner != 0, owner == user + 2),
+                carries(file, head, kind_of(on)),
+                1,
+                bound,
+            )
+        }
+        6 => {
+            let on = look_up(names, bound, it.f1);
+            let value = look_up(names, bound, it.f2);
+            let kind = kind_of(on);
+            let named = (owner_of(on) != 0) & (owner_of(value) != 0);
+            let carried = (0 < kind) & (kind_of(value) == carries(file, head, kind));
+            staying(graded(named, carried), bound)
+        }
+        _ => staying(graded(in_count(head.count.roles, it.f1), true), bound),
+    }
+}
+
+// The users and the channels as operands.
+fn name_all(file: &[u8], head: Head, names: &mut [u32])
+    requires { ⌜ Laid (now file) head × Owned (contentsAt (now file) head) × (512 ≤ length (now names)) × (now names ≡ replicate (length (now names)) 0) ⌝ }
+    ensures { λ r. ⌜ (length (now (names .exit)) ≡ length (now (names .entry)))
+        × Named (schemaOf (contentsAt (now (file .entry)) head)) (head .count .users) (head .count .channels) (now (names .exit)) ⌝ }
+{
+    let mut n: u16 = 0;
+    while n < head.count.users {
+        n += 1;
+        names[wide(n)] = paired(0, 1);
+    }
+    let mut c: u16 = 0;
+    while c < head.count.channels {
+        c += 1;
+        let it = channel(file, head, c);
+        names[256 + wide(c)] = paired(it.kind.0, it.owner + 2);
+    }
+}
+
+// The sessions' users on the stack, session 1's on top, with nothing bound; how many they are.
+fn open_users(file: &[u8], head: Head, stack: &mut [u32]) -> usize
+    requires { ⌜ Laid (now file) head × Owned (contentsAt (now file) head) × (head .count .sessions ≤ length (now stack)) ⌝ }
+    ensures { λ r. ⌜ (r ≡ head .count .sessions) × Waits Ownable 0 (queued (schemaOf (contentsAt (now (file .entry)) head)) (now (stack .exit)) r)
+        × (map (contextOf []) (queued (schemaOf (contentsAt (now (file .entry)) head)) (now (stack .exit)) r) ≡ map unmasked (openings (contentsAt (now (file .entry)) head))) ⌝ }
+{
+    let sessions = wide(head.count.sessions);
+    let mut depth: usize = 0;
+    while depth < sessions {
+        let it = session(file, head, narrow(sessions - depth));
+        stack[depth] = paired(it.user, 0);
+        depth += 1;
+    }
+    depth
+}
+
+// The nodes in order. The stack has the users of the trees that wait, with the variables bound above them; it has room for the sessions and for as
+// many forks as there are nodes, and the table of names for as many variables.
+fn walk_names(file: &[u8], head: Head, names: &mut [u32], stack: &mut [u32]) -> Verdict
+    requires { ⌜ Laid (now file) head × Owned (contentsAt (now file) head) × (512 + head .count .nodes < length (now names)) × (now names ≡ replicate (length (now names)) 0)
+        × (head .count .sessions + head .count .nodes ≤ length (now stack)) ⌝ }
+    ensures { λ r. ⌜ r ≡ namesAnswer (contentsAt (now (file .entry)) head) ⌝ }
+{
+    let fine = Verdict {
+        number: 0,
+        place: 0,
+    };
+    name_all(file, head, names);
+    let mut depth = open_users(file, head, stack);
+    if depth == 0 {
+        return fine;
+    }
+    depth -= 1;
+    let top = stack[depth];
+    let mut user = kind_of(top);
+    let mut bound = owner_of(top);
+    let nodes = head.count.nodes;
+    let mut i: u16 = 1;
+    while i <= nodes {
+        let it = node(file, head, i);
+        let tag = it.tag;
+        let at = i;
+        i += 1;
+        match tag {
+            0 => {
+                if depth == 0 {
+                    return fine;
+                }
+                depth -= 1;
+                let next = stack[depth];
+                user = kind_of(next);
+                bound = owner_of(next);
+            }
+            1 => {
+                stack[depth] = paired(user, bound);
+                depth += 1;
+            }
+            _ => {
+                let step = naming_at(file, head, names, user, bound, it);
+                if step.wrong != 0 {
+                    return Verdict {
+                        number: step.wrong,
+                        place: at,
+                    };
+                }
+                names[512 + wide(bound)] = step.binding;
+                bound = step.bound;
+            }
+        }
+    }
+    fine
+}
+
+// 9 and 10, at the lowest node. Most files are short, and need shorter tables.
+pub fn judge_names(file: &[u8], head: Head) -> Verdict
+    requires { ⌜ Laid (now file) head × Owned (contentsAt (now file) head) ⌝ }
+    ensures { λ r. ⌜ r ≡ namesAnswer (contentsAt (now (file .entry)) head) ⌝ }
+{
+    if head.count.nodes <= 64 {
+        let mut names = [0u32; 577];
+        let mut stack = [0u32; 97];
+        return walk_names(file, head, &mut names, &mut stack);
+    }
+    let mut names = [0u32; 1537];
+    let mut stack = [0u32; 1057];
+    walk_names(file, head, &mut names, &mut stack)
+}
