@@ -1,72 +1,151 @@
 -- The whole check, put together from the answers for the head, for what follows it, and for the rules.
-use Prim.Native.Nat.{ℕ}
-use mathlib.Core.Path.{_≡_, refl}
+use Prim.Native.Nat.{ℕ, _≤_, _<_}
+use mathlib.Core.Path.{_≡_, refl, sym, ap, ap₂, subst, _∙_}
 use mathlib.Core.Bool.{Bool, true, false, cond}
 use mathlib.Core.List.{List}
 use native.Mathlib.Omega.{arith}
 use lib.Dec.{eqb}
+use lib.ListN.{length}
+use lib.Seq.{sets}
 use borrow.Author.Tests.{eq-eqb, ne-eqb}
-use Rattle.format.specs.Contents.{Contents, contentsAt}
+use Rattle.format.specs.Contents.{contentsAt, contentsOf}
 use Rattle.format.specs.Answers.{fine, refused, orElse}
-use Rattle.format.specs.Header.{headAt, headOf}
+use Rattle.format.specs.Header.{headAt, headOf, Laid}
 use Rattle.format.specs.declared.Verdict.{Verdict}
 use Rattle.format.specs.declared.Head.{Head}
-use Rattle.format.specs.declared.HeadAnswer.the-variants.{Fine, Refused}
-use Rattle.format.proofs.HeadLaws.{headed, head-number}
+use Rattle.format.specs.declared.HeadAnswer.the-variants.{Refused as HeadAnswer·Refused}
+use Rattle.format.proofs.AnswerLaws.{Quiet, quiet-first, loud-first, both-quiet}
+use Rattle.format.proofs.ContentsLaws.{users-held}
+use Rattle.format.proofs.HeadLaws.{Headed, head-number}
+use Rattle.tables.specs.Records.{recordsAnswer}
+use Rattle.tables.proofs.RecordLaws.{owners-are-users, seated-are-users}
+use Rattle.trees.specs.Shape.{shapeAnswer}
+use Rattle.reading.specs.Reading.{bodyAnswer, reading, withHead, opened}
+use Rattle.reading.specs.declared.Opened.the-variants.{Fine, Refused}
 use Rattle.reading.proofs.LongLaws.{Stands, stands-judged}
-use Rattle.reading.specs.Reading.{bodyAnswer, reading}
-use Rattle.rules.specs.Checking.{namesAnswer, rolesAnswer, judgement}
-use Rattle.checking.specs.Check.{readingNames, checking, judgedBody, surveyed}
+use Rattle.reading.proofs.ReadingLaws.{refused-by-head, by-body, head-given, refusal-given, opened-fine, opened-refused}
+use Rattle.rules.specs.Schema.{schemaOf}
+use Rattle.rules.specs.Checking.{openings, namesAnswer, rolesAnswer, judgement}
 use Rattle.rules.specs.Candidates.{candidatesIn}
-use lib.Seq.{sets}
+use Rattle.rules.specs.Rules.{wrong}
+use Rattle.rules.specs.Kept.{Owned}
+use Rattle.rules.proofs.PassLaws.{by-quiet}
+use Rattle.rules.specs.declared.Judged.{Judged}
+use Rattle.checking.specs.Check.{readingNames, checking, entered, examined, surveyed}
 
--- three answers in order: the last counts only where the first two refuse nothing
-in-order : (v n r : Verdict) → orElse v (orElse n r) ≡ orElse (orElse v n) (cond (eqb (orElse v n .number) 0) r fine)
-in-order v n r = go (eqb (v .number) 0) refl (eqb (n .number) 0) refl
+-- three answers in order
+in-order : (v n r : Verdict) → orElse v (orElse n r) ≡ orElse (orElse v n) r
+in-order v n r = go (eqb (v .number) 0) refl
   where
-    go : (x : Bool) → eqb (v .number) 0 ≡ x → (y : Bool) → eqb (n .number) 0 ≡ y
-        → orElse v (orElse n r) ≡ orElse (orElse v n) (cond (eqb (orElse v n .number) 0) r fine)
-    go true p true q = rw p (rw q)
-    go true p false q = rw p (rw q)
-    go false p y q = rw p (rw p)
+    go : (b : Bool) → eqb (v .number) 0 ≡ b → cond b (orElse n r) v ≡ orElse (cond b n v) r
+    go true e = refl
+    go false e = rw e
 
 module _ (f : List ℕ) where
-  -- the answer for the head is the whole answer where it refuses
-  loud : (n : ℕ) → headOf f ≡ Refused n → eqb n 0 ≡ false
-  loud n e = ne-eqb n 0 (λ z. let no : n ≡ 0 = z in omega (arith, head-number f n e))
+  -- where 1 to 8 refuse, that is the whole answer
+  names-first : (Quiet (reading f) → ⊥) → readingNames f ≡ reading f
+  unfolding readingNames
+  names-first l = loud-first (reading f) (namesAnswer (contentsOf f)) l
 
-  pub names-refused : (n : ℕ) → headOf f ≡ Refused n → readingNames f ≡ refused n 0
-  unfolding readingNames reading
-  names-refused n e = rw (e, loud n e)
+  check-first : (Quiet (reading f) → ⊥) → checking f ≡ reading f
+  unfolding checking
+  check-first l = loud-first (reading f) (orElse (namesAnswer (contentsOf f)) (rolesAnswer (contentsOf f))) l
 
-  pub check-refused : (n : ℕ) → headOf f ≡ Refused n → checking f ≡ refused n 0
-  unfolding checking reading
-  check-refused n e = rw (e, loud n e)
+  loud : (n : ℕ) → headOf f ≡ HeadAnswer·Refused n → Quiet (reading f) → ⊥
+  loud n e q = let z = ap (λ (v : Verdict). v .number) (refused-by-head f n e) in omega (arith, q, z, head-number f n e)
 
-  module _ (h : Head) (e : headOf f ≡ Fine h) where
+  pub names-refused : (n : ℕ) → headOf f ≡ HeadAnswer·Refused n → readingNames f ≡ refused n 0
+  names-refused n e = names-first (loud n e) ∙ refused-by-head f n e
+
+  pub check-refused : (n : ℕ) → headOf f ≡ HeadAnswer·Refused n → checking f ≡ refused n 0
+  check-refused n e = check-first (loud n e) ∙ refused-by-head f n e
+
+  -- where they refuse nothing, it is that of the rules
+  names-then : Quiet (reading f) → readingNames f ≡ namesAnswer (contentsOf f)
+  unfolding readingNames
+  names-then q = quiet-first (reading f) (namesAnswer (contentsOf f)) q
+
+  pub names-parts : Quiet (readingNames f) → Quiet (reading f) × Quiet (namesAnswer (contentsOf f))
+  unfolding readingNames
+  names-parts q = both-quiet Quiet (reading f) (namesAnswer (contentsOf f)) (λ z. z) .0 q
+
+  -- a file that 1 to 10 refuse with no number is not refused, and has a head
+  pub names-fine : Quiet (readingNames f) → readingNames f ≡ fine
+  unfolding namesAnswer
+  names-fine q =
+      let (before, last) = names-parts q in
+      names-then before ∙ by-quiet (wrong (schemaOf (contentsOf f))) (schemaOf (contentsOf f)) 1 (contentsOf f .nodes) (openings (contentsOf f)) last
+
+  pub names-headed : Quiet (readingNames f) → Headed f
+  names-headed q = by-body f (names-parts q .0) .0
+
+  -- what the way in says of a file
+  pub entered-fine : (h : Head) → entered f ≡ Fine h → Laid f h × (h ≡ headAt f) × (readingNames f ≡ fine)
+  unfolding entered
+  entered-fine h e = let (q, same) = head-given (headAt f) (readingNames f) h e in (subst (Laid f) (sym same) (names-headed q .laid), same, names-fine q)
+
+  pub entered-refused : (w : Verdict) → entered f ≡ Refused w → (Quiet (readingNames f) → ⊥) × (w ≡ readingNames f)
+  unfolding entered
+  entered-refused w e = refusal-given (headAt f) (readingNames f) w e
+
+  -- as the code finds it: by 1 to 8, and then by the rules
+  module _ (w : Verdict) (e : opened f ≡ Refused w) where
+    early : (Quiet (readingNames f) → ⊥) × (readingNames f ≡ w)
+    early = let (l, same) = opened-refused f w e in (λ q. l (subst Quiet (names-first l) q), names-first l ∙ sym same)
+
+    pub entered-early : Refused w ≡ entered f
+    unfolding entered
+    entered-early = rw (ne-eqb (readingNames f .number) 0 (early .0)) (ap Refused (sym (early .1)))
+
+    pub examined-early : record { names = Refused w; roles = fine } ≡ examined f
+    examined-early = rw (ne-eqb (readingNames f .number) 0 (early .0), ← entered-early)
+
+    pub surveyed-early : (old : List ℕ) → old ≡ surveyed f old
+    unfolding surveyed
+    surveyed-early old = rw (ne-eqb (reading f .number) 0 (opened-refused f w e .0))
+
+  module _ (h : Head) (e : opened f ≡ Fine h) where
     same : h ≡ headAt f
-    same = headed f h e .1
+    same = opened-fine f h e .1
 
-    pub names-judged : readingNames f ≡ judgedBody h (contentsAt f h) .names
-    unfolding readingNames reading
-    names-judged = rw (e, ← same)
+    quiet : Quiet (reading f)
+    quiet = opened-fine f h e .2
 
-    pub check-judged : checking f ≡ orElse (judgedBody h (contentsAt f h) .names) (judgedBody h (contentsAt f h) .roles)
-    unfolding checking reading
-    check-judged = rw (e, ← same) (in-order (bodyAnswer h (contentsAt f h)) (namesAnswer (contentsAt f h)) (rolesAnswer (contentsAt f h)))
+    names-late : readingNames f ≡ namesAnswer (contentsAt f h)
+    names-late = names-then quiet ∙ ap (λ (k : Head). namesAnswer (contentsAt f k)) (sym same)
 
-module _ (h : Head) (C : Contents) where
-  pub body-refuses : (bodyAnswer h C .number ≡ 0 → ⊥) → judgedBody h C ≡ record { names = bodyAnswer h C; roles = fine }
-  body-refuses l = rw (ne-eqb (bodyAnswer h C .number) 0 l) (rw (ne-eqb (bodyAnswer h C .number) 0 l))
+    pub entered-late : withHead h (namesAnswer (contentsAt f h)) ≡ entered f
+    unfolding entered
+    entered-late = ap₂ withHead same (sym names-late)
 
-  pub body-passes : bodyAnswer h C .number ≡ 0 → judgedBody h C ≡ judgement C
-  body-passes q = rw (eq-eqb (bodyAnswer h C .number) 0 q)
+    pub examined-late : (j : Judged) → j ≡ judgement (contentsAt f h) → record { names = withHead h (j .names); roles = j .roles } ≡ examined f
+    examined-late j q = rw (q, ← entered-late, ← same, names-late)
 
-  pub table-stays : (old : List ℕ) → (bodyAnswer h C .number ≡ 0 → ⊥) → surveyed h C old ≡ old
-  table-stays old l = rw (ne-eqb (bodyAnswer h C .number) 0 l)
+    pub surveyed-late : (old : List ℕ) → sets old 1 (candidatesIn (contentsAt f h)) ≡ surveyed f old
+    unfolding surveyed
+    surveyed-late old = rw (eq-eqb (reading f .number) 0 quiet, ← same)
 
-  pub table-filled : (old : List ℕ) → bodyAnswer h C .number ≡ 0 → surveyed h C old ≡ sets old 1 (candidatesIn C)
-  table-filled old q = rw (eq-eqb (bodyAnswer h C .number) 0 q)
+    -- owners and sessions' users are users, of whom there are few
+    pub owned : Owned (contentsAt f h)
+    owned =
+        let l : Laid f h = opened-fine f h e .0 in
+        let body : Quiet (bodyAnswer h (contentsAt f h)) = subst (λ (k : Head). Quiet (bodyAnswer k (contentsAt f k))) (sym same) (subst Quiet (by-body f quiet .1) quiet) in
+        let records = both-quiet Quiet (recordsAnswer h (contentsAt f h)) (shapeAnswer (contentsAt f h)) (λ z. z) .0 body .0 in
+        let few : (u : ℕ) → u ≤ length (contentsAt f h .users) → u < 65534 = λ u le. omega (arith, le, users-held f h, l .users) in
+        (λ n. few _ (owners-are-users h (contentsAt f h) records n), λ n. few _ (seated-are-users h (contentsAt f h) records n))
+
+  -- and the check, from the way in
+  check-by-names : checking f ≡ orElse (readingNames f) (rolesAnswer (contentsOf f))
+  unfolding checking readingNames
+  check-by-names = in-order (reading f) (namesAnswer (contentsOf f)) (rolesAnswer (contentsOf f))
+
+  pub check-early : (w : Verdict) → entered f ≡ Refused w → w ≡ checking f
+  check-early w e = let (l, is) = entered-refused w e in is ∙ sym (check-by-names ∙ loud-first (readingNames f) (rolesAnswer (contentsOf f)) l)
+
+  pub check-late : (h : Head) → entered f ≡ Fine h → examined f .roles ≡ checking f
+  check-late h e =
+      let q : Quiet (readingNames f) = ap (λ (v : Verdict). v .number) (entered-fine h e .2) in
+      rw (eq-eqb (readingNames f .number) 0 q) (sym (check-by-names ∙ quiet-first (readingNames f) (rolesAnswer (contentsOf f)) q))
 
 -- what a caller keeps of a long input has the check's answer on the whole
 pub stands-check : (kept input : List ℕ) → Stands kept input → checking kept ≡ checking input

@@ -5,13 +5,14 @@ use mathlib.Core.Bool.{cond}
 use lib.Dec.{eqb}
 use lib.Seq.{sets}
 use Rattle.format.specs.Answers.{fine, orElse}
-use Rattle.format.specs.Contents.{Contents, contentsOf}
+use Rattle.format.specs.Header.{headAt}
+use Rattle.format.specs.Contents.{contentsOf}
 use Rattle.format.specs.declared.Verdict.{Verdict}
-use Rattle.format.specs.declared.Head.{Head}
-use Rattle.rules.specs.declared.Judged.{Judged}
-use Rattle.reading.specs.Reading.{bodyAnswer, reading}
+use Rattle.reading.specs.Reading.{reading, withHead}
+use Rattle.reading.specs.declared.Opened.{Opened}
 use Rattle.rules.specs.Checking.{namesAnswer, rolesAnswer}
 use Rattle.rules.specs.Candidates.{candidatesIn}
+use Rattle.checking.specs.declared.Examined.{Examined}
 
 -- 1 to 10
 unfoldable pub readingNames : List ℕ → Verdict
@@ -21,12 +22,14 @@ readingNames f = orElse (reading f) (namesAnswer (contentsOf f))
 unfoldable pub checking : List ℕ → Verdict
 checking f = orElse (reading f) (orElse (namesAnswer (contentsOf f)) (rolesAnswer (contentsOf f)))
 
--- what follows the head: 6 to 10, and 11 to 13 where nothing of 6 to 10 is refused
-abbrev pub judgedBody : Head → Contents → Judged
-judgedBody h C =
-    let names : Verdict = orElse (bodyAnswer h C) (namesAnswer C) in
-    record { names = names; roles = cond (eqb (names .number) 0) (rolesAnswer C) fine }
+-- the way in by 1 to 10
+unfoldable pub entered : List ℕ → Opened
+entered f = withHead (headAt f) (readingNames f)
 
--- the table of candidates after that: unchanged where 6 to 8 refuse
-abbrev pub surveyed : Head → Contents → List ℕ → List ℕ
-surveyed h C old = cond (eqb (bodyAnswer h C .number) 0) (sets old 1 (candidatesIn C)) old
+-- the same, with 11 to 13 where nothing of 1 to 10 is refused
+abbrev pub examined : List ℕ → Examined
+examined f = record { names = entered f; roles = cond (eqb (readingNames f .number) 0) (rolesAnswer (contentsOf f)) fine }
+
+-- the table of candidates after that: unchanged where 1 to 8 refuse
+unfoldable pub surveyed : List ℕ → List ℕ → List ℕ
+surveyed f old = cond (eqb (reading f .number) 0) (sets old 1 (candidatesIn (contentsOf f))) old

@@ -8,15 +8,12 @@ use lib.Dec.{eqb}
 use lib.ListN.{length}
 use borrow.Author.Tests.{eqb-false}
 use Rattle.format.specs.Contents.{Contents}
-use Rattle.format.specs.declared.Head.{Head}
 use Rattle.format.specs.declared.Session.{Session}
 use Rattle.format.specs.declared.Node.{Node}
-use Rattle.format.proofs.AnswerLaws.{Quiet, both-quiet}
-use Rattle.tables.specs.Records.{recordsAnswer}
+use Rattle.format.proofs.AnswerLaws.{Quiet}
 use Rattle.trees.specs.Ends.{top, following}
 use Rattle.trees.specs.Shape.{nodeFits, onward, shapeFrom, roots, shapeAnswer}
 use Rattle.trees.specs.declared.Due.{Due}
-use Rattle.reading.specs.Reading.{bodyAnswer}
 use Rattle.rules.specs.Schema.{Schema, schemaOf}
 use Rattle.rules.specs.Rules.{Context, wrong, after}
 use Rattle.rules.specs.Checking.{firstBy, opened, openings, namesAnswer}
@@ -57,11 +54,9 @@ unfolding opened roots
 same-begin [] = refl
 same-begin (s ∷ ss) = ap suc (same-begin ss)
 
-pub candidates-length : (h : Head) (C : Contents) → Quiet (bodyAnswer h C) → Quiet (namesAnswer C) → length (candidatesIn C) ≡ length (C .nodes)
+pub candidates-length : (C : Contents) → Quiet (shapeAnswer C) → Quiet (namesAnswer C) → length (candidatesIn C) ≡ length (C .nodes)
 unfolding candidatesIn namesAnswer shapeAnswer
-candidates-length h C b n =
-    listed-from (schemaOf C) 1 1 (C .nodes) (openings C) (roots (C .sessions)) (same-begin (C .sessions))
-    (both-quiet Quiet (recordsAnswer h C) (shapeAnswer C) (λ q. q) .0 b .1) n
+candidates-length C s n = listed-from (schemaOf C) 1 1 (C .nodes) (openings C) (roots (C .sessions)) (same-begin (C .sessions)) s n
 
 -- what stands after the nodes' own masks plays no part
 pub labelled-more : (ns : List Node) (rs xs : List ℕ) → length rs ≡ length ns → labelled ns (rs ++ xs) ≡ labelled ns rs

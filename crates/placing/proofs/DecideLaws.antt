@@ -2,19 +2,18 @@
 use Prim.Native.Nat.{ℕ, suc, _+_, _≤_, _<_}
 use mathlib.Core.Path.{_≡_, refl, sym, ap, _∙_}
 use mathlib.Core.List.{List, [], _∷_, _++_, map}
-use mathlib.Core.Bool.{Bool, true, false, cond}
+use mathlib.Core.Bool.{Bool, true, false}
 use native.Mathlib.Omega.{arith}
-use lib.Dec.{eqb, leb}
+use lib.Dec.{leb}
 use lib.ListN.{length, take, drop, replicate, length-map, length-drop}
 use lib.Seq.{sets, sets-eq, take-append-seam}
 use borrow.Author.Tests.{eq-eqb, ne-eqb, le-leb, lt-leb, leb-true}
 use Rattle.format.specs.Contents.{Contents}
 use Rattle.format.specs.Answers.{fine, refused, orElse}
 use Rattle.format.specs.declared.Verdict.{Verdict}
-use Rattle.format.specs.declared.Head.{Head}
 use Rattle.format.specs.declared.Node.{Node}
 use Rattle.format.proofs.AnswerLaws.{Quiet, quiet-first, loud-first, both-quiet}
-use Rattle.reading.specs.Reading.{bodyAnswer}
+use Rattle.trees.specs.Shape.{shapeAnswer}
 use Rattle.rules.specs.Checking.{namesAnswer}
 use Rattle.rules.specs.Candidates.{candidatesIn}
 use Rattle.states.specs.States.{Label, labelled, turnsOf, packed, unpacked}
@@ -22,7 +21,7 @@ use Rattle.states.specs.declared.Turn.{Turn}
 use Rattle.groups.specs.Groups.{sizesOf, startsFrom, startsOf, placedContents, turnsIn}
 use Rattle.states.proofs.TurnLaws.{turns-length, turns-unpacked}
 use Rattle.groups.proofs.GroupLaws.{placed-same, starts-table}
-use Rattle.placing.specs.Placing.{labelsIn, turnsFor, masksAnswer, switchesAnswer, unservedFrom, sizeAnswer, settling, placeable, decided, noSums, summed}
+use Rattle.placing.specs.Placing.{labelsIn, Labelled, turnsFor, masksAnswer, switchesAnswer, unservedFrom, sizeAnswer, settling, placeable, decided, noSums, summed}
 use Rattle.placing.proofs.CandidateLaws.{candidates-length, labelled-more}
 
 pub decided-loud : (v : Verdict) (ts : List Turn) → (Quiet v → ⊥) → decided v ts ≡ record { verdict = v; sums = noSums }
@@ -74,70 +73,55 @@ turns-written ns rs t t′ fits room e =
     let l : length ls ≡ length ns = labelled-length ns (drop 1 rs) (omega (arith, length-drop 1 rs, fits)) in
     ap (λ r. turnsIn r (length ns)) e ∙ ap (turnsIn (sets t 1 (map packed (turnsOf ls)))) (sym l) ∙ turns-read ls t (omega (arith, l, room))
 
--- 14 to 16, where 1 to 10 refuse nothing
-module _ (h : Head) (C : Contents) where
-  labels-kept : (t : List ℕ) → Quiet (bodyAnswer h C) → Quiet (namesAnswer C) → length (C .nodes) < length t
-      → labelled (C .nodes) (drop 1 (sets t 1 (candidatesIn C))) ≡ labelsIn C
-  labels-kept t b n room =
-      let e : length (candidatesIn C) ≡ length (C .nodes) = candidates-length h C b n in
+module _ (C : Contents) where
+  -- the candidates that a pass kept in a table
+  pub labels-kept : (t : List ℕ) → Quiet (shapeAnswer C) → Quiet (namesAnswer C) → length (C .nodes) < length t → Labelled C (sets t 1 (candidatesIn C))
+  labels-kept t s n room =
+      let e : length (candidatesIn C) ≡ length (C .nodes) = candidates-length C s n in
       ap (labelled (C .nodes)) (from-one t (candidatesIn C) (omega (arith, e, room)))
       ∙ labelled-more (C .nodes) (candidatesIn C) (drop (suc (length (candidatesIn C))) t) e
 
-  abbrev pub names : Verdict
-  names = orElse (bodyAnswer h C) (namesAnswer C)
-
+  -- 14 to 16
   abbrev pub bare : Verdict
   bare = orElse (masksAnswer C) (switchesAnswer C)
 
-  pub bare-loud : Quiet names → (Quiet bare → ⊥) → orElse names (placeable C) ≡ bare
+  pub bare-loud : (Quiet bare → ⊥) → placeable C ≡ bare
   unfolding placeable
-  bare-loud q l = quiet-first names (placeable C) q ∙ loud-first bare (settling (labelsIn C)) l
+  bare-loud l = loud-first bare (settling (labelsIn C)) l
 
-  pub bare-quiet : Quiet names → Quiet bare → orElse names (placeable C) ≡ settling (labelsIn C)
+  pub bare-quiet : Quiet bare → placeable C ≡ settling (labelsIn C)
   unfolding placeable
-  bare-quiet q b = quiet-first names (placeable C) q ∙ quiet-first bare (settling (labelsIn C)) b
+  bare-quiet b = quiet-first bare (settling (labelsIn C)) b
 
-  -- the labels that a pass kept in a table
-  pub kept-labels : (t t′ : List ℕ) → t′ ≡ cond (eqb (bodyAnswer h C .number) 0) (sets t 1 (candidatesIn C)) t → Quiet names → length (C .nodes) < length t
-      → labelled (C .nodes) (drop 1 t′) ≡ labelsIn C
-  kept-labels t t′ e q room =
-      let (body, named) = both-quiet Quiet (bodyAnswer h C) (namesAnswer C) (λ z. z) .0 q in
-      let t″ : t′ ≡ sets t 1 (candidatesIn C) = e ∙ rw (eq-eqb (bodyAnswer h C .number) 0 body) in
-      ap (λ r. labelled (C .nodes) (drop 1 r)) t″ ∙ labels-kept t body named room
+  pub few-nodes : Quiet (placeable C) → sizesOf (turnsFor C) ≤ 1024
+  unfolding placeable
+  few-nodes q = go (leb (sizesOf (turnsFor C)) 1024) refl
+    where
+      size : Quiet (sizeAnswer (sizesOf (turnsFor C)))
+      size =
+          let settled = both-quiet Quiet bare (settling (labelsIn C)) (λ z. z) .0 q .1 in
+          both-quiet Quiet (unservedFrom 1 (labelsIn C)) (sizeAnswer (sizesOf (turnsFor C))) (λ z. z) .0 settled .1
 
-  -- where all is quiet, each node has a turn
-  module _ (q : Quiet (orElse names (placeable C))) where
-    parts : Quiet names × Quiet (placeable C)
-    parts = both-quiet Quiet names (placeable C) (λ z. z) .0 q
+      go : (b : Bool) → leb (sizesOf (turnsFor C)) 1024 ≡ b → sizesOf (turnsFor C) ≤ 1024
+      go true e = leb-true (sizesOf (turnsFor C)) 1024 e
+      go false e =
+          let bad : _≡_ {A = ℕ} 16 0 = rw e at size in
+          let no-way : ⊥ = omega (arith, bad) in
+          absurd no-way
 
-    settled : Quiet (settling (labelsIn C))
-    unfolding placeable
-    settled = both-quiet Quiet bare (settling (labelsIn C)) (λ z. z) .0 (parts .1) .1
-
-    pub few-nodes : sizesOf (turnsFor C) ≤ 1024
-    few-nodes = go (leb (sizesOf (turnsFor C)) 1024) refl
-      where
-        go : (b : Bool) → leb (sizesOf (turnsFor C)) 1024 ≡ b → sizesOf (turnsFor C) ≤ 1024
-        go true e = leb-true (sizesOf (turnsFor C)) 1024 e
-        go false e =
-            let size : Quiet (sizeAnswer (sizesOf (turnsFor C))) = both-quiet Quiet (unservedFrom 1 (labelsIn C)) (sizeAnswer (sizesOf (turnsFor C))) (λ z. z) .0 settled .1 in
-            let bad : _≡_ {A = ℕ} 16 0 = rw e at size in
-            let no-way : ⊥ = omega (arith, bad) in
-            absurd no-way
-
+  -- each node has a turn
+  module _ (roles : List ℕ) (l : Labelled C roles) (room : length (C .nodes) < length roles) where
     labels-length : length (labelsIn C) ≡ length (C .nodes)
-    labels-length =
-        let (body, named) = both-quiet Quiet (bodyAnswer h C) (namesAnswer C) (λ z. z) .0 (parts .0) in
-        labelled-length (C .nodes) (candidatesIn C) (omega (arith, candidates-length h C body named))
+    labels-length = ap length (sym l) ∙ labelled-length (C .nodes) (drop 1 roles) (omega (arith, length-drop 1 roles, room))
 
     pub turns-kept : (t t′ : List ℕ) → t′ ≡ sets t 1 (map packed (turnsFor C)) → length (C .nodes) < length t → turnsIn t′ (length (C .nodes)) ≡ turnsFor C
-    turns-kept t t′ e room =
+    turns-kept t t′ e fits =
         ap (λ r. turnsIn r (length (C .nodes))) e ∙ ap (turnsIn (sets t 1 (map packed (turnsFor C)))) (sym labels-length)
-        ∙ turns-read (labelsIn C) t (omega (arith, labels-length, room))
+        ∙ turns-read (labelsIn C) t (omega (arith, labels-length, fits))
 
     pub starts-kept : (s : List ℕ) → length (C .nodes) ≤ 1024 → s ≡ sets (replicate 1025 0) 1 (startsFrom 1 (turnsFor C))
         → placedContents C (turnsFor C) s ≡ placedContents C (turnsFor C) (startsOf (turnsFor C))
     starts-kept s few e =
-        let l : length (turnsFor C) ≡ length (C .nodes) = turns-length (labelsIn C) ∙ labels-length in
+        let n : length (turnsFor C) ≡ length (C .nodes) = turns-length (labelsIn C) ∙ labels-length in
         ap (placedContents C (turnsFor C)) e
-        ∙ placed-same C (turnsFor C) (sets (replicate 1025 0) 1 (startsFrom 1 (turnsFor C))) (startsOf (turnsFor C)) (starts-table (turnsFor C) (omega (arith, l, few)))
+        ∙ placed-same C (turnsFor C) (sets (replicate 1025 0) 1 (startsFrom 1 (turnsFor C))) (startsOf (turnsFor C)) (starts-table (turnsFor C) (omega (arith, n, few)))

@@ -1,6 +1,6 @@
 -- Placing, whole, from what is decided.
 use Prim.Native.Nat.{ℕ, _+_, _*_, _≤_, _<_}
-use mathlib.Core.Path.{_≡_, refl, sym, ap, ap₂, subst, _∙_}
+use mathlib.Core.Path.{_≡_, refl, sym, ap, subst, _∙_}
 use mathlib.Core.List.{List}
 use mathlib.Core.Bool.{Bool, true, false, cond}
 use native.Mathlib.Omega.{arith}
@@ -14,19 +14,22 @@ use Rattle.format.specs.Answers.{refused, orElse}
 use Rattle.format.specs.Header.{headAt, headOf}
 use Rattle.format.specs.declared.Verdict.{Verdict}
 use Rattle.format.specs.declared.Head.{Head}
-use Rattle.format.specs.declared.HeadAnswer.{HeadAnswer}
-use Rattle.format.specs.declared.HeadAnswer.the-variants.{Fine, Refused}
-use Rattle.format.proofs.AnswerLaws.{Quiet, loud-first}
-use Rattle.format.proofs.HeadLaws.{headed, head-laid, head-number}
-use Rattle.reading.specs.Reading.{bodyAnswer}
+use Rattle.format.specs.declared.HeadAnswer.the-variants.{Refused}
+use Rattle.format.proofs.AnswerLaws.{Quiet, quiet-first, loud-first, both-quiet}
+use Rattle.format.proofs.HeadLaws.{head-number}
+use Rattle.tables.specs.Records.{recordsAnswer}
+use Rattle.trees.specs.Shape.{shapeAnswer}
+use Rattle.reading.specs.Reading.{bodyAnswer, reading}
+use Rattle.reading.specs.declared.Opened.the-variants.{Fine as Opened·Fine, Refused as Opened·Refused}
 use Rattle.reading.proofs.LongLaws.{Stands, stands-judged}
-use Rattle.rules.specs.Checking.{namesAnswer}
-use Rattle.checking.specs.Check.{readingNames}
-use Rattle.checking.proofs.CheckLaws.{names-refused, names-judged}
+use Rattle.reading.proofs.ReadingLaws.{by-body}
+use Rattle.rules.specs.Candidates.{candidatesIn}
+use Rattle.checking.specs.Check.{readingNames, entered, surveyed}
+use Rattle.checking.proofs.CheckLaws.{names-refused, names-parts, names-headed, entered-fine, entered-refused}
 use Rattle.groups.specs.Groups.{sizesOf, startsOf, placedContents}
-use Rattle.placing.specs.Placing.{turnsFor, placeable, judging, noPlace, placedIn, answered, placing, placedBytes, placedOver}
+use Rattle.placing.specs.Placing.{Labelled, turnsFor, placeable, judging, noPlace, placedIn, answered, placing, placedBytes, placedOver}
 use Rattle.placing.specs.declared.Placed.{Placed}
-use Rattle.placing.proofs.DecideLaws.{few-nodes}
+use Rattle.placing.proofs.DecideLaws.{labels-kept, few-nodes}
 
 module _ (f : List ℕ) where
   pub too-small : (room : ℕ) → room < 6874 → placing f room ≡ noPlace 17 0
@@ -53,26 +56,53 @@ module _ (f : List ℕ) where
       let names : readingNames f ≡ refused n 0 = names-refused f n e in
       placing-refused room (refused n 0) h (ap (λ v. orElse v (placeable (contentsOf f))) names ∙ loud-first (refused n 0) (placeable (contentsOf f)) loud) loud
 
-  module _ (h : Head) (e : headOf f ≡ Fine h) where
+  -- a file that 1 to 10 refuse
+  pub names-loud : (w : Verdict) → entered f ≡ Opened·Refused w → (judging f ≡ w) × (Quiet w → ⊥)
+  unfolding judging
+  names-loud w e =
+      let (l, same) = entered-refused f w e in (loud-first (readingNames f) (placeable (contentsOf f)) l ∙ sym same, λ q. l (subst Quiet same q))
+
+  -- where nothing is refused
+  pub placing-placed : (room : ℕ) → 6874 ≤ room → Quiet (judging f) → placing f room ≡ placedIn (headAt f) (contentsOf f)
+  placing-placed room r q = answers room r ∙ rw (eq-eqb (judging f .number) 0 q)
+
+  pub over-placed : (out : List ℕ) → 6874 ≤ length out → Quiet (judging f) → placedOver f out ≡ sets out 0 (placedBytes f)
+  unfolding placedOver
+  over-placed out r q = ap (λ a. cond (eqb (a .number) 0) (sets out 0 (placedBytes f)) out) (placing-placed (length out) r q)
+
+  -- a file that 1 to 10 leave clean, by its head
+  module _ (h : Head) (e : entered f ≡ Opened·Fine h) where
     same : h ≡ headAt f
-    same = headed f h e .1
+    same = entered-fine f h e .1
+
+    names-quiet : Quiet (readingNames f)
+    names-quiet = ap (λ (v : Verdict). v .number) (entered-fine f h e .2)
 
     pub head-version : h .version ≡ 1
-    head-version = ap (λ (k : Head). k .version) same ∙ headed f h e .0 .version
+    head-version = ap (λ (k : Head). k .version) same ∙ names-headed f names-quiet .version
 
-    pub judged : judging f ≡ orElse (orElse (bodyAnswer h (contentsAt f h)) (namesAnswer (contentsAt f h))) (placeable (contentsAt f h))
+    pub judged : judging f ≡ placeable (contentsAt f h)
     unfolding judging
-    judged = ap₂ (λ v k. orElse v (placeable (contentsAt f k))) (names-judged f h e) (sym same)
+    judged = quiet-first (readingNames f) (placeable (contentsOf f)) names-quiet ∙ ap (λ (k : Head). placeable (contentsAt f k)) (sym same)
 
-    pub placing-placed : (room : ℕ) → 6874 ≤ room → Quiet (judging f) → placing f room ≡ placedIn h (contentsAt f h)
-    placing-placed room r q = answers room r ∙ rw (eq-eqb (judging f .number) 0 q) (ap (λ k. placedIn k (contentsAt f k)) (sym same))
+    pub placed-here : placedIn h (contentsAt f h) ≡ placedIn (headAt f) (contentsOf f)
+    placed-here = ap (λ (k : Head). placedIn k (contentsAt f k)) same
 
-    pub over-placed : (out : List ℕ) → 6874 ≤ length out → Quiet (judging f)
-        → placedOver f out ≡ sets out 0 (encoded (placedContents (contentsAt f h) (turnsFor (contentsAt f h)) (startsOf (turnsFor (contentsAt f h)))))
-    unfolding placedOver placedBytes
-    over-placed out r q =
-        ap (λ a. cond (eqb (a .number) 0) (sets out 0 (placedBytes f)) out) (placing-placed (length out) r q)
-        ∙ ap (λ k. sets out 0 (encoded (placedContents (contentsAt f k) (turnsFor (contentsAt f k)) (startsOf (turnsFor (contentsAt f k)))))) (sym same)
+    pub bytes-here : encoded (placedContents (contentsAt f h) (turnsFor (contentsAt f h)) (startsOf (turnsFor (contentsAt f h)))) ≡ placedBytes f
+    unfolding placedBytes
+    bytes-here = ap (λ (k : Head). encoded (placedContents (contentsAt f k) (turnsFor (contentsAt f k)) (startsOf (turnsFor (contentsAt f k))))) same
+
+    -- the candidates of its nodes
+    pub surveyed-labels : (t t′ : List ℕ) → t′ ≡ surveyed f t → length (contentsAt f h .nodes) < length t → Labelled (contentsAt f h) t′ × (length t′ ≡ length t)
+    unfolding surveyed
+    surveyed-labels t t′ q room =
+        let (r, n) = names-parts f names-quiet in
+        let body : Quiet (bodyAnswer (headAt f) (contentsOf f)) = subst Quiet (by-body f r .1) r in
+        let shaped = both-quiet Quiet (recordsAnswer (headAt f) (contentsOf f)) (shapeAnswer (contentsOf f)) (λ z. z) .0 body .1 in
+        let filled : t′ ≡ sets t 1 (candidatesIn (contentsOf f)) = q ∙ rw (eq-eqb (reading f .number) 0 r) in
+        let fits = subst (λ (k : Head). length (contentsAt f k .nodes) < length t) same room in
+        let labels = subst (Labelled (contentsOf f)) (sym filled) (labels-kept (contentsOf f) t shaped n fits) in
+        (subst (λ (k : Head). Labelled (contentsAt f k) t′) (sym same) labels, ap length filled ∙ length-sets t 1 (candidatesIn (contentsOf f)))
 
 -- what a caller keeps of a long input is placed as the whole is
 pub stands-placed : (room : ℕ) (kept input : List ℕ) → Stands kept input → placing kept room ≡ placing input room
@@ -97,23 +127,22 @@ stands-over out = go (ltb (length out) 6874) refl
 
 -- no answer is longer than the largest file
 pub length-most : (f : List ℕ) (room : ℕ) → placing f room .length ≤ 6874
-length-most f room = go (ltb room 6874) refl (headOf f) refl (eqb (judging f .number) 0) refl
+unfolding judging
+length-most f room = go (ltb room 6874) refl (eqb (judging f .number) 0) refl
   where
     none : (n p : ℕ) → placing f room ≡ noPlace n p → placing f room .length ≤ 6874
     none n p e = let zero-long : placing f room .length ≡ 0 = ap (λ (a : Placed). a .length) e in omega (arith, zero-long)
 
-    go : (b : Bool) → ltb room 6874 ≡ b → (a : HeadAnswer) → headOf f ≡ a → (q : Bool) → eqb (judging f .number) 0 ≡ q → placing f room .length ≤ 6874
-    go true r a e q j = none 17 0 (too-small f room (ltb-true room 6874 r))
-    go false r (Refused n) e q j = none n 0 (head-refused f room n (ltb-false room 6874 r) e)
-    go false r (Fine h) e false j =
+    go : (b : Bool) → ltb room 6874 ≡ b → (q : Bool) → eqb (judging f .number) 0 ≡ q → placing f room .length ≤ 6874
+    go true r q j = none 17 0 (too-small f room (ltb-true room 6874 r))
+    go false r false j =
         none (judging f .number) (judging f .place) (placing-refused f room (judging f) (ltb-false room 6874 r) refl (eqb-false (judging f .number) 0 j))
-    go false r (Fine h) e true j =
+    go false r true j =
         let quiet : Quiet (judging f) = eqb-true (judging f .number) 0 j in
-        let whole : Quiet (orElse (orElse (bodyAnswer h (contentsAt f h)) (namesAnswer (contentsAt f h))) (placeable (contentsAt f h))) = subst Quiet (judged f h e) quiet in
-        let l = head-laid f h e in
-        let size : placing f room .length ≡ 2 * (h .at .nodes + 3 * sizesOf (turnsFor (contentsAt f h))) =
-        ap (λ (a : Placed). a .length) (placing-placed f h e room (ltb-false room 6874 r) quiet) in
-        omega (arith, size, few-nodes h (contentsAt f h) whole, l)
+        let (names, rest) = both-quiet Quiet (readingNames f) (placeable (contentsOf f)) (λ z. z) .0 quiet in
+        let size : placing f room .length ≡ 2 * (headAt f .at .nodes + 3 * sizesOf (turnsFor (contentsOf f))) =
+        ap (λ (a : Placed). a .length) (placing-placed f room (ltb-false room 6874 r) quiet) in
+        omega (arith, size, few-nodes (contentsOf f) rest, names-headed f names .laid)
 
 -- what a caller has in hand: an answer no longer than that, and an output as long as it was
 pub answer-short : (f : List ℕ) (room : ℕ) (a : Placed) → a ≡ placing f room → a .length ≤ 6874

@@ -4,7 +4,7 @@ use mathlib.Core.Bool.{Bool, true, false, cond, _&&_}
 use mathlib.Core.Path.{_≡_}
 use mathlib.Core.List.{List, [], _∷_, map}
 use lib.Dec.{eqb, leb, ltb}
-use lib.ListN.{length}
+use lib.ListN.{length, drop}
 use lib.Seq.{sets}
 use Rattle.format.specs.Answers.{fine, refused, orElse, firstOf}
 use Rattle.format.specs.Header.{headAt, lengthFor, roomFor}
@@ -24,6 +24,10 @@ use Rattle.placing.specs.declared.Decision.{Decision}
 -- the nodes as placing sees them, and what becomes of each
 abbrev pub labelsIn : Contents → List Label
 labelsIn C = labelled (C .nodes) (candidatesIn C)
+
+-- each node's candidates stand in a table, at its number
+abbrev pub Labelled : Contents → List ℕ → Type 0
+Labelled C roles = labelled (C .nodes) (drop 1 roles) ≡ labelsIn C
 
 abbrev pub turnsFor : Contents → List Turn
 turnsFor C = turnsOf (labelsIn C)
@@ -61,7 +65,7 @@ placeable C = orElse (orElse (masksAnswer C) (switchesAnswer C)) (settling (labe
 unfoldable pub judging : List ℕ → Verdict
 judging f = orElse (readingNames f) (placeable (contentsOf f))
 
--- what is decided before anything is written: 14 to 16 beside what stands before them, and the sums where nothing is refused
+-- what is decided before anything is written: 14 to 16, and the sums where nothing is refused
 abbrev pub noSums : Sums
 noSums = record { nodes = 0; «on_steps» = 0 }
 

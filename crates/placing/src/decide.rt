@@ -2,7 +2,6 @@
 use super::Decision;
 use super::bare::bare;
 use super::served::unserved;
-use checking::survey;
 use format::Head;
 use format::Verdict;
 use groups::Sums;
@@ -12,11 +11,8 @@ ghost use mathlib.Core.Path.{_≡_};
 ghost use lib.ListN.{length, drop};
 ghost use Rattle.format.specs.Header.{Laid};
 ghost use Rattle.format.specs.Contents.{contentsAt};
-ghost use Rattle.format.specs.Answers.{orElse};
-ghost use Rattle.reading.specs.Reading.{bodyAnswer};
-ghost use Rattle.rules.specs.Checking.{namesAnswer};
 ghost use Rattle.states.specs.States.{labelled, turnsOf};
-ghost use Rattle.placing.specs.Placing.{turnsFor, placeable, settling, decided, noSums, Settled};
+ghost use Rattle.placing.specs.Placing.{Labelled, turnsFor, placeable, settling, decided, noSums, Settled};
 
 fn refused(verdict: Verdict) -> Decision
     ensures { λ r. ⌜ r ≡ record { verdict = verdict; sums = noSums } ⌝ }
@@ -57,20 +53,21 @@ fn settle(file: &[u8], head: Head, roles: &[u16], turns: &mut [u16], starts: &mu
     }
 }
 
-// 6 to 10, then 14 to 16.
-pub fn decide(file: &[u8], head: Head, turns: &mut [u16], starts: &mut [u16]) -> Decision
-    requires { ⌜ Laid (now file) head × (length (now turns) ≡ 1025) × (length (now starts) ≡ 1025) ⌝ }
-    ensures { λ r. ⌜ (r ≡ decided (orElse (orElse (bodyAnswer head (contentsAt (now (file .entry)) head)) (namesAnswer (contentsAt (now (file .entry)) head))) (placeable (contentsAt (now (file .entry)) head))) (turnsFor (contentsAt (now (file .entry)) head)))
+// 14 to 16, with each node's candidates at its number.
+pub fn decide(
+    file: &[u8],
+    head: Head,
+    roles: &[u16],
+    turns: &mut [u16],
+    starts: &mut [u16],
+) -> Decision
+    requires { ⌜ Laid (now file) head × Labelled (contentsAt (now file) head) (now roles) × (length (now roles) ≡ 1025) × (length (now turns) ≡ 1025) × (length (now starts) ≡ 1025) ⌝ }
+    ensures { λ r. ⌜ (r ≡ decided (placeable (contentsAt (now (file .entry)) head)) (turnsFor (contentsAt (now (file .entry)) head)))
         × (r .verdict .number ≡ 0 → Settled (turnsFor (contentsAt (now (file .entry)) head)) (now (turns .entry)) (now (turns .exit)) (now (starts .entry)) (now (starts .exit))) ⌝ }
 {
-    let mut roles = [0u16; 1025];
-    let first = survey(file, head, &mut roles);
+    let first = bare(file, head);
     if first.number != 0 {
         return refused(first);
     }
-    let second = bare(file, head);
-    if second.number != 0 {
-        return refused(second);
-    }
-    settle(file, head, &roles, turns, starts)
+    settle(file, head, roles, turns, starts)
 }

@@ -3,22 +3,24 @@ mod bare;
 mod decide;
 mod served;
 
+use checking::examine;
 use decide::decide;
 use format::Head;
-use format::HeadAnswer;
 use format::Verdict;
 use format::header::length_for;
-use format::header::read_head;
 use format::header::room_for;
 use format::words::narrow;
 use groups::Sums;
 use groups::put_file;
+use reading::Opened;
 ghost use mathlib.Core.Path.{_≡_};
 ghost use Prim.Native.Nat.{_≤_};
 ghost use lib.ListN.{length};
-ghost use Rattle.format.specs.Header.{headOf, roomFor};
-ghost use Rattle.format.specs.declared.HeadAnswer.the-variants.{Fine};
-ghost use Rattle.placing.specs.Placing.{noPlace, placing, placedOver};
+ghost use Rattle.format.specs.Header.{roomFor};
+ghost use Rattle.format.specs.Contents.{contentsAt};
+ghost use Rattle.reading.specs.declared.Opened.the-variants.{Fine};
+ghost use Rattle.checking.specs.Check.{entered};
+ghost use Rattle.placing.specs.Placing.{Labelled, noPlace, placing, placedOver};
 
 // What a caller gets: a refusal's number and place, or 0 and 0 with the length of the placed file in bytes and its on steps.
 #[repr(C)]
@@ -46,14 +48,14 @@ fn no_place(number: u16, place: u16) -> Placed
     }
 }
 
-// The same for a file with a head, into an output with room for the largest file.
-fn place_body(file: &[u8], head: Head, out: &mut [u8]) -> Placed
-    requires { ⌜ (headOf (now file) ≡ Fine head) × (roomFor (now file) ≤ length (now out)) ⌝ }
+// The same for a file that 1 to 10 leave clean, with each node's candidates at its number, into an output with room for the largest file.
+fn place_body(file: &[u8], head: Head, roles: &[u16], out: &mut [u8]) -> Placed
+    requires { ⌜ (entered (now file) ≡ Fine head) × Labelled (contentsAt (now file) head) (now roles) × (length (now roles) ≡ 1025) × (roomFor (now file) ≤ length (now out)) ⌝ }
     ensures { λ r. ⌜ (r ≡ placing (now (file .entry)) (length (now (out .entry)))) × (now (out .exit) ≡ placedOver (now (file .entry)) (now (out .entry))) ⌝ }
 {
     let mut turns = [0u16; 1025];
     let mut starts = [0u16; 1025];
-    let decision = decide(file, head, &mut turns, &mut starts);
+    let decision = decide(file, head, roles, &mut turns, &mut starts);
     let verdict = decision.verdict;
     if verdict.number != 0 {
         return no_place(verdict.number, verdict.place);
@@ -76,9 +78,11 @@ pub fn place(file: &[u8], out: &mut [u8]) -> Placed
     if out.len() < room_for(file) {
         return no_place(17, 0);
     }
-    let answer = read_head(file);
-    match answer {
-        HeadAnswer::Refused(number) => no_place(number, 0),
-        HeadAnswer::Fine(head) => place_body(file, head, out),
+    let mut roles = [0u16; 1025];
+    let found = examine(file, &mut roles);
+    let names = found.names;
+    match names {
+        Opened::Refused(first) => no_place(first.number, first.place),
+        Opened::Fine(head) => place_body(file, head, &roles, out),
     }
 }

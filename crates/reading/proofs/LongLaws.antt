@@ -15,8 +15,9 @@ use Rattle.format.specs.declared.Head.{Head}
 use Rattle.format.specs.declared.HeadAnswer.{HeadAnswer}
 use Rattle.format.specs.declared.HeadAnswer.the-variants.{Refused}
 use Rattle.format.proofs.HeadLaws.{laid-iff}
-use Rattle.reading.specs.Reading.{after, reading}
+use Rattle.reading.specs.Reading.{reading}
 use Rattle.reading.specs.Long.{enough}
+use Rattle.reading.proofs.ReadingLaws.{refused-by-head}
 
 -- the counts give no longer file
 pub most-bytes : (f : List ℕ) (h : Head) → Laid f h → length f ≤ largest
@@ -122,12 +123,8 @@ module _ {A : Type 0} (refusal : ℕ → A) (judge : List ℕ → A) (by-head : 
           let long : largest + 2 < length input = leb-false (length input) (largest + 2) e in
           long-alike kept input (omega (arith, s .size, long)) (omega arith) (omega (arith, s .size, long)) (s .head)
 
-refused-head : (f : List ℕ) (n : ℕ) → headOf f ≡ Refused n → reading f ≡ refused n 0
-unfolding reading
-refused-head f n e = ap (after f) e
-
 pub stands-read : (kept input : List ℕ) → Stands kept input → reading kept ≡ reading input
-stands-read = stands-judged (λ n. refused n 0) reading refused-head
+stands-read = stands-judged (λ n. refused n 0) reading refused-by-head
 
 -- so the first bytes of an input, as many as `enough` says, have its answer
 pub enough-read : (f : List ℕ) → reading (take (enough (length f)) f) ≡ reading f

@@ -8,12 +8,13 @@ use native.Mathlib.Numerals.{add-one}
 use lib.ListN.{length, set, drop}
 use lib.Seq.{sets}
 use lib.Dec.{eqb}
-use borrow.Author.Tests.{eq-eqb, ne-eqb}
+use borrow.Author.Tests.{eq-eqb, ne-eqb, eqb-false}
 use Rattle.masks.specs.Mask.{with, without}
 use Rattle.format.specs.Contents.{Contents, item, noNode}
 use Rattle.format.specs.Answers.{fine, refused, orElse}
 use Rattle.format.specs.declared.Verdict.{Verdict}
 use Rattle.format.specs.declared.Node.{Node}
+use Rattle.format.proofs.AnswerLaws.{Quiet}
 use Rattle.format.proofs.ContentsLaws.{from-item, none-past}
 use Rattle.rules.specs.Schema.{Schema, schemaOf}
 use Rattle.rules.specs.Names.{kindOf}
@@ -38,6 +39,20 @@ noted-quiet v n i h = go (eqb (v .number) 0) (eqb n 0) refl refl
     go true true e g = refl
     go true false e g = rw g
     go false q e g = h
+
+-- an answer of a rule that refuses nothing is fine
+pub by-quiet : (rule : Context → Node → ℕ) (D : Schema) (i : ℕ) (ns : List Node) (st : List Context)
+    → Quiet (firstBy rule D i ns st) → firstBy rule D i ns st ≡ fine
+unfolding firstBy
+by-quiet rule D i [] st q = refl
+by-quiet rule D i (n ∷ ns) [] q = refl
+by-quiet rule D i (n ∷ ns) (c ∷ st) q = go (eqb (rule c n) 0) refl q (by-quiet rule D (suc i) ns (after D c n st))
+  where
+    go : (b : Bool) → eqb (rule c n) 0 ≡ b → Quiet (cond b (firstBy rule D (suc i) ns (after D c n st)) (refused (rule c n) i))
+        → (Quiet (firstBy rule D (suc i) ns (after D c n st)) → firstBy rule D (suc i) ns (after D c n st) ≡ fine)
+        → cond b (firstBy rule D (suc i) ns (after D c n st)) (refused (rule c n) i) ≡ fine
+    go true e q rec = rec q
+    go false e q rec = absurd (eqb-false (rule c n) 0 e q)
 
 -- the contexts that wait after a node with one child
 pub after-step : (D : Schema) (c : Context) (n : Node) (st : List Context) {d : Context} {us : List Context} → (n .tag ≡ 0 → ⊥) → (n .tag ≡ 1 → ⊥) → d ≡ childOf D c n → us ≡ st → d ∷ us ≡ after D c n st
