@@ -22,10 +22,10 @@ use Rattle.steps.specs.declared.Acted.{Acted}
 use Rattle.steps.specs.declared.Answer.{Answer}
 use Rattle.steps.specs.declared.Answer.the-variants as answers
 use Rattle.steps.specs.Threads.{value, noThread}
-use Rattle.steps.specs.Choice.{Clinic, allowed, meeting, sending, lone, aloneOnly, acting, State, Chosen, halts, goes, threadAt, partnerAt, done, choice}
+use Rattle.steps.specs.Choice.{Clinic, isAllowed, meeting, sending, lone, aloneOnly, acting, State, Chosen, halts, goes, threadAt, partnerAt, done, choice}
 use Rattle.steps.specs.Kept.{threadIn, threadsIn, madeIn}
 use Rattle.steps.specs.Acted.{partnerOf, actedOf, outcomeBy, outcomeOf}
-use Rattle.choices.specs.Stored.{Placed}
+use Rattle.choices.specs.Stored.{HasRoom}
 use Rattle.choices.proofs.TableLaws.{thread-get}
 use Rattle.choices.proofs.StateLaws.{made-length}
 
@@ -51,7 +51,7 @@ positive (suc p) h = omega arith
 meeting-fair : (n m p : ℕ) (C : Clinic) (made : List Made) (t : Thread) (a : Node) (r : Thread) (b : Node) → 0 < p → p ≤ n → Fair n m p (meeting C made t a r b)
 unfolding meeting
 meeting-fair n m p C made t a r b pos le =
-    either (Fair n m p) (allowed C made t Sends (a .f1) && allowed C made r Receives (b .f1)) _ _
+    either (Fair n m p) (isAllowed C made t Sends (a .f1) && isAllowed C made r Receives (b .f1)) _ _
     (λ e. either (Fair n m p) (eqb (value t (a .f1)) (value r (b .f1))) _ _ (λ q. (pos, le)) (λ q. some 18))
     (λ e. some 12)
 
@@ -93,7 +93,7 @@ acting-fair n p C made t r =
     (λ e5. alone-fair n (length made) p (partnerOf n p r) _ (lone-fair n (length made) p C t (C .node (t .node))))))
     (λ e. some 17)
 
-fair-placed : (n m p : ℕ) (a : Answer) (t u : Thread) → Fair n m p (outcomeBy a t u) → Placed n m p a
+fair-placed : (n m p : ℕ) (a : Answer) (t u : Thread) → Fair n m p (outcomeBy a t u) → HasRoom n m p a
 fair-placed n m p (answers.Refused k) t u h = tt
 fair-placed n m p answers.Moves t u h = tt
 fair-placed n m p answers.Adds t u h = h
@@ -151,7 +151,7 @@ partner-read ts n i p q at to own other e a mine b theirs = go (inCount n p) e
 -- the choice of a state whose counts and made channels stand in a table, by the threads read from it
 module _ (C : Clinic) (b : List ℕ) (p : ℕ) (own other : Thread) (it : Acted)
     (acted : it ≡ actedOf (acting C (getD b 0 0) (madeIn b 2 (getD b 1 0)) own (partnerOf (getD b 0 0) p other))) where
-  pub acted-placed : Placed (getD b 0 0) (getD b 1 0) p (it .answer)
+  pub acted-placed : HasRoom (getD b 0 0) (getD b 1 0) p (it .answer)
   acted-placed =
       let made : List Made = madeIn b 2 (getD b 1 0) in
       let o : Outcome = acting C (getD b 0 0) made own (partnerOf (getD b 0 0) p other) in

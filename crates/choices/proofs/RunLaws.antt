@@ -7,7 +7,7 @@ use lib.ListN.{length, getD, set, drop, length-set, length-drop}
 use lib.Seq.{drop-cons, getD-set-same, getD-set-other}
 use Rattle.format.specs.Contents.{Contents, item, noSession}
 use Rattle.format.specs.declared.Session.{Session}
-use Rattle.format.proofs.ContentsLaws.{from-item, none-past}
+use Rattle.format.proofs.ContentsLaws.{next-item, none-past}
 use Rattle.steps.specs.declared.Thread.{Thread}
 use Rattle.steps.specs.Threads.{zeros}
 use Rattle.steps.specs.Choice.{Clinic, State, Chosen, halts, goes, choice}
@@ -90,13 +90,11 @@ pub open-more : (ss : List Session) (w v : List ℕ) (i : ℕ) (t : Thread) → 
     → Opened ss w i → Opened ss v (i + 1)
 unfolding threadsFrom
 open-more ss w v i t fits lt is put have =
-    let one : i + 1 - 1 ≡ i = omega arith in
-    let turn : drop i ss ≡ item noSession ss (i + 1) ∷ drop (i + 1) ss = rw one at (from-item noSession ss (i + 1) (omega arith) (omega arith)) in
     ap (λ (x : List ℕ). threadsIn x 0 (i + 1) ++ threadsFrom (drop (i + 1) ss)) (put .0)
     ∙ ap (λ (ts : List Thread). ts ++ threadsFrom (drop (i + 1) ss)) (threads-add w i t fits (put .1))
     ∙ append-assoc (threadsIn w 0 i) (t ∷ []) (threadsFrom (drop (i + 1) ss))
     ∙ ap (λ (x : Thread). threadsIn w 0 i ++ (x ∷ threadsFrom (drop (i + 1) ss))) is
-    ∙ ap (λ (l : List Session). threadsIn w 0 i ++ threadsFrom l) (sym turn)
+    ∙ ap (λ (l : List Session). threadsIn w 0 i ++ threadsFrom l) (sym (next-item noSession ss i lt))
     ∙ have
 
 -- the counts are written beside

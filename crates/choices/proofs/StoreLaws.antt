@@ -7,7 +7,7 @@ use Rattle.steps.specs.declared.Made.{Made}
 use Rattle.steps.specs.declared.Acted.{Acted}
 use Rattle.steps.specs.declared.Answer.{Answer}
 use Rattle.steps.specs.declared.Answer.the-variants as answers
-use Rattle.steps.specs.Choice.{State, changed, added, minted, removed, done}
+use Rattle.steps.specs.Choice.{State, changed, added, withMade, removed, done}
 use Rattle.steps.specs.Kept.{Carried}
 use Rattle.steps.specs.Acted.{outcomeBy}
 
@@ -15,7 +15,7 @@ use Rattle.steps.specs.Acted.{outcomeBy}
 pub then-added : (s s1 s2 : State) (i : ℕ) (t u : Thread) → s1 ≡ changed s i t → s2 ≡ record { threads = s1 .threads ++ (u ∷ []); made = s1 .made } → s2 ≡ added s i t u
 then-added s s1 s2 i t u e q = q ∙ ap (λ (x : State). record { threads = x .threads ++ (u ∷ []); made = x .made }) e
 
-pub then-minted : (s s1 s2 : State) (i : ℕ) (t : Thread) (m : Made) → s1 ≡ changed s i t → s2 ≡ record { threads = s1 .threads; made = s1 .made ++ (m ∷ []) } → s2 ≡ minted s i t m
+pub then-minted : (s s1 s2 : State) (i : ℕ) (t : Thread) (m : Made) → s1 ≡ changed s i t → s2 ≡ record { threads = s1 .threads; made = s1 .made ++ (m ∷ []) } → s2 ≡ withMade s i t m
 then-minted s s1 s2 i t m e q = q ∙ ap (λ (x : State). record { threads = x .threads; made = x .made ++ (m ∷ []) }) e
 
 module _ (s : State) (i p : ℕ) (it : Acted) where
@@ -34,7 +34,7 @@ module _ (s : State) (i p : ℕ) (it : Acted) where
   unfolding done
   adds-stored s′ e q = subst (Done 0 s′) (sym e) (refl, q)
 
-  pub makes-stored : (s′ : State) (m : Made) → it .answer ≡ answers.Makes m → s′ ≡ minted s i (it .first) m → Done 0 s′ (it .answer)
+  pub makes-stored : (s′ : State) (m : Made) → it .answer ≡ answers.Makes m → s′ ≡ withMade s i (it .first) m → Done 0 s′ (it .answer)
   unfolding done
   makes-stored s′ m e q = subst (Done 0 s′) (sym e) (refl, q)
 

@@ -17,13 +17,13 @@ stored w p t =
     (p + 5) (getD (t .vars) 2 0)) (p + 6) (getD (t .vars) 3 0)) (p + 7) (getD (t .vars) 4 0)) (p + 8) (getD (t .vars) 5 0)) (p + 9) (getD (t .vars) 6 0)) (p + 10) (getD (t .vars) 7 0)
 
 -- there is room for what an answer adds to so many threads and made channels, and the partner that it moves is a thread
-abbrev pub Placed : ℕ → ℕ → ℕ → Answer → Type 0
-Placed threads made p (answers.Refused n) = Unit {0}
-Placed threads made p answers.Moves = Unit {0}
-Placed threads made p answers.Adds = threads < 64
-Placed threads made p (answers.Makes m) = made < 64
-Placed threads made p answers.Ends = Unit {0}
-Placed threads made p answers.Meets = (0 < p) × (p ≤ threads)
+abbrev pub HasRoom : ℕ → ℕ → ℕ → Answer → Type 0
+HasRoom threads made p (answers.Refused n) = Unit {0}
+HasRoom threads made p answers.Moves = Unit {0}
+HasRoom threads made p answers.Adds = threads < 64
+HasRoom threads made p (answers.Makes m) = made < 64
+HasRoom threads made p answers.Ends = Unit {0}
+HasRoom threads made p answers.Meets = (0 < p) × (p ≤ threads)
 
 -- a run gone through: what it answers, and the state that it leaves in the tables
 abbrev pub Gone : Ran → Counted → List ℕ → List ℕ → Type 0

@@ -28,13 +28,13 @@ ghost use Rattle.rules.specs.declared.Way.the-variants.{Sends, Receives};
 ghost use Rattle.steps.specs.Choice.{clinicOf, done, choice};
 ghost use Rattle.steps.specs.Threads.{zeros};
 ghost use Rattle.choices.specs.Choices.{start, run};
-ghost use Rattle.steps.specs.Kept.{threadIn, stateIn, Sized, Carried};
+ghost use Rattle.steps.specs.Kept.{threadIn, stateIn, Sized, Carried, besideWords};
 ghost use Rattle.steps.specs.Acted.{outcomeOf};
-ghost use Rattle.choices.specs.Stored.{Placed, Gone};
+ghost use Rattle.choices.specs.Stored.{HasRoom, Gone};
 
 // What a choice of thread i with partner p comes to is stored in place. A refused one stores nothing.
 fn store(threads: &mut [u16], beside: &mut [u16], i: u16, p: u16, it: Acted) -> u16
-    requires { ⌜ Sized (now threads) (now beside) × (0 < i) × (i ≤ getD (now beside) 0 0) × Placed (getD (now beside) 0 0) (getD (now beside) 1 0) p (it .answer) ⌝ }
+    requires { ⌜ Sized (now threads) (now beside) × (0 < i) × (i ≤ getD (now beside) 0 0) × HasRoom (getD (now beside) 0 0) (getD (now beside) 1 0) p (it .answer) ⌝ }
     ensures { λ r. ⌜ Carried (done (stateIn (now (threads .entry)) (now (beside .entry))) i p (outcomeOf it)) r
         (stateIn (now (threads .entry)) (now (beside .entry))) (stateIn (now (threads .exit)) (now (beside .exit)))
         × Sized (now (threads .exit)) (now (beside .exit)) ⌝ }
@@ -158,7 +158,7 @@ fn opened(it: Session) -> Thread
 
 // One thread for each session, in order, and no channel made.
 fn open_threads(file: &[u8], head: Head, threads: &mut [u16], beside: &mut [u16])
-    requires { ⌜ Laid (now file) head × (length (now threads) ≡ 704) × (length (now beside) ≡ 130) ⌝ }
+    requires { ⌜ Laid (now file) head × (length (now threads) ≡ 704) × (length (now beside) ≡ besideWords) ⌝ }
     ensures { λ r. ⌜ (stateIn (now (threads .exit)) (now (beside .exit)) ≡ start (contentsAt (now (file .entry)) head)) × Sized (now (threads .exit)) (now (beside .exit)) ⌝ }
 {
     let sessions = head.count.sessions;
@@ -173,8 +173,8 @@ fn open_threads(file: &[u8], head: Head, threads: &mut [u16], beside: &mut [u16]
     beside[1] = 0;
 }
 
-// The same, with two tables of grants lent to work in.
-fn run_by(
+// The run of a file through a list of choices, which leaves the grants in the two tables. What the state's tables held before is of no account.
+pub fn run_by(
     file: &[u8],
     head: Head,
     sends: &mut [u16],
@@ -184,15 +184,16 @@ fn run_by(
     beside: &mut [u16],
 ) -> Counted
     requires { ⌜ Laid (now file) head × (length (now sends) ≡ 33) × (length (now receives) ≡ 33) × (now sends ≡ replicate (length (now sends)) 0) × (now receives ≡ replicate (length (now receives)) 0)
-        × (length (now choices) ≤ 131070) × (length (now threads) ≡ 704) × (length (now beside) ≡ 130) ⌝ }
-    ensures { λ r. ⌜ Gone (run (clinicOf (contentsAt (now (file .entry)) head)) (start (contentsAt (now (file .entry)) head)) (now (choices .entry))) r (now (threads .exit)) (now (beside .exit)) ⌝ }
+        × (length (now choices) ≤ 131070) × (length (now threads) ≡ 704) × (length (now beside) ≡ besideWords) ⌝ }
+    ensures { λ r. ⌜ Gone (run (clinicOf (contentsAt (now (file .entry)) head)) (start (contentsAt (now (file .entry)) head)) (now (choices .entry))) r (now (threads .exit)) (now (beside .exit))
+        × Granting (schemaOf (contentsAt (now (file .entry)) head)) Sends (now (sends .exit)) × Granting (schemaOf (contentsAt (now (file .entry)) head)) Receives (now (receives .exit)) ⌝ }
 {
     fill_grants(file, head, sends, receives);
     open_threads(file, head, threads, beside);
     go_through(file, head, sends, receives, choices, threads, beside)
 }
 
-// The run of a file through a list of choices. What the tables held before is of no account.
+// The same for a caller that has no use for the grants.
 pub fn run_list(
     file: &[u8],
     head: Head,
@@ -200,7 +201,7 @@ pub fn run_list(
     threads: &mut [u16],
     beside: &mut [u16],
 ) -> Counted
-    requires { ⌜ Laid (now file) head × (length (now choices) ≤ 131070) × (length (now threads) ≡ 704) × (length (now beside) ≡ 130) ⌝ }
+    requires { ⌜ Laid (now file) head × (length (now choices) ≤ 131070) × (length (now threads) ≡ 704) × (length (now beside) ≡ besideWords) ⌝ }
     ensures { λ r. ⌜ Gone (run (clinicOf (contentsAt (now (file .entry)) head)) (start (contentsAt (now (file .entry)) head)) (now (choices .entry))) r (now (threads .exit)) (now (beside .exit)) ⌝ }
 {
     let mut sends = [0u16; 33];

@@ -8,7 +8,7 @@ ghost use lib.ListN.{length, getD, set, drop};
 ghost use lib.Seq.{paste};
 ghost use mathlib.Core.List.{[], _∷_, _++_};
 ghost use Rattle.steps.specs.Choice.{removed};
-ghost use Rattle.steps.specs.Kept.{threadIn, stateIn, Sized};
+ghost use Rattle.steps.specs.Kept.{threadIn, stateIn, Sized, besideWords};
 ghost use Rattle.choices.specs.Stored.{stored};
 
 // The thread of an index, from 0 on.
@@ -68,7 +68,7 @@ pub fn close_gap(threads: &mut [u16], count: usize, i: usize)
 
 // One made channel more.
 pub fn put_made(beside: &mut [u16], made: Made)
-    requires { ⌜ (length (now beside) ≡ 130) × (getD (now beside) 1 0 < 64) ⌝ }
+    requires { ⌜ (length (now beside) ≡ besideWords) × (getD (now beside) 1 0 < 64) ⌝ }
     ensures { λ r. ⌜ now (beside .exit) ≡ set (set (set (now (beside .entry)) (2 * getD (now (beside .entry)) 1 0 + 2) (made .owner)) (2 * getD (now (beside .entry)) 1 0 + 3) (made .kind)) 1 (getD (now (beside .entry)) 1 0 + 1) ⌝ }
 {
     let n = beside[1];

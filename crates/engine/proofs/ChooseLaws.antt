@@ -6,10 +6,10 @@ use mathlib.Core.List.{List, [], _∷_, _++_}
 use lib.ListN.{length, take, drop, replicate}
 use Rattle.steps.specs.declared.Thread.{Thread}
 use Rattle.steps.specs.Threads.{noThread}
-use Rattle.lent.specs.declared.Records.{Records}
-use Rattle.lent.specs.declared.Decided.{Decided}
-use Rattle.lent.specs.Lent.{choosing, recordsOver, besideOver}
-use Rattle.lent.specs.Scopes.{counted, storedBy}
+use Rattle.lending.specs.declared.Records.{Records}
+use Rattle.lending.specs.declared.Decided.{Decided}
+use Rattle.lending.specs.Lent.{choosing, recordsOver, besideOver}
+use Rattle.lending.specs.Scopes.{counted, storedBy}
 
 -- the first n of a list that begins with the first n of another
 take-front : {A : Type 0} (n : ℕ) (l r : List A) → n ≤ length l → take n (take n l ++ r) ≡ take n l

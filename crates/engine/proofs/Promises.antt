@@ -3,7 +3,7 @@
 -- `pilzdamo_check` `checking`, the refusals 1 to 13, `pilzdamo_place` `placing`, with `placedOver` in the output, `pilzdamo_run`
 -- `running`, with `runOver` in the output, `pilzdamo_ready` `ready`, and `pilzdamo_choose` `choosing`, with `recordsOver` in the lent list and `besideOver` beside it.
 use Prim.Native.Nat.{ℕ, _+_, _*_, _%_, _≤_, _<_}
-use mathlib.Core.Path.{_≡_}
+use mathlib.Core.Path.{_≡_, refl}
 use mathlib.Core.Logic.{_↔_, _≢_, _⊎_}
 use mathlib.Core.Bool.{true, cond}
 use mathlib.Core.List.{List, [], _∷_, _++_}
@@ -13,21 +13,21 @@ use Rattle.format.specs.Contents.{Contents, contentsOf}
 use Rattle.format.specs.Answers.{fine, refused}
 use Rattle.format.specs.Header.{headAt, roomFor}
 use Rattle.reading.specs.Reading.{reading}
-use Rattle.clinic.specs.Lists.{All}
-use Rattle.clinic.specs.File.{InCount, File, WellFormed, encode}
-use Rattle.clinic.specs.Order.{First}
-use Rattle.clinic.specs.Refusals.{Refusable, readingOrder}
+use Rattle.reading_exact.specs.Lists.{All}
+use Rattle.reading_exact.specs.File.{InCount, File, WellFormed, encode}
+use Rattle.reading_exact.specs.Order.{First}
+use Rattle.reading_exact.specs.Refusals.{Refusable, readingOrder}
 use Rattle.checking.specs.Check.{readingNames, checking}
-use Rattle.typing.specs.Typing.{WellKinded, Obeys}
-use Rattle.typing.specs.Faults.{Objection, checkOrder}
+use Rattle.checking_exact.specs.Typing.{WellKinded, Obeys}
+use Rattle.checking_exact.specs.Faults.{Objection, checkOrder}
 use Rattle.rules.specs.Schema.{Schema}
-use Rattle.clinic.specs.Tree.{Tree}
-use Rattle.clinic.specs.Refusals.{nth}
+use Rattle.reading_exact.specs.Tree.{Tree}
+use Rattle.reading_exact.specs.Refusals.{nth}
 use Rattle.placing.specs.Placing.{placing, noPlace, placedBytes, placedOver}
-use Rattle.placement.specs.Placement.{onSteps, onStepsOf, Placement, PlacementByRoles}
-use Rattle.placement.specs.Placed.{labels, placedTree, Throughout}
-use Rattle.placement.specs.Promised.{WellPlaced, Clean, SomeMask, IsSwitch, Unserved, Lowest, Unrefused, NoPlacement, PlacedWith}
-use Rattle.placement.specs.Cases.{Shown, cases}
+use Rattle.placing_exact.specs.Placement.{onSteps, onStepsOf, Placement, PlacementByRoles}
+use Rattle.placing_exact.specs.Placed.{labels, placedTree, Throughout}
+use Rattle.placing_exact.specs.Promised.{WellPlaced, Clean, SomeMask, IsSwitch, Unserved, Lowest, Unrefused, NoPlacement, PlacedWith}
+use Rattle.placing_exact.specs.Cases.{Shown, cases}
 use Rattle.format.specs.declared.Node.{Node}
 use Rattle.rules.specs.Rules.{Context}
 use Rattle.steps.specs.declared.Thread.{Thread}
@@ -35,32 +35,32 @@ use Rattle.steps.specs.Threads.{firstFree}
 use Rattle.steps.specs.Choice.{Clinic, clinicOf, State, threadAt, choice, halts, goes}
 use Rattle.choices.specs.Choices.{start, run, ranOf}
 use Rattle.running.specs.Run.{listed, running, readyPair}
-use Rattle.runs.specs.Steps.{StandsAt, Steps, Chain}
-use Rattle.runs.specs.Conditions.{Condition, FirstRefusal}
-use Rattle.runs.specs.Keeps.{Reaches, Kept}
-use Rattle.lent.specs.Lent.{stateOf, lending, choosing, recordsOver, besideOver}
-use Rattle.lent.specs.Lendable.{Lendable, Eight, Lends, inTurn}
+use Rattle.running_exact.specs.Steps.{StandsAt, Steps, Chain}
+use Rattle.running_exact.specs.Conditions.{Condition, FirstRefusal}
+use Rattle.running_exact.specs.Keeps.{Reaches, Kept}
+use Rattle.lending.specs.Lent.{stateOf, lending, choosing, recordsOver, besideOver}
+use Rattle.lending_exact.specs.Lendable.{Lendable, Eight, Lends, inTurn}
 use Rattle.reading.proofs.LongLaws.{Stands}
 use Rattle.checking.proofs.CheckLaws.{stands-check}
-use Rattle.typing.proofs.CheckExact.{check-exact, names-exact}
-use Rattle.typing.proofs.CheckFirst.{check-first, names-first}
+use Rattle.checking_exact.proofs.CheckExact.{check-exact, names-exact}
+use Rattle.checking_exact.proofs.CheckFirst.{check-first, names-first}
 use Rattle.placing.proofs.PlaceLaws.{stands-placed}
-use Rattle.placement.proofs.FilePlaced.{one-role}
-use Rattle.placement.proofs.PlacingExact.{placed-well, placed-exactly, fourteen-masks, fifteen-exactly, fifteen-place, sixteen-exactly, seventeen-exactly, ten-exactly, out-kept, out-written}
-use Rattle.placement.proofs.RivalsByRoles.{rivals-all, fewest-of-all, none-at-all}
-use Rattle.placement.proofs.StarredCases.{starred}
-use Rattle.runs.proofs.Agree.{agree, one-result, refused-first, done-free}
-use Rattle.runs.proofs.RunChain.{Refuses, run-chain, run-stopped, run-whole}
-use Rattle.runs.proofs.ReadyPair.{ready-done, ready-lowest, ready-none}
-use Rattle.runs.proofs.RunSafe.{run-kept, next-free, run-safe, placed-safe, placed-seventeen, placed-unbarred}
-use Rattle.lent.proofs.LendableLaws.{eighteen-zero, ten-first, past-ten-one}
-use Rattle.lent.proofs.LentRuns.{kept-lendable, lent-next, whole-run, lent-again}
-use Rattle.lent.proofs.Unchanged.{refused-unchanged, past-kept}
+use Rattle.placing_exact.proofs.FilePlaced.{one-role}
+use Rattle.placing_exact.proofs.PlacingExact.{placed-well, placed-exactly, fourteen-masks, fifteen-exactly, fifteen-place, sixteen-exactly, seventeen-exactly, ten-exactly, out-kept, out-written}
+use Rattle.placing_exact.proofs.RivalsByRoles.{rivals-all, fewest-of-all, none-at-all}
+use Rattle.placing_exact.proofs.StarredCases.{starred}
+use Rattle.running_exact.proofs.Agree.{agree, one-result, refused-first, done-free}
+use Rattle.running_exact.proofs.RunChain.{Refuses, run-chain, run-stopped, run-whole}
+use Rattle.running_exact.proofs.ReadyPair.{ready-done, ready-lowest, ready-none}
+use Rattle.running_exact.proofs.RunSafe.{run-kept, next-free, run-safe, placed-safe, placed-seventeen, placed-unbarred}
+use Rattle.lending_exact.proofs.LendableLaws.{eighteen-zero, ten-first, past-ten-one}
+use Rattle.lending_exact.proofs.LentRuns.{kept-lendable, lent-next, whole-run, lent-again}
+use Rattle.lending_exact.proofs.Unchanged.{refused-unchanged, past-kept}
 use Rattle.engine.specs.Alike.{Alike}
 use Rattle.engine.proofs.SameContents.{alike}
-use Rattle.clinic.proofs.Exact.{sound, complete, single}
-use Rattle.clinic.proofs.EncodedBytes.{encode-bytes}
-use Rattle.clinic.proofs.FirstRefusal.{first-refusal}
+use Rattle.reading_exact.proofs.Exact.{sound, complete, single}
+use Rattle.reading_exact.proofs.EncodedBytes.{encode-bytes}
+use Rattle.reading_exact.proofs.FirstRefusal.{first-refusal}
 
 -- "The check passes a file exactly when it obeys the format and the role and channel rules": for all bytes, none of 1 to 13 is refused exactly when they are the encoding of a
 -- well formed file in which every session's tree is well typed.
@@ -134,6 +134,9 @@ pub placed-otherwise : (f : List ℕ) → All (λ b. b < 256) f → (room : ℕ)
 placed-otherwise = placed-exactly
 
 -- "Order: 17, then 1 to 8 by number .. 9 and 10 together .. Placing: 14 (masks before nodes), 15, 16, each at its lowest node."
+pub room-wanted : (f : List ℕ) → roomFor f ≡ 6874
+room-wanted f = refl
+
 pub no-room : (f : List ℕ) (room : ℕ) → (placing f room ≡ noPlace 17 0) ↔ (room < roomFor f)
 no-room = seventeen-exactly
 

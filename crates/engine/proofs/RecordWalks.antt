@@ -31,9 +31,9 @@ use Rattle.steps.specs.declared.Thread.{Thread}
 use Rattle.steps.proofs.ThreadLaws.{unmapped}
 use Rattle.steps.proofs.Thread as T
 use Rattle.steps.proofs.Thread.Laws as T′
-use Rattle.lent.specs.declared.Records.{Records}
-use Rattle.lent.proofs.Records as S
-use Rattle.lent.proofs.Records.Laws as S′
+use Rattle.lending.specs.declared.Records.{Records}
+use Rattle.lending.proofs.Records as S
+use Rattle.lending.proofs.Records.Laws as S′
 
 -- a record, the value of 64 of them, the reference to the list, and a number of it
 abbrev pub R : RattleType

@@ -6,20 +6,20 @@ use Rattle.format.specs.Header.{headAt}
 use Rattle.format.specs.Contents.{contentsOf}
 use Rattle.reading.specs.Reading.{reading}
 use Rattle.checking.specs.Check.{readingNames, checking}
-use Rattle.placing.specs.Placing.{judging, placing, placedBytes}
-use Rattle.running.specs.Run.{running, ready}
-use Rattle.lent.specs.Lent.{lending, choosing, recordsOver, besideOver}
+use Rattle.placing.specs.Placing.{judging, placing, placedBytes, placedOver}
+use Rattle.running.specs.Run.{running, runOver, ready}
+use Rattle.lending.specs.Lent.{lending, choosing, recordsOver, besideOver}
 use Rattle.engine.specs.Alike.{Alike}
 
 pub alike : (f g : List ℕ) → reading f ≡ reading g → headAt f .at .nodes ≡ headAt g .at .nodes → contentsOf f ≡ contentsOf g → Alike f g
-unfolding readingNames checking judging placing placedBytes running ready lending choosing recordsOver besideOver
+unfolding readingNames checking judging placing placedBytes placedOver running runOver ready lending choosing recordsOver besideOver
 alike f g r n c = record {
   read = rw (r, c);
   check = rw (r, c);
   place = λ room. rw (r, c, n);
-  placed = rw c;
+  placed = λ out. rw (r, c, n);
   run = λ ws room. rw (r, c);
-  ran = λ ws. rw c;
+  ran = λ ws out. rw (r, c);
   pair = λ ws. rw (r, c);
   choose = λ l b i p. rw (r, c);
   records = λ l b i p. rw (r, c);

@@ -3,19 +3,18 @@ use Prim.Native.Nat.{ℕ}
 use mathlib.Core.Path.{_≡_}
 use mathlib.Core.List.{List}
 use Rattle.checking.specs.Check.{readingNames, checking}
-use Rattle.placing.specs.Placing.{placing, placedBytes}
+use Rattle.placing.specs.Placing.{placing, placedOver}
 use Rattle.steps.specs.declared.Thread.{Thread}
-use Rattle.choices.specs.Choices.{ranOf}
-use Rattle.running.specs.Run.{running, ready}
-use Rattle.lent.specs.Lent.{choosing, recordsOver, besideOver}
+use Rattle.running.specs.Run.{running, runOver, ready}
+use Rattle.lending.specs.Lent.{choosing, recordsOver, besideOver}
 
 pub record Alike (f g : List ℕ) : Type 0 where
   pub read : readingNames f ≡ readingNames g
   pub check : checking f ≡ checking g
   pub place : (room : ℕ) → placing f room ≡ placing g room
-  pub placed : placedBytes f ≡ placedBytes g
+  pub placed : (out : List ℕ) → placedOver f out ≡ placedOver g out
   pub run : (ws : List ℕ) (room : ℕ) → running f ws room ≡ running g ws room
-  pub ran : (ws : List ℕ) → ranOf f ws ≡ ranOf g ws
+  pub ran : (ws out : List ℕ) → runOver f ws out ≡ runOver g ws out
   pub pair : (ws : List ℕ) → ready f ws ≡ ready g ws
   pub choose : (l : List Thread) (b : List ℕ) (i p : ℕ) → choosing f l b i p ≡ choosing g l b i p
   pub records : (l : List Thread) (b : List ℕ) (i p : ℕ) → recordsOver f l b i p ≡ recordsOver g l b i p

@@ -3,9 +3,9 @@
 mod records;
 
 use format::Verdict;
-use lent::counted;
-use lent::decide;
-use lent::verdict_of;
+use lending::counted;
+use lending::decide;
+use lending::verdict_of;
 use placing::Placed;
 use records::read_in;
 use records::store;
@@ -16,7 +16,7 @@ ghost use lib.ListN.{length};
 ghost use Rattle.checking.specs.Check.{readingNames, checking};
 ghost use Rattle.placing.specs.Placing.{placing, placedOver};
 ghost use Rattle.running.specs.Run.{running, runOver, ready};
-ghost use Rattle.lent.specs.Lent.{choosing, recordsOver, besideOver};
+ghost use Rattle.lending.specs.Lent.{choosing, recordsOver, besideOver};
 
 // Reads a clinic file, of any bytes and any length: the first of the refusals 1 to 10, or 0 and 0 where there is none.
 #[no_mangle]

@@ -1,21 +1,21 @@
 // The lent list of threads, record by record: read in by value, and stored back where a choice changed it. These functions are proved by hand.
-use lent::Decided;
-use lent::Records;
-use lent::also_of;
-use lent::end_of;
-use lent::from_of;
-use lent::no_records;
-use lent::record_at;
-use lent::records_of;
-use lent::to_of;
-use lent::with_record;
+use lending::Decided;
+use lending::Records;
+use lending::also_of;
+use lending::end_of;
+use lending::from_of;
+use lending::no_records;
+use lending::record_at;
+use lending::records_of;
+use lending::to_of;
+use lending::with_record;
 use steps::Thread;
 ghost use mathlib.Core.Path.{_≡_};
 ghost use mathlib.Core.List.{_++_};
 ghost use Prim.Native.Nat.{_≤_};
 ghost use lib.ListN.{length, take, drop, replicate};
 ghost use Rattle.steps.specs.Threads.{noThread};
-ghost use Rattle.lent.specs.Scopes.{storing, storedBy, Stores};
+ghost use Rattle.lending.specs.Scopes.{storing, storedBy, Stores};
 
 // The first n records of the list. The list stays as it is.
 pub fn read_in(list: &mut [Thread], n: usize) -> Records

@@ -17,12 +17,11 @@ use Rattle.format.specs.declared.Six.{Six}
 use Rattle.format.specs.declared.Head.{Head}
 use Rattle.format.specs.declared.Session.{Session}
 use Rattle.format.specs.declared.Node.{Node}
-use Rattle.format.proofs.ContentsLaws.{none-past, users-held, roles-held, kinds-held, channels-held, sessions-held, nodes-held}
-use Rattle.format.proofs.PutRuns.{puts-join, puts-then}
+use Rattle.format.proofs.ContentsLaws.{next-item, none-past, users-held, roles-held, kinds-held, channels-held, sessions-held, nodes-held}
+use Rattle.format.proofs.PutRuns.{puts-then, puts-turn}
 use Rattle.format.proofs.WriteLaws.{session-words-length, node-words-length, table-words-length, node-words-append}
 use Rattle.states.specs.declared.Turn.{Turn}
 use Rattle.states.specs.States.{unpacked}
-use Rattle.states.proofs.PassLaws.{next-item}
 use Rattle.groups.specs.Groups.{switchTo, offs, ons, before, sizeOf, sizesOf, onOf, onsOf, startsFrom, moved, groupsFrom, rerooted, sessionsFrom, withNodes, placedContents, turnsIn}
 use Rattle.groups.specs.Switches.{switches}
 use Rattle.groups.proofs.GroupLaws.{groups-length, sessions-length}
@@ -123,11 +122,6 @@ group-put base l m q out at after next t n one ea em en eq eo =
     nodes-then base l q out at next (off t ++ on t) (n ∷ []) one (omega (arith, ea, en, length-append (off t) (on t))) both eo
     ∙ ap (λ (ns : List Node). sets l (2 * (base + 3 * (at - 1))) (bytesOf (nodeWords (ns ++ n ∷ [])))) (sym (before-switches t))
 
--- a turn of a loop that puts words: those still to come, from where they go
-pub puts-turn : (l m whole : List ℕ) (i j : ℕ) (vs ws all : List ℕ) → m ≡ sets l (2 * i) (bytesOf vs) → j ≡ i + length vs → all ≡ vs ++ ws
-    → sets l (2 * i) (bytesOf all) ≡ whole → sets m (2 * j) (bytesOf ws) ≡ whole
-puts-turn l m whole i j vs ws all e k a h = puts-join l m i j vs ws e k ∙ ap (λ (x : List ℕ). sets l (2 * i) (bytesOf x)) (sym a) ∙ h
-
 -- the groups after i
 abbrev pub groupsAfter : List Node → ℕ → List ℕ → List ℕ → ℕ → List Node
 groupsAfter ns n turns starts i = groupsFrom starts (drop i ns) (turnsAfter turns i n)
@@ -195,10 +189,6 @@ unfolding startsFrom
 starts-turn turns l whole i n at step h k e inv = rw (e, add-one (i + 1)) (rw (turns-more turns i n h k) at inv)
 
 -- none is left
-pub puts-end : (l whole ws : List ℕ) (i : ℕ) → ws ≡ [] → sets l i (bytesOf ws) ≡ whole → l ≡ whole
-unfolding bytesOf
-puts-end l whole ws i e inv = rw e at inv
-
 pub starts-end : (turns l whole : List ℕ) (i j n at : ℕ) → n ≤ i → sets l j (startsFrom at (turnsAfter turns i n)) ≡ whole → l ≡ whole
 unfolding startsFrom
 starts-end turns l whole i j n at h inv = rw (turns-none turns i n h) at inv

@@ -27,7 +27,7 @@ use Rattle.rules.specs.Candidates.{candidatesIn}
 use Rattle.checking.specs.Check.{readingNames, entered, surveyed}
 use Rattle.checking.proofs.CheckLaws.{names-refused, names-parts, names-headed, entered-fine, entered-refused}
 use Rattle.groups.specs.Groups.{sizesOf, startsOf, placedContents}
-use Rattle.placing.specs.Placing.{Labelled, turnsFor, placeable, judging, noPlace, placedIn, answered, placing, placedBytes, placedOver}
+use Rattle.placing.specs.Placing.{Labelled, turnsFor, placeable, judging, noPlace, placedIn, placedAnswer, placing, placedBytes, placedOver}
 use Rattle.placing.specs.declared.Placed.{Placed}
 use Rattle.placing.proofs.DecideLaws.{labels-kept, few-nodes}
 
@@ -36,12 +36,12 @@ module _ (f : List ℕ) where
   unfolding placing
   too-small room h = rw (lt-ltb room 6874 h)
 
-  answers : (room : ℕ) → 6874 ≤ room → placing f room ≡ answered f (judging f)
+  answers : (room : ℕ) → 6874 ≤ room → placing f room ≡ placedAnswer f (judging f)
   unfolding placing
   answers room h = rw (le-ltb room 6874 h)
 
   pub placing-refused : (room : ℕ) (v : Verdict) → 6874 ≤ room → judging f ≡ v → (Quiet v → ⊥) → placing f room ≡ noPlace (v .number) (v .place)
-  placing-refused room v h e l = answers room h ∙ ap (answered f) e ∙ rw (ne-eqb (v .number) 0 l)
+  placing-refused room v h e l = answers room h ∙ ap (placedAnswer f) e ∙ rw (ne-eqb (v .number) 0 l)
 
   -- where anything is refused the output stays
   pub over-kept : (out : List ℕ) (n p : ℕ) → (n ≡ 0 → ⊥) → placing f (length out) ≡ noPlace n p → placedOver f out ≡ out

@@ -1,5 +1,5 @@
 -- Placing a file's bytes: 17 first of all, then 1 to 10, then 14 to 16, then the placed file.
-use Prim.Native.Nat.{ℕ, zero, suc, _+_, _*_}
+use Prim.Native.Nat.{ℕ, zero, suc}
 use mathlib.Core.Bool.{Bool, true, false, cond, _&&_}
 use mathlib.Core.Path.{_≡_}
 use mathlib.Core.List.{List, [], _∷_, map}
@@ -87,12 +87,12 @@ placedIn h C = record {
   «on_steps» = onsOf (turnsFor C);
 }
 
-abbrev pub answered : List ℕ → Verdict → Placed
-answered f v = cond (eqb (v .number) 0) (placedIn (headAt f) (contentsOf f)) (noPlace (v .number) (v .place))
+abbrev pub placedAnswer : List ℕ → Verdict → Placed
+placedAnswer f v = cond (eqb (v .number) 0) (placedIn (headAt f) (contentsOf f)) (noPlace (v .number) (v .place))
 
 -- 17 first of all: output under 6,874 bytes
 unfoldable pub placing : List ℕ → ℕ → Placed
-placing f room = cond (ltb room (roomFor f)) (noPlace 17 0) (answered f (judging f))
+placing f room = cond (ltb room (roomFor f)) (noPlace 17 0) (placedAnswer f (judging f))
 
 -- the bytes of the placed file
 unfoldable pub placedBytes : List ℕ → List ℕ

@@ -10,7 +10,7 @@ use borrow.Author.Tests.{eqb-true, eqb-false, ne-eqb}
 use Rattle.format.specs.Contents.{contentsAt, contentsOf}
 use Rattle.format.specs.Answers.{fine, refused}
 use Rattle.format.specs.Header.{headAt, headOf, Laid}
-use Rattle.reading.specs.Reading.{after, bodyAnswer, reading, withHead, opened}
+use Rattle.reading.specs.Reading.{readingBy, bodyAnswer, reading, withHead, opened}
 use Rattle.format.specs.declared.Head.{Head}
 use Rattle.format.specs.declared.Verdict.{Verdict}
 use Rattle.format.specs.declared.HeadAnswer.{HeadAnswer}
@@ -24,7 +24,7 @@ module _ (f : List ℕ) where
   -- a head that is refused has the whole answer
   pub refused-by-head : (n : ℕ) → headOf f ≡ Refused n → reading f ≡ refused n 0
   unfolding reading
-  refused-by-head n e = ap (after f) e
+  refused-by-head n e = ap (readingBy f) e
 
   -- where nothing is refused there is a head, and the answer is that for what follows it
   pub by-body : Quiet (reading f) → Headed f × (reading f ≡ bodyAnswer (headAt f) (contentsOf f))
@@ -32,7 +32,7 @@ module _ (f : List ℕ) where
   by-body q = go (headOf f) refl
     where
       go : (a : HeadAnswer) → headOf f ≡ a → Headed f × (reading f ≡ bodyAnswer (headAt f) (contentsOf f))
-      go (Fine h) e = let d = headed f h e .0 in (d, ap (after f) (headed-fine f d))
+      go (Fine h) e = let d = headed f h e .0 in (d, ap (readingBy f) (headed-fine f d))
       go (Refused n) e = let z = ap (λ (v : Verdict). v .number) (refused-by-head n e) in absurd (omega (arith, q, z, head-number f n e))
 
   pub reading-iff : (reading f ≡ fine) ↔ (Headed f × (bodyAnswer (headAt f) (contentsOf f) ≡ fine))

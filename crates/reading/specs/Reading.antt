@@ -19,12 +19,12 @@ use Rattle.reading.specs.declared.Opened.the-variants.{Fine as Opened·F
 abbrev pub bodyAnswer : Head → Contents → Verdict
 bodyAnswer h C = orElse (recordsAnswer h C) (shapeAnswer C)
 
-abbrev pub after : List ℕ → HeadAnswer → Verdict
-after f (Refused n) = refused n 0
-after f (Fine h) = bodyAnswer h (contentsAt f h)
+abbrev pub readingBy : List ℕ → HeadAnswer → Verdict
+readingBy f (Refused n) = refused n 0
+readingBy f (Fine h) = bodyAnswer h (contentsAt f h)
 
 unfoldable pub reading : List ℕ → Verdict
-reading f = after f (headOf f)
+reading f = readingBy f (headOf f)
 
 -- a file's head where an answer refuses nothing, and else that answer
 abbrev pub withHead : Head → Verdict → Opened

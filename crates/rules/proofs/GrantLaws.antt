@@ -7,11 +7,12 @@ use native.Mathlib.Omega.{arith}
 use native.Mathlib.Numerals.{add-one}
 use lib.ListN.{length, getD, take, drop, set, replicate, drop-of-length-le, List·getD-eq-default}
 use lib.Dec.{ltb}
-use lib.Seq.{set-split, drop-at, length-take-le, getD-take, take-take, take-set-le}
+use lib.Seq.{drop-cons, getD-take, take-take, take-set-le}
 use borrow.Author.Tests.{ltb-true, ltb-false}
 use Rattle.masks.specs.Mask.{has, with}
 use Rattle.masks.proofs.Laws.{has-above}
 use Rattle.masks.specs.declared.ChannelKind.{ChannelKind}
+use Rattle.format.proofs.ContentsLaws.{drop-set}
 use Rattle.rules.specs.declared.Way.{Way}
 use Rattle.rules.specs.Schema.{Schema, permits, permittingTo, permitting}
 use Rattle.rules.specs.Kept.{grantsTo, grantsFrom, addRole, Beyond, Granting}
@@ -21,14 +22,6 @@ pub permitting-more : (D : Schema) (w : Way) (k : ChannelKind) (n m : ℕ) (can 
     → cond can (with m (n + 1)) m ≡ permittingTo D w k (n + 1)
 unfolding permittingTo
 permitting-more D w k n m can e y = rw (e, y, add-one n)
-
-drop-set : (l : List ℕ) (i v : ℕ) → i < length l → drop i (set l i v) ≡ v ∷ drop (suc i) l
-drop-set l i v h = rw (set-split l i v h) (drop-at (take i l) (v ∷ drop (suc i) l) i (length-take-le i l (omega arith)))
-
-drop-first : (l : List ℕ) (i : ℕ) → i < length l → drop i l ≡ getD l i 0 ∷ drop (suc i) l
-drop-first [] i h = let no : ⊥ = omega arith in absurd no
-drop-first (x ∷ l) zero h = refl
-drop-first (x ∷ l) (suc i) h = drop-first l i (omega arith)
 
 pub add-none : (g r : ℕ) (l : List ℕ) (k : ℕ) → k ≡ length l → drop k l ≡ addRole g r k (drop k l)
 unfolding addRole
@@ -46,7 +39,7 @@ add-more g r l₀ l (suc k) v pos le len e t d =
     let low : take k l ≡ take k l₀ = sym (take-take k (suc k) l (omega arith)) ∙ ap (take k) t ∙ take-take k (suc k) l₀ (omega arith) in
     rw k1 (
       take-set-le k l k v (omega arith) ∙ low,
-      drop-set l k v (omega arith) ∙ rw (d, e, k1, same, drop-first l₀ k (omega arith)),
+      drop-set l k v (omega arith) ∙ rw (d, e, k1, same, drop-cons l₀ k 0 (omega arith)),
     )
 
 -- a role more in all of them
@@ -71,11 +64,6 @@ grant-at D w k zero i h = let no : ⊥ = omega arith in absurd no
 grant-at D w k (suc n) zero h = let z : k + 0 ≡ k = omega arith in rw z
 grant-at D w k (suc n) (suc i) h = let s : suc k + i ≡ k + suc i = omega arith in rw s at (grant-at D w (suc k) n i (omega arith))
 
-grant-look : (D : Schema) (w : Way) (l : List ℕ) (i : ℕ) → l ≡ grantsFrom D w 0 (length l) → i < length l → getD l i 0 ≡ permitting D w i
-grant-look D w l i e h =
-    let z : 0 + i ≡ i = omega arith in
-    ap (λ x. getD x i 0) e ∙ (rw z at (grant-at D w 0 (length l) i h))
-
 pub grants-length : (D : Schema) (w : Way) (r k n : ℕ) → length (grantsTo D w r k n) ≡ n
 unfolding grantsTo
 grants-length D w r k zero = refl
@@ -92,13 +80,11 @@ beyond-more D w g r e small ih k above =
     let off : false ≡ permits D w (record { 0 = r + 1 }) (record { 0 = k }) = sym (has-above 32 g k small above) ∙ ap (λ x. has x k) e in
     sym (permitting-more D w (record { 0 = k }) r (permittingTo D w (record { 0 = k }) r) false refl off) ∙ ih k above
 
-pub granting : (D : Schema) (w : Way) (l : List ℕ) → l ≡ grantsFrom D w 0 (length l) → length l ≡ 33 → Beyond D w (D .roles) → Granting D w l
-granting D w l e long past k = go (ltb k 33) refl
+pub granting : (D : Schema) (w : Way) (l : List ℕ) (n : ℕ) → l ≡ grantsFrom D w 0 n → n ≡ 33 → Beyond D w (D .roles) → Granting D w l
+granting D w l n e all past k = go (ltb k n) refl
   where
-    go : (b : Bool) → ltb k 33 ≡ b → getD l k 0 ≡ permitting D w k
-    go true t = grant-look D w l k e (omega (arith, ltb-true k 33 t))
-    go false t = List·getD-eq-default l 0 (omega (arith, ltb-false k 33 t)) ∙ sym (past k (omega (arith, ltb-false k 33 t)))
-
--- a table that was filled has the length that it had
-pub grants-filled : (D : Schema) (w : Way) (l : List ℕ) (n : ℕ) → l ≡ grantsFrom D w 0 n → l ≡ grantsFrom D w 0 (length l)
-grants-filled D w l n e = e ∙ ap (grantsFrom D w 0) (sym (ap length e ∙ grants-length D w (D .roles) 0 n))
+    go : (b : Bool) → ltb k n ≡ b → getD l k 0 ≡ permitting D w k
+    go true t = let z : 0 + k ≡ k = omega arith in ap (λ x. getD x k 0) e ∙ (rw z at (grant-at D w 0 n k (ltb-true k n t)))
+    go false t =
+        let above : n ≤ k = ltb-false k n t in
+        List·getD-eq-default l 0 (omega (arith, ap length e, grants-length D w (D .roles) 0 n)) ∙ sym (past k (omega arith))

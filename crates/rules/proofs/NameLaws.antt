@@ -11,7 +11,7 @@ use lib.Dec.{eqb, leb, ltb}
 use borrow.Author.Tests.{ltb-true, ltb-false, leb-true, lt-ltb, le-ltb, le-leb, eqb-true, eqb-false, eq-eqb, ne-eqb}
 use Rattle.rules.specs.Schema.{Schema}
 use Rattle.rules.specs.Names.{unbound, isUser, isChannel, isVariable, named, kindOf, mine}
-use Rattle.rules.specs.Kept.{kindIn, ownerIn, entry, isMade, kindTo, ownerTo, Named, variable, varsOf, look, something}
+use Rattle.rules.specs.Kept.{kindIn, ownerIn, entry, isNamedChannel, kindTo, ownerTo, NameTable, variable, varsOf, look, something}
 
 or-false : (b : Bool) → (b || false) ≡ b
 or-false true = refl
@@ -49,7 +49,7 @@ grown a n m x e other = go (ltb a x && leb x m) refl
         inside a n x (p .0) le ∙ sym h
     go false h = outside a n x (λ low high. false≢true (sym h ∙ inside a m x low (omega (arith, high, e)))) ∙ sym h
 
-pub made-none : (x : ℕ) → isMade 0 x ≡ false
+pub made-none : (x : ℕ) → isNamedChannel 0 x ≡ false
 made-none x = outside 256 (256 + 0) x (λ low high. omega (arith, low, high))
 
 -- an empty table names nothing
@@ -58,13 +58,13 @@ zeros zero x = refl
 zeros (suc m) zero = refl
 zeros (suc m) (suc x) = zeros m x
 
-pub named-none : (D : Schema) (t : List ℕ) → t ≡ replicate (length t) 0 → Named D 0 0 t
+pub named-none : (D : Schema) (t : List ℕ) → t ≡ replicate (length t) 0 → NameTable D 0 0 t
 named-none D t e x h =
     let z : getD t x 0 ≡ 0 = ap (λ (l : List ℕ). getD l x 0) e ∙ zeros (length t) x in
     rw (z, made-none x, outside 0 0 x (λ low high. omega (arith, low, high))) (refl, refl)
 
 -- one user more, one channel more
-pub users-more : (D : Schema) (n m : ℕ) (t : List ℕ) → m ≡ n + 1 → m < length t → Named D n 0 t → Named D m 0 (set t m (entry 0 1))
+pub users-more : (D : Schema) (n m : ℕ) (t : List ℕ) → m ≡ n + 1 → m < length t → NameTable D n 0 t → NameTable D m 0 (set t m (entry 0 1))
 users-more D n m t e long its x h = go (eqb x m) refl
   where
     go : (b : Bool) → eqb x m ≡ b → (kindIn (getD (set t m (entry 0 1)) x 0) ≡ kindTo D 0 x) × (ownerIn (getD (set t m (entry 0 1)) x 0) ≡ ownerTo D m 0 x)
@@ -77,7 +77,7 @@ users-more D n m t e long its x h = go (eqb x m) refl
         rw (getD-set-other t m x (entry 0 1) 0 other, ← grown 0 n m x e other) (its x h)
 
 pub channels-more : (D : Schema) (u n m k o : ℕ) (t : List ℕ) → m ≡ n + 1 → u ≤ 32 → k < 65536 → k ≡ D .kind m → o ≡ D .owner m + 2 → 256 + m < length t
-    → Named D u n t → Named D u m (set t (256 + m) (entry k o))
+    → NameTable D u n t → NameTable D u m (set t (256 + m) (entry k o))
 channels-more D u n m k o t e few small kind owner long its x h = go (eqb x (256 + m)) refl
   where
     go : (b : Bool) → eqb x (256 + m) ≡ b → (kindIn (getD (set t (256 + m) (entry k o)) x 0) ≡ kindTo D m x) × (ownerIn (getD (set t (256 + m) (entry k o)) x 0) ≡ ownerTo D u m x)
@@ -139,10 +139,10 @@ held-more t b v long pos h j low high = go (eqb j (512 + b)) refl
     go false e = let other = eqb-false j (512 + b) e in rw (getD-set-other t (512 + b) j v 0 other) (h j low (omega (arith, other)))
 
 -- a store at 512 or above leaves the names below
-pub named-kept : (D : Schema) (u c : ℕ) (t : List ℕ) (b v : ℕ) → Named D u c t → Named D u c (set t (512 + b) v)
+pub named-kept : (D : Schema) (u c : ℕ) (t : List ℕ) (b v : ℕ) → NameTable D u c t → NameTable D u c (set t (512 + b) v)
 named-kept D u c t b v its x h = rw (getD-set-other t (512 + b) x v 0 (λ e. let z : x ≡ 512 + b = e in omega arith)) (its x h)
 
-module _ (D : Schema) (u b : ℕ) (t : List ℕ) (users : D .users ≤ 32) (channels : D .channels ≤ 64) (its : Named D (D .users) (D .channels) t) (long : 512 + b ≤ length t) (held : Held t b) (x : ℕ) where
+module _ (D : Schema) (u b : ℕ) (t : List ℕ) (users : D .users ≤ 32) (channels : D .channels ≤ 64) (its : NameTable D (D .users) (D .channels) t) (long : 512 + b ≤ length t) (held : Held t b) (x : ℕ) where
   abbrev Said : Type 0
   Said = (something (look t b x) ≡ named D (varsOf u t b) x)
       × (named D (varsOf u t b) x ≡ true → kindIn (look t b x) ≡ kindOf D (varsOf u t b) x)

@@ -15,10 +15,10 @@ use Rattle.format.specs.Answers.{fine, refused, orElse}
 use Rattle.format.specs.declared.Verdict.{Verdict}
 use Rattle.format.specs.declared.Node.{Node}
 use Rattle.format.proofs.AnswerLaws.{Quiet}
-use Rattle.format.proofs.ContentsLaws.{from-item, none-past}
+use Rattle.format.proofs.ContentsLaws.{from-node, none-past}
 use Rattle.rules.specs.Schema.{Schema, schemaOf}
 use Rattle.rules.specs.Names.{kindOf}
-use Rattle.rules.specs.Rules.{Context, namesFit, kindsFit, wrong, barred, bind, activate, childOf, after}
+use Rattle.rules.specs.Rules.{Context, namesFit, kindsFit, wrong, barred, bind, activate, childOf, waitingAfter}
 use Rattle.rules.specs.Checking.{firstBy, openings, namesAnswer, rolesAnswer, judgement}
 use Rattle.rules.specs.Candidates.{candidates, candidatesFrom, candidatesIn}
 use Rattle.rules.specs.Kept.{answerAt, unmasked}
@@ -46,16 +46,16 @@ pub by-quiet : (rule : Context → Node → ℕ) (D : Schema) (i : ℕ) (ns : Li
 unfolding firstBy
 by-quiet rule D i [] st q = refl
 by-quiet rule D i (n ∷ ns) [] q = refl
-by-quiet rule D i (n ∷ ns) (c ∷ st) q = go (eqb (rule c n) 0) refl q (by-quiet rule D (suc i) ns (after D c n st))
+by-quiet rule D i (n ∷ ns) (c ∷ st) q = go (eqb (rule c n) 0) refl q (by-quiet rule D (suc i) ns (waitingAfter D c n st))
   where
-    go : (b : Bool) → eqb (rule c n) 0 ≡ b → Quiet (cond b (firstBy rule D (suc i) ns (after D c n st)) (refused (rule c n) i))
-        → (Quiet (firstBy rule D (suc i) ns (after D c n st)) → firstBy rule D (suc i) ns (after D c n st) ≡ fine)
-        → cond b (firstBy rule D (suc i) ns (after D c n st)) (refused (rule c n) i) ≡ fine
+    go : (b : Bool) → eqb (rule c n) 0 ≡ b → Quiet (cond b (firstBy rule D (suc i) ns (waitingAfter D c n st)) (refused (rule c n) i))
+        → (Quiet (firstBy rule D (suc i) ns (waitingAfter D c n st)) → firstBy rule D (suc i) ns (waitingAfter D c n st) ≡ fine)
+        → cond b (firstBy rule D (suc i) ns (waitingAfter D c n st)) (refused (rule c n) i) ≡ fine
     go true e q rec = rec q
     go false e q rec = absurd (eqb-false (rule c n) 0 e q)
 
 -- the contexts that wait after a node with one child
-pub after-step : (D : Schema) (c : Context) (n : Node) (st : List Context) {d : Context} {us : List Context} → (n .tag ≡ 0 → ⊥) → (n .tag ≡ 1 → ⊥) → d ≡ childOf D c n → us ≡ st → d ∷ us ≡ after D c n st
+pub after-step : (D : Schema) (c : Context) (n : Node) (st : List Context) {d : Context} {us : List Context} → (n .tag ≡ 0 → ⊥) → (n .tag ≡ 1 → ⊥) → d ≡ childOf D c n → us ≡ st → d ∷ us ≡ waitingAfter D c n st
 after-step D c n st z o e r = rw (ne-eqb (n .tag) 0 z, ne-eqb (n .tag) 1 o) (ap₂ _∷_ e r)
 
 -- the active set plays no part in 9 and 10
@@ -80,7 +80,7 @@ module _ (D : Schema) where
       go false false false true = refl
       go false false false false = refl
 
-  bare-after : (c : Context) (n : Node) (st : List Context) → map unmasked (after D (unmasked c) n (map unmasked st)) ≡ map unmasked (after D c n st)
+  bare-after : (c : Context) (n : Node) (st : List Context) → map unmasked (waitingAfter D (unmasked c) n (map unmasked st)) ≡ map unmasked (waitingAfter D c n st)
   bare-after c n st = go (eqb (n .tag) 0) (eqb (n .tag) 1)
     where
       go : (p q : Bool) → map unmasked (cond p (map unmasked st) (cond q (unmasked c ∷ unmasked c ∷ map unmasked st) (childOf D (unmasked c) n ∷ map unmasked st)))
@@ -95,7 +95,7 @@ module _ (D : Schema) where
   bare-first i (n ∷ ns) [] = refl
   bare-first i (n ∷ ns) (c ∷ st) =
       ap (λ (v : Verdict). cond (eqb (wrong D c n) 0) v (refused (wrong D c n) i))
-      (sym (bare-first (suc i) ns (after D (unmasked c) n (map unmasked st))) ∙ ap (firstBy (wrong D) D (suc i) ns) (bare-after c n st) ∙ bare-first (suc i) ns (after D c n st))
+      (sym (bare-first (suc i) ns (waitingAfter D (unmasked c) n (map unmasked st))) ∙ ap (firstBy (wrong D) D (suc i) ns) (bare-after c n st) ∙ bare-first (suc i) ns (waitingAfter D c n st))
 
   pub masks-aside : (i : ℕ) (ns : List Node) (st us : List Context) → map unmasked st ≡ map unmasked us → firstBy (wrong D) D i ns st ≡ firstBy (wrong D) D i ns us
   masks-aside i ns st us e = sym (bare-first i ns st) ∙ ap (firstBy (wrong D) D i ns) e ∙ bare-first i ns us
@@ -108,18 +108,15 @@ module _ (C : Contents) where
   abbrev roles-from : ℕ → List Context → List ℕ
   roles-from i st = candidatesFrom (schemaOf C) (drop (i - 1) (C .nodes)) st
 
-  from-node : (i : ℕ) (n : Node) → 1 ≤ i → i ≤ length (C .nodes) → n ≡ item noNode (C .nodes) i → drop (i - 1) (C .nodes) ≡ n ∷ drop (i + 1 - 1) (C .nodes)
-  from-node i n pos le e = let back : i + 1 - 1 ≡ i = omega arith in rw (e, back) (from-item noNode (C .nodes) i pos le)
-
   turn : (rule : Context → Node → ℕ) (i : ℕ) (c : Context) (st : List Context) (n : Node) → 1 ≤ i → i ≤ length (C .nodes) → n ≡ item noNode (C .nodes) i
-      → from rule i (c ∷ st) ≡ cond (eqb (rule c n) 0) (from rule (i + 1) (after (schemaOf C) c n st)) (refused (rule c n) i)
+      → from rule i (c ∷ st) ≡ cond (eqb (rule c n) 0) (from rule (i + 1) (waitingAfter (schemaOf C) c n st)) (refused (rule c n) i)
   unfolding firstBy
-  turn rule i c st n pos le e = rw (from-node i n pos le e, add-one i)
+  turn rule i c st n pos le e = rw (from-node (C .nodes) i n pos le e, add-one i)
 
   turn-roles : (i : ℕ) (c : Context) (st : List Context) (n : Node) → 1 ≤ i → i ≤ length (C .nodes) → n ≡ item noNode (C .nodes) i
-      → roles-from i (c ∷ st) ≡ cond (eqb (wrong (schemaOf C) c n) 0) (candidates (schemaOf C) c n ∷ roles-from (i + 1) (after (schemaOf C) c n st)) []
+      → roles-from i (c ∷ st) ≡ cond (eqb (wrong (schemaOf C) c n) 0) (candidates (schemaOf C) c n ∷ roles-from (i + 1) (waitingAfter (schemaOf C) c n st)) []
   unfolding candidatesFrom
-  turn-roles i c st n pos le e = rw (from-node i n pos le e)
+  turn-roles i c st n pos le e = rw (from-node (C .nodes) i n pos le e)
 
   none-waits : (rule : Context → Node → ℕ) (i : ℕ) → from rule i [] ≡ fine
   unfolding firstBy
@@ -154,10 +151,10 @@ module _ (C : Contents) where
   names-begin st e = ap (from (wrong (schemaOf C)) 1) e ∙ bare-first (schemaOf C) 1 (C .nodes) (openings C)
 
   pub names-on : (i : ℕ) (c : Context) (st next : List Context) (n : Node) → 1 ≤ i → i ≤ length (C .nodes) → n ≡ item noNode (C .nodes) i → wrong (schemaOf C) c n ≡ 0
-      → map unmasked next ≡ map unmasked (after (schemaOf C) c n st) → Names i (c ∷ st) → Names (i + 1) next
+      → map unmasked next ≡ map unmasked (waitingAfter (schemaOf C) c n st) → Names i (c ∷ st) → Names (i + 1) next
   names-on i c st next n pos le its good same left =
       let D : Schema = schemaOf C in
-      masks-aside D (i + 1) (drop (i + 1 - 1) (C .nodes)) next (after D c n st) same ∙ (rw (turn (wrong D) i c st n pos le its, eq-eqb (wrong D c n) 0 good) at left)
+      masks-aside D (i + 1) (drop (i + 1 - 1) (C .nodes)) next (waitingAfter D c n st) same ∙ (rw (turn (wrong D) i c st n pos le its, eq-eqb (wrong D c n) 0 good) at left)
 
   pub names-refused : (i : ℕ) (c : Context) (st : List Context) (b : ℕ) (n : Node) → 1 ≤ i → i ≤ length (C .nodes) → n ≡ item noNode (C .nodes) i
       → b ≡ wrong (schemaOf C) c n → (b ≡ 0 → ⊥) → Names i (c ∷ st) → refused b i ≡ namesAnswer C
@@ -194,21 +191,21 @@ module _ (C : Contents) (out : List ℕ) where
 
   -- a node that is not refused for its names
   pub goes-on : (i : ℕ) (c : Context) (st next : List Context) (v : Verdict) (l : List ℕ) (b r : ℕ) (n : Node) → 1 ≤ i → i ≤ length (C .nodes) → n ≡ item noNode (C .nodes) i
-      → wrong (schemaOf C) c n ≡ 0 → b ≡ barred (schemaOf C) c n → r ≡ candidates (schemaOf C) c n → next ≡ after (schemaOf C) c n st
+      → wrong (schemaOf C) c n ≡ 0 → b ≡ barred (schemaOf C) c n → r ≡ candidates (schemaOf C) c n → next ≡ waitingAfter (schemaOf C) c n st
       → Left i (c ∷ st) v l → Left (i + 1) next (orElse v (answerAt b i)) (set l i r)
   goes-on i c st next v l b r n pos le its good bar can after′ left =
       let D : Schema = schemaOf C in
-      let roles : orElse v (cond (eqb b 0) (from C (barred D) (i + 1) (after D c n st)) (refused b i)) ≡ rolesAnswer C =
+      let roles : orElse v (cond (eqb b 0) (from C (barred D) (i + 1) (waitingAfter D c n st)) (refused b i)) ≡ rolesAnswer C =
       rw (turn C (barred D) i c st n pos le its, sym bar) at (left .roles) in
-      let shape : roles-from C i (c ∷ st) ≡ candidates D c n ∷ roles-from C (i + 1) (after D c n st) =
+      let shape : roles-from C i (c ∷ st) ≡ candidates D c n ∷ roles-from C (i + 1) (waitingAfter D c n st) =
       turn-roles C i c st n pos le its ∙ rw (eq-eqb (wrong D c n) 0 good) in
-      let given : sets l i (candidates D c n ∷ roles-from C (i + 1) (after D c n st)) ≡ sets out 1 (candidatesIn C) = ap (sets l i) (sym shape) ∙ left .given in
+      let given : sets l i (candidates D c n ∷ roles-from C (i + 1) (waitingAfter D c n st)) ≡ sets out 1 (candidatesIn C) = ap (sets l i) (sym shape) ∙ left .given in
       record {
         known = noted-quiet v b i (left .known);
         names = names-on C i c st next n pos le its good (ap (map unmasked) after′) (left .names);
-        roles = ap (λ s. orElse (orElse v (answerAt b i)) (from C (barred D) (i + 1) s)) after′ ∙ sym (noted v (from C (barred D) (i + 1) (after D c n st)) b i) ∙ roles;
-        given = ap (λ s. sets (set l i r) (i + 1) (roles-from C (i + 1) s)) after′ ∙ ap (λ k. sets (set l i r) k (roles-from C (i + 1) (after D c n st))) (add-one i)
-            ∙ ap (λ x. sets (set l i x) (suc i) (roles-from C (i + 1) (after D c n st))) can ∙ given;
+        roles = ap (λ s. orElse (orElse v (answerAt b i)) (from C (barred D) (i + 1) s)) after′ ∙ sym (noted v (from C (barred D) (i + 1) (waitingAfter D c n st)) b i) ∙ roles;
+        given = ap (λ s. sets (set l i r) (i + 1) (roles-from C (i + 1) s)) after′ ∙ ap (λ k. sets (set l i r) k (roles-from C (i + 1) (waitingAfter D c n st))) (add-one i)
+            ∙ ap (λ x. sets (set l i x) (suc i) (roles-from C (i + 1) (waitingAfter D c n st))) can ∙ given;
       }
 
   -- the pass is over: at a node that is refused for its names, where no context waits, and past the last node

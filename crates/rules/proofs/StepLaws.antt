@@ -17,32 +17,7 @@ use Rattle.rules.specs.Schema.{Schema}
 use Rattle.rules.specs.Names.{Bound, named, kindOf, mine}
 use Rattle.rules.specs.Rules.{Context, namesFit, kindsFit, able, wrong, barred, childOf}
 use Rattle.rules.specs.Candidates.{candidates}
-use Rattle.rules.specs.Kept.{
-  kindIn,
-  ownerIn,
-  entry,
-  Named,
-  variable,
-  varsOf,
-  look,
-  contextOf,
-  graded,
-  something,
-  staying,
-  binding,
-  turning,
-  newStep,
-  compareStep,
-  receiveStep,
-  sendStep,
-  onStep,
-  offStep,
-  stepOf,
-  barePoint,
-  unmasked,
-  namingFrom,
-  namingOf,
-}
+use Rattle.rules.specs.Kept.{kindIn, ownerIn, entry, NameTable, variable, varsOf, look, contextOf, graded, something, staying, binding, turning, newStep, compareStep, receiveStep, sendStep, onAt, offAt, stepOf, barePoint, unmasked, namingFrom, namingOf}
 use Rattle.rules.proofs.NameLaws.{Held, held-same, held-more, vars-kept, vars-more, said}
 
 -- the definition at each tag
@@ -67,11 +42,11 @@ module _ (D : Schema) (t : List ℕ) (p : Point) (n : Node) where
   unfolding stepOf
   step-send e = rw e
 
-  pub step-on : {k : ℕ} → D .roles ≡ k → n .tag ≡ 7 → onStep k p (n .f1) ≡ stepOf D t p n
+  pub step-on : {k : ℕ} → D .roles ≡ k → n .tag ≡ 7 → onAt k p (n .f1) ≡ stepOf D t p n
   unfolding stepOf
   step-on m e = rw (e, m)
 
-  pub step-off : {k : ℕ} → D .roles ≡ k → n .tag ≡ 8 → offStep k p (n .f1) ≡ stepOf D t p n
+  pub step-off : {k : ℕ} → D .roles ≡ k → n .tag ≡ 8 → offAt k p (n .f1) ≡ stepOf D t p n
   unfolding stepOf
   step-off m e = rw (e, m)
 
@@ -141,7 +116,7 @@ above (suc (suc (suc (suc (suc (suc (suc zero))))))) x0 x1 x2 x3 x4 x5 x6 x7 x8 
 above (suc (suc (suc (suc (suc (suc (suc (suc zero)))))))) x0 x1 x2 x3 x4 x5 x6 x7 x8 = absurd (x8 refl)
 above (suc (suc (suc (suc (suc (suc (suc (suc (suc k))))))))) x0 x1 x2 x3 x4 x5 x6 x7 x8 = nine k
 
-module _ (D : Schema) (t : List ℕ) (p : Point) (n : Node) (users : D .users ≤ 32) (channels : D .channels ≤ 64) (its : Named D (D .users) (D .channels) t)
+module _ (D : Schema) (t : List ℕ) (p : Point) (n : Node) (users : D .users ≤ 32) (channels : D .channels ≤ 64) (its : NameTable D (D .users) (D .channels) t)
     (long : 512 + p .bound < length t) (held : Held t (p .bound)) (own : p .assigned ≡ D .assigned (p .user)) where
   abbrev c : Context
   c = contextOf t p
@@ -253,7 +228,7 @@ module _ (D : Schema) (t : List ℕ) (p : Point) (n : Node) (users : D .users �
         goes = λ z. stays _ _ _ (rw (e, ← kind z)) (rw (e, ← kind z, own)) (rw e);
       }
 
-  on-on : n .tag ≡ 7 → Right D t p n (onStep (D .roles) p (n .f1))
+  on-on : n .tag ≡ 7 → Right D t p n (onAt (D .roles) p (n .f1))
   unfolding wrong namesFit kindsFit barred candidates childOf
   on-on e = go (inCount (D .roles) (n .f1)) refl
     where
@@ -261,7 +236,7 @@ module _ (D : Schema) (t : List ℕ) (p : Point) (n : Node) (users : D .users �
       go true q = record { wrong = rw (e, q); goes = λ z. turns _ _ (rw (e, own)) (own ∙ rw e) (rw e) }
       go false q = record { wrong = rw (e, q); goes = λ z. let no : ⊥ = omega (arith, z) in absurd no }
 
-  on-off : n .tag ≡ 8 → Right D t p n (offStep (D .roles) p (n .f1))
+  on-off : n .tag ≡ 8 → Right D t p n (offAt (D .roles) p (n .f1))
   unfolding wrong namesFit kindsFit barred candidates childOf
   on-off e = go (inCount (D .roles) (n .f1)) refl
     where

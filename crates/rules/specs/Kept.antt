@@ -1,4 +1,4 @@
--- What the pass over the nodes keeps: tables of grants and of names, and the contexts that wait, each as numbers in an array.
+-- What the passes over the nodes keep: tables of grants and of names, and the contexts that wait, each as numbers in an array.
 use Prim.Native.Nat.{ℕ, zero, suc, _+_, _*_, _-_, _/_, _%_, _≤_, _<_}
 use mathlib.Core.Path.{_≡_}
 use mathlib.Core.Bool.{Bool, true, cond, not, _&&_}
@@ -10,6 +10,7 @@ use Rattle.masks.specs.Mask.{has, with, without}
 use Rattle.format.specs.Answers.{fine, refused}
 use Rattle.format.specs.declared.Verdict.{Verdict}
 use Rattle.format.specs.Contents.{Contents, item, noChannel, noSession, inCount}
+use Rattle.format.specs.Stacks.{stacked}
 use Rattle.format.specs.declared.Node.{Node}
 use Rattle.rules.specs.declared.Way.{Way}
 use Rattle.rules.specs.declared.Way.the-variants.{Sends, Receives}
@@ -53,17 +54,17 @@ abbrev pub entry : ℕ → ℕ → ℕ
 entry k o = k + 65536 * o
 
 -- the table of names: below 512 the users 1 to u and the channels 1 to c
-abbrev pub isMade : ℕ → ℕ → Bool
-isMade c x = ltb 256 x && leb x (256 + c)
+abbrev pub isNamedChannel : ℕ → ℕ → Bool
+isNamedChannel c x = ltb 256 x && leb x (256 + c)
 
 abbrev pub kindTo : Schema → ℕ → ℕ → ℕ
-kindTo D c x = cond (isMade c x) (D .kind (x - 256)) 0
+kindTo D c x = cond (isNamedChannel c x) (D .kind (x - 256)) 0
 
 abbrev pub ownerTo : Schema → ℕ → ℕ → ℕ → ℕ
-ownerTo D u c x = cond (inCount u x) 1 (cond (isMade c x) (D .owner (x - 256) + 2) 0)
+ownerTo D u c x = cond (inCount u x) 1 (cond (isNamedChannel c x) (D .owner (x - 256) + 2) 0)
 
-abbrev pub Named : Schema → ℕ → ℕ → List ℕ → Type 0
-Named D u c t = (x : ℕ) → x < 512 → (kindIn (getD t x 0) ≡ kindTo D c x) × (ownerIn (getD t x 0) ≡ ownerTo D u c x)
+abbrev pub NameTable : Schema → ℕ → ℕ → List ℕ → Type 0
+NameTable D u c t = (x : ℕ) → x < 512 → (kindIn (getD t x 0) ≡ kindTo D c x) × (ownerIn (getD t x 0) ≡ ownerTo D u c x)
 
 -- and from 512 on the variables bound on a path, in a session of the user u
 abbrev pub variable : ℕ → ℕ → Bound
@@ -86,22 +87,22 @@ packing p = p .user + (65536 * p .assigned + (4294967296 * p .mask + 28147497671
 abbrev pub unpacking : ℕ → Point
 unpacking w = record { user = w % 65536; assigned = w / 65536 % 65536; mask = w / 4294967296 % 65536; bound = w / 281474976710656 }
 
--- a stack in an array: the last of the elements in use is its top
-unfoldable pub stacked : List ℕ → ℕ → List ℕ
-stacked a zero = []
-stacked a (suc d) = getD a d 0 ∷ stacked a d
-
+-- the contexts on a stack in an array
 abbrev pub waiting : List ℕ → ℕ → List Point
-waiting a d = map unpacking (stacked a d)
+waiting a d = map unpacking (stacked 0 a d)
 
 -- of the contexts that wait none has more variables than the one above it, the top has b at most, and each is as P says
 abbrev pub Waits : (Point → Type 0) → ℕ → List Point → Type 0
 Waits P b [] = Unit {0}
 Waits P b (p ∷ ps) = (p .bound ≤ b) × P p × Waits P (p .bound) ps
 
--- it has its user's roles
+-- 2 more than the user's number is still a word
+abbrev pub Ownable : Point → Type 0
+Ownable p = p .user < 65534
+
+-- and it has its user's roles
 abbrev pub Given : Schema → Point → Type 0
-Given D p = p .assigned ≡ D .assigned (p .user)
+Given D p = (p .assigned ≡ D .assigned (p .user)) × Ownable p
 
 -- 9 before 10
 abbrev pub graded : Bool → Bool → ℕ
@@ -151,11 +152,11 @@ sendStep D p d e =
     (cond (not (eqb (bitAnd (p .mask) (permitting D Sends (kindIn d))) 0)) 0 13)
     (bitAnd (p .assigned) (permitting D Sends (kindIn d)))
 
-abbrev pub onStep : ℕ → Point → ℕ → Step
-onStep roles p x = cond (inCount roles x) (turning p (cond (has (p .assigned) x) 0 11) (with (p .mask) x)) (staying p 9 0 0)
+abbrev pub onAt : ℕ → Point → ℕ → Step
+onAt roles p x = cond (inCount roles x) (turning p (cond (has (p .assigned) x) 0 11) (with (p .mask) x)) (staying p 9 0 0)
 
-abbrev pub offStep : ℕ → Point → ℕ → Step
-offStep roles p x = cond (inCount roles x) (turning p (cond (has (p .mask) x) 0 12) (without (p .mask) x)) (staying p 9 0 0)
+abbrev pub offAt : ℕ → Point → ℕ → Step
+offAt roles p x = cond (inCount roles x) (turning p (cond (has (p .mask) x) 0 12) (without (p .mask) x)) (staying p 9 0 0)
 
 -- a node that is no end and no fork
 unfoldable pub stepOf : Schema → List ℕ → Point → Node → Step
@@ -165,8 +166,8 @@ stepOf D t p n =
     (cond (eqb (n .tag) 4) (compareStep p (look t (p .bound) (n .f1)) (look t (p .bound) (n .f2)))
     (cond (eqb (n .tag) 5) (receiveStep D p (look t (p .bound) (n .f1)))
     (cond (eqb (n .tag) 6) (sendStep D p (look t (p .bound) (n .f1)) (look t (p .bound) (n .f2)))
-    (cond (eqb (n .tag) 7) (onStep (D .roles) p (n .f1))
-    (cond (eqb (n .tag) 8) (offStep (D .roles) p (n .f1)) (staying p (graded (inCount (D .roles) (n .f1)) true) 0 (p .assigned))))))))
+    (cond (eqb (n .tag) 7) (onAt (D .roles) p (n .f1))
+    (cond (eqb (n .tag) 8) (offAt (D .roles) p (n .f1)) (staying p (graded (inCount (D .roles) (n .f1)) true) 0 (p .assigned))))))))
 
 -- 9 and 10 alone: the active set plays no part, and of a context only its user and its variables are kept
 abbrev pub barePoint : Schema → ℕ → ℕ → Point
@@ -179,13 +180,9 @@ abbrev pub unpaired : Schema → ℕ → Point
 unpaired D w = barePoint D (kindIn w) (ownerIn w)
 
 abbrev pub queued : Schema → List ℕ → ℕ → List Point
-queued D a d = map (unpaired D) (stacked a d)
+queued D a d = map (unpaired D) (stacked 0 a d)
 
--- 2 and the user is a word
-abbrev pub Ownable : Point → Type 0
-Ownable p = p .user < 65534
-
--- what 6 and 7 leave: this holds of each owner and of each session's user
+-- what 6 and 7 leave: the same of each channel's owner and each session's user
 abbrev pub Owned : Contents → Type 0
 Owned C = ((c : ℕ) → item noChannel (C .channels) c .owner < 65534) × ((s : ℕ) → item noSession (C .sessions) s .user < 65534)
 

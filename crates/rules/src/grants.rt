@@ -72,7 +72,7 @@ pub fn fill_grants(file: &[u8], head: Head, sends: &mut [u16], receives: &mut [u
     requires { ⌜ Laid (now file) head × (length (now sends) ≤ 33) × (length (now receives) ≤ 33) × (now sends ≡ replicate (length (now sends)) 0) × (now receives ≡ replicate (length (now receives)) 0) ⌝ }
     ensures { λ r. ⌜ (now (sends .exit) ≡ grantsFrom (schemaOf (contentsAt (now (file .entry)) head)) Sends 0 (length (now (sends .entry))))
         × (now (receives .exit) ≡ grantsFrom (schemaOf (contentsAt (now (file .entry)) head)) Receives 0 (length (now (receives .entry))))
-        × Beyond (schemaOf (contentsAt (now (file .entry)) head)) Sends (head .count .roles) × Beyond (schemaOf (contentsAt (now (file .entry)) head)) Receives (head .count .roles) ⌝ }
+        × Beyond (schemaOf (contentsAt (now (file .entry)) head)) Sends (schemaOf (contentsAt (now (file .entry)) head) .roles) × Beyond (schemaOf (contentsAt (now (file .entry)) head)) Receives (schemaOf (contentsAt (now (file .entry)) head) .roles) ⌝ }
 {
     let mut n: u16 = 0;
     while n < head.count.roles {

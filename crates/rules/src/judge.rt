@@ -2,8 +2,7 @@
 use super::Judged;
 use super::Point;
 use super::grants::fill_grants;
-use super::names::name_channels;
-use super::names::name_users;
+use super::names::name_all;
 use super::steps::step_at;
 use format::Head;
 use format::Verdict;
@@ -15,7 +14,7 @@ use format::words::narrow;
 use format::words::wide;
 ghost use mathlib.Core.Path.{_≡_};
 ghost use mathlib.Core.List.{[], map};
-ghost use Prim.Native.Nat.{_≤_, _<_};
+ghost use Prim.Native.Nat.{_<_};
 ghost use lib.ListN.{length, replicate};
 ghost use lib.Seq.{sets};
 ghost use Rattle.format.specs.Header.{Laid};
@@ -23,7 +22,7 @@ ghost use Rattle.format.specs.Contents.{contentsAt};
 ghost use Rattle.rules.specs.Schema.{schemaOf};
 ghost use Rattle.rules.specs.Checking.{openings, judgement};
 ghost use Rattle.rules.specs.Candidates.{candidatesIn};
-ghost use Rattle.rules.specs.Kept.{Granting, Named, packing, unpacking, contextOf, waiting, Waits, Given, answerAt};
+ghost use Rattle.rules.specs.Kept.{Granting, NameTable, packing, unpacking, contextOf, waiting, Waits, Given, Owned, answerAt};
 ghost use Rattle.rules.specs.declared.Way.the-variants.{Sends, Receives};
 
 // A context as one number, and read back.
@@ -48,7 +47,7 @@ fn unpacked(w: u64) -> Point
 
 // The sessions' contexts on the stack, session 1 on top, and how many they are.
 fn open_sessions(file: &[u8], head: Head, stack: &mut [u64]) -> usize
-    requires { ⌜ Laid (now file) head × (length (now stack) ≡ 1057) ⌝ }
+    requires { ⌜ Laid (now file) head × Owned (contentsAt (now file) head) × (length (now stack) ≡ 1057) ⌝ }
     ensures { λ r. ⌜ (r ≡ head .count .sessions) × (length (now (stack .exit)) ≡ 1057) × Waits (Given (schemaOf (contentsAt (now (file .entry)) head))) 0 (waiting (now (stack .exit)) r)
         × (map (contextOf []) (waiting (now (stack .exit)) r) ≡ openings (contentsAt (now (file .entry)) head)) ⌝ }
 {
@@ -88,11 +87,11 @@ fn walk(
     head: Head,
     sends: &[u16],
     receives: &[u16],
-    names: &mut [u64],
+    names: &mut [u32],
     roles: &mut [u16],
 ) -> Judged
-    requires { ⌜ Laid (now file) head × Granting (schemaOf (contentsAt (now file) head)) Sends (now sends) × Granting (schemaOf (contentsAt (now file) head)) Receives (now receives)
-        × (length (now names) ≡ 1537) × Named (schemaOf (contentsAt (now file) head)) (head .count .users) (head .count .channels) (now names) × (length (now roles) ≡ 1025) ⌝ }
+    requires { ⌜ Laid (now file) head × Owned (contentsAt (now file) head) × Granting (schemaOf (contentsAt (now file) head)) Sends (now sends) × Granting (schemaOf (contentsAt (now file) head)) Receives (now receives)
+        × (length (now names) ≡ 1537) × NameTable (schemaOf (contentsAt (now file) head)) (head .count .users) (head .count .channels) (now names) × (length (now roles) ≡ 1025) ⌝ }
     ensures { λ r. ⌜ (r ≡ judgement (contentsAt (now (file .entry)) head)) × (now (roles .exit) ≡ sets (now (roles .entry)) 1 (candidatesIn (contentsAt (now (file .entry)) head))) ⌝ }
 {
     let fine = Verdict {
@@ -161,27 +160,26 @@ fn judge_by(
     head: Head,
     sends: &mut [u16],
     receives: &mut [u16],
-    names: &mut [u64],
+    names: &mut [u32],
     roles: &mut [u16],
 ) -> Judged
-    requires { ⌜ Laid (now file) head × (length (now sends) ≡ 33) × (length (now receives) ≡ 33) × (length (now names) ≡ 1537) × (length (now roles) ≡ 1025)
+    requires { ⌜ Laid (now file) head × Owned (contentsAt (now file) head) × (length (now sends) ≡ 33) × (length (now receives) ≡ 33) × (length (now names) ≡ 1537) × (length (now roles) ≡ 1025)
         × (now sends ≡ replicate (length (now sends)) 0) × (now receives ≡ replicate (length (now receives)) 0) × (now names ≡ replicate (length (now names)) 0) ⌝ }
     ensures { λ r. ⌜ (r ≡ judgement (contentsAt (now (file .entry)) head)) × (now (roles .exit) ≡ sets (now (roles .entry)) 1 (candidatesIn (contentsAt (now (file .entry)) head))) ⌝ }
 {
     fill_grants(file, head, sends, receives);
-    name_users(file, head, names);
-    name_channels(file, head, names);
+    name_all(file, head, names);
     walk(file, head, sends, receives, names, roles)
 }
 
 // 9 and 10, and where these refuse nothing 11 to 13, each at its lowest node. As far as 9 and 10 refuse nothing, each node's candidates are stored:
 // the roles of the session's user that it may be given by placing.
 pub fn judge(file: &[u8], head: Head, roles: &mut [u16]) -> Judged
-    requires { ⌜ Laid (now file) head × (length (now roles) ≡ 1025) ⌝ }
+    requires { ⌜ Laid (now file) head × Owned (contentsAt (now file) head) × (length (now roles) ≡ 1025) ⌝ }
     ensures { λ r. ⌜ (r ≡ judgement (contentsAt (now (file .entry)) head)) × (now (roles .exit) ≡ sets (now (roles .entry)) 1 (candidatesIn (contentsAt (now (file .entry)) head))) ⌝ }
 {
     let mut sends = [0u16; 33];
     let mut receives = [0u16; 33];
-    let mut names = [0u64; 1537];
+    let mut names = [0u32; 1537];
     judge_by(file, head, &mut sends, &mut receives, &mut names, roles)
 }

@@ -33,7 +33,7 @@ pub struct Step {
     pub wrong: u16,
     pub barred: u16,
     pub roles: u16,
-    pub binding: u64,
+    pub binding: u32,
     pub child: Point,
 }
 

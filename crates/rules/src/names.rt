@@ -1,52 +1,30 @@
-// Operands: the table of what they name, and what the file's tables say of it.
+// Operands: the table of what they name, each entry a number: its kind in the low word, and who may receive on it in the high word.
 use format::Head;
 use format::sections::channel;
+use format::words::paired;
 use format::words::wide;
 ghost use mathlib.Core.Path.{_≡_};
-ghost use mathlib.Core.Bool.{not};
 ghost use Prim.Native.Nat.{_+_, _≤_};
-ghost use lib.Dec.{eqb};
 ghost use lib.ListN.{length, replicate};
 ghost use Rattle.format.specs.Header.{Laid};
 ghost use Rattle.format.specs.Contents.{contentsAt};
 ghost use Rattle.rules.specs.Schema.{schemaOf};
-ghost use Rattle.rules.specs.Kept.{kindIn, ownerIn, entry, look, Named};
+ghost use Rattle.rules.specs.Kept.{kindIn, ownerIn, look, NameTable, Owned};
 
-// What is named, as one number: its kind, and who may receive on it.
-pub fn entry(kind: u16, owner: u32) -> u64
-    ensures { λ r. ⌜ r ≡ entry kind owner ⌝ }
-{
-    (kind as u64) + 65536 * (owner as u64)
-}
-
-pub fn owned_by(user: u16) -> u32
-    ensures { λ r. ⌜ r ≡ user + 2 ⌝ }
-{
-    (user as u32) + 2
-}
-
-pub fn kind_in(e: u64) -> u16
+pub fn kind_of(e: u32) -> u16
     ensures { λ r. ⌜ r ≡ kindIn e ⌝ }
 {
     (e % 65536) as u16
 }
 
-// Something is named at all.
-pub fn is_named(e: u64) -> bool
-    ensures { λ r. ⌜ r ≡ not (eqb (ownerIn e) 0) ⌝ }
+pub fn owner_of(e: u32) -> u16
+    ensures { λ r. ⌜ r ≡ ownerIn e ⌝ }
 {
-    e / 65536 != 0
-}
-
-// A channel that the user owns, or a variable that new bound.
-pub fn is_mine(e: u64, user: u16) -> bool
-    ensures { λ r. ⌜ r ≡ eqb (ownerIn e) (user + 2) ⌝ }
-{
-    e / 65536 == (user as u64) + 2
+    (e / 65536) as u16
 }
 
 // What an operand names, where so many variables are bound.
-pub fn look(names: &[u64], bound: u16, x: u16) -> u64
+pub fn look_up(names: &[u32], bound: u16, x: u16) -> u32
     requires { ⌜ 512 + bound ≤ length (now names) ⌝ }
     ensures { λ r. ⌜ r ≡ look (now (names .entry)) bound x ⌝ }
 {
@@ -57,27 +35,21 @@ pub fn look(names: &[u64], bound: u16, x: u16) -> u64
     0
 }
 
-// The users as operands: plain values.
-pub fn name_users(file: &[u8], head: Head, names: &mut [u64])
-    requires { ⌜ Laid (now file) head × (length (now names) ≡ 1537) × (now names ≡ replicate (length (now names)) 0) ⌝ }
-    ensures { λ r. ⌜ (length (now (names .exit)) ≡ 1537) × Named (schemaOf (contentsAt (now (file .entry)) head)) (head .count .users) 0 (now (names .exit)) ⌝ }
+// The users and the channels as operands.
+pub fn name_all(file: &[u8], head: Head, names: &mut [u32])
+    requires { ⌜ Laid (now file) head × Owned (contentsAt (now file) head) × (512 ≤ length (now names)) × (now names ≡ replicate (length (now names)) 0) ⌝ }
+    ensures { λ r. ⌜ (length (now (names .exit)) ≡ length (now (names .entry)))
+        × NameTable (schemaOf (contentsAt (now (file .entry)) head)) (head .count .users) (head .count .channels) (now (names .exit)) ⌝ }
 {
     let mut n: u16 = 0;
     while n < head.count.users {
         n += 1;
-        names[wide(n)] = entry(0, 1);
+        names[wide(n)] = paired(0, 1);
     }
-}
-
-// The channels as operands, after the users.
-pub fn name_channels(file: &[u8], head: Head, names: &mut [u64])
-    requires { ⌜ Laid (now file) head × (length (now names) ≡ 1537) × Named (schemaOf (contentsAt (now file) head)) (head .count .users) 0 (now names) ⌝ }
-    ensures { λ r. ⌜ (length (now (names .exit)) ≡ 1537) × Named (schemaOf (contentsAt (now (file .entry)) head)) (head .count .users) (head .count .channels) (now (names .exit)) ⌝ }
-{
-    let mut n: u16 = 0;
-    while n < head.count.channels {
-        n += 1;
-        let it = channel(file, head, n);
-        names[256 + wide(n)] = entry(it.kind.0, owned_by(it.owner));
+    let mut c: u16 = 0;
+    while c < head.count.channels {
+        c += 1;
+        let it = channel(file, head, c);
+        names[256 + wide(c)] = paired(it.kind.0, it.owner + 2);
     }
 }

@@ -1,11 +1,14 @@
 // The pass over the nodes that finds 9 and 10 alone: no grants, no roles, no candidates. Its tables are lent, sized by the file.
 use super::NameStep;
+use super::names::kind_of;
+use super::names::look_up;
+use super::names::name_all;
+use super::names::owner_of;
 use super::steps::graded;
 use format::Head;
 use format::Node;
 use format::Verdict;
 use format::sections::carries;
-use format::sections::channel;
 use format::sections::in_count;
 use format::sections::node;
 use format::sections::session;
@@ -20,31 +23,7 @@ ghost use Rattle.format.specs.Header.{Laid};
 ghost use Rattle.format.specs.Contents.{contentsAt};
 ghost use Rattle.rules.specs.Schema.{schemaOf};
 ghost use Rattle.rules.specs.Checking.{openings, namesAnswer};
-ghost use Rattle.rules.specs.Kept.{Named, kindIn, ownerIn, entry, look, contextOf, Waits, unmasked, queued, Ownable, Owned, namingOf};
-
-fn kind_of(e: u32) -> u16
-    ensures { λ r. ⌜ r ≡ kindIn e ⌝ }
-{
-    (e % 65536) as u16
-}
-
-fn owner_of(e: u32) -> u16
-    ensures { λ r. ⌜ r ≡ ownerIn e ⌝ }
-{
-    (e / 65536) as u16
-}
-
-// What an operand names, where so many variables are bound.
-fn look_up(names: &[u32], bound: u16, x: u16) -> u32
-    requires { ⌜ 512 + bound ≤ length (now names) ⌝ }
-    ensures { λ r. ⌜ r ≡ look (now (names .entry)) bound x ⌝ }
-{
-    let k = wide(x);
-    if k < 512 + wide(bound) {
-        return names[k];
-    }
-    0
-}
+ghost use Rattle.rules.specs.Kept.{kindIn, entry, look, contextOf, Waits, unmasked, queued, Ownable, Owned, namingOf};
 
 fn staying(wrong: u16, bound: u16) -> NameStep
     ensures { λ r. ⌜ r ≡ record { wrong = wrong; binding = 0; bound = bound } ⌝ }
@@ -107,25 +86,6 @@ fn naming_at(file: &[u8], head: Head, names: &[u32], user: u16, bound: u16, it: 
             staying(graded(named, carried), bound)
         }
         _ => staying(graded(in_count(head.count.roles, it.f1), true), bound),
-    }
-}
-
-// The users and the channels as operands.
-fn name_all(file: &[u8], head: Head, names: &mut [u32])
-    requires { ⌜ Laid (now file) head × Owned (contentsAt (now file) head) × (512 ≤ length (now names)) × (now names ≡ replicate (length (now names)) 0) ⌝ }
-    ensures { λ r. ⌜ (length (now (names .exit)) ≡ length (now (names .entry)))
-        × Named (schemaOf (contentsAt (now (file .entry)) head)) (head .count .users) (head .count .channels) (now (names .exit)) ⌝ }
-{
-    let mut n: u16 = 0;
-    while n < head.count.users {
-        n += 1;
-        names[wide(n)] = paired(0, 1);
-    }
-    let mut c: u16 = 0;
-    while c < head.count.channels {
-        c += 1;
-        let it = channel(file, head, c);
-        names[256 + wide(c)] = paired(it.kind.0, it.owner + 2);
     }
 }
 

@@ -2,16 +2,14 @@
 use super::Point;
 use super::Step;
 use super::grants::grant_of;
-use super::names::entry;
-use super::names::is_mine;
-use super::names::is_named;
-use super::names::kind_in;
-use super::names::look;
-use super::names::owned_by;
+use super::names::kind_of;
+use super::names::look_up;
+use super::names::owner_of;
 use format::Head;
 use format::Node;
 use format::sections::carries;
 use format::sections::in_count;
+use format::words::paired;
 use masks::UserRole;
 use masks::has_role;
 use masks::with_role;
@@ -25,7 +23,7 @@ ghost use lib.ListN.{length};
 ghost use Rattle.format.specs.Header.{Laid};
 ghost use Rattle.format.specs.Contents.{contentsAt};
 ghost use Rattle.rules.specs.Schema.{schemaOf};
-ghost use Rattle.rules.specs.Kept.{Granting, kindIn, look, graded, staying, binding, turning, newStep, receiveStep, sendStep, onStep, offStep, stepOf};
+ghost use Rattle.rules.specs.Kept.{Granting, kindIn, look, graded, staying, binding, turning, newStep, receiveStep, sendStep, onAt, offAt, stepOf};
 ghost use Rattle.rules.specs.declared.Way.the-variants.{Sends, Receives};
 
 // 9 before 10.
@@ -71,7 +69,7 @@ fn staying(here: Point, wrong: u16, barred: u16, roles: u16) -> Step
 }
 
 // The child has one variable more.
-fn binding(here: Point, wrong: u16, barred: u16, roles: u16, variable: u64) -> Step
+fn binding(here: Point, wrong: u16, barred: u16, roles: u16, variable: u32) -> Step
     requires { ⌜ here .bound < 65535 ⌝ }
     ensures { λ r. ⌜ r ≡ binding here wrong barred roles variable ⌝ }
 {
@@ -108,7 +106,7 @@ fn turning(here: Point, barred: u16, mask: u16) -> Step
 }
 
 fn new_at(head: Head, here: Point, kind: u16) -> Step
-    requires { ⌜ here .bound < 65535 ⌝ }
+    requires { ⌜ (here .user < 65534) × (here .bound < 65535) ⌝ }
     ensures { λ r. ⌜ r ≡ newStep (head .count .kinds) here kind ⌝ }
 {
     binding(
@@ -116,36 +114,37 @@ fn new_at(head: Head, here: Point, kind: u16) -> Step
         graded(in_count(head.count.kinds, kind), true),
         0,
         here.assigned,
-        entry(kind, owned_by(here.user)),
+        paired(kind, here.user + 2),
     )
 }
 
-fn receive_at(file: &[u8], head: Head, receives: &[u16], here: Point, on: u64) -> Step
-    requires { ⌜ Laid (now file) head × (here .bound < 65535) × Granting (schemaOf (contentsAt (now file) head)) Receives (now receives) ⌝ }
+fn receive_at(file: &[u8], head: Head, receives: &[u16], here: Point, on: u32) -> Step
+    requires { ⌜ Laid (now file) head × (here .user < 65534) × (here .bound < 65535) × Granting (schemaOf (contentsAt (now file) head)) Receives (now receives) ⌝ }
     ensures { λ r. ⌜ (r ≡ receiveStep (schemaOf (contentsAt (now (file .entry)) head)) here on) × (schemaOf (contentsAt (now (file .entry)) head) .carries (kindIn on) < 65536) ⌝ }
 {
-    let kind = kind_in(on);
+    let kind = kind_of(on);
+    let owner = owner_of(on);
     let grant = grant_of(receives, kind);
     binding(
         here,
-        graded(is_named(on), is_mine(on, here.user)),
+        graded(owner != 0, owner == here.user + 2),
         unless(is_able(here.mask, grant), 13),
         here.assigned & grant,
-        entry(carries(file, head, kind), 1),
+        paired(carries(file, head, kind), 1),
     )
 }
 
-fn send_at(file: &[u8], head: Head, sends: &[u16], here: Point, on: u64, value: u64) -> Step
+fn send_at(file: &[u8], head: Head, sends: &[u16], here: Point, on: u32, value: u32) -> Step
     requires { ⌜ Laid (now file) head × Granting (schemaOf (contentsAt (now file) head)) Sends (now sends) ⌝ }
     ensures { λ r. ⌜ r ≡ sendStep (schemaOf (contentsAt (now (file .entry)) head)) here on value ⌝ }
 {
-    let kind = kind_in(on);
+    let kind = kind_of(on);
     let grant = grant_of(sends, kind);
     staying(
         here,
         graded(
-            is_named(on) & is_named(value),
-            (0 < kind) & (kind_in(value) == carries(file, head, kind)),
+            (owner_of(on) != 0) & (owner_of(value) != 0),
+            (0 < kind) & (kind_of(value) == carries(file, head, kind)),
         ),
         unless(is_able(here.mask, grant), 13),
         here.assigned & grant,
@@ -154,7 +153,7 @@ fn send_at(file: &[u8], head: Head, sends: &[u16], here: Point, on: u64, value: 
 
 fn on_at(head: Head, here: Point, role: u16) -> Step
     requires { ⌜ head .count .roles ≤ 16 ⌝ }
-    ensures { λ r. ⌜ r ≡ onStep (head .count .roles) here role ⌝ }
+    ensures { λ r. ⌜ r ≡ onAt (head .count .roles) here role ⌝ }
 {
     if !in_count(head.count.roles, role) {
         return staying(here, 9, 0, 0);
@@ -167,7 +166,7 @@ fn on_at(head: Head, here: Point, role: u16) -> Step
 }
 
 fn off_at(head: Head, here: Point, role: u16) -> Step
-    ensures { λ r. ⌜ r ≡ offStep (head .count .roles) here role ⌝ }
+    ensures { λ r. ⌜ r ≡ offAt (head .count .roles) here role ⌝ }
 {
     if !in_count(head.count.roles, role) {
         return staying(here, 9, 0, 0);
@@ -185,11 +184,11 @@ pub fn step_at(
     head: Head,
     sends: &[u16],
     receives: &[u16],
-    names: &[u64],
+    names: &[u32],
     here: Point,
     it: Node,
 ) -> Step
-    requires { ⌜ Laid (now file) head × (here .bound < 65535) × (512 + here .bound ≤ length (now names)) × Granting (schemaOf (contentsAt (now file) head)) Sends (now sends) × Granting (schemaOf (contentsAt (now file) head)) Receives (now receives) ⌝ }
+    requires { ⌜ Laid (now file) head × (here .user < 65534) × (here .bound < 65535) × (512 + here .bound ≤ length (now names)) × Granting (schemaOf (contentsAt (now file) head)) Sends (now sends) × Granting (schemaOf (contentsAt (now file) head)) Receives (now receives) ⌝ }
     ensures { λ r. ⌜ (r ≡ stepOf (schemaOf (contentsAt (now (file .entry)) head)) (now (names .entry)) here it)
         × (it .tag ≡ 5 → schemaOf (contentsAt (now (file .entry)) head) .carries (kindIn (look (now (names .entry)) (here .bound) (it .f1))) < 65536) ⌝ }
 {
@@ -198,18 +197,31 @@ pub fn step_at(
         2 => staying(here, 0, 0, here.assigned),
         3 => new_at(head, here, it.f1),
         4 => {
-            let one = look(names, here.bound, it.f1);
-            let other = look(names, here.bound, it.f2);
+            let one = look_up(names, here.bound, it.f1);
+            let other = look_up(names, here.bound, it.f2);
             let wrong = graded(
-                is_named(one) & is_named(other),
-                kind_in(one) == kind_in(other),
+                (owner_of(one) != 0) & (owner_of(other) != 0),
+                kind_of(one) == kind_of(other),
             );
             staying(here, wrong, 0, here.assigned)
         }
-        5 => receive_at(file, head, receives, here, look(names, here.bound, it.f1)),
+        5 => receive_at(
+            file,
+            head,
+            receives,
+            here,
+            look_up(names, here.bound, it.f1),
+        ),
         6 => {
-            let on = look(names, here.bound, it.f1);
-            send_at(file, head, sends, here, on, look(names, here.bound, it.f2))
+            let on = look_up(names, here.bound, it.f1);
+            send_at(
+                file,
+                head,
+                sends,
+                here,
+                on,
+                look_up(names, here.bound, it.f2),
+            )
         }
         7 => on_at(head, here, it.f1),
         8 => off_at(head, here, it.f1),

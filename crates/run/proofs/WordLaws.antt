@@ -11,28 +11,28 @@ use lib.Seq.{sets}
 use borrow.Author.Tests.{eqb-true, leb-true, leb-false, ltb-true, ltb-false, eq-eqb, le-leb, lt-leb}
 use Rattle.format.specs.Words.{wordAt}
 use Rattle.running.specs.Run.{listed}
-use Rattle.run.specs.WordList.{enough, listWords, wordsFrom}
+use Rattle.run.specs.WordList.{enoughBytes, listWords, wordsOfBytes}
 
 -- A loop that puts words, one a turn: those still to come, from where they go.
-pub words-begin : (f l : List ℕ) (n : ℕ) → sets l 0 (wordsFrom f 0 (n - 0)) ≡ sets l 0 (wordsFrom f 0 n)
+pub words-begin : (f l : List ℕ) (n : ℕ) → sets l 0 (wordsOfBytes f 0 (n - 0)) ≡ sets l 0 (wordsOfBytes f 0 n)
 words-begin f l n = let c : n - 0 ≡ n = omega arith in rw c
 
-pub words-turn : (f l whole : List ℕ) (n i v : ℕ) → i < n → v ≡ wordAt f i → sets l i (wordsFrom f i (n - i)) ≡ whole
-    → sets (set l i v) (i + 1) (wordsFrom f (i + 1) (n - (i + 1))) ≡ whole
-unfolding wordsFrom
+pub words-turn : (f l whole : List ℕ) (n i v : ℕ) → i < n → v ≡ wordAt f i → sets l i (wordsOfBytes f i (n - i)) ≡ whole
+    → sets (set l i v) (i + 1) (wordsOfBytes f (i + 1) (n - (i + 1))) ≡ whole
+unfolding wordsOfBytes
 words-turn f l whole n i v h e inv =
     let more : n - i ≡ suc (n - suc i) = omega (arith, h) in
     let one : i + 1 ≡ suc i = add-one i in
-    rw (e, one) (subst (λ (k : ℕ). sets l i (wordsFrom f i k) ≡ whole) more inv)
+    rw (e, one) (subst (λ (k : ℕ). sets l i (wordsOfBytes f i k) ≡ whole) more inv)
 
-pub words-end : (f l whole : List ℕ) (n i : ℕ) → n ≤ i → sets l i (wordsFrom f i (n - i)) ≡ whole → l ≡ whole
-unfolding wordsFrom
+pub words-end : (f l whole : List ℕ) (n i : ℕ) → n ≤ i → sets l i (wordsOfBytes f i (n - i)) ≡ whole → l ≡ whole
+unfolding wordsOfBytes
 words-end f l whole n i h inv =
     let z : n - i ≡ 0 = omega (arith, h) in
-    subst (λ (k : ℕ). sets l i (wordsFrom f i k) ≡ whole) z inv
+    subst (λ (k : ℕ). sets l i (wordsOfBytes f i k) ≡ whole) z inv
 
 -- What is kept of an input is a list exactly where the input is one: whole choices, and at most 65,535.
-pub list-stands : (n : ℕ) → listed (listWords (enough n)) ≡ (eqb (n % 4) 0 && leb n 262140)
+pub list-stands : (n : ℕ) → listed (listWords (enoughBytes n)) ≡ (eqb (n % 4) 0 && leb n 262140)
 list-stands n = go (ltb n 262144) refl (eqb (n % 4) 0) refl (leb n 262140) refl
   where
     short : (x : Bool) → eqb (n % 4) 0 ≡ x → (y : Bool) → leb n 262140 ≡ y → listed (listWords n) ≡ (eqb (n % 4) 0 && leb n 262140)
@@ -49,11 +49,11 @@ list-stands n = go (ltb n 262144) refl (eqb (n % 4) 0) refl (leb n 262140) refl
     over false p long = rw p
 
     go : (b : Bool) → ltb n 262144 ≡ b → (x : Bool) → eqb (n % 4) 0 ≡ x → (y : Bool) → leb n 262140 ≡ y
-        → listed (listWords (enough n)) ≡ (eqb (n % 4) 0 && leb n 262140)
+        → listed (listWords (enoughBytes n)) ≡ (eqb (n % 4) 0 && leb n 262140)
     go true e x p y q =
-        let all : enough n ≡ n = omega (arith, ltb-true n 262144 e) in
+        let all : enoughBytes n ≡ n = omega (arith, ltb-true n 262144 e) in
         ap (λ (k : ℕ). listed (listWords k)) all ∙ short x p y q
     go false e x p y q =
-        let most : enough n ≡ 262144 = omega (arith, ltb-false n 262144 e) in
+        let most : enoughBytes n ≡ 262144 = omega (arith, ltb-false n 262144 e) in
         let long : leb n 262140 ≡ false = lt-leb n 262140 (omega (arith, ltb-false n 262144 e)) in
         ap (λ (k : ℕ). listed (listWords k)) most ∙ over x p long

@@ -6,14 +6,14 @@ use lib.Dec.{eqb}
 use Rattle.format.specs.Words.{wordAt}
 
 -- a list has at most 262,140 bytes, and one of 262,144 is too long, like any longer one
-abbrev pub enough : ℕ → ℕ
-enough length = min length 262144
+abbrev pub enoughBytes : ℕ → ℕ
+enoughBytes length = min length 262144
 
 -- 1 word, an odd list, where the last choice is not whole
 abbrev pub listWords : ℕ → ℕ
 listWords bytes = cond (eqb (bytes % 4) 0) (bytes / 2) 1
 
 -- so many words of a list of bytes, from an offset on
-unfoldable pub wordsFrom : List ℕ → ℕ → ℕ → List ℕ
-wordsFrom f p zero = []
-wordsFrom f p (suc k) = wordAt f p ∷ wordsFrom f (suc p) k
+unfoldable pub wordsOfBytes : List ℕ → ℕ → ℕ → List ℕ
+wordsOfBytes f p zero = []
+wordsOfBytes f p (suc k) = wordAt f p ∷ wordsOfBytes f (suc p) k

@@ -7,8 +7,8 @@ ghost use mathlib.Core.Path.{_≡_};
 ghost use lib.ListN.{length};
 ghost use lib.Seq.{sets};
 ghost use Rattle.io.specs.Counts.{Counts};
-ghost use Rattle.run.specs.WordList.{listWords, wordsFrom};
-ghost use Rattle.run.specs.WordList.{enough as WordList·enough};
+ghost use Rattle.run.specs.WordList.{listWords, wordsOfBytes};
+ghost use Rattle.run.specs.WordList.{enoughBytes as WordList·enough};
 
 // Room for more bytes than any list has, and for what a read puts behind them.
 pub fn no_bytes() -> [u8; 278528]
@@ -70,7 +70,7 @@ pub fn list_words(bytes: usize) -> usize
 // The words of the bytes, low byte first; a lone byte at the end is none.
 pub fn put_words(bytes: &[u8], words: &mut [u16])
     requires { ⌜ length (now bytes) ≤ 2 * length (now words) ⌝ }
-    ensures { λ r. ⌜ now (words .exit) ≡ sets (now (words .entry)) 0 (wordsFrom (now (bytes .entry)) 0 (length (now (bytes .entry)) / 2)) ⌝ }
+    ensures { λ r. ⌜ now (words .exit) ≡ sets (now (words .entry)) 0 (wordsOfBytes (now (bytes .entry)) 0 (length (now (bytes .entry)) / 2)) ⌝ }
 {
     let count = bytes.len() / 2;
     let mut i = 0;

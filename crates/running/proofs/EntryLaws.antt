@@ -11,13 +11,11 @@ use borrow.Author.Tests.{eq-eqb, ne-eqb, leb-true, not-true, not-false}
 use Rattle.format.specs.Contents.{contentsAt}
 use Rattle.format.specs.Words.{bytesOf}
 use Rattle.format.specs.Answers.{fine, refused}
-use Rattle.format.specs.Header.{headAt, headOf}
 use Rattle.format.specs.declared.Head.{Head}
 use Rattle.format.specs.declared.Verdict.{Verdict}
-use Rattle.format.specs.declared.HeadAnswer.the-variants.{Fine, Refused}
-use Rattle.format.proofs.HeadLaws.{headed, head-number}
-use Rattle.checking.specs.Check.{readingNames}
-use Rattle.checking.proofs.CheckLaws.{names-refused}
+use Rattle.reading.specs.declared.Opened.the-variants.{Fine, Refused}
+use Rattle.checking.specs.Check.{readingNames, entered}
+use Rattle.checking.proofs.CheckLaws.{entered-fine, entered-refused}
 use Rattle.running.specs.declared.Ready.{Ready}
 use Rattle.choices.specs.declared.Counted.{Counted}
 use Rattle.running.specs.declared.Two.{Two}
@@ -92,43 +90,32 @@ test-fails t u v e h = ap (λ (x : Bool). x && v) (sym e) ∙ not-true (t && v) 
 pub test-holds : (t u v : Bool) → t ≡ u → not (t && v) ≡ false → u && v ≡ true
 test-holds t u v e h = ap (λ (x : Bool). x && v) (sym e) ∙ not-false (t && v) h
 
-module _ (f : List ℕ) (v : Verdict) (e : v ≡ readingNames f) where
-  names-number : readingNames f .number ≡ v .number
-  names-number = ap (λ (x : Verdict). x .number) (sym e)
+module _ (f ws out : List ℕ) (fits : listed (length ws) && leb 1800 (length out) ≡ true) where
+  pub run-refused : (v : Verdict) → entered f ≡ Refused v → (v ≡ running f ws (length out)) × (out ≡ runOver f ws out)
+  unfolding running runOver
+  run-refused v e =
+      let (loud, same) = entered-refused f v e in
+      let test = ne-eqb (readingNames f .number) 0 loud in
+      (same ∙ rw (fits, test), rw (fits, test))
 
-  quiet : v .number ≡ 0 → eqb (readingNames f .number) 0 ≡ true
-  quiet q = eq-eqb (readingNames f .number) 0 (names-number ∙ q)
+  pub run-done : (h : Head) (y : Verdict) (out′ : List ℕ) → entered f ≡ Fine h → y ≡ stopped (run (clinicOf (contentsAt f h)) (start (contentsAt f h)) ws)
+      → out′ ≡ sets out 0 (bytesOf (ranWords (run (clinicOf (contentsAt f h)) (start (contentsAt f h)) ws))) → (y ≡ running f ws (length out)) × (out′ ≡ runOver f ws out)
+  unfolding running runOver
+  run-done h y out′ e ey eo = let (laid, same, clean) = entered-fine f h e in (ey ∙ rw (fits, clean, same), eo ∙ rw (fits, clean, same))
 
-  loud : (v .number ≡ 0 → ⊥) → eqb (readingNames f .number) 0 ≡ false
-  loud n = ne-eqb (readingNames f .number) 0 (λ q. n (sym names-number ∙ q))
+module _ (f ws : List ℕ) (fits : listed (length ws) ≡ true) where
+  pub ready-refused : (v : Verdict) (y : Ready) → entered f ≡ Refused v → y ≡ noPair v → y ≡ ready f ws
+  unfolding ready
+  ready-refused v y e ey =
+      let (loud, same) = entered-refused f v e in
+      let test = ne-eqb (readingNames f .number) 0 loud in
+      let whole : noPair (readingNames f) ≡ ready f ws = rw (fits, test) (rw test) in
+      ey ∙ ap noPair same ∙ whole
 
-  -- a file that 1 to 10 leave clean has a head
-  pub no-head : (n : ℕ) → v .number ≡ 0 → headOf f ≡ Refused n → ⊥
-  no-head n q h =
-      let same : readingNames f .number ≡ n = ap (λ (x : Verdict). x .number) (names-refused f n h) in
-      omega (arith, q, same, names-number, head-number f n h)
-
-  module _ (ws out : List ℕ) (fits : listed (length ws) && leb 1800 (length out) ≡ true) where
-    pub run-refused : (v .number ≡ 0 → ⊥) → (v ≡ running f ws (length out)) × (out ≡ runOver f ws out)
-    unfolding running runOver
-    run-refused n = (e ∙ rw (fits, loud n), rw (fits, loud n))
-
-    pub run-done : (h : Head) (y : Verdict) (out′ : List ℕ) → v .number ≡ 0 → headOf f ≡ Fine h → y ≡ stopped (run (clinicOf (contentsAt f h)) (start (contentsAt f h)) ws)
-        → out′ ≡ sets out 0 (bytesOf (ranWords (run (clinicOf (contentsAt f h)) (start (contentsAt f h)) ws))) → (y ≡ running f ws (length out)) × (out′ ≡ runOver f ws out)
-    unfolding running runOver
-    run-done h y out′ q k ey eo = let same : h ≡ headAt f = headed f h k .1 in (ey ∙ rw (fits, quiet q, same), eo ∙ rw (fits, quiet q, same))
-
-  module _ (ws : List ℕ) (fits : listed (length ws) ≡ true) where
-    pub ready-refused : (y : Ready) → (v .number ≡ 0 → ⊥) → y ≡ noPair v → y ≡ ready f ws
-    unfolding ready
-    ready-refused y n ey =
-        let whole : noPair (readingNames f) ≡ ready f ws = rw (fits, loud n) (rw (loud n)) in
-        ey ∙ ap noPair e ∙ whole
-
-    pub ready-done : (h : Head) (y : Ready) → v .number ≡ 0 → headOf f ≡ Fine h
-        → y ≡ readyOf (stopped (run (clinicOf (contentsAt f h)) (start (contentsAt f h)) ws)) (readyPair (clinicOf (contentsAt f h)) (run (clinicOf (contentsAt f h)) (start (contentsAt f h)) ws .state)) → y ≡ ready f ws
-    unfolding ready
-    ready-done h y q k ey = let same : h ≡ headAt f = headed f h k .1 in ey ∙ rw (fits, quiet q, same)
+  pub ready-done : (h : Head) (y : Ready) → entered f ≡ Fine h
+      → y ≡ readyOf (stopped (run (clinicOf (contentsAt f h)) (start (contentsAt f h)) ws)) (readyPair (clinicOf (contentsAt f h)) (run (clinicOf (contentsAt f h)) (start (contentsAt f h)) ws .state)) → y ≡ ready f ws
+  unfolding ready
+  ready-done h y e ey = let (laid, same, clean) = entered-fine f h e in ey ∙ rw (fits, clean, same)
 
 pub run-unfit : (f ws out : List ℕ) → listed (length ws) && leb 1800 (length out) ≡ false → (refused 17 0 ≡ running f ws (length out)) × (out ≡ runOver f ws out)
 unfolding running runOver

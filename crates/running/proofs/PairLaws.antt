@@ -17,7 +17,7 @@ use Rattle.running.specs.declared.Two.{Two}
 use Rattle.steps.specs.declared.Outcome.the-variants.{Refused, Meets}
 use Rattle.steps.specs.declared.Partner.the-variants.{With}
 use Rattle.steps.specs.Threads.{value, onward, bound}
-use Rattle.steps.specs.Choice.{Clinic, State, allowed, meeting, sending, lone, aloneOnly, acting}
+use Rattle.steps.specs.Choice.{Clinic, State, isAllowed, meeting, sending, lone, aloneOnly, acting}
 use Rattle.running.specs.Run.{isMeeting, receiverFrom, pairFrom, readyPair}
 use Rattle.steps.specs.Kept.{threadIn, threadsIn, madeIn, stateIn}
 use Rattle.running.proofs.PutLaws.{threads-length}
@@ -75,13 +75,13 @@ module _ (C : Clinic) (n : ℕ) (made : List Made) (t r : Thread) where
 module _ (C : Clinic) (made : List Made) (t : Thread) (n : Node) (r : Thread) (m : Node) where
   pub agrees-apart : (value t (n .f1) ≡ value r (m .f1) → ⊥) → false ≡ isMeeting (meeting C made t n r m)
   unfolding meeting
-  agrees-apart d = rw (ne-eqb (value t (n .f1)) (value r (m .f1)) d) (go (allowed C made t Sends (n .f1) && allowed C made r Receives (m .f1)))
+  agrees-apart d = rw (ne-eqb (value t (n .f1)) (value r (m .f1)) d) (go (isAllowed C made t Sends (n .f1) && isAllowed C made r Receives (m .f1)))
     where
       go : (b : Bool) → false ≡ isMeeting (cond b (Refused 19) (Refused 13))
       go true = refl
       go false = refl
 
-  pub agrees-same : (x y : Bool) → value t (n .f1) ≡ value r (m .f1) → allowed C made t Sends (n .f1) ≡ x → allowed C made r Receives (m .f1) ≡ y
+  pub agrees-same : (x y : Bool) → value t (n .f1) ≡ value r (m .f1) → isAllowed C made t Sends (n .f1) ≡ x → isAllowed C made r Receives (m .f1) ≡ y
       → x && y ≡ isMeeting (meeting C made t n r m)
   unfolding meeting
   agrees-same x y e f g = rw (f, g, eq-eqb (value t (n .f1)) (value r (m .f1)) e) (go (x && y))

@@ -1,27 +1,17 @@
 -- Runs of stores of words, and the words of made channels and of threads as a loop puts them.
 use Prim.Native.Nat.{ℕ, zero, suc, _+_, _*_, _-_, _≤_, _<_}
 use mathlib.Core.Path.{_≡_, refl, sym, ap, _∙_}
-use mathlib.Core.List.{List, [], _∷_, _++_, map}
+use mathlib.Core.List.{List, [], _∷_, _++_}
 use native.Mathlib.Omega.{arith}
-use lib.ListN.{length, getD, set, length-append, length-map}
+use lib.ListN.{length, getD, length-append}
 use lib.Seq.{sets}
 use Rattle.masks.specs.Mask.{held}
 use Rattle.format.specs.Words.{bytesOf}
-use Rattle.format.proofs.PutRuns.{sets-join, bytes-append, bytes-length, puts-join, puts-then}
+use Rattle.format.proofs.PutRuns.{puts-then, puts-turn, puts-end}
 use Rattle.steps.specs.declared.Thread.{Thread}
 use Rattle.steps.specs.declared.Made.{Made}
 use Rattle.running.specs.Run.{madeWords, threadWords, ranWords}
 use Rattle.steps.specs.Kept.{threadIn, threadsIn, madeIn, stateIn}
-
--- a turn of a loop that puts words: those still to come, from where they go
-puts-turn : (l m whole : List ℕ) (i j : ℕ) (vs ws all : List ℕ) → m ≡ sets l (2 * i) (bytesOf vs) → j ≡ i + length vs → all ≡ vs ++ ws
-    → sets l (2 * i) (bytesOf all) ≡ whole → sets m (2 * j) (bytesOf ws) ≡ whole
-puts-turn l m whole i j vs ws all e k a h = puts-join l m i j vs ws e k ∙ ap (λ (x : List ℕ). sets l (2 * i) (bytesOf x)) (sym a) ∙ h
-
--- none is left
-puts-end : (l whole ws : List ℕ) (i : ℕ) → ws ≡ [] → sets l i (bytesOf ws) ≡ whole → l ≡ whole
-unfolding bytesOf
-puts-end l whole ws i e inv = rw e at inv
 
 -- how many there are
 pub threads-length : (w : List ℕ) (p k : ℕ) → length (threadsIn w p k) ≡ k

@@ -14,31 +14,24 @@ use Rattle.format.specs.declared.HeadAnswer.the-variants.{Refused}
 use Rattle.format.proofs.HeadLaws.{head-number}
 use Rattle.reading.proofs.LongLaws.{Stands, stands-judged}
 use Rattle.checking.proofs.CheckLaws.{names-refused}
-use Rattle.running.specs.Run.{listed, running, runOver}
+use Rattle.running.specs.Run.{listed, unready, running, runOver}
 
 -- the head's refusal, but for 17 before it
 abbrev refusal : List ℕ → ℕ → ℕ → Verdict
 refusal ws room n = cond (listed (length ws) && leb 1800 room) (refused n 0) (refused 17 0)
 
 module _ (f : List ℕ) (n : ℕ) (e : headOf f ≡ Refused n) where
-  loud : eqb n 0 ≡ false
-  loud = ne-eqb n 0 (λ (z : n ≡ 0). omega (arith, z, head-number f n e))
+  loud : (fits : Bool) → eqb (unready fits f .number) 0 ≡ false
+  loud true = rw (names-refused f n e) (ne-eqb n 0 (λ (z : n ≡ 0). omega (arith, z, head-number f n e)))
+  loud false = refl
 
   run-refused : (ws : List ℕ) (room : ℕ) → running f ws room ≡ refusal ws room n
   unfolding running
-  run-refused ws room = go (listed (length ws) && leb 1800 room) refl
-    where
-      go : (b : Bool) → (listed (length ws) && leb 1800 room) ≡ b → running f ws room ≡ refusal ws room n
-      go true q = rw (q, names-refused f n e, loud)
-      go false q = rw q
+  run-refused ws room = rw (loud (listed (length ws) && leb 1800 room)) (rw (names-refused f n e))
 
   over-refused : (ws out : List ℕ) → runOver f ws out ≡ out
   unfolding runOver
-  over-refused ws out = go (listed (length ws) && leb 1800 (length out)) refl
-    where
-      go : (b : Bool) → (listed (length ws) && leb 1800 (length out)) ≡ b → runOver f ws out ≡ out
-      go true q = rw (q, names-refused f n e, loud)
-      go false q = rw q
+  over-refused ws out = rw (loud (listed (length ws) && leb 1800 (length out)))
 
 pub stands-run : (ws : List ℕ) (room : ℕ) (kept input : List ℕ) → Stands kept input → running kept ws room ≡ running input ws room
 stands-run ws room = stands-judged (refusal ws room) (λ (f : List ℕ). running f ws room) (λ (f : List ℕ) (n : ℕ) (e : headOf f ≡ Refused n). run-refused f n e ws room)

@@ -2,15 +2,16 @@
 mod out;
 mod pairs;
 
-use checking::read_names;
+use checking::enter;
 use choices::Counted;
+use choices::list::run_by;
 use choices::list::run_list;
 use format::Head;
-use format::HeadAnswer;
 use format::Verdict;
-use format::header::read_head;
 use out::put_state;
-use pairs::pair_after;
+use pairs::ready_pair;
+use reading::Opened;
+use steps::BESIDE;
 ghost use mathlib.Core.Path.{_≡_};
 ghost use mathlib.Core.Bool.{cond};
 ghost use Prim.Native.Nat.{_+_, _≤_, _<_};
@@ -71,7 +72,7 @@ fn run_into(file: &[u8], head: Head, choices: &[u16], out: &mut [u8]) -> Verdict
         × (now (out .exit) ≡ sets (now (out .entry)) 0 (bytesOf (ranWords (run (clinicOf (contentsAt (now (file .entry)) head)) (start (contentsAt (now (file .entry)) head)) (now (choices .entry)))))) ⌝ }
 {
     let mut threads = [0u16; 704];
-    let mut beside = [0u16; 130];
+    let mut beside = [0u16; BESIDE];
     let counted = run_list(file, head, choices, &mut threads, &mut beside);
     put_state(&threads, &beside, counted, out);
     stopped_at(counted)
@@ -88,14 +89,10 @@ pub fn run(file: &[u8], choices: &[u16], out: &mut [u8]) -> Verdict
             place: 0,
         };
     }
-    let first = read_names(file);
-    if first.number != 0 {
-        return first;
-    }
-    let answer = read_head(file);
+    let answer = enter(file);
     match answer {
-        HeadAnswer::Refused(number) => Verdict { number, place: 0 },
-        HeadAnswer::Fine(head) => run_into(file, head, choices, out),
+        Opened::Refused(first) => first,
+        Opened::Fine(head) => run_into(file, head, choices, out),
     }
 }
 
@@ -117,14 +114,24 @@ fn ready_in(file: &[u8], head: Head, choices: &[u16]) -> Ready
     ensures { λ r. ⌜ r ≡ readyOf (stopped (run (clinicOf (contentsAt (now (file .entry)) head)) (start (contentsAt (now (file .entry)) head)) (now (choices .entry))))
         (readyPair (clinicOf (contentsAt (now (file .entry)) head)) (run (clinicOf (contentsAt (now (file .entry)) head)) (start (contentsAt (now (file .entry)) head)) (now (choices .entry)) .state)) ⌝ }
 {
+    let mut sends = [0u16; 33];
+    let mut receives = [0u16; 33];
     let mut threads = [0u16; 704];
-    let mut beside = [0u16; 130];
-    let counted = run_list(file, head, choices, &mut threads, &mut beside);
+    let mut beside = [0u16; BESIDE];
+    let counted = run_by(
+        file,
+        head,
+        &mut sends,
+        &mut receives,
+        choices,
+        &mut threads,
+        &mut beside,
+    );
     let verdict = stopped_at(counted);
     if verdict.number != 0 {
         return no_pair(verdict);
     }
-    let pair = pair_after(file, head, &threads, &beside);
+    let pair = ready_pair(file, head, &sends, &receives, &threads, &beside);
     Ready {
         number: 0,
         place: 0,
@@ -143,13 +150,9 @@ pub fn ready_after(file: &[u8], choices: &[u16]) -> Ready
             place: 0,
         });
     }
-    let first = read_names(file);
-    if first.number != 0 {
-        return no_pair(first);
-    }
-    let answer = read_head(file);
+    let answer = enter(file);
     match answer {
-        HeadAnswer::Refused(number) => no_pair(Verdict { number, place: 0 }),
-        HeadAnswer::Fine(head) => ready_in(file, head, choices),
+        Opened::Refused(first) => no_pair(first),
+        Opened::Fine(head) => ready_in(file, head, choices),
     }
 }

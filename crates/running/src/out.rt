@@ -12,7 +12,7 @@ ghost use lib.ListN.{length};
 ghost use lib.Seq.{sets};
 ghost use Rattle.format.specs.Words.{bytesOf};
 ghost use Rattle.running.specs.Run.{madeWords, threadWords, ranWords};
-ghost use Rattle.steps.specs.Kept.{threadsIn, madeIn, stateIn, Sized};
+ghost use Rattle.steps.specs.Kept.{threadsIn, madeIn, stateIn, Sized, besideWords};
 
 // Two words: a made channel's owner and kind.
 fn put_two(out: &mut [u8], at: usize, first: u16, second: u16)
@@ -45,7 +45,7 @@ fn put_thread(out: &mut [u8], at: usize, it: Thread)
 
 // The made channels, after the first four words.
 fn put_made(beside: &[u16], made: usize, out: &mut [u8])
-    requires { ⌜ (made ≤ 64) × (length (now beside) ≡ 130) × (1800 ≤ length (now out)) ⌝ }
+    requires { ⌜ (made ≤ 64) × (length (now beside) ≡ besideWords) × (1800 ≤ length (now out)) ⌝ }
     ensures { λ r. ⌜ now (out .exit) ≡ sets (now (out .entry)) 8 (bytesOf (madeWords (madeIn (now (beside .entry)) 2 made))) ⌝ }
 {
     let mut i: usize = 0;

@@ -6,7 +6,6 @@ use format::Node;
 use format::sections::in_count;
 use format::sections::node;
 use format::words::wide;
-use rules::grants::fill_grants;
 use steps::Thread;
 use steps::act::is_able;
 use steps::act::kind_held;
@@ -14,7 +13,7 @@ ghost use mathlib.Core.Path.{_≡_};
 ghost use mathlib.Core.Bool.{cond, _&&_};
 ghost use Prim.Native.Nat.{_≤_};
 ghost use lib.Dec.{eqb};
-ghost use lib.ListN.{length, getD, replicate};
+ghost use lib.ListN.{length, getD};
 ghost use Rattle.format.specs.Header.{Laid};
 ghost use Rattle.format.specs.Contents.{inCount, contentsAt};
 ghost use Rattle.rules.specs.Schema.{schemaOf};
@@ -23,7 +22,7 @@ ghost use Rattle.rules.specs.declared.Way.the-variants.{Sends, Receives};
 ghost use Rattle.steps.specs.declared.Partner.the-variants.{With};
 ghost use Rattle.steps.specs.Choice.{clinicOf, meeting, acting};
 ghost use Rattle.running.specs.Run.{isMeeting, readyPair};
-ghost use Rattle.steps.specs.Kept.{madeIn, stateIn, Sized};
+ghost use Rattle.steps.specs.Kept.{madeIn, stateIn, Sized, besideWords};
 
 // A send and a receive meet without refusal. The kind is looked up only where their channels are the same.
 fn agrees(
@@ -37,7 +36,7 @@ fn agrees(
     other: Thread,
     theirs: Node,
 ) -> bool
-    requires { ⌜ Laid (now file) head × Granting (schemaOf (contentsAt (now file) head)) Sends (now sends) × Granting (schemaOf (contentsAt (now file) head)) Receives (now receives) × (length (now beside) ≡ 130) × (getD (now beside) 1 0 ≤ 64) ⌝ }
+    requires { ⌜ Laid (now file) head × Granting (schemaOf (contentsAt (now file) head)) Sends (now sends) × Granting (schemaOf (contentsAt (now file) head)) Receives (now receives) × (length (now beside) ≡ besideWords) × (getD (now beside) 1 0 ≤ 64) ⌝ }
     ensures { λ r. ⌜ r ≡ isMeeting (meeting (clinicOf (contentsAt (now (file .entry)) head)) (madeIn (now (beside .entry)) 2 (getD (now (beside .entry)) 1 0)) own it other theirs) ⌝ }
 {
     let over = own.value(it.f1);
@@ -58,7 +57,7 @@ fn meets(
     own: Thread,
     other: Thread,
 ) -> bool
-    requires { ⌜ Laid (now file) head × Granting (schemaOf (contentsAt (now file) head)) Sends (now sends) × Granting (schemaOf (contentsAt (now file) head)) Receives (now receives) × (length (now beside) ≡ 130) × (getD (now beside) 1 0 ≤ 64) ⌝ }
+    requires { ⌜ Laid (now file) head × Granting (schemaOf (contentsAt (now file) head)) Sends (now sends) × Granting (schemaOf (contentsAt (now file) head)) Receives (now receives) × (length (now beside) ≡ besideWords) × (getD (now beside) 1 0 ≤ 64) ⌝ }
     ensures { λ r. ⌜ r ≡ isMeeting (acting (clinicOf (contentsAt (now (file .entry)) head)) (getD (now (beside .entry)) 0 0) (madeIn (now (beside .entry)) 2 (getD (now (beside .entry)) 1 0)) own (With other)) ⌝ }
 {
     if !in_count(head.count.nodes, other.node) {
@@ -127,36 +126,4 @@ pub fn ready_pair(
         }
     }
     Two { sender, receiver }
-}
-
-// The same, with two tables of grants lent to work in.
-fn pair_by(
-    file: &[u8],
-    head: Head,
-    sends: &mut [u16],
-    receives: &mut [u16],
-    threads: &[u16],
-    beside: &[u16],
-) -> Two
-    requires { ⌜ Laid (now file) head × (length (now sends) ≡ 33) × (length (now receives) ≡ 33) × (now sends ≡ replicate (length (now sends)) 0) × (now receives ≡ replicate (length (now receives)) 0) × Sized (now threads) (now beside) ⌝ }
-    ensures { λ r. ⌜ r ≡ record {
-      sender = readyPair (clinicOf (contentsAt (now (file .entry)) head)) (stateIn (now (threads .entry)) (now (beside .entry))) .0;
-      receiver = readyPair (clinicOf (contentsAt (now (file .entry)) head)) (stateIn (now (threads .entry)) (now (beside .entry))) .1;
-    } ⌝ }
-{
-    fill_grants(file, head, sends, receives);
-    ready_pair(file, head, sends, receives, threads, beside)
-}
-
-// The ready pair of a state of a run.
-pub fn pair_after(file: &[u8], head: Head, threads: &[u16], beside: &[u16]) -> Two
-    requires { ⌜ Laid (now file) head × Sized (now threads) (now beside) ⌝ }
-    ensures { λ r. ⌜ r ≡ record {
-      sender = readyPair (clinicOf (contentsAt (now (file .entry)) head)) (stateIn (now (threads .entry)) (now (beside .entry))) .0;
-      receiver = readyPair (clinicOf (contentsAt (now (file .entry)) head)) (stateIn (now (threads .entry)) (now (beside .entry))) .1;
-    } ⌝ }
-{
-    let mut sends = [0u16; 33];
-    let mut receives = [0u16; 33];
-    pair_by(file, head, &mut sends, &mut receives, threads, beside)
 }

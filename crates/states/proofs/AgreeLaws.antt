@@ -8,8 +8,9 @@ use lib.Dec.{eqb}
 use lib.ListN.{getD}
 use borrow.Author.Tests.{eqb-true}
 use Rattle.masks.proofs.Bits.{bit}
-use Rattle.states.specs.States.{Label, needs, first, rest, below, beyond, rowOf, rows, taken, top}
-use Rattle.states.specs.Kept.{Served, upper, lower, cellOf, wordOf, after, cellsPast, cells}
+use Rattle.format.specs.Stacks.{top, rest}
+use Rattle.states.specs.States.{Label, needs, first, below, beyond, rowOf, rows, taken}
+use Rattle.states.specs.Kept.{Served, upper, lower, cellOf, wordOf, stateAfter, cellsPast, cells}
 use Rattle.states.proofs.CellLaws.{Roled, none, cell-zero, cell-row, word-after}
 
 -- a row in one number, and in a list
@@ -95,7 +96,7 @@ module _ (l : Label) (cs : List ℕ) (rs : List (List ℕ)) (f : l .roles < 6553
       }
 
   -- the state read is the one taken
-  pub after-taken : (p : ℕ) → p ≤ 16 → after (wordOf (l .tag) (l .roles) (top cs) (top (rest cs))) p ≡ taken l (below (l .tag) rs) p
+  pub after-taken : (p : ℕ) → p ≤ 16 → stateAfter (wordOf (l .tag) (l .roles) (top cs) (top (rest cs))) p ≡ taken l (below (l .tag) rs) p
   unfolding wordOf
   after-taken =
       word-after l (below (l .tag) rs) (upper (l .tag) (top cs)) (lower (l .tag) (top (rest cs))) f s (upper-zero (l .tag) cs rs h) (lower-zero (l .tag) cs rs h)

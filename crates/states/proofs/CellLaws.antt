@@ -13,7 +13,7 @@ use Rattle.masks.proofs.Bits.{bit, bit-lt, bit-and, bit-or, bit-other, one-bit}
 use Rattle.optimum.specs.Optimum.{scan}
 use Rattle.optimum.proofs.Optimal.{Least, scan-least}
 use Rattle.states.specs.States.{Label, needs, rowOf, taken}
-use Rattle.states.specs.Kept.{allowed, upper, lower, bothIn, someIn, bestOf, alsoOf, mostOf, lowest, cellBy, wordBy, cellOf, after}
+use Rattle.states.specs.Kept.{allowedStates, upper, lower, bothIn, someIn, bestOf, alsoOf, mostOf, lowest, cellBy, wordBy, cellOf, stateAfter}
 use Rattle.states.proofs.KeptLaws.{stay, enter, least-unique, taken-is, row-is}
 use Rattle.states.proofs.LowestLaws.{bit-next, bit-below, bit-low, bit-even-zero, bit-even-next, lowest-below, lowest-within, lowest-at}
 
@@ -99,7 +99,7 @@ Roled [] = Unit {0}
 Roled (l ∷ ls) = (l .roles < 65536) × Roled ls
 
 -- how large these numbers may be
-pub mask-small : (tag roles : ℕ) → roles < 65536 → allowed tag roles < 131072
+pub mask-small : (tag roles : ℕ) → roles < 65536 → allowedStates tag roles < 131072
 mask-small tag roles h = go (needs tag)
   where
     go : (b : Bool) → cond b 0 1 + 2 * roles < 131072
@@ -133,7 +133,7 @@ most-few k both some = go (eqb both 0) (eqb some 0)
 pub cell-most : (tag roles one two : ℕ) → roles < 65536 → cellOf tag roles one two / 131072 ≤ upper tag one / 131072 + lower tag two / 131072 + 1
 unfolding cellOf
 cell-most tag roles one two h =
-    let m : ℕ = allowed tag roles in
+    let m : ℕ = allowedStates tag roles in
     let a : ℕ = upper tag one in
     let b : ℕ = lower tag two in
     omega (arith, best-small m a b (mask-small tag roles h), most-few (a / 131072 + b / 131072) (bothIn m a b) (someIn m a b))
@@ -159,7 +159,7 @@ nil-next s = bit-other 0 (suc s) (λ e. let e′ : 0 ≡ suc s = e in omega arit
 module _ (l : Label) (kids : ℕ → ℕ) (a b : ℕ) (fits : l .roles < 65536) (served : needs (l .tag) ≡ true → l .roles ≡ 0 → ⊥)
     (a0 : bit a 0 ≡ 0) (b0 : bit b 0 ≡ 0) (sums : (s : ℕ) → s ≤ 16 → kids s + bit a s + bit b s ≡ a / 131072 + b / 131072) where
   abbrev m : ℕ
-  m = allowed (l .tag) (l .roles)
+  m = allowedStates (l .tag) (l .roles)
 
   abbrev both : ℕ
   both = bothIn m a b
@@ -342,7 +342,7 @@ module _ (l : Label) (kids : ℕ → ℕ) (a b : ℕ) (fits : l .roles < 65536) 
           one false = omega arith
       go (suc (suc x)) e k b y g j = let no-way : ⊥ = omega (arith, k) in absurd no-way
 
-  pub word-after : (p : ℕ) → p ≤ 16 → after (wordBy best also) p ≡ taken l kids p
+  pub word-after : (p : ℕ) → p ≤ 16 → stateAfter (wordBy best also) p ≡ taken l kids p
   word-after p h =
       let high : wordBy best also / 131072 % 32 ≡ at = omega (arith, kept-small, at-within) in
       ap₂ (λ x y. cond (eqb x 1) p y) (word-bit p h) high ∙ ap (λ t. cond t p at) (keeps p h) ∙ taken-is l kids at c entered p h

@@ -13,7 +13,7 @@ use Rattle.masks.proofs.Bits.{bit-lt}
 use Rattle.optimum.specs.Optimum.{scan, gate}
 use Rattle.optimum.proofs.Optimal.{Least, scan-least}
 use Rattle.states.specs.States.{Label, needs, suits, cost, up, rowOf, taken}
-use Rattle.states.specs.Kept.{allowed}
+use Rattle.states.specs.Kept.{allowedStates}
 
 -- a list made from a function
 pub up-at : (i n : ℕ) (f : ℕ → ℕ) (s : ℕ) → s < n → getD (up i n f) s 0 ≡ f (i + s)
@@ -50,7 +50,7 @@ abbrev pub enter : ℕ → (ℕ → ℕ) → ℕ → ℕ
 enter m kids s = stay m kids s + cond (eqb s 0) 0 (m / 2 ^ s % 2)
 
 -- the bits are the states that the node may have
-pub allowed-suits : (l : Label) (s : ℕ) → eqb (allowed (l .tag) (l .roles) / 2 ^ s % 2) 1 ≡ suits l s
+pub allowed-suits : (l : Label) (s : ℕ) → eqb (allowedStates (l .tag) (l .roles) / 2 ^ s % 2) 1 ≡ suits l s
 unfolding suits has
 allowed-suits l zero = go (needs (l .tag))
   where
@@ -65,7 +65,7 @@ allowed-suits l (suc r) = ap (λ x. eqb (x % 2) 1) (halved (cond (needs (l .tag)
 
 module _ (l : Label) (kids : ℕ → ℕ) where
   abbrev m : ℕ
-  m = allowed (l .tag) (l .roles)
+  m = allowedStates (l .tag) (l .roles)
 
   -- after another state a state costs what it costs to enter; after itself, to stay
   enter-other : (p s : ℕ) → (s ≡ p → ⊥) → cost p l s + kids s ≡ enter m kids s
@@ -160,9 +160,9 @@ module _ (l : Label) (kids : ℕ → ℕ) where
             (ap (λ r. r .0) q, ap (λ r. r .1) q)
 
 -- the same, where the state entered and its cost are known
-module _ (l : Label) (kids : ℕ → ℕ) (e c : ℕ) (low : scan 16 (enter (allowed (l .tag) (l .roles)) kids) ≡ (e, c)) (p : ℕ) (h : p ≤ 16) where
+module _ (l : Label) (kids : ℕ → ℕ) (e c : ℕ) (low : scan 16 (enter (allowedStates (l .tag) (l .roles)) kids) ≡ (e, c)) (p : ℕ) (h : p ≤ 16) where
   abbrev w : ℕ
-  w = stay (allowed (l .tag) (l .roles)) kids p
+  w = stay (allowedStates (l .tag) (l .roles)) kids p
 
   pub taken-is : cond (ltb w c || (eqb w c && ltb p e)) p e ≡ taken l kids p
   unfolding taken

@@ -1,4 +1,4 @@
--- The stacks in arrays, and one turn of the loop each way.
+-- One turn of the loop each way, with a stack in an array whose element 0 is 0 and as nothing.
 use Prim.Native.Nat.{ℕ, zero, suc, _+_, _*_, _-_, _/_, _≤_, _<_}
 use mathlib.Core.Path.{_≡_, refl, sym, ap, ap₂, _∙_}
 use mathlib.Core.Bool.{Bool, true, false, cond}
@@ -6,50 +6,33 @@ use mathlib.Core.List.{List, [], _∷_, _++_, map}
 use native.Mathlib.Omega.{arith}
 use native.Mathlib.Numerals.{add-one}
 use lib.Dec.{eqb}
-use lib.ListN.{length, getD, take, drop, set, length-drop}
-use lib.Seq.{sets, drop-cons, getD-set-same, getD-set-other, set-split, drop-at, length-take-le}
+use lib.ListN.{length, getD, drop, set, length-drop}
+use lib.Seq.{sets, drop-cons, getD-set-other}
 use borrow.Author.Tests.{eqb-true}
 use Rattle.format.specs.Contents.{item, noNode}
 use Rattle.format.specs.declared.Node.{Node}
-use Rattle.format.proofs.ContentsLaws.{from-item, none-past}
-use Rattle.states.specs.States.{Label, rest, top, onward, labelled, packed}
-use Rattle.states.specs.Kept.{upper, lower, cellOf, wordOf, cellsPast, cells, keptAll, after, followed}
+use Rattle.format.specs.Stacks.{stacked, top, rest}
+use Rattle.format.proofs.ContentsLaws.{next-item, none-past, drop-set}
+use Rattle.format.proofs.StackLaws.{stacked-more, stacked-set, stacked-push}
+use Rattle.states.specs.States.{Label, statesAfter, labelled, packed}
+use Rattle.states.specs.Kept.{upper, lower, cellOf, wordOf, cellsPast, cells, keptAll, stateAfter, followed}
 use Rattle.states.proofs.CellLaws.{Roled, cell-most}
-
-drop-set : {A : Type 0} (l : List A) (i : ℕ) (v : A) → i < length l → drop i (set l i v) ≡ v ∷ drop (suc i) l
-drop-set l i v h = rw (set-split l i v h) (drop-at (take i l) (v ∷ drop (suc i) l) i (length-take-le i l (omega arith)))
-
-module _ {A : Type 0} (z : A) where
-  -- a stack in an array, above the element 0
-  abbrev pub held : List A → ℕ → List A
-  held a zero = []
-  held a (suc d) = getD a (suc d) z ∷ held a d
-
-  held-set : (a : List A) (i : ℕ) (v : A) (d : ℕ) → d < i → held (set a i v) d ≡ held a d
-  held-set a i v zero h = refl
-  held-set a i v (suc d) h =
-      let other : getD (set a i v) (suc d) z ≡ getD a (suc d) z = getD-set-other a i (suc d) v z (λ e. let no-way : suc d ≡ i = e in omega arith) in
-      rw (other, held-set a i v d (omega arith))
-
-  held-push : (a : List A) (d : ℕ) (v : A) → suc d < length a → held (set a (suc d) v) (suc d) ≡ v ∷ held a d
-  held-push a d v h = rw (getD-set-same a (suc d) v z h, held-set a (suc d) v d (omega arith))
-
-  pub held-rest : (a : List A) (d : ℕ) → rest (held a d) ≡ held a (d - 1)
-  held-rest a zero = refl
-  held-rest a (suc d) = let d1 : suc d - 1 ≡ d = omega arith in rw d1
-
--- the element 0 is as nothing
-pub top-held : (a : List ℕ) (d : ℕ) → getD a 0 0 ≡ 0 → top (held 0 a d) ≡ getD a d 0
-top-held a zero e = sym e
-top-held a (suc d) e = refl
 
 -- two lists that differ by zeros at their ends
 abbrev pub Same : List ℕ → List ℕ → Type 0
 Same cs ds = (k : ℕ) → getD cs k 0 ≡ getD ds k 0
 
-only-zero : Same (0 ∷ []) []
-only-zero zero = refl
-only-zero (suc k) = refl
+two-zeros : Same (0 ∷ 0 ∷ []) []
+two-zeros zero = refl
+two-zeros (suc zero) = refl
+two-zeros (suc (suc k)) = refl
+
+-- one fewer in use, but never fewer than the element 0
+one-less : (a : List ℕ) (d : ℕ) → getD a 0 0 ≡ 0 → Same (stacked 0 a (d - 1 + 1)) (stacked 0 a d)
+unfolding stacked
+one-less a zero e zero = e
+one-less a zero e (suc k) = refl
+one-less a (suc d) e k = let back : suc d - 1 + 1 ≡ suc d = omega arith in ap (λ j. getD (stacked 0 a j) k 0) back
 
 top-first : (cs : List ℕ) → top cs ≡ getD cs 0 0
 top-first [] = refl
@@ -89,10 +72,6 @@ length-labelled (n ∷ ns) (r ∷ rs) = omega (arith, length-labelled ns rs)
 
 pub labels-few : (ns : List Node) (roles : List ℕ) (i : ℕ) → length (labelsFrom ns roles i) ≤ length ns
 labels-few ns roles i = omega (arith, length-labelled (drop i ns) (drop (suc i) roles), length-drop i ns)
-
--- the items after i: the next one, and those after it
-pub next-item : {A : Type 0} (z : A) (xs : List A) (i : ℕ) → i < length xs → drop i xs ≡ item z xs (i + 1) ∷ drop (i + 1) xs
-next-item z xs i h = let back : i ≡ i + 1 - 1 = omega arith in ap (λ j. drop j xs) back ∙ from-item z xs (i + 1) (omega arith) (omega arith)
 
 labels-next : (ns : List Node) (roles : List ℕ) (i : ℕ) → i < length ns → i + 1 < length roles
     → labelsFrom ns roles i ≡ record { tag = item noNode ns (i + 1) .tag; roles = getD roles (i + 1) 0 } ∷ labelsFrom ns roles (i + 1)
@@ -149,24 +128,26 @@ two-cells [] = omega arith
 two-cells (a ∷ []) = omega arith
 two-cells (a ∷ b ∷ cs) = omega arith
 
-pub cells-fit : (t : ℕ) (a : List ℕ) (d : ℕ) (ls : List Label) → Roled ls → getD a 0 0 ≡ 0 → Same (t ∷ held 0 a d) (cells ls) → t / 131072 + getD a d 0 / 131072 ≤ length ls
-cells-fit t a d ls r e h =
-    let rs : List ℕ = t ∷ held 0 a d in
-    omega (arith, top-held a d e, same-top rs (cells ls) h, same-top (held 0 a d) (rest (cells ls)) (same-rest rs (cells ls) h), two-cells (cells ls), cells-total ls r)
+pub cells-fit : (t : ℕ) (a : List ℕ) (d : ℕ) (ls : List Label) → Roled ls → Same (t ∷ stacked 0 a (d + 1)) (cells ls) → t / 131072 + getD a d 0 / 131072 ≤ length ls
+cells-fit t a d ls r h =
+    let rs : List ℕ = t ∷ stacked 0 a (d + 1) in
+    omega (arith, ap top (stacked-more 0 a d), same-top rs (cells ls) h, same-top (stacked 0 a (d + 1)) (rest (cells ls)) (same-rest rs (cells ls) h), two-cells (cells ls), cells-total ls r)
 
 -- the stack after a node: the row before it goes there, where it is no part of the node's tree
-right-past : (tag t : ℕ) (a : List ℕ) (d : ℕ) → d + 1 < length a
-    → held 0 (set a (d + 1) t) (cond (eqb tag 0) (d + 1) (cond (eqb tag 1) (d - 1) d)) ≡ cellsPast tag (t ∷ held 0 a d)
-right-past tag t a d h = let one : d + 1 ≡ suc d = omega arith in rw one (go (eqb tag 0) (eqb tag 1))
+right-past : (tag t : ℕ) (a : List ℕ) (d j : ℕ) → d + 1 < length a → getD a 0 0 ≡ 0 → j ≡ cond (eqb tag 0) (d + 1) (cond (eqb tag 1) (d - 1) d)
+    → Same (stacked 0 (set a (d + 1) t) (j + 1)) (cellsPast tag (t ∷ stacked 0 a (d + 1)))
+right-past tag t a d j h e je k = ap (λ j. getD (stacked 0 (set a (d + 1) t) (j + 1)) k 0) je ∙ go (eqb tag 0) (eqb tag 1)
   where
-    go : (x y : Bool) → held 0 (set a (suc d) t) (cond x (suc d) (cond y (d - 1) d)) ≡ cond x (t ∷ held 0 a d) (cond y (rest (held 0 a d)) (held 0 a d))
-    go true y = held-push 0 a d t (omega arith)
-    go false true = held-set 0 a (suc d) t (d - 1) (omega arith) ∙ sym (held-rest 0 a d)
-    go false false = held-set 0 a (suc d) t d (omega arith)
+    go : (x y : Bool) → getD (stacked 0 (set a (d + 1) t) (cond x (d + 1) (cond y (d - 1) d) + 1)) k 0
+        ≡ getD (cond x (t ∷ stacked 0 a (d + 1)) (cond y (rest (stacked 0 a (d + 1))) (stacked 0 a (d + 1)))) k 0
+    go true y = ap (λ l. getD l k 0) (stacked-push 0 a (d + 1) t h)
+    go false true =
+        ap (λ l. getD l k 0) (stacked-set 0 a (d + 1) t (d - 1 + 1) (omega arith)) ∙ one-less a d e k ∙ ap (λ l. getD (rest l) k 0) (sym (stacked-more 0 a d))
+    go false false = ap (λ l. getD l k 0) (stacked-set 0 a (d + 1) t (d + 1) (omega arith))
 
 -- from the right: node i + 1 is read, i of them are left
 module _ (ns : List Node) (roles : List ℕ) (i : ℕ) (h : i < length ns) (k : i + 1 < length roles) (t : ℕ) (a : List ℕ) (d : ℕ) (e : getD a 0 0 ≡ 0)
-    (st : Same (t ∷ held 0 a d) (cells (labelsFrom ns roles (i + 1)))) (tag : ℕ) (its : tag ≡ item noNode ns (i + 1) .tag) where
+    (st : Same (t ∷ stacked 0 a (d + 1)) (cells (labelsFrom ns roles (i + 1)))) (tag : ℕ) (its : tag ≡ item noNode ns (i + 1) .tag) where
   abbrev ls : List Label
   ls = labelsFrom ns roles (i + 1)
 
@@ -174,21 +155,20 @@ module _ (ns : List Node) (roles : List ℕ) (i : ℕ) (h : i < length ns) (k : 
   role = getD roles (i + 1) 0
 
   one-is : t ≡ top (cells ls)
-  one-is = same-top (t ∷ held 0 a d) (cells ls) st
+  one-is = same-top (t ∷ stacked 0 a (d + 1)) (cells ls) st
 
   two-is : getD a d 0 ≡ top (rest (cells ls))
-  two-is = sym (top-held a d e) ∙ same-top (held 0 a d) (rest (cells ls)) (same-rest (t ∷ held 0 a d) (cells ls) st)
+  two-is = sym (ap top (stacked-more 0 a d)) ∙ same-top (stacked 0 a (d + 1)) (rest (cells ls)) (same-rest (t ∷ stacked 0 a (d + 1)) (cells ls) st)
 
   this : labelsFrom ns roles i ≡ record { tag = tag; roles = role } ∷ ls
   this = labels-next ns roles i h k ∙ ap (λ t. record { tag = t; roles = role } ∷ ls) (sym its)
 
   pub right-cells : (cell j : ℕ) → cell ≡ cellOf tag role t (getD a d 0) → j ≡ cond (eqb tag 0) (d + 1) (cond (eqb tag 1) (d - 1) d) → d + 1 < length a
-      → Same (cell ∷ held 0 (set a (d + 1) t) j) (cells (labelsFrom ns roles i))
+      → Same (cell ∷ stacked 0 (set a (d + 1) t) (j + 1)) (cells (labelsFrom ns roles i))
   unfolding cells
   right-cells cell j ce je fits q =
-      ap (λ cs. getD (cell ∷ cs) q 0) (ap (held 0 (set a (d + 1) t)) je ∙ right-past tag t a d fits)
-      ∙ same-cons cell (cellOf tag role (top (cells ls)) (top (rest (cells ls)))) (cellsPast tag (t ∷ held 0 a d)) (cellsPast tag (cells ls))
-      (ce ∙ ap₂ (cellOf tag role) one-is two-is) (same-past tag (t ∷ held 0 a d) (cells ls) st) q
+      same-cons cell (cellOf tag role (top (cells ls)) (top (rest (cells ls)))) (stacked 0 (set a (d + 1) t) (j + 1)) (cellsPast tag (cells ls))
+      (ce ∙ ap₂ (cellOf tag role) one-is two-is) (λ k. right-past tag t a d j fits e je k ∙ same-past tag (t ∷ stacked 0 a (d + 1)) (cells ls) st k) q
       ∙ ap (λ ls. getD (cells ls) q 0) (sym this)
 
   pub right-words : (words ends : List ℕ) (w : ℕ) → w ≡ wordOf tag role t (getD a d 0) → i < length words → drop (i + 1) words ≡ keptAll ls ++ ends
@@ -213,7 +193,7 @@ unfolding Under
 under-rest b [] h = tt
 under-rest b (s ∷ st) h = h .1
 
-pub under-onward : (b tag s : ℕ) (st : List ℕ) → s ≤ b → Under b st → Under b (onward tag s (rest st))
+pub under-onward : (b tag s : ℕ) (st : List ℕ) → s ≤ b → Under b st → Under b (statesAfter tag s (rest st))
 unfolding Under
 under-onward b tag s st le h = go (eqb tag 0) (eqb tag 1)
   where
@@ -228,7 +208,7 @@ under-same b [] ds h u = tt
 under-same b (c ∷ cs) ds h u =
     (omega (arith, h 0, top-first ds, under-top b ds u), under-same b cs (rest ds) (λ k. h (suc k) ∙ sym (rest-next ds k)) (under-rest b ds u))
 
-same-onward : (tag s : ℕ) (cs ds : List ℕ) → Same cs ds → Same (onward tag s cs) (onward tag s ds)
+same-onward : (tag s : ℕ) (cs ds : List ℕ) → Same cs ds → Same (statesAfter tag s cs) (statesAfter tag s ds)
 same-onward tag s cs ds h = go (eqb tag 0) (eqb tag 1)
   where
     go : (x y : Bool) → Same (cond x cs (cond y (s ∷ s ∷ cs) (s ∷ cs))) (cond x ds (cond y (s ∷ s ∷ ds) (s ∷ ds)))
@@ -241,30 +221,26 @@ unfolding followed
 same-followed [] ks cs ds h = refl
 same-followed (n ∷ ns) [] cs ds h = refl
 same-followed (n ∷ ns) (k ∷ ks) cs ds h =
-    let s : ℕ = after k (top ds) in
-    ap (λ p. record { from = p; to = after k p } ∷ followed ns ks (onward (n .tag) (after k p) (rest cs))) (same-top cs ds h)
+    let s : ℕ = stateAfter k (top ds) in
+    ap (λ p. record { from = p; to = stateAfter k p } ∷ followed ns ks (statesAfter (n .tag) (stateAfter k p) (rest cs))) (same-top cs ds h)
     ∙ ap (record { from = top ds; to = s } ∷_)
-    (same-followed ns ks (onward (n .tag) s (rest cs)) (onward (n .tag) s (rest ds)) (same-onward (n .tag) s (rest cs) (rest ds) (same-rest cs ds h)))
+    (same-followed ns ks (statesAfter (n .tag) s (rest cs)) (statesAfter (n .tag) s (rest ds)) (same-onward (n .tag) s (rest cs) (rest ds) (same-rest cs ds h)))
 
 -- from the left
 pub left-stack : (tag s : ℕ) (a : List ℕ) (d f j : ℕ) → d + 1 < length a → getD a 0 0 ≡ 0 → f ≡ cond (eqb tag 0) (getD a d 0) s → j ≡ cond (eqb tag 0) (d - 1) (cond (eqb tag 1) (d + 1) d)
-    → Same (f ∷ held 0 (set a (d + 1) s) j) (onward tag s (held 0 a d))
-left-stack tag s a d f j h z fe je k =
-    let one : d + 1 ≡ suc d = omega arith in
-    ap₂ (λ f j. getD (f ∷ held 0 (set a (d + 1) s) j) k 0) fe je ∙ (rw one (go (eqb tag 0) (eqb tag 1) k))
+    → Same (f ∷ stacked 0 (set a (d + 1) s) (j + 1)) (statesAfter tag s (stacked 0 a (d + 1)))
+left-stack tag s a d f j h z fe je k = ap₂ (λ f j. getD (f ∷ stacked 0 (set a (d + 1) s) (j + 1)) k 0) fe je ∙ go (eqb tag 0) (eqb tag 1)
   where
-    ended : (d : ℕ) → Same (getD a d 0 ∷ held 0 a (d - 1)) (held 0 a d)
-    ended zero zero = z
-    ended zero (suc k) = refl
-    ended (suc d) k = let d1 : suc d - 1 ≡ d = omega arith in ap (λ x. getD (getD a (suc d) 0 ∷ held 0 a x) k 0) d1
-
-    go : (x y : Bool) → Same (cond x (getD a d 0) s ∷ held 0 (set a (suc d) s) (cond x (d - 1) (cond y (suc d) d))) (cond x (held 0 a d) (cond y (s ∷ s ∷ held 0 a d) (s ∷ held 0 a d)))
-    go true y k = ap (λ l. getD (getD a d 0 ∷ l) k 0) (held-set 0 a (suc d) s (d - 1) (omega arith)) ∙ ended d k
-    go false true k = ap (λ l. getD (s ∷ l) k 0) (held-push 0 a d s (omega arith))
-    go false false k = ap (λ l. getD (s ∷ l) k 0) (held-set 0 a (suc d) s d (omega arith))
+    go : (x y : Bool) → getD (cond x (getD a d 0) s ∷ stacked 0 (set a (d + 1) s) (cond x (d - 1) (cond y (d + 1) d) + 1)) k 0
+        ≡ getD (cond x (stacked 0 a (d + 1)) (cond y (s ∷ s ∷ stacked 0 a (d + 1)) (s ∷ stacked 0 a (d + 1)))) k 0
+    go true y =
+        ap (λ l. getD (getD a d 0 ∷ l) k 0) (stacked-set 0 a (d + 1) s (d - 1 + 1) (omega arith))
+        ∙ same-cons (getD a d 0) (getD a d 0) (stacked 0 a (d - 1 + 1)) (stacked 0 a d) refl (one-less a d z) k ∙ ap (λ l. getD l k 0) (sym (stacked-more 0 a d))
+    go false true = ap (λ l. getD (s ∷ l) k 0) (stacked-push 0 a (d + 1) s h)
+    go false false = ap (λ l. getD (s ∷ l) k 0) (stacked-set 0 a (d + 1) s (d + 1) (omega arith))
 
 pub left-turn : (ns : List Node) (i : ℕ) (words turns whole st st′ : List ℕ) (tag from to : ℕ) → i < length ns → i < length words
-    → tag ≡ item noNode ns (i + 1) .tag → from ≡ top st → to ≡ after (getD words i 0) from → st′ ≡ onward tag to (rest st)
+    → tag ≡ item noNode ns (i + 1) .tag → from ≡ top st → to ≡ stateAfter (getD words i 0) from → st′ ≡ statesAfter tag to (rest st)
     → sets turns (i + 1) (map packed (followed (drop i ns) (drop i words) st)) ≡ whole
     → sets (set turns (i + 1) (from + 256 * to)) (i + 1 + 1) (map packed (followed (drop (i + 1) ns) (drop (i + 1) words) st′)) ≡ whole
 unfolding followed
@@ -275,7 +251,7 @@ left-turn ns i words turns whole st st′ tag from to h k te fe oe se inv =
     ap (λ j. sets (set turns (i + 1) (from + 256 * to)) j (map packed (followed (drop (i + 1) ns) (drop (i + 1) words) st′))) (add-one (i + 1))
     ∙ ap (λ ts. sets turns (i + 1) (map packed ts)) (sym now) ∙ inv
   where
-    both : from ≡ top st → to ≡ after (getD words i 0) from → tag ≡ item noNode ns (i + 1) .tag → st′ ≡ onward tag to (rest st)
+    both : from ≡ top st → to ≡ stateAfter (getD words i 0) from → tag ≡ item noNode ns (i + 1) .tag → st′ ≡ statesAfter tag to (rest st)
         → followed (item noNode ns (i + 1) ∷ drop (i + 1) ns) (getD words i 0 ∷ drop (i + 1) words) st
         ≡ record { from = from; to = to } ∷ followed (drop (i + 1) ns) (drop (i + 1) words) st′
     both fe oe te se = rw (se, te, oe, fe)
@@ -285,17 +261,17 @@ labels-none : (ns : List Node) (roles : List ℕ) (n : ℕ) → length ns ≤ n 
 unfolding labelled
 labels-none ns roles n h = ap (λ x. labelled x (drop (suc n) roles)) (none-past ns n h)
 
-pub right-begins : (ns : List Node) (roles : List ℕ) (n : ℕ) → length ns ≤ n → Same (0 ∷ []) (cells (labelsFrom ns roles n))
+pub right-begins : (ns : List Node) (roles : List ℕ) (n : ℕ) → length ns ≤ n → Same (0 ∷ 0 ∷ []) (cells (labelsFrom ns roles n))
 unfolding cells
-right-begins ns roles n h k = only-zero k ∙ ap (λ ls. getD (cells ls) k 0) (sym (labels-none ns roles n h))
+right-begins ns roles n h k = two-zeros k ∙ ap (λ ls. getD (cells ls) k 0) (sym (labels-none ns roles n h))
 
 pub right-empty : (ns : List Node) (roles ends : List ℕ) (n : ℕ) → length ns ≤ n → ends ≡ keptAll (labelsFrom ns roles n) ++ ends
 unfolding keptAll
 right-empty ns roles ends n h = ap (λ ls. keptAll ls ++ ends) (sym (labels-none ns roles n h))
 
 pub left-begins : (ns : List Node) (words turns : List ℕ)
-    → sets turns 1 (map packed (followed ns words (0 ∷ []))) ≡ sets turns 1 (map packed (followed ns words []))
-left-begins ns words turns = ap (λ ts. sets turns 1 (map packed ts)) (same-followed ns words (0 ∷ []) [] only-zero)
+    → sets turns 1 (map packed (followed ns words (0 ∷ 0 ∷ []))) ≡ sets turns 1 (map packed (followed ns words []))
+left-begins ns words turns = ap (λ ts. sets turns 1 (map packed ts)) (same-followed ns words (0 ∷ 0 ∷ []) [] two-zeros)
 
 pub left-ends : (ns : List Node) (i : ℕ) (words turns st : List ℕ) → length ns ≤ i → turns ≡ sets turns (i + 1) (map packed (followed (drop i ns) words st))
 unfolding followed

@@ -7,8 +7,9 @@ use lib.ListN.{length}
 use lib.Seq.{sets}
 use Rattle.format.specs.declared.Node.{Node}
 use Rattle.optimum.proofs.Optimal.{scan-least}
-use Rattle.states.specs.States.{Label, cost, taken, below, rows, top, rest, onward, turnsFrom, turnsOf, labelled, packed, unpacked}
-use Rattle.states.specs.Kept.{Served, wordOf, cells, keptAll, after, followed}
+use Rattle.format.specs.Stacks.{top, rest}
+use Rattle.states.specs.States.{Label, cost, taken, below, rows, statesAfter, turnsFrom, turnsOf, labelled, packed, unpacked}
+use Rattle.states.specs.Kept.{Served, wordOf, cells, keptAll, stateAfter, followed}
 use Rattle.states.specs.declared.Turn.{Turn}
 use Rattle.states.proofs.CellLaws.{Roled}
 use Rattle.states.proofs.AgreeLaws.{agrees, after-taken}
@@ -22,7 +23,7 @@ taken-within l kids p = scan-least 16 (λ s. cost p l s + kids s) .within
 from-length : (ls : List Label) (st : List ℕ) → length (turnsFrom ls st) ≡ length ls
 unfolding turnsFrom
 from-length [] st = refl
-from-length (l ∷ ls) st = ap suc (from-length ls (onward (l .tag) (taken l (below (l .tag) (rows ls)) (top st)) (rest st)))
+from-length (l ∷ ls) st = ap suc (from-length ls (statesAfter (l .tag) (taken l (below (l .tag) (rows ls)) (top st)) (rest st)))
 
 pub turns-length : (ls : List Label) → length (turnsOf ls) ≡ length ls
 unfolding turnsOf
@@ -39,7 +40,7 @@ from-small [] st h = tt
 from-small (l ∷ ls) st h =
     let s : ℕ = taken l (below (l .tag) (rows ls)) (top st) in
     let le : s ≤ 16 = taken-within l (below (l .tag) (rows ls)) (top st) in
-    (under-top 16 st h, le, from-small ls (onward (l .tag) s (rest st)) (under-onward 16 (l .tag) s st le h))
+    (under-top 16 st h, le, from-small ls (statesAfter (l .tag) s (rest st)) (under-onward 16 (l .tag) s st le h))
 
 pub turns-small : (ls : List Label) → SmallTurns (turnsOf ls)
 unfolding turnsOf Under
@@ -70,11 +71,11 @@ follows-from (n ∷ ns) (r ∷ rs) ends st h f s u =
     let l : Label = record { tag = n .tag; roles = r } in
     let ls : List Label = labelled ns rs in
     let kids : ℕ → ℕ = below (n .tag) (rows ls) in
-    let e : after (wordOf (n .tag) r (top (cells ls)) (top (rest (cells ls)))) (top st) ≡ taken l kids (top st) =
+    let e : stateAfter (wordOf (n .tag) r (top (cells ls)) (top (rest (cells ls)))) (top st) ≡ taken l kids (top st) =
     after-taken l (cells ls) (rows ls) (f .0) (s .0) (agrees ls (f .1) (s .1)) (top st) (under-top 16 st u) in
     let t : ℕ = taken l kids (top st) in
-    ap (λ x. record { from = top st; to = x } ∷ followed ns (keptAll ls ++ ends) (onward (n .tag) x (rest st))) e
-    ∙ ap (record { from = top st; to = t } ∷_) (follows-from ns rs ends (onward (n .tag) t (rest st)) (omega arith) (f .1) (s .1) (under-onward 16 (n .tag) t st (taken-within l kids (top st)) u))
+    ap (λ x. record { from = top st; to = x } ∷ followed ns (keptAll ls ++ ends) (statesAfter (n .tag) x (rest st))) e
+    ∙ ap (record { from = top st; to = t } ∷_) (follows-from ns rs ends (statesAfter (n .tag) t (rest st)) (omega arith) (f .1) (s .1) (under-onward 16 (n .tag) t st (taken-within l kids (top st)) u))
 
 pub finish : (turns rs kept ends : List ℕ) (ns : List Node) → kept ≡ keptAll (labelled ns rs) ++ ends → length ns ≤ length rs → Roled (labelled ns rs) → Served (labelled ns rs)
     → sets turns 1 (map packed (followed ns kept [])) ≡ sets turns 1 (map packed (turnsOf (labelled ns rs)))

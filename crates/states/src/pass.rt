@@ -14,7 +14,7 @@ ghost use lib.Seq.{sets};
 ghost use Rattle.format.specs.Header.{Laid};
 ghost use Rattle.format.specs.Contents.{contentsAt};
 ghost use Rattle.states.specs.States.{labelled, packed};
-ghost use Rattle.states.specs.Kept.{keptAll, after, followed};
+ghost use Rattle.states.specs.Kept.{keptAll, stateAfter, followed};
 
 // The depth of a stack without its top.
 fn less(depth: usize) -> usize
@@ -60,7 +60,7 @@ pub fn decide(file: &[u8], head: Head, roles: &[u16], words: &mut [u32])
 // The state after the parent's.
 fn state_after(word: u32, p: u16) -> u16
     requires { ⌜ p ≤ 31 ⌝ }
-    ensures { λ r. ⌜ (r ≡ after word p) × (r ≤ 31) ⌝ }
+    ensures { λ r. ⌜ (r ≡ stateAfter word p) × (r ≤ 31) ⌝ }
 {
     if (word >> p) % 2 == 1 {
         return p;

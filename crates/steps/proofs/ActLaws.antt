@@ -25,7 +25,7 @@ use Rattle.steps.specs.declared.Answer.{Answer}
 use Rattle.steps.specs.declared.Acted.{Acted}
 use Rattle.steps.specs.declared.Thread.{Thread}
 use Rattle.steps.specs.Threads.{noThread, noMade, value, movedTo, onward, masked, bound}
-use Rattle.steps.specs.Choice.{Clinic, kindHeld, allowed, meeting, sending, lone, aloneOnly, acting}
+use Rattle.steps.specs.Choice.{Clinic, kindHeld, isAllowed, meeting, sending, lone, aloneOnly, acting}
 use Rattle.steps.specs.Kept.{madeIn}
 use Rattle.steps.specs.Acted.{partnerOf, actedOf, outcomeOf}
 
@@ -92,20 +92,20 @@ able-by D way l m made k x v p b g e f h q = rw (← f, ← e, ← g k) (sym h �
 
 -- a send with a receive
 module _ (C : Clinic) (made : List Made) (t : Thread) (n : Node) (r : Thread) (m : Node) where
-  pub meeting-sender : allowed C made t Sends (n .f1) ≡ false → meeting C made t n r m ≡ Refused 13
+  pub meeting-sender : isAllowed C made t Sends (n .f1) ≡ false → meeting C made t n r m ≡ Refused 13
   unfolding meeting
   meeting-sender a = rw a
 
-  pub meeting-receiver : allowed C made t Sends (n .f1) ≡ true → allowed C made r Receives (m .f1) ≡ false → meeting C made t n r m ≡ Refused 13
+  pub meeting-receiver : isAllowed C made t Sends (n .f1) ≡ true → isAllowed C made r Receives (m .f1) ≡ false → meeting C made t n r m ≡ Refused 13
   unfolding meeting
   meeting-receiver a b = rw (a, b)
 
-  pub meeting-apart : allowed C made t Sends (n .f1) ≡ true → allowed C made r Receives (m .f1) ≡ true → (value t (n .f1) ≡ value r (m .f1) → ⊥)
+  pub meeting-apart : isAllowed C made t Sends (n .f1) ≡ true → isAllowed C made r Receives (m .f1) ≡ true → (value t (n .f1) ≡ value r (m .f1) → ⊥)
       → meeting C made t n r m ≡ Refused 19
   unfolding meeting
   meeting-apart a b d = rw (a, b, ne-eqb (value t (n .f1)) (value r (m .f1)) d)
 
-  pub meeting-both : allowed C made t Sends (n .f1) ≡ true → allowed C made r Receives (m .f1) ≡ true → value t (n .f1) ≡ value r (m .f1)
+  pub meeting-both : isAllowed C made t Sends (n .f1) ≡ true → isAllowed C made r Receives (m .f1) ≡ true → value t (n .f1) ≡ value r (m .f1)
       → meeting C made t n r m ≡ Meets (record { first = onward t; second = bound r (value t (n .f2)) })
   unfolding meeting
   meeting-both a b e = rw (a, b, eq-eqb (value t (n .f1)) (value r (m .f1)) e)

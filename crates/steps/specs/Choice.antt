@@ -35,13 +35,13 @@ unfoldable pub kindHeld : Schema → List Made → ℕ → ℕ
 kindHeld D made v = cond (ltb v 257) 0 (cond (ltb v 385) (D .kind (v - 256)) (getD made (v - 385) noMade .kind))
 
 -- rule 6 for a thread, by the kind of the channel that an operand stands for
-abbrev pub allowed : Clinic → List Made → Thread → Way → ℕ → Bool
-allowed C made t way x = able (C .schema) (t .mask) way (kindHeld (C .schema) made (value t x))
+abbrev pub isAllowed : Clinic → List Made → Thread → Way → ℕ → Bool
+isAllowed C made t way x = able (C .schema) (t .mask) way (kindHeld (C .schema) made (value t x))
 
 -- a send with a receive: 13 of either side, then 19 where the channels differ; the receive's variable takes the value sent
 unfoldable pub meeting : Clinic → List Made → Thread → Node → Thread → Node → Outcome
 meeting C made t n r m =
-    cond (allowed C made t Sends (n .f1) && allowed C made r Receives (m .f1))
+    cond (isAllowed C made t Sends (n .f1) && isAllowed C made r Receives (m .f1))
     (cond (eqb (value t (n .f1)) (value r (m .f1))) (Meets (record { first = onward t; second = bound r (value t (n .f2)) })) (Refused 19)) (Refused 13)
 
 -- a send needs a partner that is a thread at a receive: else 18
@@ -98,8 +98,8 @@ changed s i t = record { threads = set (s .threads) (i - 1) t; made = s .made }
 abbrev pub added : State → ℕ → Thread → Thread → State
 added s i t u = record { threads = set (s .threads) (i - 1) t ++ (u ∷ []); made = s .made }
 
-abbrev pub minted : State → ℕ → Thread → Made → State
-minted s i t m = record { threads = set (s .threads) (i - 1) t; made = s .made ++ (m ∷ []) }
+abbrev pub withMade : State → ℕ → Thread → Made → State
+withMade s i t m = record { threads = set (s .threads) (i - 1) t; made = s .made ++ (m ∷ []) }
 
 abbrev pub removed : State → ℕ → State
 removed s i = record { threads = take (i - 1) (s .threads) ++ drop i (s .threads); made = s .made }
@@ -108,7 +108,7 @@ unfoldable pub done : State → ℕ → ℕ → Outcome → Chosen
 done s i p (Refused n) = halts n
 done s i p (Moves t) = goes (changed s i t)
 done s i p (Adds q) = goes (added s i (q .first) (q .second))
-done s i p (Makes q) = goes (minted s i (q .thread) (q .made))
+done s i p (Makes q) = goes (withMade s i (q .thread) (q .made))
 done s i p Ends = goes (removed s i)
 done s i p (Meets q) = goes (changed (changed s i (q .first)) p (q .second))
 

@@ -31,10 +31,14 @@ madeIn b p (suc k) = madeAt b p ∷ madeIn b (p + 2) k
 abbrev pub stateIn : List ℕ → List ℕ → State
 stateIn w b = record { threads = threadsIn w 0 (getD b 0 0); made = madeIn b 2 (getD b 1 0) }
 
+-- the words beside the threads: both numbers, and owner and kind of 64 made channels
+abbrev pub besideWords : ℕ
+besideWords = 130
+
 -- tables that can hold 64 threads and 64 made channels, and hold no more
 pub record Sized (w b : List ℕ) : Type 0 where
   pub words : length w ≡ 704
-  pub beside : length b ≡ 130
+  pub beside : length b ≡ besideWords
   pub threads : getD b 0 0 ≤ 64
   pub made : getD b 1 0 ≤ 64
 

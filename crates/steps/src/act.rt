@@ -28,12 +28,12 @@ ghost use Rattle.rules.specs.declared.Way.the-variants.{Sends, Receives};
 ghost use Rattle.steps.specs.declared.Outcome.the-variants.{Refused, Moves, Adds, Makes};
 ghost use Rattle.steps.specs.Threads.{noThread, masked, bound};
 ghost use Rattle.steps.specs.Choice.{clinicOf, kindHeld, meeting, sending, lone, acting};
-ghost use Rattle.steps.specs.Kept.{madeIn};
+ghost use Rattle.steps.specs.Kept.{madeIn, besideWords};
 ghost use Rattle.steps.specs.Acted.{partnerOf, actedOf};
 
 // The kind of a value, 0 for a plain one.
 pub fn kind_held(file: &[u8], head: Head, beside: &[u16], v: u16) -> u16
-    requires { ⌜ Laid (now file) head × (length (now beside) ≡ 130) × (getD (now beside) 1 0 ≤ 64) ⌝ }
+    requires { ⌜ Laid (now file) head × (length (now beside) ≡ besideWords) × (getD (now beside) 1 0 ≤ 64) ⌝ }
     ensures { λ r. ⌜ r ≡ kindHeld (schemaOf (contentsAt (now (file .entry)) head)) (madeIn (now (beside .entry)) 2 (getD (now (beside .entry)) 1 0)) v ⌝ }
 {
     if v < 257 {
@@ -168,7 +168,7 @@ fn meets(
     other: Thread,
     theirs: Node,
 ) -> Acted
-    requires { ⌜ Laid (now file) head × (own .node < 65535) × (other .node < 65535) × Granting (schemaOf (contentsAt (now file) head)) Sends (now sends) × Granting (schemaOf (contentsAt (now file) head)) Receives (now receives) × (length (now beside) ≡ 130) × (getD (now beside) 1 0 ≤ 64) ⌝ }
+    requires { ⌜ Laid (now file) head × (own .node < 65535) × (other .node < 65535) × Granting (schemaOf (contentsAt (now file) head)) Sends (now sends) × Granting (schemaOf (contentsAt (now file) head)) Receives (now receives) × (length (now beside) ≡ besideWords) × (getD (now beside) 1 0 ≤ 64) ⌝ }
     ensures { λ r. ⌜ r ≡ actedOf (meeting (clinicOf (contentsAt (now (file .entry)) head)) (madeIn (now (beside .entry)) 2 (getD (now (beside .entry)) 1 0)) own it other theirs) ⌝ }
 {
     let over = own.value(it.f1);
@@ -205,7 +205,7 @@ fn send(
     partner: u16,
     other: Thread,
 ) -> Acted
-    requires { ⌜ Laid (now file) head × (own .node < 65535) × Granting (schemaOf (contentsAt (now file) head)) Sends (now sends) × Granting (schemaOf (contentsAt (now file) head)) Receives (now receives) × (length (now beside) ≡ 130) × (getD (now beside) 1 0 ≤ 64) ⌝ }
+    requires { ⌜ Laid (now file) head × (own .node < 65535) × Granting (schemaOf (contentsAt (now file) head)) Sends (now sends) × Granting (schemaOf (contentsAt (now file) head)) Receives (now receives) × (length (now beside) ≡ besideWords) × (getD (now beside) 1 0 ≤ 64) ⌝ }
     ensures { λ r. ⌜ r ≡ actedOf (sending (clinicOf (contentsAt (now (file .entry)) head)) (madeIn (now (beside .entry)) 2 (getD (now (beside .entry)) 1 0)) own it (partnerOf (getD (now (beside .entry)) 0 0) partner other)) ⌝ }
 {
     if partner == 0 {
@@ -237,7 +237,7 @@ pub fn act(
     partner: u16,
     other: Thread,
 ) -> Acted
-    requires { ⌜ Laid (now file) head × Granting (schemaOf (contentsAt (now file) head)) Sends (now sends) × Granting (schemaOf (contentsAt (now file) head)) Receives (now receives) × (length (now beside) ≡ 130) × (getD (now beside) 1 0 ≤ 64) ⌝ }
+    requires { ⌜ Laid (now file) head × Granting (schemaOf (contentsAt (now file) head)) Sends (now sends) × Granting (schemaOf (contentsAt (now file) head)) Receives (now receives) × (length (now beside) ≡ besideWords) × (getD (now beside) 1 0 ≤ 64) ⌝ }
     ensures { λ r. ⌜ r ≡ actedOf (acting (clinicOf (contentsAt (now (file .entry)) head)) (getD (now (beside .entry)) 0 0) (madeIn (now (beside .entry)) 2 (getD (now (beside .entry)) 1 0)) own (partnerOf (getD (now (beside .entry)) 0 0) partner other)) ⌝ }
 {
     if !in_count(head.count.nodes, own.node) {

@@ -6,11 +6,12 @@ use mathlib.Core.List.{List, [], _∷_, _++_, append-assoc, append-nil}
 use native.Mathlib.Omega.{arith}
 use native.Mathlib.Numerals.{add-one}
 use lib.ListN.{length, getD, take, drop, set, length-append, length-drop, length-set, take-append-drop, List·getD-eq-default, drop-of-length-le}
-use lib.Seq.{set-split, drop-at, length-take-le, getD-at, getD-drop, getD-set-other, getD-set-same}
+use lib.Seq.{length-take-le, getD-at, getD-drop, getD-set-other, getD-set-same}
 use lib.Dec.{eqb, leb}
 use Rattle.format.specs.Contents.{item, noNode}
-use Rattle.format.proofs.ContentsLaws.{from-item, none-past}
-use Rattle.trees.specs.Ends.{top, rest, grown, following, tableFrom, tableOf, endOf}
+use Rattle.format.specs.Stacks.{top, rest}
+use Rattle.format.proofs.ContentsLaws.{from-item, none-past, drop-set}
+use Rattle.trees.specs.Ends.{grown, following, tableFrom, tableOf, endOf}
 use Rattle.format.specs.declared.Node.{Node}
 
 top-grown : (t i : ℕ) (st : List ℕ) → top (grown t i st) ≡ endOf t (suc i) (top st) (top (rest st))
@@ -94,9 +95,6 @@ two l i ns le e z = go (following i ns) chain
 
 first-at : (l : List ℕ) (i : ℕ) (ns : List Node) → drop i l ≡ tableFrom i ns → getD l i 0 ≡ top (following i ns)
 first-at l i ns e = let z : i + 0 ≡ i = omega arith in (rw z at (sym (getD-drop i l 0 0))) ∙ ap (λ x. getD x 0 0) e ∙ table-head i ns
-
-drop-set : (l : List ℕ) (i v : ℕ) → i < length l → drop i (set l i v) ≡ v ∷ drop (suc i) l
-drop-set l i v h = rw (set-split l i v h) (drop-at (take i l) (v ∷ drop (suc i) l) i (length-take-le i l (omega arith)))
 
 -- one turn of the loop, at the node i
 pub again : (xs : List Node) (i : ℕ) (l : List ℕ) (v : ℕ) → 0 < i → i ≤ length xs → length l ≡ length xs + 2 → getD l 0 0 ≡ 0

@@ -7,8 +7,9 @@ use mathlib.Core.List.{List, _∷_}
 use native.Mathlib.Omega.{arith}
 use borrow.Author.Tests.{ltb-true, ne-eqb}
 use Rattle.format.proofs.BoolLaws.{eq-iff, le-iff, and-iff}
-use Rattle.trees.specs.Ends.{top, following}
-use Rattle.trees.specs.Shape.{boundOf, rootFits, binds, unusedFit, secondFits, variableFits, nodeFits, onward, shapeFrom}
+use Rattle.format.specs.Stacks.{top}
+use Rattle.trees.specs.Ends.{following}
+use Rattle.trees.specs.Shape.{boundOf, rootFits, binds, unusedFit, secondFits, variableFits, nodeFits, dueAfter, shapeFrom}
 use Rattle.format.specs.declared.Node.{Node}
 use Rattle.trees.specs.declared.Due.{Due}
 
@@ -27,7 +28,7 @@ fits-apart i n d e =
 
 -- a node that fits is passed
 pub passed : (i : ℕ) (n : Node) (ns : List Node) (d : Due) (st : List Due) → Fitting i n d (top (following (suc i) ns))
-    → shapeFrom i (n ∷ ns) (d ∷ st) ≡ shapeFrom (suc i) ns (onward n d st)
+    → shapeFrom i (n ∷ ns) (d ∷ st) ≡ shapeFrom (suc i) ns (dueAfter n d st)
 unfolding shapeFrom
 passed i n ns d st h = rw (fits-apart i n d (top (following (suc i) ns)) .1 h)
 

@@ -5,45 +5,21 @@ use mathlib.Core.Bool.{Bool, true, false, cond}
 use mathlib.Core.List.{List, [], _∷_}
 use native.Mathlib.Omega.{arith}
 use native.Mathlib.Numerals.{add-one}
-use lib.ListN.{length, getD, set, drop, length-set}
-use lib.Seq.{getD-set-other, getD-set-same}
+use lib.ListN.{length, getD, set, drop}
 use lib.Dec.{eqb}
 use Rattle.format.specs.Answers.{fine, refused}
 use Rattle.format.specs.Contents.{item, noSession, noNode}
-use Rattle.trees.specs.Ends.{top, following, tableFrom, tableOf}
-use Rattle.trees.specs.Shape.{boundOf, nodeFits, boundBelow, depthAfter, onward, shapeFrom, roots}
+use Rattle.format.specs.Stacks.{stacked, top}
+use Rattle.trees.specs.Ends.{following, tableFrom, tableOf}
+use Rattle.trees.specs.Shape.{boundOf, nodeFits, boundBelow, depthAfter, dueAfter, shapeFrom, roots}
 use Rattle.format.specs.declared.Verdict.{Verdict}
 use Rattle.format.specs.declared.Session.{Session}
 use Rattle.format.specs.declared.Node.{Node}
 use Rattle.trees.specs.declared.Due.{Due}
 use Rattle.trees.specs.declared.Due.the-variants.{Root, Below}
-use Rattle.format.proofs.ContentsLaws.{from-item, none-past}
+use Rattle.format.proofs.ContentsLaws.{from-item, from-node, none-past}
+use Rattle.format.proofs.StackLaws.{stacked-push, stacked-spread}
 use Rattle.trees.proofs.EndsLaws.{table-head, table-length}
-
-module _ {A : Type 0} (z : A) where
-  -- a stack in an array: its top is the last of the elements in use
-  abbrev pub pile : List A → ℕ → List A
-  pile a zero = []
-  pile a (suc d) = getD a d z ∷ pile a d
-
-  pile-set : (a : List A) (i : ℕ) (v : A) (d : ℕ) → d ≤ i → pile (set a i v) d ≡ pile a d
-  pile-set a i v zero h = refl
-  pile-set a i v (suc d) h =
-      let other : getD (set a i v) d z ≡ getD a d z = getD-set-other a i d v z (λ e. let no : d ≡ i = e in omega arith) in
-      rw (other, pile-set a i v d (omega arith))
-
-  pub pile-push : (a : List A) (d : ℕ) (v : A) → d < length a → pile (set a d v) (suc d) ≡ v ∷ pile a d
-  pile-push a d v h = rw (getD-set-same a d v z h, pile-set a d v d (omega arith))
-
-  pub pile-top : (a : List A) (d : ℕ) → 0 < d → pile a d ≡ getD a (d - 1) z ∷ pile a (d - 1)
-  pile-top a zero pos = let no : ⊥ = omega arith in absurd no
-  pile-top a (suc d) pos = let d1 : suc d - 1 ≡ d = omega arith in rw d1
-
-  -- a value stored at the top and above it
-  twice : (a : List A) (d : ℕ) (v : A) → suc d < length a → pile (set (set a d v) (suc d) v) (suc (suc d)) ≡ v ∷ v ∷ pile a d
-  twice a d v h =
-      let long : suc d < length (set a d v) = simp length-set h in
-      pile-push (set a d v) (suc d) v long ∙ ap (v ∷_) (pile-push a d v (omega arith))
 
 -- what stands past the end of an array
 abbrev pub blank : Due
@@ -51,28 +27,18 @@ blank = Root 0
 
 -- the roots, last session first
 pub roots-push : (ss : List Session) (s d : ℕ) (a : List Due) → length ss ≡ s → d < s → d < length a
-    → pile blank a d ≡ roots (drop (s - d) ss)
-    → pile blank (set a d (Root (item noSession ss (s - d) .root))) (d + 1) ≡ roots (drop (s - (d + 1)) ss)
+    → stacked blank a d ≡ roots (drop (s - d) ss)
+    → stacked blank (set a d (Root (item noSession ss (s - d) .root))) (d + 1) ≡ roots (drop (s - (d + 1)) ss)
 unfolding roots
 roots-push ss s d a all h l e =
-    let one : s - suc d ≡ s - d - 1 = omega arith in
-    rw (add-one d, one, from-item noSession ss (s - d) (omega arith) (omega arith), pile-push blank a d (Root (item noSession ss (s - d) .root)) l, e)
+    let one : s - (d + 1) ≡ s - d - 1 = omega arith in
+    rw (one, from-item noSession ss (s - d) (omega arith) (omega arith), stacked-push blank a d (Root (item noSession ss (s - d) .root)) l, e)
 
 -- what is due after a node, in the array
 pub due-after : (n : Node) (a : List Due) (d : ℕ) (x : Due) → 0 < d → d < length a
-    → pile blank (set (set a (d - 1) (Below (boundBelow (n .tag) (boundOf x)))) d (Below (boundBelow (n .tag) (boundOf x)))) (depthAfter (n .tag) d)
-    ≡ onward n x (pile blank a (d - 1))
-due-after n a zero x pos h = let no : ⊥ = omega arith in absurd no
-due-after n a (suc d) x pos h =
-    let d1 : suc d - 1 ≡ d = omega arith in
-    let v : Due = Below (boundBelow (n .tag) (boundOf x)) in
-    rw d1 (go v (eqb (n .tag) 0) (eqb (n .tag) 1))
-  where
-    go : (v : Due) (p q : Bool)
-        → pile blank (set (set a d v) (suc d) v) (cond p d (cond q (suc d + 1) (suc d))) ≡ cond p (pile blank a d) (cond q (v ∷ v ∷ pile blank a d) (v ∷ pile blank a d))
-    go v true q = pile-set blank (set a d v) (suc d) v d (omega arith) ∙ pile-set blank a d v d (omega arith)
-    go v false true = rw (add-one (suc d)) (twice blank a d v h)
-    go v false false = pile-set blank (set a d v) (suc d) v (suc d) (omega arith) ∙ pile-push blank a d v (omega arith)
+    → stacked blank (set (set a (d - 1) (Below (boundBelow (n .tag) (boundOf x)))) d (Below (boundBelow (n .tag) (boundOf x)))) (depthAfter (n .tag) d)
+    ≡ dueAfter n x (stacked blank a (d - 1))
+due-after n a d x pos h = stacked-spread blank a d (Below (boundBelow (n .tag) (boundOf x))) (eqb (n .tag) 0) (eqb (n .tag) 1) pos h
 
 pub depth-most : (tag d : ℕ) → depthAfter tag d ≤ d + 1
 depth-most tag d = go (eqb tag 0) (eqb tag 1)
@@ -102,11 +68,9 @@ table-size ends ns e = ap length e ∙ omega (arith, table-length 1 ns)
 -- a turn: the node at i is judged, and the walk goes on with what is due then
 turn : (ends : List ℕ) (ns : List Node) (i : ℕ) (d : Due) (st : List Due) → ends ≡ tableOf ns → 1 ≤ i → i ≤ length ns
     → shapeFrom i (drop (i - 1) ns) (d ∷ st)
-    ≡ cond (nodeFits i (item noNode ns i) d (getD ends (i + 1) 0)) (shapeFrom (i + 1) (drop (i + 1 - 1) ns) (onward (item noNode ns i) d st)) (refused 8 i)
+    ≡ cond (nodeFits i (item noNode ns i) d (getD ends (i + 1) 0)) (shapeFrom (i + 1) (drop (i + 1 - 1) ns) (dueAfter (item noNode ns i) d st)) (refused 8 i)
 unfolding shapeFrom
-turn ends ns i d st e pos h =
-    let back : i + 1 - 1 ≡ i = omega arith in
-    rw (from-item noNode ns i pos h, back, table-next ends ns i e h, add-one i)
+turn ends ns i d st e pos h = let back : i + 1 - 1 ≡ i = omega arith in rw (from-node ns i _ pos h refl, back, table-next ends ns i e h, add-one i)
 
 -- the end of the walk
 pub over-empty : (ns : List Node) (i : ℕ) → length ns < i → shapeFrom i (drop (i - 1) ns) [] ≡ fine
@@ -126,5 +90,5 @@ pub judged : (ends : List ℕ) (ns : List Node) (i : ℕ) (d : Due) (st : List D
     → ends ≡ tableOf ns → 1 ≤ i → i ≤ length ns
     → node ≡ item noNode ns i → e ≡ getD ends (i + 1) 0 → fit ≡ nodeFits i node d e
     → shapeFrom i (drop (i - 1) ns) (d ∷ st) ≡ v
-    → cond fit (shapeFrom (i + 1) (drop (i + 1 - 1) ns) (onward node d st)) (refused 8 i) ≡ v
+    → cond fit (shapeFrom (i + 1) (drop (i + 1 - 1) ns) (dueAfter node d st)) (refused 8 i) ≡ v
 judged ends ns i d st v node fit e table pos h nd en ft whole = rw (ft, en, nd) (sym (turn ends ns i d st table pos h) ∙ whole)

@@ -5,20 +5,21 @@ use mathlib.Core.Bool.{Bool, true, false, cond, not, _&&_, _||_, and-eq-true-iff
 use mathlib.Core.List.{List, [], _∷_, map}
 use native.Mathlib.Omega.{arith}
 use native.Mathlib.Numerals.{add-one}
-use lib.ListN.{length, getD, set, drop}
+use lib.ListN.{length, set, drop}
 use lib.Dec.{eqb, leb, ltb}
 use borrow.Author.Tests.{leb-true, eqb-true, eqb-false, eq-eqb, ne-eqb, leb-false, lt-ltb, not-true}
 use Rattle.format.specs.Answers.{fine}
 use Rattle.format.specs.Contents.{item, noSession, noNode}
 use Rattle.format.specs.declared.Session.{Session}
 use Rattle.format.specs.declared.Node.{Node}
-use Rattle.trees.specs.Ends.{top, rest, following}
-use Rattle.trees.specs.Shape.{boundOf, rootFits, binds, unusedFit, secondFits, boundBelow, onward, shapeFrom, roots}
+use Rattle.format.specs.Stacks.{stacked, top, rest}
+use Rattle.trees.specs.Ends.{following}
+use Rattle.trees.specs.Shape.{boundOf, rootFits, binds, unusedFit, secondFits, boundBelow, dueAfter, shapeFrom, roots}
 use Rattle.trees.specs.declared.Due.{Due}
 use Rattle.trees.specs.declared.Due.the-variants.{Root, Below}
-use Rattle.format.proofs.ContentsLaws.{from-item, none-past}
+use Rattle.format.proofs.ContentsLaws.{from-item, from-node, none-past}
+use Rattle.format.proofs.StackLaws.{read-push}
 use Rattle.trees.proofs.FitsLaws.{Fitting, passed}
-use Rattle.trees.proofs.ShapeLaws.{pile, pile-push, pile-top}
 
 -- a tree that waits for those before it to end: the number that names it, and the variables bound above it
 pub record Waiting : Type 0 where
@@ -134,14 +135,14 @@ module _ (t : ℕ) where
       go true x y e (w ∷ []) [] m lt u a ih =
           let tag : n .tag ≡ 0 = eqb-true (n .tag) 0 x in
           let number : w .number ≡ suc i = eqb-true (w .number) (suc i) (and-eq-true-iff (eqb (w .number) (suc i)) (accepts (suc i) ns (w .bound) []) .0 a .0) in
-          let ended : shapeFrom (suc i) ns (onward n d []) ≡ fine = rw x (over t i ns (sym number ∙ m) l) in
+          let ended : shapeFrom (suc i) ns (dueAfter n d []) ≡ fine = rw x (over t i ns (sym number ∙ m) l) in
           passed i n ns d [] (at-end e′ tag lt u) ∙ ended
       go true x y e (w ∷ v ∷ st) [] m lt u a ih = absurd m
       go true x y e (w ∷ st) (d′ ∷ ds) m lt u a ih =
           let tag : n .tag ≡ 0 = eqb-true (n .tag) 0 x in
           let p = and-eq-true-iff (eqb (w .number) (suc i)) (accepts (suc i) ns (w .bound) st) .0 a in
           let number : w .number ≡ suc i = eqb-true (w .number) (suc i) (p .0) in
-          let left : shapeFrom (suc i) ns (onward n d (d′ ∷ ds)) ≡ fine =
+          let left : shapeFrom (suc i) ns (dueAfter n d (d′ ∷ ds)) ≡ fine =
           rw x (ih (w .bound) st d′ ds next (m .2) (m .0) (rw number at (m .1)) (p .1)) in
           passed i n ns d (d′ ∷ ds) (at-end e′ tag lt u) ∙ left
       go false x true e st ds m lt u a ih =
@@ -149,11 +150,11 @@ module _ (t : ℕ) where
           let bound : boundBelow (n .tag) (boundOf d) ≡ b = rw tag bd in
           let child : Due = Below (boundBelow (n .tag) (boundOf d)) in
           let two : n .f1 ≡ top (following (suc i) ns) = sym (ap top (accepts-follows (suc i) ns b (waiting (n .f1) b ∷ st) a)) in
-          let left : shapeFrom (suc i) ns (onward n d ds) ≡ fine = rw (x, e) (ih b (waiting (n .f1) b ∷ st) child (child ∷ ds) next (bound, refl, m) bound refl a) in
+          let left : shapeFrom (suc i) ns (dueAfter n d ds) ≡ fine = rw (x, e) (ih b (waiting (n .f1) b ∷ st) child (child ∷ ds) next (bound, refl, m) bound refl a) in
           passed i n ns d ds (r, leb-true (n .tag) 8 lt, u, second n e′ two, not-binder (n .tag) (ltb (boundOf d) 8) (rw tag)) ∙ left
       go false x false e st ds m lt u a ih =
           let p = and-eq-true-iff (not (binds (n .tag) && leb 8 b)) (accepts (suc i) ns (boundBelow (n .tag) b) st) .0 a in
-          let left : shapeFrom (suc i) ns (onward n d ds) ≡ fine =
+          let left : shapeFrom (suc i) ns (dueAfter n d ds) ≡ fine =
           rw (x, e) (ih (boundBelow (n .tag) b) st (Below (boundBelow (n .tag) (boundOf d))) ds next m (ap (boundBelow (n .tag)) bd) refl (p .1)) in
           passed i n ns d ds (r, leb-true (n .tag) 8 lt, u, not-fork n e′ (eqb-false (n .tag) 1 e), rw bd (room b (binds (n .tag)) (p .0))) ∙ left
 
@@ -198,9 +199,7 @@ module _ (ns : List Node) (i : ℕ) (pos : 1 ≤ i) (h : i ≤ length ns) (node 
       (not (binds (node .tag) && leb 8 b) && accepts (i + 1) (drop (i + 1 - 1) ns) (boundBelow (node .tag) b) st)))
       ≡ accepts i (drop (i - 1) ns) b st
   unfolding accepts
-  turned b st =
-      let back : i + 1 - 1 ≡ i = omega arith in
-      rw (from-item noNode ns i pos h, back, add-one i, its)
+  turned b st = rw (from-node ns i node pos h its, add-one i)
 
   pub on-end : (b : ℕ) (w : Waiting) (st : List Waiting) → node .tag ≡ 0 → node .f1 ≡ 0 → node .f2 ≡ 0 → w .number ≡ i + 1 → Next (w .bound) st → Here b (w ∷ st)
   on-end b w st t u v e a = sym (turned b (w ∷ st)) ∙ rw (t, u, v, eq-eqb (w .number) (i + 1) e) a
@@ -231,7 +230,7 @@ abbrev pub unpack : ℕ → Waiting
 unpack w = waiting (w % 65536) (w / 65536)
 
 abbrev pub held : List ℕ → ℕ → List Waiting
-held a d = map unpack (pile 0 a d)
+held a d = map unpack (stacked 0 a d)
 
 pub unpacked : (x b : ℕ) → x < 65536 → unpack (x + 65536 * b) ≡ waiting x b
 unpacked x b h =
@@ -240,11 +239,7 @@ unpacked x b h =
     rw (low, high)
 
 pub held-push : (a : List ℕ) (d x b : ℕ) → d < length a → x < 65536 → held (set a d (x + 65536 * b)) (d + 1) ≡ waiting x b ∷ held a d
-held-push a d x b h small =
-    ap (held (set a d (x + 65536 * b))) (add-one d) ∙ ap (map unpack) (pile-push 0 a d (x + 65536 * b) h) ∙ ap (λ w. w ∷ held a d) (unpacked x b small)
-
-pub held-top : (a : List ℕ) (d : ℕ) → 0 < d → held a d ≡ unpack (getD a (d - 1) 0) ∷ held a (d - 1)
-held-top a d pos = ap (map unpack) (pile-top 0 a d pos)
+held-push a d x b h small = read-push 0 unpack a d (x + 65536 * b) (waiting x b) h (unpacked x b small)
 
 pub waits-push : (ss : List Session) (s d t x : ℕ) (a : List ℕ) → length ss ≡ s → d < s → d + 1 < length a → x < 65536 → x ≡ item noSession ss (s - d) .root
     → held a (d + 1) ≡ waits (drop (s - d) ss) t

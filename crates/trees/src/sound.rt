@@ -11,8 +11,9 @@ use format::words::paired;
 use format::words::wide;
 ghost use mathlib.Core.Path.{_≡_};
 ghost use mathlib.Core.Bool.{true, not, _&&_};
-ghost use Prim.Native.Nat.{_/_, _%_, _≤_};
+ghost use Prim.Native.Nat.{_+_, _/_, _%_, _<_};
 ghost use lib.Dec.{leb};
+ghost use lib.ListN.{length};
 ghost use Rattle.format.specs.Answers.{fine};
 ghost use Rattle.format.specs.Header.{Laid};
 ghost use Rattle.format.specs.Contents.{contentsAt};
@@ -38,15 +39,14 @@ fn goes_on(n: Node, bound: u16) -> bool
     (n.tag <= 8) & unused_fit(n) & !(binds_one(n.tag) & (8 <= bound))
 }
 
-// True only where 8 refuses nothing. The stack has the trees that wait, each with the number that names it, and below them all the number
-// after the last node. An end is followed by the tree on top.
-pub fn sound_shape(file: &[u8], head: Head) -> bool
-    requires { ⌜ Laid (now file) head ⌝ }
+// The nodes in order. The stack has the trees that wait, each with the number that names it, and below them all the number after the last node;
+// it has room for the sessions and for as many forks as there are nodes. An end is followed by the tree on top.
+fn sound_by(file: &[u8], head: Head, stack: &mut [u32]) -> bool
+    requires { ⌜ Laid (now file) head × (head .count .sessions + head .count .nodes < length (now stack)) ⌝ }
     ensures { λ r. ⌜ (r ≡ true → shapeAnswer (contentsAt (now (file .entry)) head) ≡ fine) ⌝ }
 {
     let nodes = head.count.nodes;
     let sessions = wide(head.count.sessions);
-    let mut stack = [0u32; 1058];
     stack[0] = paired(nodes + 1, 0);
     let mut depth: usize = 0;
     while depth < sessions {
@@ -94,4 +94,17 @@ pub fn sound_shape(file: &[u8], head: Head) -> bool
         }
     }
     depth == 0
+}
+
+// True only where 8 refuses nothing. Most files are short, and need a shorter stack.
+pub fn sound_shape(file: &[u8], head: Head) -> bool
+    requires { ⌜ Laid (now file) head ⌝ }
+    ensures { λ r. ⌜ (r ≡ true → shapeAnswer (contentsAt (now (file .entry)) head) ≡ fine) ⌝ }
+{
+    if head.count.nodes <= 64 {
+        let mut stack = [0u32; 97];
+        return sound_by(file, head, &mut stack);
+    }
+    let mut stack = [0u32; 1057];
+    sound_by(file, head, &mut stack)
 }

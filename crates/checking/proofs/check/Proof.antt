@@ -9,27 +9,21 @@ use Rattle.checking.proofs.check.Reads as reads
 use Rattle.checking.proofs.check.Lts as lts
 use Rattle.checking.proofs.examine.Reads as examine-reads
 
--- src/lib.rt:75:31
 slice-aggregate-examine : tie.Need-slice-aggregate-examine
 slice-aggregate-examine c = search needs
 
--- src/lib.rt:75:9
 examine-requires : tie.Need-examine-requires
 examine-requires c κs = search needs
 
--- src/lib.rt:78:25
 enum-known-names : tie.Need-enum-known-names
 enum-known-names c = search needs
 
--- src/lib.rt:79:28
 enum-told : tie.Need-enum-told
 enum-told c = search needs
 
--- src/lib.rt:71:1
 returns : tie.Need-returns
 returns c = check-early (now (c .before .before .before .before .before .before .before .args .file)) _ (sym (ap (λ (x : Examined). x .names) (c .before .before .before .before .examine .ensures .0)) ∙ c .before .names .given .1)
 
--- src/lib.rt:71:1
 returns-2 : tie.Need-returns-2
 returns-2 c =
     let found = c .before .before .before .before .examine .ensures .0 in

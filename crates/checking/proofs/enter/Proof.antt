@@ -17,31 +17,24 @@ use Rattle.rules.proofs.naming.judge_names.Reads as judge-names-reads
 told : (c : tie.After-known-told2) → opened (now (c .before .before .before .before .before .args .file)) ≡ Fine (c .before .answer2 .given .0 .0)
 told c = sym (c .before .before .before .«open» .ensures) ∙ c .before .answer2 .given .1
 
--- src/lib.rt:22:9
 open-requires : tie.Need-open-requires
 open-requires c κs = search needs
 
--- src/lib.rt:24:25
 enum-known-answer : tie.Need-enum-known-answer
 enum-known-answer c = search needs
 
--- src/lib.rt:25:22
 enum-known-answer-2 : tie.Need-enum-known-answer-2
 enum-known-answer-2 c = search needs
 
--- src/lib.rt:25:47
 judge-names-requires : tie.Need-judge-names-requires
 judge-names-requires c κs = let f = now (c .before .before .before .before .before .args .file) in (opened-fine f _ (told c) .0, owned f _ (told c))
 
--- src/lib.rt:25:31
 with-head-requires : tie.Need-with-head-requires
 with-head-requires c κs = search needs
 
--- src/lib.rt:19:1
 returns : tie.Need-returns
 returns c = entered-early (now (c .before .before .before .before .before .args .file)) _ (sym (c .before .before .before .«open» .ensures) ∙ c .before .answer .given .1)
 
--- src/lib.rt:19:1
 returns-2 : tie.Need-returns-2
 returns-2 c = let h = c .before .before .before .answer2 .given .0 .0 in c .with-head .ensures ∙ ap (withHead h) (c .before .judge-names .ensures) ∙ entered-late (now (c .before .before .before .before .before .before .before .args .file)) h (told (c .before .before))
 

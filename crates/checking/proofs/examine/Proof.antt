@@ -4,7 +4,7 @@ use Rattle.reading.specs.Reading.{opened}
 use Rattle.reading.specs.declared.Opened.{Opened}
 use Rattle.reading.specs.declared.Opened.the-variants.{Fine}
 use Rattle.reading.proofs.ReadingLaws.{opened-fine}
-use Rattle.checking.proofs.CheckLaws.{examined-early, surveyed-early, examined-late, surveyed-late}
+use Rattle.checking.proofs.CheckLaws.{examined-early, surveyed-early, examined-late, surveyed-late, owned}
 use borrow.Author.Needs.{needs}
 use Rattle.checking.proofs.examine.Statement.{statement}
 use Rattle.checking.proofs.examine.Tie as tie
@@ -14,40 +14,33 @@ use Rattle.reading.proofs.open.Reads as open-reads
 use Rattle.reading.proofs.with_head.Reads as with-head-reads
 use Rattle.rules.proofs.judge.judge.Reads as judge-reads
 
--- src/lib.rt:49:9
 open-requires : tie.Need-open-requires
 open-requires c κs = search needs
 
--- src/lib.rt:51:25
 enum-known-answer : tie.Need-enum-known-answer
 enum-known-answer c = search needs
 
--- src/lib.rt:58:22
 enum-known-answer-2 : tie.Need-enum-known-answer-2
 enum-known-answer-2 c = search needs
 
--- src/lib.rt:59:17
 judge-requires : tie.Need-judge-requires
 judge-requires c κs =
-    let told : opened (now (c .before .before .before .before .before .before .before .args .file)) ≡ Fine (c .before .before .answer2 .given .0 .0) = sym (c .before .before .before .before .«open» .ensures) ∙ c .before .before .answer2 .given .1 in
-    (opened-fine (now (c .before .before .before .before .before .before .before .args .file)) _ told .0, c .before .before .before .before .before .before .before .pre)
+    let f = now (c .before .before .before .before .before .before .before .args .file) in
+    let told : opened f ≡ Fine (c .before .before .answer2 .given .0 .0) = sym (c .before .before .before .before .«open» .ensures) ∙ c .before .before .answer2 .given .1 in
+    (opened-fine f _ told .0, owned f _ told, c .before .before .before .before .before .before .before .pre)
 
--- src/lib.rt:63:24
 with-head-requires : tie.Need-with-head-requires
 with-head-requires c κs = search needs
 
--- src/lib.rt:45:1
 returns : tie.Need-returns
 returns c =
     let a = c .before .before .before .before .before .before .args in
     let told = sym (c .before .before .before .«open» .ensures) ∙ c .before .answer .given .1 in
     (examined-early (now (a .file)) _ told, surveyed-early (now (a .file)) _ told (a .roles .now))
 
--- src/lib.rt:45:1
 same-length : tie.Need-same-length
 same-length c = search needs
 
--- src/lib.rt:45:1
 returns-2 : tie.Need-returns-2
 returns-2 c =
     let a = c .before .before .before .before .before .before .before .before .before .before .before .before .before .args in

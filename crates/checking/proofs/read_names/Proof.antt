@@ -8,23 +8,18 @@ use Rattle.checking.proofs.read_names.Reads as reads
 use Rattle.checking.proofs.read_names.Lts as lts
 use Rattle.checking.proofs.enter.Reads as enter-reads
 
--- src/lib.rt:33:9
 enter-requires : tie.Need-enter-requires
 enter-requires c κs = search needs
 
--- src/lib.rt:35:25
 enum-known-answer : tie.Need-enum-known-answer
 enum-known-answer c = search needs
 
--- src/lib.rt:36:28
 enum-told : tie.Need-enum-told
 enum-told c = search needs
 
--- src/lib.rt:30:1
 returns : tie.Need-returns
 returns c = entered-refused (now (c .before .before .before .before .before .args .file)) _ (sym (c .before .before .before .enter .ensures) ∙ c .before .answer .given .1) .1
 
--- src/lib.rt:30:1
 returns-2 : tie.Need-returns-2
 returns-2 c = sym (entered-fine (now (c .before .before .before .before .args .file)) _ (sym (c .before .before .enter .ensures) ∙ c .enum-told .given .1) .2)
 

@@ -43,28 +43,28 @@ use Rattle.format.proofs.Verdict.Laws as VV′
 use Rattle.steps.specs.declared.Thread.{Thread}
 use Rattle.steps.specs.Threads.{noThread}
 use Rattle.steps.proofs.Thread as T
-use Rattle.lent.specs.Scopes.{counted, storedBy, Stores}
-use Rattle.lent.specs.declared.Records.{Records}
-use Rattle.lent.specs.declared.Decided.{Decided}
-use Rattle.lent.proofs.Records as S
-use Rattle.lent.proofs.Records.Laws as S′
-use Rattle.lent.proofs.Decided as D
-use Rattle.lent.proofs.Decided.Laws as D′
-use Rattle.lent.proofs.counted as ct
-use Rattle.lent.proofs.counted.Symbol as ct-def
-use Rattle.lent.proofs.counted.Symbol.{name as #count}
-use Rattle.lent.proofs.counted.Met as ct-thm
-use Rattle.lent.proofs.verdict_of.Symbol as vd-def
-use Rattle.lent.proofs.verdict_of.Symbol.{name as #verdict}
-use Rattle.lent.proofs.verdict_of.Met as vd-thm
+use Rattle.lending.specs.Scopes.{counted, storedBy, Stores}
+use Rattle.lending.specs.declared.Records.{Records}
+use Rattle.lending.specs.declared.Decided.{Decided}
+use Rattle.lending.proofs.Records as S
+use Rattle.lending.proofs.Records.Laws as S′
+use Rattle.lending.proofs.Decided as D
+use Rattle.lending.proofs.Decided.Laws as D′
+use Rattle.lending.proofs.counted as ct
+use Rattle.lending.proofs.counted.Symbol as ct-def
+use Rattle.lending.proofs.counted.Symbol.{name as #count}
+use Rattle.lending.proofs.counted.Met as ct-thm
+use Rattle.lending.proofs.verdict_of.Symbol as vd-def
+use Rattle.lending.proofs.verdict_of.Symbol.{name as #verdict}
+use Rattle.lending.proofs.verdict_of.Met as vd-thm
 use Rattle.engine.proofs.Again.{SharedAgain, shares-again, shared-back}
 use Rattle.engine.proofs.ByValue.{PartOf, asks}
 use Rattle.engine.proofs.ListCalls.{Passing, calls-lent, calls-handed}
 use Rattle.engine.proofs.ChooseLaws.{Chosen, chosen}
-use Rattle.lent.proofs.decide as dc
-use Rattle.lent.proofs.decide.Symbol as dc-def
-use Rattle.lent.proofs.decide.Symbol.{name as #decide}
-use Rattle.lent.proofs.decide.Met as dc-thm
+use Rattle.lending.proofs.decide as dc
+use Rattle.lending.proofs.decide.Symbol as dc-def
+use Rattle.lending.proofs.decide.Symbol.{name as #decide}
+use Rattle.lending.proofs.decide.Met as dc-thm
 use Rattle.engine.proofs.records.read_in as ri
 use Rattle.engine.proofs.records.read_in.Symbol as ri-def
 use Rattle.engine.proofs.records.read_in.Symbol.{name as #read}
@@ -324,9 +324,9 @@ pilzdamo-choose-spec 𝓤 H 𝓜 𝓖 𝓡 =
     entered 𝓤 H (tripleOf 𝓤 H (𝓖 .A) ch.signature (ch.spec 𝓤 H (𝓖 .A) (𝓜 .mem) (𝓡 .run)))
     (tables 𝓤 H 𝓜 𝓡 code.env .C) (tables 𝓤 H 𝓜 𝓡 code.env .Λ) #choose code.function (code.unfolded 𝓤 H 𝓜 𝓡)
     (meets 𝓤 H (𝓖 .A) (givenOf 𝓤 H 𝓜 𝓖) (𝓜 .mem) (𝓡 .run) (tablesOf 𝓤 H 𝓜 (tables 𝓤 H 𝓜 𝓡 code.env)) (record {
-      count = cited 𝓤 H (tripleOf 𝓤 H (𝓖 .A) ct.signature (ct.spec 𝓤 H (𝓖 .A) (𝓜 .mem) (𝓡 .run))) 𝓜 𝓡 code.env #count ct-def.routine code.calls-lent·counted (ct-thm.met 𝓤 H 𝓜 𝓖 𝓡);
+      count = cited 𝓤 H (tripleOf 𝓤 H (𝓖 .A) ct.signature (ct.spec 𝓤 H (𝓖 .A) (𝓜 .mem) (𝓡 .run))) 𝓜 𝓡 code.env #count ct-def.routine code.calls-lending·counted (ct-thm.met 𝓤 H 𝓜 𝓖 𝓡);
       read = cited 𝓤 H (tripleOf 𝓤 H (𝓖 .A) ri.signature (ri.spec 𝓤 H (𝓖 .A) (𝓜 .mem) (𝓡 .run))) 𝓜 𝓡 code.env #read ri-def.routine code.calls-engine·records·read-in (ri-thm.met 𝓤 H 𝓜 𝓖 𝓡);
-      decide = cited 𝓤 H (tripleOf 𝓤 H (𝓖 .A) dc.signature (dc.spec 𝓤 H (𝓖 .A) (𝓜 .mem) (𝓡 .run))) 𝓜 𝓡 code.env #decide dc-def.routine code.calls-lent·decide (dc-thm.met 𝓤 H 𝓜 𝓖 𝓡);
+      decide = cited 𝓤 H (tripleOf 𝓤 H (𝓖 .A) dc.signature (dc.spec 𝓤 H (𝓖 .A) (𝓜 .mem) (𝓡 .run))) 𝓜 𝓡 code.env #decide dc-def.routine code.calls-lending·decide (dc-thm.met 𝓤 H 𝓜 𝓖 𝓡);
       stored = cited 𝓤 H (tripleOf 𝓤 H (𝓖 .A) st.signature (st.spec 𝓤 H (𝓖 .A) (𝓜 .mem) (𝓡 .run))) 𝓜 𝓡 code.env #store st-def.routine code.calls-engine·records·store (st-thm.met 𝓤 H 𝓜 𝓖 𝓡);
-      verdict = cited 𝓤 H (PartOf RD RV (λ d. d .verdict) 𝓤 H (𝓖 .A)) 𝓜 𝓡 code.env #verdict vd-def.routine code.calls-lent·verdict-of (vd-thm.met 𝓤 H 𝓜 𝓖 𝓡);
+      verdict = cited 𝓤 H (PartOf RD RV (λ d. d .verdict) 𝓤 H (𝓖 .A)) 𝓜 𝓡 code.env #verdict vd-def.routine code.calls-lending·verdict-of (vd-thm.met 𝓤 H 𝓜 𝓖 𝓡);
     }))

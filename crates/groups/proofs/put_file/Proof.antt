@@ -16,31 +16,24 @@ use Rattle.groups.proofs.put_groups.Reads as put-groups-reads
 use Rattle.groups.proofs.put_sessions.Reads as put-sessions-reads
 use Rattle.groups.proofs.with_nodes.Reads as with-nodes-reads
 
--- src/lib.rt:204:19
 with-nodes-requires : tie.Need-with-nodes-requires
 with-nodes-requires c κs = search needs
 
--- src/lib.rt:204:5
 put-head-requires : tie.Need-put-head-requires
 put-head-requires c κs = search needs
 
--- src/lib.rt:205:5
 put-tables-requires : tie.Need-put-tables-requires
 put-tables-requires c κs = search needs
 
--- src/lib.rt:206:5
 put-sessions-requires : tie.Need-put-sessions-requires
 put-sessions-requires c κs = search needs
 
--- src/lib.rt:207:5
 put-groups-requires : tie.Need-put-groups-requires
 put-groups-requires c κs = search needs
 
--- src/lib.rt:199:1
 same-length : tie.Need-same-length
 same-length c = search needs
 
--- src/lib.rt:199:1
 returns : tie.Need-returns
 returns c =
     let a = c .before .before .before .before .before .before .before .before .before .before .before .before .before .before .before .before .before .before .before .before .before .args in

@@ -18,31 +18,24 @@ use Rattle.format.proofs.writing.put_node.Reads as put-node-reads
 use Rattle.groups.proofs.put_switch.Reads as put-switch-reads
 use Rattle.groups.proofs.renamed.Reads as renamed-reads
 
--- src/lib.rt:123:9
 put-switch-requires : tie.Need-put-switch-requires
 put-switch-requires c κs = omega (arith, size-switches (unpacked (c .before .before .before .args .turn)))
 
--- src/lib.rt:124:9
 put-switch-requires-2 : tie.Need-put-switch-requires-2
 put-switch-requires-2 c κs = omega (arith, c .before .before .before .put-switch .ensures .0, size-switches (unpacked (c .before .before .before .before .before .before .before .args .turn)))
 
--- src/lib.rt:125:9
 renamed-requires : tie.Need-renamed-requires
 renamed-requires c κs = search needs
 
--- src/lib.rt:126:5
 put-node-requires : tie.Need-put-node-requires
 put-node-requires c κs = omega (arith, c .before .before .before .before .before .before .before .before .before .put-switch .ensures .0, c .before .before .before .before .before .put-switch2 .ensures .0, size-switches (unpacked (c .before .before .before .before .before .before .before .before .before .before .before .before .before .args .turn)))
 
--- src/lib.rt:136:5
 add-result : tie.Need-add-result
 add-result c = record { fits = omega (arith, c .before .before .before .before .before .before .before .before .before .before .before .before .put-switch .ensures .0, c .before .before .before .before .before .before .before .before .put-switch2 .ensures .0, size-switches (unpacked (c .before .before .before .before .before .before .before .before .before .before .before .before .before .before .before .before .args .turn))) }
 
--- src/lib.rt:109:1
 same-length : tie.Need-same-length
 same-length c = search needs
 
--- src/lib.rt:109:1
 returns : tie.Need-returns
 returns c =
     let a = c .before .before .before .before .before .before .before .before .before .before .before .before .before .before .before .before .args in

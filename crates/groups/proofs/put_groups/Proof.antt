@@ -10,7 +10,8 @@ use Rattle.format.specs.Writing.{nodeWords}
 use Rattle.format.proofs.ContentsLaws.{nodes-held}
 use Rattle.states.specs.States.{unpacked}
 use Rattle.groups.specs.Groups.{before, sizeOf, sizesOf, moved, groupsFrom, turnsIn}
-use Rattle.groups.proofs.WriteLaws.{turnsAfter, turns-all, sizes-more, groupsAfter, groups-all, groups-none, groups-turn, puts-end}
+use Rattle.format.proofs.PutRuns.{puts-end}
+use Rattle.groups.proofs.WriteLaws.{turnsAfter, turns-all, sizes-more, groupsAfter, groups-all, groups-none, groups-turn}
 use borrow.Author.Needs.{needs}
 use Rattle.groups.proofs.put_groups.Statement.{statement}
 use Rattle.groups.proofs.put_groups.Tie as tie
@@ -30,7 +31,6 @@ Inv-loop file head turns starts out₀ nodes at₀ n₀ out at n =
 abbrev μ-loop : tie.MeasureT-loop
 μ-loop file head turns starts out₀ nodes at₀ n₀ out at n = head .count .nodes - n
 
--- src/lib.rt:149:5
 loop-holds : tie.Need-loop-holds Inv-loop μ-loop
 loop-holds c =
     let a = c .before .before .before .before .args in
@@ -43,27 +43,21 @@ loop-holds c =
       ap₂ (λ p ns. sets (a .out .now) (2 * p) (bytesOf (nodeWords ns))) here (groups-all (contentsAt (a .file .now) (a .head) .nodes) n (a .turns .now) (a .starts .now)),
     )
 
--- src/lib.rt:150:9
 add-n : tie.Need-add-n Inv-loop μ-loop
 add-n c = omega arith
 
--- src/lib.rt:151:45
 wide-requires : tie.Need-wide-requires Inv-loop μ-loop
 wide-requires c κs = omega arith
 
--- src/lib.rt:151:39
 mul-put-group : tie.Need-mul-put-group Inv-loop μ-loop
 mul-put-group c = omega arith
 
--- src/lib.rt:151:39
 shared-slice-read-put-group : tie.Need-shared-slice-read-put-group Inv-loop μ-loop
 shared-slice-read-put-group c = omega arith
 
--- src/lib.rt:151:55
 node-requires : tie.Need-node-requires Inv-loop μ-loop
 node-requires c κs = c .before .before .before .before .before .before .before .before .before .pre .0
 
--- src/lib.rt:151:9
 put-group-requires : tie.Need-put-group-requires Inv-loop μ-loop
 put-group-requires c κs =
     let a = c .before .before .before .before .before .before .before .before .before .before .args in
@@ -72,11 +66,9 @@ put-group-requires c κs =
     let same = ap (λ k. sizeOf (unpacked (getD (a .turns .now) k 0))) (c .before .before .wide .ensures .0) in
     (omega arith, omega (arith, more, same, l .inv .3), omega (arith, more, same, l .inv .3))
 
--- src/lib.rt:149:5
 loop-less : tie.Need-loop-less Inv-loop μ-loop
 loop-less c = omega arith
 
--- src/lib.rt:149:5
 loop-again : tie.Need-loop-again Inv-loop μ-loop
 loop-again c =
     let a = c .before .before .before .before .before .before .before .before .before .before .before .before .before .args in
@@ -95,11 +87,9 @@ loop-again c =
       groups-turn ns (a .turns .now) (a .starts .now) (l .out) (g .last .0) _ (a .head .at .nodes) n (l .n) (l .at) (g .result) (omega arith) (sym (nodes-held (a .file .now) (a .head))) (omega arith) (omega arith) step put (l .inv .4),
     )
 
--- src/lib.rt:140:1
 same-length : tie.Need-same-length Inv-loop μ-loop
 same-length c = search needs
 
--- src/lib.rt:140:1
 returns : tie.Need-returns Inv-loop μ-loop
 returns c =
     let a = c .before .before .before .before .before .before .args in

@@ -9,7 +9,8 @@ use Rattle.format.specs.Contents.{contentsAt}
 use Rattle.format.specs.Writing.{sessionWords}
 use Rattle.format.proofs.ContentsLaws.{sessions-held}
 use Rattle.groups.specs.Groups.{rerooted, sessionsFrom}
-use Rattle.groups.proofs.WriteLaws.{sessions-none, sessions-turn, puts-end}
+use Rattle.format.proofs.PutRuns.{puts-end}
+use Rattle.groups.proofs.WriteLaws.{sessions-none, sessions-turn}
 use borrow.Author.Needs.{needs}
 use Rattle.groups.proofs.put_sessions.Statement.{statement}
 use Rattle.groups.proofs.put_sessions.Tie as tie
@@ -28,34 +29,27 @@ Inv-loop file head starts out₀ sessions n₀ out n =
 abbrev μ-loop : tie.MeasureT-loop
 μ-loop file head starts out₀ sessions n₀ out n = head .count .sessions - n
 
--- src/lib.rt:162:5
 loop-holds : tie.Need-loop-holds Inv-loop μ-loop
 loop-holds c =
     let a = c .before .before .before .args in
     let here : a .head .at .sessions + 3 * 0 ≡ a .head .at .sessions = omega arith in
     (omega arith, refl, ap (λ p. sets (a .out .now) (2 * p) (bytesOf (sessionWords (sessionsFrom (a .starts .now) (contentsAt (a .file .now) (a .head) .sessions))))) here)
 
--- src/lib.rt:163:9
 add-n : tie.Need-add-n Inv-loop μ-loop
 add-n c = omega arith
 
--- src/lib.rt:164:13
 session-requires : tie.Need-session-requires Inv-loop μ-loop
 session-requires c κs = c .before .before .before .before .before .pre .0
 
--- src/lib.rt:172:23
 renamed-requires : tie.Need-renamed-requires Inv-loop μ-loop
 renamed-requires c κs = omega arith
 
--- src/lib.rt:165:9
 put-session-requires : tie.Need-put-session-requires Inv-loop μ-loop
 put-session-requires c κs = omega arith
 
--- src/lib.rt:162:5
 loop-less : tie.Need-loop-less Inv-loop μ-loop
 loop-less c = omega arith
 
--- src/lib.rt:162:5
 loop-again : tie.Need-loop-again Inv-loop μ-loop
 loop-again c =
     let a = c .before .before .before .before .before .before .before .before .before .before .before .args in
@@ -71,11 +65,9 @@ loop-again c =
           (omega (arith, sessions-held (a .file .now) (a .head))) put (l .inv .2),
     )
 
--- src/lib.rt:156:1
 same-length : tie.Need-same-length Inv-loop μ-loop
 same-length c = search needs
 
--- src/lib.rt:156:1
 returns : tie.Need-returns Inv-loop μ-loop
 returns c =
     let a = c .before .before .before .before .before .args in

@@ -10,31 +10,25 @@ use Rattle.groups.proofs.put_switch.Reads as reads
 use Rattle.groups.proofs.put_switch.Lts as lts
 use Rattle.format.proofs.writing.put_node.Reads as put-node-reads
 
--- src/lib.rt:90:9
 returns : tie.Need-returns
 unfolding bytesOf nodeWords
 returns c = rw (eq-eqb _ _ (c .if1 .taken)) (omega arith, refl)
 
--- src/lib.rt:93:9
 returns-2 : tie.Need-returns-2
 unfolding bytesOf nodeWords
 returns-2 c = rw (ne-eqb _ _ (c .before .if1 .left), eq-eqb _ _ (c .if2 .taken)) (omega arith, refl)
 
--- src/lib.rt:95:5
 put-node-requires : tie.Need-put-node-requires
 put-node-requires c κs =
     let p = rw (ne-eqb _ _ (c .before .before .if1 .left), ne-eqb _ _ (c .before .if2 .left)) at (c .before .before .before .before .pre) in
     omega arith
 
--- src/lib.rt:105:5
 add-result : tie.Need-add-result
 add-result c = search needs
 
--- src/lib.rt:76:1
 same-length : tie.Need-same-length
 same-length c = search needs
 
--- src/lib.rt:76:1
 returns-3 : tie.Need-returns-3
 returns-3 c = rw (ne-eqb _ _ (c .before .before .before .before .before .if1 .left), ne-eqb _ _ (c .before .before .before .before .if2 .left)) (omega arith, c .before .before .put-node .ensures)
 

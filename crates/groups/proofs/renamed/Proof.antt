@@ -9,29 +9,23 @@ use Rattle.groups.proofs.renamed.Reads as reads
 use Rattle.groups.proofs.renamed.Lts as lts
 use Rattle.format.proofs.words.wide.Reads as wide-reads
 
--- src/lib.rt:66:9
 returns : tie.Need-returns
 returns c = let a = c .before .before .args in stays (a .names) _ (a .n) (c .if1 .taken)
 
--- src/lib.rt:68:9
 wide-requires : tie.Need-wide-requires
 wide-requires c κs = search needs
 
--- src/lib.rt:70:16
 mul-result : tie.Need-mul-result
 mul-result c = search needs
 
--- src/lib.rt:70:16
 shared-slice-read-result : tie.Need-shared-slice-read-result
 shared-slice-read-result c = search needs
 
--- src/lib.rt:70:9
 returns-2 : tie.Need-returns-2
 returns-2 c =
     let a = c .before .before .before .before .before .args in
     moves (a .names) _ _ (a .n) (c .before .before .before .if1 .left) (ap (λ k. getD (a .starts .now) k 0) (c .before .before .wide .ensures .0))
 
--- src/lib.rt:62:1
 returns-3 : tie.Need-returns-3
 returns-3 c =
     let a = c .before .before .before .before .args in

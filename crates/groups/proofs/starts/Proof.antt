@@ -39,65 +39,50 @@ few-off c = one-at-most (not (eqb (turn c .from) (turn c .to)) && not (eqb (turn
 few-on : (c : tie.After-shared-slice-known2 Inv-loop μ-loop) → count (turn c) (turn c .to) ≤ 1
 few-on c = one-at-most (not (eqb (turn c .from) (turn c .to)) && not (eqb (turn c .to) 0))
 
--- src/lib.rt:41:9
 wide-requires : tie.Need-wide-requires Inv-loop μ-loop
 wide-requires c κs = search needs
 
--- src/lib.rt:45:5
 loop-holds : tie.Need-loop-holds Inv-loop μ-loop
 loop-holds c =
     let a = c .before .before .before .args in
     rw (turns-all (a .turns .now) (a .nodes)) (omega arith, omega arith, omega arith, omega arith, omega arith, refl, omega arith, refl)
 
--- src/lib.rt:46:9
 add-i : tie.Need-add-i Inv-loop μ-loop
 add-i c = search needs
 
--- src/lib.rt:47:20
 mul-turn : tie.Need-mul-turn Inv-loop μ-loop
 mul-turn c = search needs
 
--- src/lib.rt:47:20
 shared-slice-read-turn : tie.Need-shared-slice-read-turn Inv-loop μ-loop
 shared-slice-read-turn c = search needs
 
--- src/lib.rt:50:18
 cast-on : tie.Need-cast-on Inv-loop μ-loop
 cast-on c = search needs
 
--- src/lib.rt:51:9
 mul-starts : tie.Need-mul-starts Inv-loop μ-loop
 mul-starts c = search needs
 
--- src/lib.rt:51:9
 slice-write-starts : tie.Need-slice-write-starts Inv-loop μ-loop
 slice-write-starts c = search needs
 
--- src/lib.rt:52:20
 cast-at : tie.Need-cast-at Inv-loop μ-loop
 cast-at c = search needs
 
--- src/lib.rt:52:15
 add-at : tie.Need-add-at Inv-loop μ-loop
 add-at c = record { fits = omega (arith, few-off c, few-on c) }
 
--- src/lib.rt:52:15
 add-at-2 : tie.Need-add-at-2 Inv-loop μ-loop
 add-at-2 c = record { fits = omega (arith, few-off c, few-on c) }
 
--- src/lib.rt:52:9
 add-at-3 : tie.Need-add-at-3 Inv-loop μ-loop
 add-at-3 c = record { fits = omega (arith, few-off c, few-on c) }
 
--- src/lib.rt:53:9
 add-ons : tie.Need-add-ons Inv-loop μ-loop
 add-ons c = record { fits = omega (arith, few-on c) }
 
--- src/lib.rt:45:5
 loop-less : tie.Need-loop-less Inv-loop μ-loop
 loop-less c = search needs
 
--- src/lib.rt:45:5
 loop-again : tie.Need-loop-again Inv-loop μ-loop
 loop-again c =
     let a = c .before .before .before .before .before .before .args in
@@ -122,15 +107,12 @@ loop-again c =
       starts-turn (a .turns .now) (l .starts) _ (l .i) (a .nodes) (l .at) (1 + x + y) h (omega arith) size (l .inv .7),
     )
 
--- src/lib.rt:56:16
 sub-t21 : tie.Need-sub-t21 Inv-loop μ-loop
 sub-t21 c = search needs
 
--- src/lib.rt:36:1
 same-length : tie.Need-same-length Inv-loop μ-loop
 same-length c = search needs
 
--- src/lib.rt:36:1
 returns : tie.Need-returns Inv-loop μ-loop
 returns c =
     let a = c .before .before .before .before .before .args in

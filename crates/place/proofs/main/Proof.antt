@@ -14,72 +14,56 @@ use Rattle.placing.proofs.place.Reads as place-reads
 use Rattle.streams.proofs.read_input.Reads as read-input-reads
 use Rattle.streams.proofs.write_refused.Reads as write-refused-reads
 
--- src/main.rt:7:37
 slice-aggregate-read-input : tie.Need-slice-aggregate-read-input
 slice-aggregate-read-input c = search needs
 
--- src/main.rt:7:9
 read-input-requires : tie.Need-read-input-requires
 read-input-requires c κs = search needs
 
--- src/main.rt:9:26
 slice-aggregate-write-all : tie.Need-slice-aggregate-write-all
 slice-aggregate-write-all c = search needs
 
--- src/main.rt:9:9
 write-all-requires : tie.Need-write-all-requires
 write-all-requires c κs = search needs
 
--- src/main.rt:10:9
 returns : tie.Need-returns
 returns c = search needs
 
--- src/main.rt:14:33
 array-share-prefix-buffer : tie.Need-array-share-prefix-buffer
 array-share-prefix-buffer c = search needs
 
--- src/main.rt:14:33
 slice-aggregate-place : tie.Need-slice-aggregate-place
 slice-aggregate-place c = search needs
 
--- src/main.rt:14:50
 slice-aggregate-place-2 : tie.Need-slice-aggregate-place-2
 slice-aggregate-place-2 c = search needs
 
--- src/main.rt:14:9
 place-requires : tie.Need-place-requires
 place-requires c κs = search needs
 
--- src/main.rt:16:9
 write-refused-requires : tie.Need-write-refused-requires
 write-refused-requires c κs = search needs
 
--- src/main.rt:17:9
 returns-2 : tie.Need-returns-2
 returns-2 c = search needs
 
--- src/main.rt:19:9
 wide-requires : tie.Need-wide-requires
 wide-requires c κs = search needs
 
--- src/main.rt:20:22
 array-share-prefix-out : tie.Need-array-share-prefix-out
 array-share-prefix-out c =
     let p = c .before .before .before .before .place in
     omega (arith, answer-short _ _ (p .result) (p .ensures .0), output-long _ (replicate 6874 0) (p .last .1 .0) (p .ensures .1), c .wide .ensures)
 
--- src/main.rt:20:22
 slice-aggregate-write-all-2 : tie.Need-slice-aggregate-write-all-2
 slice-aggregate-write-all-2 c =
     let p = c .before .before .before .before .before .place in
     sym (length-take-le (c .before .wide .result) (p .last .1 .0)
     (omega (arith, answer-short _ _ (p .result) (p .ensures .0), output-long _ (replicate 6874 0) (p .last .1 .0) (p .ensures .1), c .before .wide .ensures)))
 
--- src/main.rt:20:5
 write-all-requires-2 : tie.Need-write-all-requires-2
 write-all-requires-2 c κs = search needs
 
--- src/main.rt:5:1
 returns-3 : tie.Need-returns-3
 returns-3 c = search needs
 

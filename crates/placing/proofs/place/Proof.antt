@@ -16,46 +16,36 @@ use Rattle.format.proofs.header.room_for.Reads as room-for-reads
 use Rattle.placing.proofs.no_place.Reads as no-place-reads
 use Rattle.placing.proofs.place_body.Reads as place-body-reads
 
--- src/lib.rt:78:20
 room-for-requires : tie.Need-room-for-requires
 room-for-requires c κs = search needs
 
--- src/lib.rt:79:9
 no-place-requires : tie.Need-no-place-requires
 no-place-requires c κs = search needs
 
--- src/lib.rt:79:9
 returns : tie.Need-returns
 returns c =
     let a = c .before .before .before .before .before .args in
     let e = too-small (a .file .now) (length (a .out .now)) (omega (arith, c .before .if1 .taken, c .before .before .room-for .ensures)) in
     (c .no-place .ensures ∙ sym e, sym (over-kept (a .file .now) (a .out .now) 17 0 (λ z. let no-way : ⊥ = omega (arith, z) in no-way) e))
 
--- src/lib.rt:82:31
 slice-aggregate-examine : tie.Need-slice-aggregate-examine
 slice-aggregate-examine c = search needs
 
--- src/lib.rt:82:9
 examine-requires : tie.Need-examine-requires
 examine-requires c κs = search needs
 
--- src/lib.rt:85:25
 enum-known-names : tie.Need-enum-known-names
 enum-known-names c = search needs
 
--- src/lib.rt:85:35
 no-place-requires-2 : tie.Need-no-place-requires-2
 no-place-requires-2 c κs = search needs
 
--- src/lib.rt:86:22
 enum-known-names-2 : tie.Need-enum-known-names-2
 enum-known-names-2 c = search needs
 
--- src/lib.rt:86:54
 slice-aggregate-place-body : tie.Need-slice-aggregate-place-body
 slice-aggregate-place-body c = search needs
 
--- src/lib.rt:86:31
 place-body-requires : tie.Need-place-body-requires
 place-body-requires c κs =
     let a = c .before .before .before .before .before .before .before .before .before .before .before .before .args in
@@ -65,7 +55,6 @@ place-body-requires c κs =
     let labels = surveyed-labels (a .file .now) _ told (replicate 1025 0) _ (found .1) (omega (arith, nodes-held (a .file .now) (c .before .before .before .names2 .given .0 .0), laid .nodes)) in
     (told, labels .0, labels .1, omega (arith, c .before .before .before .before .before .before .before .before .if1 .left, c .before .before .before .before .before .before .before .before .before .room-for .ensures))
 
--- src/lib.rt:75:1
 returns-2 : tie.Need-returns-2
 returns-2 c =
     let a = c .before .before .before .before .before .before .before .before .before .before .before .args in
@@ -74,11 +63,9 @@ returns-2 c =
     let p = placing-refused (a .file .now) (length (a .out .now)) w (omega (arith, c .before .before .before .before .before .before .before .if1 .left, c .before .before .before .before .before .before .before .before .room-for .ensures)) e loud in
     (c .no-place2 .ensures ∙ sym p, sym (over-kept (a .file .now) (a .out .now) (w .number) (w .place) loud p))
 
--- src/lib.rt:75:1
 same-length : tie.Need-same-length
 same-length c = search needs
 
--- src/lib.rt:75:1
 returns-3 : tie.Need-returns-3
 returns-3 c = search needs
 

@@ -51,23 +51,18 @@ turns-at c =
     ap (turnsIn t) (sym (nodes-held (a .file .now) (a .head)))
     ∙ turns-kept (contentsAt (a .file .now) (a .head)) (a .roles .now) (c .before .before .before .before .before .before .before .before .before .before .before .pre .1) (omega (arith, few-at c, c .before .before .before .before .before .before .before .before .before .before .before .pre .2)) (replicate 1025 0) t (c .before .before .before .before .before .decide .ensures .1 (c .if1 .left) .0) (omega (arith, few-at c))
 
--- src/lib.rt:58:46
 slice-aggregate-decide : tie.Need-slice-aggregate-decide
 slice-aggregate-decide c = search needs
 
--- src/lib.rt:58:58
 slice-aggregate-decide-2 : tie.Need-slice-aggregate-decide-2
 slice-aggregate-decide-2 c = search needs
 
--- src/lib.rt:58:9
 decide-requires : tie.Need-decide-requires
 decide-requires c κs = let a = c .before .before .before .before .before .args in (entered-fine (a .file .now) (a .head) (c .before .before .before .before .before .pre .0) .0, c .before .before .before .before .before .pre .1, c .before .before .before .before .before .pre .2, refl, refl)
 
--- src/lib.rt:61:9
 no-place-requires : tie.Need-no-place-requires
 no-place-requires c κs = search needs
 
--- src/lib.rt:61:9
 returns : tie.Need-returns
 returns c =
     let a = c .before .before .before .before .before .before .before .before .before .before .before .before .args in
@@ -79,15 +74,12 @@ returns c =
       sym (over-kept (a .file .now) (a .out .now) (placeable C .number) (placeable C .place) loud p),
     )
 
--- src/lib.rt:64:26
 slice-aggregate-put-file : tie.Need-slice-aggregate-put-file
 slice-aggregate-put-file c = search needs
 
--- src/lib.rt:64:34
 slice-aggregate-put-file-2 : tie.Need-slice-aggregate-put-file-2
 slice-aggregate-put-file-2 c = search needs
 
--- src/lib.rt:64:5
 put-file-requires : tie.Need-put-file-requires
 put-file-requires c κs =
     let a = c .before .before .before .before .before .before .before .before .before .before .before .before .before .before .args in
@@ -104,11 +96,9 @@ put-file-requires c κs =
       c .before .before .before .before .before .before .before .before .before .before .before .before .before .before .pre .3,
     )
 
--- src/lib.rt:68:24
 length-for-requires : tie.Need-length-for-requires
 length-for-requires c κs = search needs
 
--- src/lib.rt:68:17
 narrow-requires : tie.Need-narrow-requires
 narrow-requires c κs =
     let a = c .before .before .before .before .before .before .before .before .before .before .before .before .before .before .before .before .before .before .args in
@@ -116,11 +106,9 @@ narrow-requires c κs =
     let at : a .head .at .nodes ≤ 2000 = omega (arith, laid) in
     omega (arith, ap (λ (x : Sums). x .nodes) (sums-at (c .before .before .before .before .before .before .before)), few-nodes (contentsAt (a .file .now) (a .head)) (quiet-at (c .before .before .before .before .before .before .before)), c .length-for .ensures, at)
 
--- src/lib.rt:52:1
 same-length : tie.Need-same-length
 same-length c = search needs
 
--- src/lib.rt:52:1
 returns-2 : tie.Need-returns-2
 returns-2 c =
     let a = c .before .before .before .before .before .before .before .before .before .before .before .before .before .before .before .before .before .before .before .args in

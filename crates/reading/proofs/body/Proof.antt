@@ -9,19 +9,15 @@ use Rattle.format.proofs.answers.or_else.Reads as or-else-reads
 use Rattle.tables.proofs.records.Reads as records-reads
 use Rattle.trees.proofs.shape.shape.Reads as shape-reads
 
--- src/lib.rt:16:13
 records-requires : tie.Need-records-requires
 records-requires c κs = search needs
 
--- src/lib.rt:16:42
 shape-requires : tie.Need-shape-requires
 shape-requires c κs = search needs
 
--- src/lib.rt:16:5
 or-else-requires : tie.Need-or-else-requires
 or-else-requires c κs = search needs
 
--- src/lib.rt:12:1
 returns : tie.Need-returns
 returns c = c .or-else .ensures ∙ ap₂ orElse (c .before .before .records .ensures) (c .before .shape .ensures)
 

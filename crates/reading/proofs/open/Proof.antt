@@ -18,31 +18,24 @@ use Rattle.reading.proofs.with_head.Reads as with-head-reads
 told : (c : tie.After-known-told2) → headOf (now (c .before .before .before .before .before .args .file)) ≡ Fine (c .before .answer2 .given .0 .0)
 told c = sym (c .before .before .before .read-head .ensures) ∙ c .before .answer2 .given .1
 
--- src/lib.rt:42:9
 read-head-requires : tie.Need-read-head-requires
 read-head-requires c κs = search needs
 
--- src/lib.rt:44:29
 enum-known-answer : tie.Need-enum-known-answer
 enum-known-answer c = search needs
 
--- src/lib.rt:45:26
 enum-known-answer-2 : tie.Need-enum-known-answer-2
 enum-known-answer-2 c = search needs
 
--- src/lib.rt:45:51
 body-requires : tie.Need-body-requires
 body-requires c κs = head-laid (now (c .before .before .before .before .before .args .file)) (c .before .answer2 .given .0 .0) (told c)
 
--- src/lib.rt:45:35
 with-head-requires : tie.Need-with-head-requires
 with-head-requires c κs = search needs
 
--- src/lib.rt:39:1
 returns : tie.Need-returns
 returns c = opened-by-head (now (c .before .before .before .before .before .args .file)) _ (sym (c .before .before .before .read-head .ensures) ∙ c .before .answer .given .1)
 
--- src/lib.rt:39:1
 returns-2 : tie.Need-returns-2
 returns-2 c = let h = c .before .before .before .answer2 .given .0 .0 in c .with-head .ensures ∙ ap (withHead h) (c .before .body .ensures) ∙ opened-by-body (now (c .before .before .before .before .before .before .before .args .file)) h (told (c .before .before))
 

@@ -4,11 +4,9 @@ use Rattle.reading.proofs.with_head.Tie as tie
 use Rattle.reading.proofs.with_head.Reads as reads
 use Rattle.reading.proofs.with_head.Lts as lts
 
--- src/lib.rt:25:9
 returns : tie.Need-returns
 returns c = rw (eq-eqb (c .before .before .args .first .number) 0 (c .if1 .taken))
 
--- src/lib.rt:21:1
 returns-2 : tie.Need-returns-2
 returns-2 c = rw (ne-eqb (c .before .before .args .first .number) 0 (c .if1 .left))
 

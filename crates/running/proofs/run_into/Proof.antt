@@ -11,42 +11,33 @@ use Rattle.running.proofs.out.put_state.Reads as put-state-reads
 use Rattle.running.proofs.stopped_at.Reads as stopped-at-reads
 use Rattle.choices.proofs.list.run_list.Reads as run-list-reads
 
--- src/lib.rt:124:49
 slice-aggregate-run-list : tie.Need-slice-aggregate-run-list
 slice-aggregate-run-list c = search needs
 
--- src/lib.rt:124:63
 slice-aggregate-run-list-2 : tie.Need-slice-aggregate-run-list-2
 slice-aggregate-run-list-2 c = search needs
 
--- src/lib.rt:124:9
 run-list-requires : tie.Need-run-list-requires
 run-list-requires c κs = search needs
 
--- src/lib.rt:125:15
 slice-aggregate-put-state : tie.Need-slice-aggregate-put-state
 slice-aggregate-put-state c = search needs
 
--- src/lib.rt:125:25
 slice-aggregate-put-state-2 : tie.Need-slice-aggregate-put-state-2
 slice-aggregate-put-state-2 c = search needs
 
--- src/lib.rt:125:5
 put-state-requires : tie.Need-put-state-requires
 put-state-requires c κs = search needs
 
--- src/lib.rt:126:5
 stopped-at-requires : tie.Need-stopped-at-requires
 stopped-at-requires c κs =
     let a = c .before .before .before .before .before .before .before .before .before .before .before .before .before .before .args in
     let done = c .before .before .before .before .before .before .before .before .run-list in
     place-word (clinicOf (contentsAt (a .file .now) (a .head))) (start (contentsAt (a .file .now) (a .head))) (a .choices .now) (done .result) (done .ensures .0) (c .before .before .before .before .before .before .before .before .before .before .before .before .before .before .pre .1)
 
--- src/lib.rt:117:1
 same-length : tie.Need-same-length
 same-length c = search needs
 
--- src/lib.rt:117:1
 returns : tie.Need-returns
 returns c =
     let a = c .before .before .before .before .before .before .before .before .before .before .before .before .before .before .before .args in

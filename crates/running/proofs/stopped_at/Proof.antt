@@ -5,15 +5,12 @@ use Rattle.running.proofs.stopped_at.Tie as tie
 use Rattle.running.proofs.stopped_at.Reads as reads
 use Rattle.running.proofs.stopped_at.Lts as lts
 
--- src/lib.rt:105:9
 returns : tie.Need-returns
 returns c = rw (eq-eqb _ 0 (c .if1 .taken))
 
--- src/lib.rt:112:16
 add-t3 : tie.Need-add-t3
 add-t3 c = omega (arith, c .before .before .before .pre (c .before .if1 .left))
 
--- src/lib.rt:100:1
 returns-2 : tie.Need-returns-2
 returns-2 c = rw (ne-eqb _ 0 (c .before .if1 .left))
 

@@ -14,27 +14,21 @@ use Rattle.states.proofs.turns.Lts as lts
 use Rattle.states.proofs.pass.decide.Reads as decide-reads
 use Rattle.states.proofs.pass.follow.Reads as follow-reads
 
--- src/lib.rt:31:31
 slice-aggregate-decide : tie.Need-slice-aggregate-decide
 slice-aggregate-decide c = search needs
 
--- src/lib.rt:31:5
 decide-requires : tie.Need-decide-requires
 decide-requires c κs = search needs
 
--- src/lib.rt:32:24
 slice-aggregate-follow : tie.Need-slice-aggregate-follow
 slice-aggregate-follow c = search needs
 
--- src/lib.rt:32:5
 follow-requires : tie.Need-follow-requires
 follow-requires c κs = search needs
 
--- src/lib.rt:25:1
 same-length : tie.Need-same-length
 same-length c = search needs
 
--- src/lib.rt:25:1
 returns : tie.Need-returns
 returns c =
     let a = c .before .before .before .before .before .before .before .before .before .before .before .args in

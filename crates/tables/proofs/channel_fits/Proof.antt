@@ -12,19 +12,15 @@ use Rattle.tables.proofs.channel_fits.Lts as lts
 use Rattle.format.proofs.sections.in_count.Reads as in-count-reads
 use Rattle.format.proofs.sections.channel.Reads as channel-reads
 
--- src/records.rt:40:9
 channel-requires : tie.Need-channel-requires
 channel-requires c κs = search needs
 
--- src/records.rt:41:5
 in-count-requires : tie.Need-in-count-requires
 in-count-requires c κs = search needs
 
--- src/records.rt:41:44
 in-count-requires-2 : tie.Need-in-count-requires-2
 in-count-requires-2 c κs = search needs
 
--- src/records.rt:36:1
 returns : tie.Need-returns
 unfolding recordFits
 returns c =

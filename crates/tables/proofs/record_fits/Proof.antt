@@ -13,74 +13,57 @@ use Rattle.tables.proofs.session_fits.Reads as session-fits-reads
 use Rattle.tables.proofs.user_fits.Reads as user-fits-reads
 use Rattle.format.proofs.sections.carries.Reads as carries-reads
 
--- src/records.rt:60:27
 enum-told : tie.Need-enum-told
 enum-told c = search needs
 
--- src/records.rt:60:27
 user-fits-requires : tie.Need-user-fits-requires
 user-fits-requires c κs = search needs
 
--- src/records.rt:61:27
 enum-told-2 : tie.Need-enum-told-2
 enum-told-2 c = search needs
 
--- src/records.rt:61:27
 role-fits-requires : tie.Need-role-fits-requires
 role-fits-requires c κs = search needs
 
--- src/records.rt:62:27
 enum-told-3 : tie.Need-enum-told-3
 enum-told-3 c = search needs
 
--- src/records.rt:62:27
 carries-requires : tie.Need-carries-requires
 carries-requires c κs = search needs
 
--- src/records.rt:63:30
 enum-told-4 : tie.Need-enum-told-4
 enum-told-4 c = search needs
 
--- src/records.rt:63:30
 channel-fits-requires : tie.Need-channel-fits-requires
 channel-fits-requires c κs = search needs
 
--- src/records.rt:64:30
 enum-told-5 : tie.Need-enum-told-5
 enum-told-5 c = search needs
 
--- src/records.rt:64:30
 session-fits-requires : tie.Need-session-fits-requires
 session-fits-requires c κs = search needs
 
--- src/records.rt:65:27
 enum-told-6 : tie.Need-enum-told-6
 enum-told-6 c = search needs
 
--- src/records.rt:55:1
 returns : tie.Need-returns
 returns c = cc
 
--- src/records.rt:55:1
 returns-2 : tie.Need-returns-2
 returns-2 c = cc
 
--- src/records.rt:55:1
 returns-3 : tie.Need-returns-3
 unfolding recordFits
 returns-3 c =
     let a = c .before .before .before .before .before .args in
     rw (c .before .before .enum-told3 .given .1, kinds-held (a .file .now) (a .head)) (ap (λ x. leb x (a .head .count .kinds)) (c .before .carries .ensures))
 
--- src/records.rt:55:1
 returns-4 : tie.Need-returns-4
 returns-4 c = cc
 
--- src/records.rt:55:1
 returns-5 : tie.Need-returns-5
 returns-5 c = cc
 
--- src/records.rt:55:1
 returns-6 : tie.Need-returns-6
 unfolding recordFits
 returns-6 c = rw (c .enum-told6 .given .1)

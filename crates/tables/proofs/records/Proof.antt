@@ -9,43 +9,33 @@ use Rattle.tables.proofs.records.Lts as lts
 use Rattle.format.proofs.answers.or_else.Reads as or-else-reads
 use Rattle.tables.proofs.section_answer.Reads as section-answer-reads
 
--- src/records.rt:126:9
 section-answer-requires : tie.Need-section-answer-requires
 section-answer-requires c κs = search needs
 
--- src/records.rt:127:9
 section-answer-requires-2 : tie.Need-section-answer-requires-2
 section-answer-requires-2 c κs = search needs
 
--- src/records.rt:128:9
 section-answer-requires-3 : tie.Need-section-answer-requires-3
 section-answer-requires-3 c κs = search needs
 
--- src/records.rt:129:9
 section-answer-requires-4 : tie.Need-section-answer-requires-4
 section-answer-requires-4 c κs = search needs
 
--- src/records.rt:130:9
 section-answer-requires-5 : tie.Need-section-answer-requires-5
 section-answer-requires-5 c κs = search needs
 
--- src/records.rt:131:50
 or-else-requires : tie.Need-or-else-requires
 or-else-requires c κs = search needs
 
--- src/records.rt:131:35
 or-else-requires-2 : tie.Need-or-else-requires-2
 or-else-requires-2 c κs = search needs
 
--- src/records.rt:131:20
 or-else-requires-3 : tie.Need-or-else-requires-3
 or-else-requires-3 c κs = search needs
 
--- src/records.rt:131:5
 or-else-requires-4 : tie.Need-or-else-requires-4
 or-else-requires-4 c κs = search needs
 
--- src/records.rt:122:1
 returns : tie.Need-returns
 unfolding recordsAnswer
 returns c =

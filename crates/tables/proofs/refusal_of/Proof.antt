@@ -11,25 +11,20 @@ use Rattle.tables.proofs.number_of.Reads as number-of-reads
 use Rattle.format.proofs.sections.place_of.Reads as place-of-reads
 use Rattle.format.proofs.words.narrow.Reads as narrow-reads
 
--- src/records.rt:88:9
 number-of-requires : tie.Need-number-of-requires
 number-of-requires c κs = search needs
 
--- src/records.rt:90:48
 place-of-requires : tie.Need-place-of-requires
 place-of-requires c κs = search needs
 
--- src/records.rt:90:41
 narrow-requires : tie.Need-narrow-requires
 narrow-requires c κs = search needs
 
--- src/records.rt:90:9
 returns : tie.Need-returns
 returns c =
     rw (eq-eqb _ 6 (sym (c .before .before .before .number-of .ensures) ∙ c .before .before .if1 .taken))
     (ap₂ refused (c .before .before .before .number-of .ensures) (c .narrow .ensures ∙ c .before .place-of .ensures .0))
 
--- src/records.rt:84:1
 returns-2 : tie.Need-returns-2
 returns-2 c =
     let s = c .before .before .args .section in

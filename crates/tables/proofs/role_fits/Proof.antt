@@ -12,19 +12,15 @@ use Rattle.tables.proofs.role_fits.Lts as lts
 use Rattle.format.proofs.sections.role.Reads as role-reads
 use Rattle.masks.proofs.names_only.Reads as names-only-reads
 
--- src/records.rt:32:9
 role-requires : tie.Need-role-requires
 role-requires c κs = search needs
 
--- src/records.rt:33:5
 names-only-requires : tie.Need-names-only-requires
 names-only-requires c κs = search needs
 
--- src/records.rt:33:46
 names-only-requires-2 : tie.Need-names-only-requires-2
 names-only-requires-2 c κs = search needs
 
--- src/records.rt:28:1
 returns : tie.Need-returns
 unfolding recordFits
 returns c =

@@ -26,11 +26,9 @@ Inv-loop file head section count n₀ n =
 abbrev μ-loop : tie.MeasureT-loop
 μ-loop file head section count n₀ n = count + 1 - n
 
--- src/records.rt:100:9
 part-of-requires : tie.Need-part-of-requires Inv-loop μ-loop
 part-of-requires c κs = search needs
 
--- src/records.rt:102:5
 loop-holds : tie.Need-loop-holds Inv-loop μ-loop
 unfolding sectionAnswer
 loop-holds c =
@@ -39,18 +37,15 @@ loop-holds c =
     omega (arith, c .part-of .ensures, counted (a .file .now) (a .head) (a .section)) in
     (omega arith, c .part-of .ensures, omega arith, ap (firstOf (recordFits (contentsAt (a .file .now) (a .head)) (a .section)) (refusalOf (a .head) (a .section)) 1) all)
 
--- src/records.rt:103:13
 record-fits-requires : tie.Need-record-fits-requires Inv-loop μ-loop
 record-fits-requires c κs = search needs
 
--- src/records.rt:104:13
 refusal-of-requires : tie.Need-refusal-of-requires Inv-loop μ-loop
 refusal-of-requires c κs =
     let a = c .before .before .before .before .before .before .args in
     let l = c .before .before .before .loop in
     (omega arith, place-fits (a .file .now) (a .head) (c .before .before .before .before .before .before .pre) (a .section) (l .n) (omega arith))
 
--- src/records.rt:104:13
 returns : tie.Need-returns Inv-loop μ-loop
 returns c =
     let a = c .before .before .before .before .before .before .before .args in
@@ -61,7 +56,6 @@ returns c =
     ∙ sym (first-stops (recordFits (contentsAt (a .file .now) (a .head)) (a .section)) (refusalOf (a .head) (a .section)) (l .n) (c .before .before .before .before .before .part-of .result) (omega arith) wrong)
     ∙ l .inv .3
 
--- src/records.rt:106:9
 add-n : tie.Need-add-n Inv-loop μ-loop
 add-n c =
     let a = c .before .before .before .before .before .before .args in
@@ -69,11 +63,9 @@ add-n c =
     omega (arith, few (a .file .now) (a .head) (c .before .before .before .before .before .before .pre) (a .section)) in
     omega arith
 
--- src/records.rt:102:5
 loop-less : tie.Need-loop-less Inv-loop μ-loop
 loop-less c = search needs
 
--- src/records.rt:102:5
 loop-again : tie.Need-loop-again Inv-loop μ-loop
 loop-again c =
     let a = c .before .before .before .before .before .before .args in
@@ -86,7 +78,6 @@ loop-again c =
           ∙ l .inv .3,
     )
 
--- src/records.rt:96:1
 returns-2 : tie.Need-returns-2 Inv-loop μ-loop
 returns-2 c =
     let a = c .before .before .before .before .args in

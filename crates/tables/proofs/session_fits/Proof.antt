@@ -22,28 +22,22 @@ seated : (c : tie.After-in-count) {b : Bool} → c .in-count .result ≡ b
     → inCount (c .before .before .before .args .head .count .users) (item noSession (contentsAt (now (c .before .before .before .args .file)) (c .before .before .before .args .head) .sessions) (c .before .before .before .args .n) .user) ≡ b
 seated c h = sym (ap (λ (x : Session). inCount (c .before .before .before .args .head .count .users) (x .user)) (c .before .session .ensures)) ∙ sym (c .in-count .ensures) ∙ h
 
--- src/records.rt:48:9
 session-requires : tie.Need-session-requires
 session-requires c κs = search needs
 
--- src/records.rt:49:9
 in-count-requires : tie.Need-in-count-requires
 in-count-requires c κs = search needs
 
--- src/records.rt:50:9
 returns : tie.Need-returns
 unfolding recordFits
 returns c = rw (users-held (c .before .before .before .before .args .file .now) (c .before .before .before .before .args .head), seated (c .before) (not-true _ (c .if1 .taken)))
 
--- src/records.rt:52:27
 user-roles-requires : tie.Need-user-roles-requires
 user-roles-requires c κs = search needs
 
--- src/records.rt:52:5
 roles-within-requires : tie.Need-roles-within-requires
 roles-within-requires c κs = search needs
 
--- src/records.rt:44:1
 returns-2 : tie.Need-returns-2
 unfolding recordFits
 returns-2 c =

@@ -10,19 +10,15 @@ use Rattle.tables.proofs.user_fits.Lts as lts
 use Rattle.format.proofs.sections.user_roles.Reads as user-roles-reads
 use Rattle.masks.proofs.names_only.Reads as names-only-reads
 
--- src/records.rt:25:16
 user-roles-requires : tie.Need-user-roles-requires
 user-roles-requires c κs = search needs
 
--- src/records.rt:25:16
 cast-names-only : tie.Need-cast-names-only
 cast-names-only c = search needs
 
--- src/records.rt:25:5
 names-only-requires : tie.Need-names-only-requires
 names-only-requires c κs = search needs
 
--- src/records.rt:21:1
 returns : tie.Need-returns
 unfolding recordFits
 returns c =

@@ -25,15 +25,12 @@ use Rattle.choices.proofs.state.thread_at.Reads as thread-at-reads
 inside : (c : tie.Else1) → inCount (getD (c .before .before .before .before .before .before .before .before .args .beside .now) 0 0) (c .before .before .before .before .before .before .before .before .args .i) ≡ true
 inside c = sym (c .before .in-count .ensures) ∙ not-false _ (c .if1 .left)
 
--- src/list.rt:108:17
 slice-read-count : tie.Need-slice-read-count
 slice-read-count c = search needs
 
--- src/list.rt:109:9
 in-count-requires : tie.Need-in-count-requires
 in-count-requires c κs = search needs
 
--- src/list.rt:110:9
 returns : tie.Need-returns
 returns c =
     let a = c .before .before .before .before .before .before .before .before .args in
@@ -41,40 +38,33 @@ returns c =
     let outside : inCount (getD (a .beside .now) 0 0) (a .i) ≡ false = sym (c .before .in-count .ensures) ∙ not-true _ (c .if1 .taken) in
     (subst (λ (x : Chosen). Carried x 18 (stateIn (a .threads .now) (a .beside .now)) (stateIn (a .threads .now) (a .beside .now))) (sym (choice-none C (stateIn (a .threads .now) (a .beside .now)) (getD (a .beside .now) 0 0) (a .i) (a .p) (threads-length (a .threads .now) 0 (getD (a .beside .now) 0 0)) outside)) (refl, refl), c .before .before .before .before .before .before .before .before .pre .3)
 
--- src/list.rt:112:39
 sub-wide : tie.Need-sub-wide
 sub-wide c =
     let a = c .before .before .before .before .before .before .before .before .before .args in
     let some = in-count (getD (a .beside .now) 0 0) (a .i) (inside (c .before)) in
     omega (arith, some .0)
 
--- src/list.rt:112:34
 wide-requires : tie.Need-wide-requires
 wide-requires c κs = search needs
 
--- src/list.rt:112:9
 thread-at-requires : tie.Need-thread-at-requires
 thread-at-requires c κs =
     let s = c .before .before .before .before .before .before .before .before .before .before in
     let some = in-count (getD (s .args .beside .now) 0 0) (s .args .i) (inside (c .before .before)) in
     omega (arith, some .0, some .1, c .wide .ensures .0, s .pre .3 .words, s .pre .3 .threads)
 
--- src/list.rt:113:9
 looked-at-requires : tie.Need-looked-at-requires
 looked-at-requires c κs = search needs
 
--- src/list.rt:114:41
 sub-wide-2 : tie.Need-sub-wide-2
 sub-wide-2 c =
     let a = c .before .before .before .before .before .before .before .before .before .before .before .before .before .args in
     let some = looked (getD (a .beside .now) 0 0) (a .i) (a .p) (c .before .looked-at .result) (inside (c .before .before .before .before .before)) (c .before .looked-at .ensures) in
     omega (arith, some .0)
 
--- src/list.rt:114:36
 wide-requires-2 : tie.Need-wide-requires-2
 wide-requires-2 c κs = search needs
 
--- src/list.rt:114:9
 thread-at-requires-2 : tie.Need-thread-at-requires-2
 thread-at-requires-2 c κs =
     let s = c .before .before .before .before .before .before .before .before .before .before .before .before .before .before in
@@ -82,11 +72,9 @@ thread-at-requires-2 c κs =
     let some = looked (getD (a .beside .now) 0 0) (a .i) (a .p) (c .before .before .looked-at .result) (inside (c .before .before .before .before .before .before)) (c .before .before .looked-at .ensures) in
     omega (arith, some .0, some .1, c .wide2 .ensures .0, s .pre .3 .words, s .pre .3 .threads)
 
--- src/list.rt:115:9
 act-requires : tie.Need-act-requires
 act-requires c κs = search needs
 
--- src/list.rt:116:5
 store-requires : tie.Need-store-requires
 store-requires c κs =
     let s = c .before .before .before .before .before .before .before .before .before .before .before .before .before .before .before .before .before .before .before in
@@ -99,15 +87,12 @@ store-requires c κs =
       acted-placed C (a .beside .now) (a .p) (c .before .before .before .before .before .before .before .before .thread-at .result) (c .before .before .before .before .thread-at2 .result) (c .before .before .act .result) (c .before .before .act .ensures),
     )
 
--- src/list.rt:93:1
 same-length : tie.Need-same-length
 same-length c = search needs
 
--- src/list.rt:93:1
 same-length-2 : tie.Need-same-length-2
 same-length-2 c = search needs
 
--- src/list.rt:93:1
 returns-2 : tie.Need-returns-2
 returns-2 c =
     let a = c .before .before .before .before .before .before .before .before .before .before .before .before .before .before .before .before .before .before .before .before .before .before .before .before .args in

@@ -22,60 +22,47 @@ Inv-loop file head sends receives choices threads₀ beside₀ n k₀ threads be
 abbrev μ-loop : tie.MeasureT-loop
 μ-loop file head sends receives choices threads₀ beside₀ n k₀ threads beside k = length choices / 2 - k
 
--- src/list.rt:135:5
 loop-holds : tie.Need-loop-holds Inv-loop μ-loop
 loop-holds c =
     let a = c .before .before .before .before .before .before .args in
     let p = c .before .before .before .before .before .before .pre in
     (omega arith, p .3, p .4, left-begin (clinicOf (contentsAt (a .file .now) (a .head))) (stateIn (a .threads .now) (a .beside .now)) (a .choices .now))
 
--- src/list.rt:136:25
 mul-i : tie.Need-mul-i Inv-loop μ-loop
 mul-i c = omega arith
 
--- src/list.rt:136:17
 mul-i-2 : tie.Need-mul-i-2 Inv-loop μ-loop
 mul-i-2 c = omega arith
 
--- src/list.rt:136:17
 shared-slice-read-i : tie.Need-shared-slice-read-i Inv-loop μ-loop
 shared-slice-read-i c = omega arith
 
--- src/list.rt:137:25
 mul-p : tie.Need-mul-p Inv-loop μ-loop
 mul-p c = omega arith
 
--- src/list.rt:137:25
 add-p : tie.Need-add-p Inv-loop μ-loop
 add-p c = omega arith
 
--- src/list.rt:137:17
 mul-p-2 : tie.Need-mul-p-2 Inv-loop μ-loop
 mul-p-2 c = omega arith
 
--- src/list.rt:137:17
 shared-slice-read-p : tie.Need-shared-slice-read-p Inv-loop μ-loop
 shared-slice-read-p c = omega arith
 
--- src/list.rt:138:13
 choose-requires : tie.Need-choose-requires Inv-loop μ-loop
 choose-requires c κs =
     let p = c .before .before .before .before .before .before .before .before .before .before .before .before .pre in
     (p .0, p .1, p .2, c .before .before .before .before .before .loop .inv .2)
 
--- src/list.rt:141:24
 narrow-requires : tie.Need-narrow-requires Inv-loop μ-loop
 narrow-requires c κs = omega arith
 
--- src/list.rt:140:13
 same-length : tie.Need-same-length Inv-loop μ-loop
 same-length c = search needs
 
--- src/list.rt:140:13
 same-length-2 : tie.Need-same-length-2 Inv-loop μ-loop
 same-length-2 c = search needs
 
--- src/list.rt:140:13
 returns : tie.Need-returns Inv-loop μ-loop
 returns c =
     let a = c .before .before .before .before .before .before .before .before .before .before .before .before .before .before .before .before .before .before .before .args in
@@ -86,15 +73,12 @@ returns c =
     let all = left-halts C s (a .choices .now) (l .k) (stateIn (l .threads) (l .beside)) (stateIn (chosen .last .1 .1 .1 .1 .0) (chosen .last .1 .1 .1 .1 .1 .0)) (chosen .result) (omega arith) (l .inv .3) (chosen .ensures .0) (c .before .if1 .taken) in
     gone (run C s (a .choices .now)) (l .k) _ _ (c .narrow .result) (chosen .result) all (c .narrow .ensures) (chosen .ensures .1)
 
--- src/list.rt:145:9
 add-k : tie.Need-add-k Inv-loop μ-loop
 add-k c = omega arith
 
--- src/list.rt:135:5
 loop-less : tie.Need-loop-less Inv-loop μ-loop
 loop-less c = omega arith
 
--- src/list.rt:135:5
 loop-again : tie.Need-loop-again Inv-loop μ-loop
 loop-again c =
     let a = c .before .before .before .before .before .before .before .before .before .before .before .before .before .before .before .before .before .before .args in
@@ -105,19 +89,15 @@ loop-again c =
     let left = left-goes C s (a .choices .now) (l .k) (stateIn (l .threads) (l .beside)) (stateIn (chosen .last .1 .1 .1 .1 .0) (chosen .last .1 .1 .1 .1 .1 .0)) (chosen .result) (omega arith) (l .inv .3) (chosen .ensures .0) (c .if1 .left) in
     (omega arith, l .inv .1, chosen .ensures .1, left)
 
--- src/list.rt:148:16
 narrow-requires-2 : tie.Need-narrow-requires-2 Inv-loop μ-loop
 narrow-requires-2 c κs = omega arith
 
--- src/list.rt:120:1
 same-length-3 : tie.Need-same-length-3 Inv-loop μ-loop
 same-length-3 c = search needs
 
--- src/list.rt:120:1
 same-length-4 : tie.Need-same-length-4 Inv-loop μ-loop
 same-length-4 c = search needs
 
--- src/list.rt:120:1
 returns-2 : tie.Need-returns-2 Inv-loop μ-loop
 returns-2 c =
     let a = c .before .before .before .before .before .before .before .before .before .args in

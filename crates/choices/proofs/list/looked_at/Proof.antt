@@ -8,18 +8,15 @@ use Rattle.choices.proofs.list.looked_at.Reads as reads
 use Rattle.choices.proofs.list.looked_at.Lts as lts
 use Rattle.format.proofs.sections.in_count.Reads as in-count-reads
 
--- src/list.rt:86:8
 in-count-requires : tie.Need-in-count-requires
 in-count-requires c κs = search needs
 
--- src/list.rt:87:9
 returns : tie.Need-returns
 returns c =
     let a = c .before .before .args in
     let inside : inCount (a .count) (a .p) ≡ true = sym (c .before .in-count .ensures) ∙ c .if1 .taken in
     sym (rw inside)
 
--- src/list.rt:83:1
 returns-2 : tie.Need-returns-2
 returns-2 c =
     let a = c .before .before .args in

@@ -29,44 +29,34 @@ Inv-loop file head threads₀ beside sessions n i₀ threads i =
 abbrev μ-loop : tie.MeasureT-loop
 μ-loop file head threads₀ beside sessions n i₀ threads i = n - i
 
--- src/list.rt:171:9
 wide-requires : tie.Need-wide-requires Inv-loop μ-loop
 wide-requires c κs = search needs
 
--- src/list.rt:173:5
 loop-holds : tie.Need-loop-holds Inv-loop μ-loop
 unfolding threadsIn threadsFrom
 loop-holds c = (omega arith, c .before .before .before .before .pre .1, refl)
 
--- src/list.rt:174:45
 add-narrow : tie.Need-add-narrow Inv-loop μ-loop
 add-narrow c = omega (arith, c .before .before .before .before .before .before .pre .0 .sessions, c .before .before .wide .ensures .0)
 
--- src/list.rt:174:38
 narrow-requires : tie.Need-narrow-requires Inv-loop μ-loop
 narrow-requires c κs = omega (arith, c .before .before .before .before .before .before .pre .0 .sessions, c .before .before .wide .ensures .0)
 
--- src/list.rt:174:13
 session-requires : tie.Need-session-requires Inv-loop μ-loop
 session-requires c κs = search needs
 
--- src/list.rt:175:32
 opened-requires : tie.Need-opened-requires Inv-loop μ-loop
 opened-requires c κs = search needs
 
--- src/list.rt:175:9
 put-thread-requires : tie.Need-put-thread-requires Inv-loop μ-loop
 put-thread-requires c κs = omega (arith, c .before .before .before .before .before .before .before .before .before .before .pre .0 .sessions, c .before .before .before .before .before .before .wide .ensures .0, c .before .before .before .before .before .loop .inv .1)
 
--- src/list.rt:176:9
 add-i : tie.Need-add-i Inv-loop μ-loop
 add-i c = omega (arith, c .before .before .before .before .before .before .before .before .before .before .before .before .before .pre .0 .sessions, c .before .before .before .before .before .before .before .before .before .wide .ensures .0)
 
--- src/list.rt:173:5
 loop-less : tie.Need-loop-less Inv-loop μ-loop
 loop-less c = search needs
 
--- src/list.rt:173:5
 loop-again : tie.Need-loop-again Inv-loop μ-loop
 loop-again c =
     let a = c .before .before .before .before .before .before .before .before .before .before .before .before .before .args in
@@ -83,23 +73,18 @@ loop-again c =
       open-more ss (l .threads) _ (l .i) (c .before .before .before .opened .result) (omega (arith, few, all, l .inv .1)) (omega (arith, held, all)) is put (l .inv .2),
     )
 
--- src/list.rt:178:5
 slice-write-beside : tie.Need-slice-write-beside Inv-loop μ-loop
 slice-write-beside c = omega (arith, c .before .before .before .before .before .before .pre .2)
 
--- src/list.rt:179:5
 slice-write-beside-2 : tie.Need-slice-write-beside-2 Inv-loop μ-loop
 slice-write-beside-2 c = simp length-set (omega (arith, c .before .before .before .before .before .before .pre .2))
 
--- src/list.rt:166:1
 same-length : tie.Need-same-length Inv-loop μ-loop
 same-length c = search needs
 
--- src/list.rt:166:1
 same-length-2 : tie.Need-same-length-2 Inv-loop μ-loop
 same-length-2 c = search needs
 
--- src/list.rt:166:1
 returns : tie.Need-returns Inv-loop μ-loop
 returns c =
     let a = c .before .before .before .before .before .before .args in

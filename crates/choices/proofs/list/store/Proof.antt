@@ -3,7 +3,7 @@ use native.Mathlib.Omega.{arith}
 use lib.ListN.{getD}
 use Rattle.steps.specs.Choice.{State, changed}
 use Rattle.steps.specs.Kept.{stateIn}
-use Rattle.choices.specs.Stored.{Placed}
+use Rattle.choices.specs.Stored.{HasRoom}
 use Rattle.choices.proofs.StateLaws.{put-state, mint-state}
 use Rattle.choices.proofs.StoreLaws.{then-added, then-minted, refused-stored, moves-stored, adds-stored, makes-stored, ends-stored, meets-stored}
 use borrow.Author.Needs.{needs}
@@ -17,19 +17,15 @@ use Rattle.choices.proofs.state.put_made.Reads as put-made-reads
 use Rattle.choices.proofs.state.put_thread.Reads as put-thread-reads
 use Rattle.choices.proofs.state.remove_thread.Reads as remove-thread-reads
 
--- src/list.rt:32:19
 sub-wide : tie.Need-sub-wide
 sub-wide c = search needs
 
--- src/list.rt:32:9
 wide-requires : tie.Need-wide-requires
 wide-requires c κs = search needs
 
--- src/list.rt:37:25
 enum-known-answer : tie.Need-enum-known-answer
 enum-known-answer c = search needs
 
--- src/list.rt:38:13
 returns : tie.Need-returns
 returns c =
     let a = c .before .before .before .before .before .before .before .before .args in
@@ -38,19 +34,15 @@ returns c =
     let b = a .beside .now in
     (refused-stored (stateIn w b) (a .i) (a .p) (a .it) (c .before .answer .given .0 .0) (c .before .answer .given .1), p .0)
 
--- src/list.rt:41:24
 enum-told : tie.Need-enum-told
 enum-told c = search needs
 
--- src/list.rt:41:13
 put-thread-requires : tie.Need-put-thread-requires
 put-thread-requires c κs = search needs
 
--- src/list.rt:42:13
 same-length : tie.Need-same-length
 same-length c = search needs
 
--- src/list.rt:42:13
 returns-2 : tie.Need-returns-2
 returns-2 c =
     let a = c .before .before .before .before .before .before .before .before .before .before .before .args in
@@ -60,15 +52,12 @@ returns-2 c =
     let put = put-state w _ b (a .i) (c .before .before .before .before .before .before .before .before .wide .result) (a .it .first) (p .0) (p .1) (p .2) (c .before .before .before .before .before .before .before .before .wide .ensures .0) (c .before .before .put-thread .ensures) in
     (moves-stored (stateIn w b) (a .i) (a .p) (a .it) _ (c .before .before .before .before .enum-told .given .1) (put .0), put .1)
 
--- src/list.rt:45:24
 enum-told-2 : tie.Need-enum-told-2
 enum-told-2 c = search needs
 
--- src/list.rt:45:13
 put-thread-requires-2 : tie.Need-put-thread-requires-2
 put-thread-requires-2 c κs = search needs
 
--- src/list.rt:46:13
 add-thread-requires : tie.Need-add-thread-requires
 add-thread-requires c κs =
     let a = c .before .before .before .before .before .before .before .before .before .before .before .before .before .args in
@@ -76,17 +65,14 @@ add-thread-requires c κs =
     let w = a .threads .now in
     let b = a .beside .now in
     let put = put-state w _ b (a .i) (c .before .before .before .before .before .before .before .before .before .before .wide .result) (a .it .first) (p .0) (p .1) (p .2) (c .before .before .before .before .before .before .before .before .before .before .wide .ensures .0) (c .before .before .before .before .put-thread2 .ensures) in
-    (put .1, subst (Placed (getD b 0 0) (getD b 1 0) (a .p)) (c .before .before .before .before .before .before .enum-told2 .given .1) (p .3))
+    (put .1, subst (HasRoom (getD b 0 0) (getD b 1 0) (a .p)) (c .before .before .before .before .before .before .enum-told2 .given .1) (p .3))
 
--- src/list.rt:47:13
 same-length-2 : tie.Need-same-length-2
 same-length-2 c = search needs
 
--- src/list.rt:47:13
 same-length-3 : tie.Need-same-length-3
 same-length-3 c = search needs
 
--- src/list.rt:47:13
 returns-3 : tie.Need-returns-3
 returns-3 c =
     let a = c .before .before .before .before .before .before .before .before .before .before .before .before .before .before .before .before .before .before .args in
@@ -97,32 +83,26 @@ returns-3 c =
     let add = c .before .before .before .before .add-thread .ensures in
     (adds-stored (stateIn w b) (a .i) (a .p) (a .it) _ (c .before .before .before .before .before .before .before .before .before .before .before .enum-told2 .given .1) (then-added (stateIn w b) _ _ (a .i) (a .it .first) (a .it .second) (put .0) (add .0)), add .1)
 
--- src/list.rt:49:23
 enum-known-answer-2 : tie.Need-enum-known-answer-2
 enum-known-answer-2 c = search needs
 
--- src/list.rt:50:13
 put-thread-requires-3 : tie.Need-put-thread-requires-3
 put-thread-requires-3 c κs = search needs
 
--- src/list.rt:51:13
 put-made-requires : tie.Need-put-made-requires
 put-made-requires c κs =
     let a = c .before .before .before .before .before .before .before .before .before .before .before .before .before .args in
     let p = c .before .before .before .before .before .before .before .before .before .before .before .before .before .pre in
     let w = a .threads .now in
     let b = a .beside .now in
-    (p .0 .beside, subst (Placed (getD b 0 0) (getD b 1 0) (a .p)) (c .before .before .before .before .before .before .answer2 .given .1) (p .3))
+    (p .0 .beside, subst (HasRoom (getD b 0 0) (getD b 1 0) (a .p)) (c .before .before .before .before .before .before .answer2 .given .1) (p .3))
 
--- src/list.rt:52:13
 same-length-4 : tie.Need-same-length-4
 same-length-4 c = search needs
 
--- src/list.rt:52:13
 same-length-5 : tie.Need-same-length-5
 same-length-5 c = search needs
 
--- src/list.rt:52:13
 returns-4 : tie.Need-returns-4
 returns-4 c =
     let a = c .before .before .before .before .before .before .before .before .before .before .before .before .before .before .before .before .args in
@@ -131,26 +111,21 @@ returns-4 c =
     let b = a .beside .now in
     let put = put-state w _ b (a .i) (c .before .before .before .before .before .before .before .before .before .before .before .before .before .wide .result) (a .it .first) (p .0) (p .1) (p .2) (c .before .before .before .before .before .before .before .before .before .before .before .before .before .wide .ensures .0) (c .before .before .before .before .before .before .put-thread3 .ensures) in
     let m = c .before .before .before .before .before .before .before .before .before .answer2 .given .0 .0 in
-    let made = mint-state _ b _ m (put .1) (subst (Placed (getD b 0 0) (getD b 1 0) (a .p)) (c .before .before .before .before .before .before .before .before .before .answer2 .given .1) (p .3)) (c .before .before .put-made .ensures) in
+    let made = mint-state _ b _ m (put .1) (subst (HasRoom (getD b 0 0) (getD b 1 0) (a .p)) (c .before .before .before .before .before .before .before .before .before .answer2 .given .1) (p .3)) (c .before .before .put-made .ensures) in
     (makes-stored (stateIn w b) (a .i) (a .p) (a .it) _ m (c .before .before .before .before .before .before .before .before .before .answer2 .given .1) (then-minted (stateIn w b) _ _ (a .i) (a .it .first) m (put .0) (made .0)), made .1)
 
--- src/list.rt:55:27
 enum-told-3 : tie.Need-enum-told-3
 enum-told-3 c = search needs
 
--- src/list.rt:55:13
 remove-thread-requires : tie.Need-remove-thread-requires
 remove-thread-requires c κs = search needs
 
--- src/list.rt:56:13
 same-length-6 : tie.Need-same-length-6
 same-length-6 c = search needs
 
--- src/list.rt:56:13
 same-length-7 : tie.Need-same-length-7
 same-length-7 c = search needs
 
--- src/list.rt:56:13
 returns-5 : tie.Need-returns-5
 returns-5 c =
     let a = c .before .before .before .before .before .before .before .before .before .before .before .before .before .before .args in
@@ -160,29 +135,24 @@ returns-5 c =
     let gone = c .before .before .before .before .remove-thread .ensures in
     (ends-stored (stateIn w b) (a .i) (a .p) (a .it) _ (c .before .before .before .before .before .before .before .enum-told3 .given .1) (gone .0), gone .1)
 
--- src/list.rt:59:24
 enum-told-4 : tie.Need-enum-told-4
 enum-told-4 c = search needs
 
--- src/list.rt:59:13
 put-thread-requires-4 : tie.Need-put-thread-requires-4
 put-thread-requires-4 c κs = search needs
 
--- src/list.rt:60:38
 sub-wide-2 : tie.Need-sub-wide-2
 sub-wide-2 c =
     let a = c .before .before .before .before .before .before .before .before .before .before .before .before .args in
     let p = c .before .before .before .before .before .before .before .before .before .before .before .before .pre in
     let w = a .threads .now in
     let b = a .beside .now in
-    let both = (subst (Placed (getD b 0 0) (getD b 1 0) (a .p)) (c .before .before .before .before .before .enum-told4 .given .1) (p .3)) in
+    let both = (subst (HasRoom (getD b 0 0) (getD b 1 0) (a .p)) (c .before .before .before .before .before .enum-told4 .given .1) (p .3)) in
     omega (arith, both .0)
 
--- src/list.rt:60:33
 wide-requires-2 : tie.Need-wide-requires-2
 wide-requires-2 c κs = search needs
 
--- src/list.rt:60:13
 put-thread-requires-5 : tie.Need-put-thread-requires-5
 put-thread-requires-5 c κs =
     let a = c .before .before .before .before .before .before .before .before .before .before .before .before .before .args in
@@ -190,14 +160,12 @@ put-thread-requires-5 c κs =
     let w = a .threads .now in
     let b = a .beside .now in
     let put = put-state w _ b (a .i) (c .before .before .before .before .before .before .before .before .before .before .wide .result) (a .it .first) (p .0) (p .1) (p .2) (c .before .before .before .before .before .before .before .before .before .before .wide .ensures .0) (c .before .before .before .before .put-thread4 .ensures) in
-    let both = (subst (Placed (getD b 0 0) (getD b 1 0) (a .p)) (c .before .before .before .before .before .before .enum-told4 .given .1) (p .3)) in
+    let both = (subst (HasRoom (getD b 0 0) (getD b 1 0) (a .p)) (c .before .before .before .before .before .before .enum-told4 .given .1) (p .3)) in
     omega (arith, both .0, both .1, put .1 .words, p .0 .threads, c .wide2 .ensures .0)
 
--- src/list.rt:61:13
 same-length-8 : tie.Need-same-length-8
 same-length-8 c = search needs
 
--- src/list.rt:61:13
 returns-6 : tie.Need-returns-6
 returns-6 c =
     let a = c .before .before .before .before .before .before .before .before .before .before .before .before .before .before .before .before .args in
@@ -205,7 +173,7 @@ returns-6 c =
     let w = a .threads .now in
     let b = a .beside .now in
     let put = put-state w _ b (a .i) (c .before .before .before .before .before .before .before .before .before .before .before .before .before .wide .result) (a .it .first) (p .0) (p .1) (p .2) (c .before .before .before .before .before .before .before .before .before .before .before .before .before .wide .ensures .0) (c .before .before .before .before .before .before .before .put-thread4 .ensures) in
-    let both = (subst (Placed (getD b 0 0) (getD b 1 0) (a .p)) (c .before .before .before .before .before .before .before .before .before .enum-told4 .given .1) (p .3)) in
+    let both = (subst (HasRoom (getD b 0 0) (getD b 1 0) (a .p)) (c .before .before .before .before .before .before .before .before .before .enum-told4 .given .1) (p .3)) in
     let second = put-state _ _ b (a .p) (c .before .before .before .wide2 .result) (a .it .second) (put .1) (both .0) (both .1) (c .before .before .before .wide2 .ensures .0) (c .before .before .put-thread5 .ensures) in
     (meets-stored (stateIn w b) (a .i) (a .p) (a .it) _ (c .before .before .before .before .before .before .before .before .before .enum-told4 .given .1) (second .0 ∙ ap (λ (s : State). changed s (a .p) (a .it .second)) (put .0)), second .1)
 

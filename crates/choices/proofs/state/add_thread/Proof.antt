@@ -11,35 +11,27 @@ use Rattle.choices.proofs.state.add_thread.Lts as lts
 use Rattle.format.proofs.words.wide.Reads as wide-reads
 use Rattle.choices.proofs.state.put_thread.Reads as put-thread-reads
 
--- src/state.rt:90:13
 slice-read-n : tie.Need-slice-read-n
 slice-read-n c = search needs
 
--- src/state.rt:91:25
 wide-requires : tie.Need-wide-requires
 wide-requires c κs = search needs
 
--- src/state.rt:91:5
 put-thread-requires : tie.Need-put-thread-requires
 put-thread-requires c κs = search needs
 
--- src/state.rt:92:17
 add-beside : tie.Need-add-beside
 add-beside c = search needs
 
--- src/state.rt:92:5
 slice-write-beside : tie.Need-slice-write-beside
 slice-write-beside c = search needs
 
--- src/state.rt:82:1
 same-length : tie.Need-same-length
 same-length c = search needs
 
--- src/state.rt:82:1
 same-length-2 : tie.Need-same-length-2
 same-length-2 c = search needs
 
--- src/state.rt:82:1
 returns : tie.Need-returns
 returns c =
     let a = c .before .before .before .before .before .before .before .before .args in

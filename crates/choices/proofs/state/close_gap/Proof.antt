@@ -18,19 +18,15 @@ Inv-loop threads₀ count i end k₀ threads k =
 abbrev μ-loop : tie.MeasureT-loop
 μ-loop threads₀ count i end k₀ threads k = end - k
 
--- src/state.rt:59:21
 sub-end : tie.Need-sub-end Inv-loop μ-loop
 sub-end c = omega arith
 
--- src/state.rt:59:15
 mul-end : tie.Need-mul-end Inv-loop μ-loop
 mul-end c = omega arith
 
--- src/state.rt:60:17
 mul-k : tie.Need-mul-k Inv-loop μ-loop
 mul-k c = omega arith
 
--- src/state.rt:61:5
 loop-holds : tie.Need-loop-holds Inv-loop μ-loop
 loop-holds c =
     let a = c .args in
@@ -38,46 +34,36 @@ loop-holds c =
     let none : 0 ≡ 11 * a .i - 11 * a .i = omega arith in
     (omega arith, omega arith, omega arith, refl, paste-zero l (11 * a .i) (drop (11 * a .i + 11) l) ∙ ap (down l (11 * a .i) 11) none)
 
--- src/state.rt:62:30
 add-threads : tie.Need-add-threads Inv-loop μ-loop
 add-threads c = omega arith
 
--- src/state.rt:62:22
 mul-threads : tie.Need-mul-threads Inv-loop μ-loop
 mul-threads c = omega arith
 
--- src/state.rt:62:22
 slice-read-threads : tie.Need-slice-read-threads Inv-loop μ-loop
 slice-read-threads c = omega arith
 
--- src/state.rt:62:9
 mul-threads-2 : tie.Need-mul-threads-2 Inv-loop μ-loop
 mul-threads-2 c = omega arith
 
--- src/state.rt:62:9
 slice-write-threads : tie.Need-slice-write-threads Inv-loop μ-loop
 slice-write-threads c = omega arith
 
--- src/state.rt:63:9
 add-k : tie.Need-add-k Inv-loop μ-loop
 add-k c = omega arith
 
--- src/state.rt:61:5
 loop-less : tie.Need-loop-less Inv-loop μ-loop
 loop-less c = omega arith
 
--- src/state.rt:61:5
 loop-again : tie.Need-loop-again Inv-loop μ-loop
 loop-again c =
     let a = c .before .before .before .args in
     let l = c .before .before .loop in
     (omega arith, omega arith, l .inv .2, simp length-set (l .inv .3), down-more (a .threads .now) (l .threads) (11 * a .i) 11 (l .k) 0 (l .inv .0) (omega arith) (l .inv .4))
 
--- src/state.rt:55:1
 same-length : tie.Need-same-length Inv-loop μ-loop
 same-length c = search needs
 
--- src/state.rt:55:1
 returns : tie.Need-returns Inv-loop μ-loop
 returns c =
     let a = c .before .before .args in

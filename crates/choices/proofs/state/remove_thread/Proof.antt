@@ -10,43 +10,33 @@ use Rattle.choices.proofs.state.remove_thread.Lts as lts
 use Rattle.format.proofs.words.wide.Reads as wide-reads
 use Rattle.choices.proofs.state.close_gap.Reads as close-gap-reads
 
--- src/state.rt:101:13
 slice-read-n : tie.Need-slice-read-n
 slice-read-n c = search needs
 
--- src/state.rt:102:24
 wide-requires : tie.Need-wide-requires
 wide-requires c κs = search needs
 
--- src/state.rt:102:38
 sub-wide : tie.Need-sub-wide
 sub-wide c = search needs
 
--- src/state.rt:102:33
 wide-requires-2 : tie.Need-wide-requires-2
 wide-requires-2 c κs = search needs
 
--- src/state.rt:102:5
 close-gap-requires : tie.Need-close-gap-requires
 close-gap-requires c κs = search needs
 
--- src/state.rt:103:17
 sub-beside : tie.Need-sub-beside
 sub-beside c = search needs
 
--- src/state.rt:103:5
 slice-write-beside : tie.Need-slice-write-beside
 slice-write-beside c = search needs
 
--- src/state.rt:96:1
 same-length : tie.Need-same-length
 same-length c = search needs
 
--- src/state.rt:96:1
 same-length-2 : tie.Need-same-length-2
 same-length-2 c = search needs
 
--- src/state.rt:96:1
 returns : tie.Need-returns
 returns c =
     let a = c .before .before .before .before .before .before .before .before .before .args in

@@ -45,18 +45,18 @@ use Rattle.steps.specs.Threads.{noThread}
 use Rattle.steps.specs.declared.Thread.{Thread}
 use Rattle.steps.proofs.Thread as T
 use Rattle.steps.proofs.Thread.Laws as T′
-use Rattle.lent.specs.Scopes.{storing}
-use Rattle.lent.specs.declared.Records.{Records}
-use Rattle.lent.proofs.Records as S
-use Rattle.lent.proofs.Records.Laws as S′
-use Rattle.lent.proofs.no_records as none
-use Rattle.lent.proofs.no_records.Symbol as none-def
-use Rattle.lent.proofs.no_records.Symbol.{name as #lent·no-records}
-use Rattle.lent.proofs.no_records.Met as none-thm
-use Rattle.lent.proofs.with_record as with′
-use Rattle.lent.proofs.with_record.Symbol as with-def
-use Rattle.lent.proofs.with_record.Symbol.{name as #lent·with-record}
-use Rattle.lent.proofs.with_record.Met as with-thm
+use Rattle.lending.specs.Scopes.{storing}
+use Rattle.lending.specs.declared.Records.{Records}
+use Rattle.lending.proofs.Records as S
+use Rattle.lending.proofs.Records.Laws as S′
+use Rattle.lending.proofs.no_records as none
+use Rattle.lending.proofs.no_records.Symbol as none-def
+use Rattle.lending.proofs.no_records.Symbol.{name as #lent·no-records}
+use Rattle.lending.proofs.no_records.Met as none-thm
+use Rattle.lending.proofs.with_record as with′
+use Rattle.lending.proofs.with_record.Symbol as with-def
+use Rattle.lending.proofs.with_record.Symbol.{name as #lent·with-record}
+use Rattle.lending.proofs.with_record.Met as with-thm
 use Rattle.engine.proofs.StoringLaws.{storing-none, storing-first, storing-more}
 use Rattle.engine.proofs.PlainCalls.{calls-plain}
 use Rattle.engine.proofs.RecordWalks.{R, RS, slice, word, thread-val, records-val, list-at, second, scaled, records-are, records-is, sixty-four, of-local, to-local, thread-typed, records-typed, opened, opens-list, closes-list, Upto, Nearer, nearer-ends}
@@ -218,5 +218,5 @@ read-in-spec 𝓤 H 𝓜 𝓖 𝓡 =
     entered 𝓤 H (tripleOf 𝓤 H (𝓖 .A) ri.signature (ri.spec 𝓤 H (𝓖 .A) (𝓜 .mem) (𝓡 .run)))
     (tables 𝓤 H 𝓜 𝓡 code.env .C) (tables 𝓤 H 𝓜 𝓡 code.env .Λ) #engine·read-in code.function (code.unfolded 𝓤 H 𝓜 𝓡)
     (meets 𝓤 H (𝓖 .A) (givenOf 𝓤 H 𝓜 𝓖) (𝓜 .mem) (𝓡 .run) (tablesOf 𝓤 H 𝓜 (tables 𝓤 H 𝓜 𝓡 code.env))
-    (cited 𝓤 H (None 𝓤 H (𝓖 .A) (𝓜 .mem) (𝓡 .run)) 𝓜 𝓡 code.env #lent·no-records none-def.routine code.calls-lent·no-records (none-thm.met 𝓤 H 𝓜 𝓖 𝓡))
-    (cited 𝓤 H (With 𝓤 H (𝓖 .A) (𝓜 .mem) (𝓡 .run)) 𝓜 𝓡 code.env #lent·with-record with-def.routine code.calls-lent·with-record (with-thm.met 𝓤 H 𝓜 𝓖 𝓡)))
+    (cited 𝓤 H (None 𝓤 H (𝓖 .A) (𝓜 .mem) (𝓡 .run)) 𝓜 𝓡 code.env #lent·no-records none-def.routine code.calls-lending·no-records (none-thm.met 𝓤 H 𝓜 𝓖 𝓡))
+    (cited 𝓤 H (With 𝓤 H (𝓖 .A) (𝓜 .mem) (𝓡 .run)) 𝓜 𝓡 code.env #lent·with-record with-def.routine code.calls-lending·with-record (with-thm.met 𝓤 H 𝓜 𝓖 𝓡)))

@@ -36,27 +36,27 @@ use denote.Triple.Walked.{says, needs, Stays, stay-dropped, gave-slice, walkOf, 
 use denote.Exit.{yes}
 use Rattle.steps.specs.declared.Thread.{Thread}
 use Rattle.steps.proofs.Thread as T
-use Rattle.lent.specs.Scopes.{storing, storedBy, Stores}
-use Rattle.lent.specs.declared.Decided.{Decided}
-use Rattle.lent.proofs.Records as S
-use Rattle.lent.proofs.Records.Laws as S′
-use Rattle.lent.proofs.Decided as D
-use Rattle.lent.proofs.Decided.Laws as D′
-use Rattle.lent.proofs.records_of.Symbol as records-def
-use Rattle.lent.proofs.records_of.Symbol.{name as #records}
-use Rattle.lent.proofs.records_of.Met as records-thm
-use Rattle.lent.proofs.from_of.Symbol as from-def
-use Rattle.lent.proofs.from_of.Symbol.{name as #from}
-use Rattle.lent.proofs.from_of.Met as from-thm
-use Rattle.lent.proofs.to_of.Symbol as to-def
-use Rattle.lent.proofs.to_of.Symbol.{name as #to}
-use Rattle.lent.proofs.to_of.Met as to-thm
-use Rattle.lent.proofs.also_of.Symbol as also-def
-use Rattle.lent.proofs.also_of.Symbol.{name as #also}
-use Rattle.lent.proofs.also_of.Met as also-thm
-use Rattle.lent.proofs.end_of.Symbol as end-def
-use Rattle.lent.proofs.end_of.Symbol.{name as #end}
-use Rattle.lent.proofs.end_of.Met as end-thm
+use Rattle.lending.specs.Scopes.{storing, storedBy, Stores}
+use Rattle.lending.specs.declared.Decided.{Decided}
+use Rattle.lending.proofs.Records as S
+use Rattle.lending.proofs.Records.Laws as S′
+use Rattle.lending.proofs.Decided as D
+use Rattle.lending.proofs.Decided.Laws as D′
+use Rattle.lending.proofs.records_of.Symbol as records-def
+use Rattle.lending.proofs.records_of.Symbol.{name as #records}
+use Rattle.lending.proofs.records_of.Met as records-thm
+use Rattle.lending.proofs.from_of.Symbol as from-def
+use Rattle.lending.proofs.from_of.Symbol.{name as #from}
+use Rattle.lending.proofs.from_of.Met as from-thm
+use Rattle.lending.proofs.to_of.Symbol as to-def
+use Rattle.lending.proofs.to_of.Symbol.{name as #to}
+use Rattle.lending.proofs.to_of.Met as to-thm
+use Rattle.lending.proofs.also_of.Symbol as also-def
+use Rattle.lending.proofs.also_of.Symbol.{name as #also}
+use Rattle.lending.proofs.also_of.Met as also-thm
+use Rattle.lending.proofs.end_of.Symbol as end-def
+use Rattle.lending.proofs.end_of.Symbol.{name as #end}
+use Rattle.lending.proofs.end_of.Met as end-thm
 use Rattle.engine.proofs.ByValue.{PartOf, asks}
 use Rattle.engine.proofs.ListCalls.{Passing, calls-lent, calls-handed}
 use Rattle.engine.proofs.records.write_back as wb
@@ -196,9 +196,9 @@ store-spec 𝓤 H 𝓜 𝓖 𝓡 =
     (tables 𝓤 H 𝓜 𝓡 code.env .C) (tables 𝓤 H 𝓜 𝓡 code.env .Λ) #store code.function (code.unfolded 𝓤 H 𝓜 𝓡)
     (meets 𝓤 H (𝓖 .A) (givenOf 𝓤 H 𝓜 𝓖) (𝓜 .mem) (𝓡 .run) (tablesOf 𝓤 H 𝓜 (tables 𝓤 H 𝓜 𝓡 code.env)) (record {
       wrote = cited 𝓤 H (tripleOf 𝓤 H (𝓖 .A) wb.signature (wb.spec 𝓤 H (𝓖 .A) (𝓜 .mem) (𝓡 .run))) 𝓜 𝓡 code.env #wb wb-def.routine code.calls-engine·records·write-back (wb-thm.met 𝓤 H 𝓜 𝓖 𝓡);
-      records = cited 𝓤 H (PartOf RD RS (λ d. d .records) 𝓤 H (𝓖 .A)) 𝓜 𝓡 code.env #records records-def.routine code.calls-lent·records-of (records-thm.met 𝓤 H 𝓜 𝓖 𝓡);
-      from = cited 𝓤 H (PartOf RD usize (λ d. d .from) 𝓤 H (𝓖 .A)) 𝓜 𝓡 code.env #from from-def.routine code.calls-lent·from-of (from-thm.met 𝓤 H 𝓜 𝓖 𝓡);
-      to = cited 𝓤 H (PartOf RD usize (λ d. d .to) 𝓤 H (𝓖 .A)) 𝓜 𝓡 code.env #to to-def.routine code.calls-lent·to-of (to-thm.met 𝓤 H 𝓜 𝓖 𝓡);
-      also = cited 𝓤 H (PartOf RD usize (λ d. d .also) 𝓤 H (𝓖 .A)) 𝓜 𝓡 code.env #also also-def.routine code.calls-lent·also-of (also-thm.met 𝓤 H 𝓜 𝓖 𝓡);
-      end = cited 𝓤 H (PartOf RD usize (λ d. d .end) 𝓤 H (𝓖 .A)) 𝓜 𝓡 code.env #end end-def.routine code.calls-lent·end-of (end-thm.met 𝓤 H 𝓜 𝓖 𝓡);
+      records = cited 𝓤 H (PartOf RD RS (λ d. d .records) 𝓤 H (𝓖 .A)) 𝓜 𝓡 code.env #records records-def.routine code.calls-lending·records-of (records-thm.met 𝓤 H 𝓜 𝓖 𝓡);
+      from = cited 𝓤 H (PartOf RD usize (λ d. d .from) 𝓤 H (𝓖 .A)) 𝓜 𝓡 code.env #from from-def.routine code.calls-lending·from-of (from-thm.met 𝓤 H 𝓜 𝓖 𝓡);
+      to = cited 𝓤 H (PartOf RD usize (λ d. d .to) 𝓤 H (𝓖 .A)) 𝓜 𝓡 code.env #to to-def.routine code.calls-lending·to-of (to-thm.met 𝓤 H 𝓜 𝓖 𝓡);
+      also = cited 𝓤 H (PartOf RD usize (λ d. d .also) 𝓤 H (𝓖 .A)) 𝓜 𝓡 code.env #also also-def.routine code.calls-lending·also-of (also-thm.met 𝓤 H 𝓜 𝓖 𝓡);
+      end = cited 𝓤 H (PartOf RD usize (λ d. d .end) 𝓤 H (𝓖 .A)) 𝓜 𝓡 code.env #end end-def.routine code.calls-lending·end-of (end-thm.met 𝓤 H 𝓜 𝓖 𝓡);
     }))

@@ -44,14 +44,14 @@ use Rattle.steps.specs.Threads.{noThread}
 use Rattle.steps.specs.declared.Thread.{Thread}
 use Rattle.steps.proofs.Thread as T
 use Rattle.steps.proofs.Thread.Laws as T′
-use Rattle.lent.specs.Scopes.{storing}
-use Rattle.lent.specs.declared.Records.{Records}
-use Rattle.lent.proofs.Records as S
-use Rattle.lent.proofs.Records.Laws as S′
-use Rattle.lent.proofs.record_at as at′
-use Rattle.lent.proofs.record_at.Symbol as at-def
-use Rattle.lent.proofs.record_at.Symbol.{name as #lent·record-at}
-use Rattle.lent.proofs.record_at.Met as at-thm
+use Rattle.lending.specs.Scopes.{storing}
+use Rattle.lending.specs.declared.Records.{Records}
+use Rattle.lending.proofs.Records as S
+use Rattle.lending.proofs.Records.Laws as S′
+use Rattle.lending.proofs.record_at as at′
+use Rattle.lending.proofs.record_at.Symbol as at-def
+use Rattle.lending.proofs.record_at.Symbol.{name as #lent·record-at}
+use Rattle.lending.proofs.record_at.Met as at-thm
 use Rattle.engine.proofs.StoringLaws.{storing-none, storing-length, storing-more}
 use Rattle.engine.proofs.PlainCalls.{calls-plain}
 use Rattle.engine.proofs.RecordWalks.{R, RS, slice, word, records-val, list-at, second, scaled, sixty-four, of-local, to-local, thread-typed, records-typed, opened, opens-list, closes-list, Upto, Nearer, nearer-ends}
@@ -209,4 +209,4 @@ write-back-spec 𝓤 H 𝓜 𝓖 𝓡 =
     entered 𝓤 H (tripleOf 𝓤 H (𝓖 .A) wb.signature (wb.spec 𝓤 H (𝓖 .A) (𝓜 .mem) (𝓡 .run)))
     (tables 𝓤 H 𝓜 𝓡 code.env .C) (tables 𝓤 H 𝓜 𝓡 code.env .Λ) #engine·write-back code.function (code.unfolded 𝓤 H 𝓜 𝓡)
     (meets 𝓤 H (𝓖 .A) (givenOf 𝓤 H 𝓜 𝓖) (𝓜 .mem) (𝓡 .run) (tablesOf 𝓤 H 𝓜 (tables 𝓤 H 𝓜 𝓡 code.env))
-    (cited 𝓤 H (Cited 𝓤 H (𝓖 .A) (𝓜 .mem) (𝓡 .run)) 𝓜 𝓡 code.env #lent·record-at at-def.routine code.calls-lent·record-at (at-thm.met 𝓤 H 𝓜 𝓖 𝓡)))
+    (cited 𝓤 H (Cited 𝓤 H (𝓖 .A) (𝓜 .mem) (𝓡 .run)) 𝓜 𝓡 code.env #lent·record-at at-def.routine code.calls-lending·record-at (at-thm.met 𝓤 H 𝓜 𝓖 𝓡)))

@@ -7,11 +7,9 @@ use Rattle.format.proofs.header.length_fits.Reads as reads
 use Rattle.format.proofs.header.length_fits.Lts as lts
 use Rattle.format.proofs.header.length_for.Reads as length-for-reads
 
--- src/header.rt:70:12
 length-for-requires : tie.Need-length-for-requires
 length-for-requires c κs = search needs
 
--- src/header.rt:67:1
 returns : tie.Need-returns
 returns c = ap (eqb (c .before .args .len)) (c .length-for .ensures .0)
 

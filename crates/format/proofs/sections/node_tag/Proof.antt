@@ -17,11 +17,9 @@ use Rattle.format.proofs.sections.in_count.Reads as in-count-reads
 use Rattle.format.proofs.sections.place_of.Reads as place-of-reads
 use Rattle.format.proofs.words.inner_word.Reads as inner-word-reads
 
--- src/sections.rt:162:9
 in-count-requires : tie.Need-in-count-requires
 in-count-requires c κs = search needs
 
--- src/sections.rt:163:9
 returns : tie.Need-returns
 unfolding contentsAt
 returns c =
@@ -29,21 +27,18 @@ returns c =
     let no : inCount (a .head .count .nodes) (a .n) ≡ false = sym (c .before .in-count .ensures) ∙ not-true (c .before .in-count .result) (c .if1 .taken) in
     sym (ap (λ (x : Node). x .tag) (item-none noNode (λ n. nodeAt (a .file .now) (placeOf (a .head) Nodes n)) (a .head .count .nodes) (a .n) no))
 
--- src/sections.rt:165:22
 place-of-requires : tie.Need-place-of-requires
 place-of-requires c κs =
     let a = c .before .before .before .args in
     let (pos, le) = in-count (a .head .count .nodes) (a .n) (sym (c .before .in-count .ensures) ∙ not-false (c .before .in-count .result) (c .if1 .left)) in
     pos
 
--- src/sections.rt:165:5
 inner-word-requires : tie.Need-inner-word-requires
 inner-word-requires c κs =
     let a = c .before .before .before .before .args in
     let (pos, le) = in-count (a .head .count .nodes) (a .n) (sym (c .before .before .in-count .ensures) ∙ not-false (c .before .before .in-count .result) (c .before .if1 .left)) in
     omega arith
 
--- src/sections.rt:158:1
 returns-2 : tie.Need-returns-2
 unfolding contentsAt
 returns-2 c =

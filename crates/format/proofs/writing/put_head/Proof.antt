@@ -7,31 +7,24 @@ use Rattle.format.proofs.writing.put_head.Lts as lts
 use Rattle.format.proofs.words.put_word.Reads as put-word-reads
 use Rattle.format.proofs.writing.put_three.Reads as put-three-reads
 
--- src/writing.rt:37:5
 put-word-requires : tie.Need-put-word-requires
 put-word-requires c κs = search needs
 
--- src/writing.rt:38:5
 put-three-requires : tie.Need-put-three-requires
 put-three-requires c κs = search needs
 
--- src/writing.rt:39:5
 put-three-requires-2 : tie.Need-put-three-requires-2
 put-three-requires-2 c κs = search needs
 
--- src/writing.rt:40:5
 put-three-requires-3 : tie.Need-put-three-requires-3
 put-three-requires-3 c κs = search needs
 
--- src/writing.rt:41:5
 put-three-requires-4 : tie.Need-put-three-requires-4
 put-three-requires-4 c κs = search needs
 
--- src/writing.rt:31:1
 same-length : tie.Need-same-length
 same-length c = search needs
 
--- src/writing.rt:31:1
 returns : tie.Need-returns
 returns c =
     let a = c .before .before .before .before .before .before .before .before .before .before .before .before .before .before .before .before .before .before .before .before .before .before .before .args in

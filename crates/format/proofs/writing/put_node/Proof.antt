@@ -12,19 +12,15 @@ use Rattle.format.proofs.writing.put_node.Lts as lts
 use Rattle.format.proofs.sections.place_of.Reads as place-of-reads
 use Rattle.format.proofs.writing.put_three.Reads as put-three-reads
 
--- src/writing.rt:82:20
 place-of-requires : tie.Need-place-of-requires
 place-of-requires c κs = search needs
 
--- src/writing.rt:82:5
 put-three-requires : tie.Need-put-three-requires
 put-three-requires c κs = search needs
 
--- src/writing.rt:78:1
 same-length : tie.Need-same-length
 same-length c = search needs
 
--- src/writing.rt:78:1
 returns : tie.Need-returns
 unfolding nodeWords
 returns c =

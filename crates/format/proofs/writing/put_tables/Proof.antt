@@ -12,23 +12,18 @@ use Rattle.format.proofs.writing.put_tables.Lts as lts
 use Rattle.format.proofs.words.wide.Reads as wide-reads
 use Rattle.format.proofs.writing.put_words.Reads as put-words-reads
 
--- src/writing.rt:62:21
 wide-requires : tie.Need-wide-requires
 wide-requires c κs = search needs
 
--- src/writing.rt:62:42
 wide-requires-2 : tie.Need-wide-requires-2
 wide-requires-2 c κs = search needs
 
--- src/writing.rt:62:5
 put-words-requires : tie.Need-put-words-requires
 put-words-requires c κs = search needs
 
--- src/writing.rt:58:1
 same-length : tie.Need-same-length
 same-length c = search needs
 
--- src/writing.rt:58:1
 returns : tie.Need-returns
 returns c =
     let a = c .before .before .before .before .before .before .before .before .args in

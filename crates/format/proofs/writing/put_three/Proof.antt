@@ -9,31 +9,24 @@ use Rattle.format.proofs.writing.put_three.Reads as reads
 use Rattle.format.proofs.writing.put_three.Lts as lts
 use Rattle.format.proofs.words.put_word.Reads as put-word-reads
 
--- src/writing.rt:26:5
 put-word-requires : tie.Need-put-word-requires
 put-word-requires c κs = search needs
 
--- src/writing.rt:27:19
 add-put-word : tie.Need-add-put-word
 add-put-word c = search needs
 
--- src/writing.rt:27:5
 put-word-requires-2 : tie.Need-put-word-requires-2
 put-word-requires-2 c κs = search needs
 
--- src/writing.rt:28:19
 add-put-word-2 : tie.Need-add-put-word-2
 add-put-word-2 c = search needs
 
--- src/writing.rt:28:5
 put-word-requires-3 : tie.Need-put-word-requires-3
 put-word-requires-3 c κs = search needs
 
--- src/writing.rt:22:1
 same-length : tie.Need-same-length
 same-length c = search needs
 
--- src/writing.rt:22:1
 returns : tie.Need-returns
 returns c =
     let a = c .before .before .before .before .before .before .before .before .before .before .before .before .before .args in

@@ -17,35 +17,27 @@ Inv-loop file from to out₀ end i₀ out i =
 abbrev μ-loop : tie.MeasureT-loop
 μ-loop file from to out₀ end i₀ out i = 2 * to - i
 
--- src/writing.rt:49:15
 mul-end : tie.Need-mul-end Inv-loop μ-loop
 mul-end c = omega arith
 
--- src/writing.rt:50:17
 mul-i : tie.Need-mul-i Inv-loop μ-loop
 mul-i c = omega arith
 
--- src/writing.rt:51:5
 loop-holds : tie.Need-loop-holds Inv-loop μ-loop
 loop-holds c = (omega arith, omega arith, refl, λ h. absurd (omega (arith, h)), refl)
 
--- src/writing.rt:52:18
 shared-slice-read-out : tie.Need-shared-slice-read-out Inv-loop μ-loop
 shared-slice-read-out c = omega arith
 
--- src/writing.rt:52:9
 slice-write-out : tie.Need-slice-write-out Inv-loop μ-loop
 slice-write-out c = omega arith
 
--- src/writing.rt:53:9
 add-i : tie.Need-add-i Inv-loop μ-loop
 add-i c = omega arith
 
--- src/writing.rt:51:5
 loop-less : tie.Need-loop-less Inv-loop μ-loop
 loop-less c = omega arith
 
--- src/writing.rt:51:5
 loop-again : tie.Need-loop-again Inv-loop μ-loop
 loop-again c =
     let l = c .before .before .loop in
@@ -57,11 +49,9 @@ loop-again c =
       bytes-more (l .out) (set (l .out) (l .i) (getD (a .file .now) (l .i) 0)) (a .file .now) _ (l .i) (2 * a .to) (omega arith) (omega arith) refl (l .inv .4),
     )
 
--- src/writing.rt:45:1
 same-length : tie.Need-same-length Inv-loop μ-loop
 same-length c = omega arith
 
--- src/writing.rt:45:1
 returns : tie.Need-returns Inv-loop μ-loop
 returns c =
     let l = c .before .loop in

@@ -9,19 +9,15 @@ use Rattle.format.proofs.answers.or_else.Reads as or-else-reads
 use Rattle.placing.proofs.bare.masks.Reads as masks-reads
 use Rattle.placing.proofs.bare.switches.Reads as switches-reads
 
--- src/bare.rt:61:13
 masks-requires : tie.Need-masks-requires
 masks-requires c κs = search needs
 
--- src/bare.rt:61:32
 switches-requires : tie.Need-switches-requires
 switches-requires c κs = search needs
 
--- src/bare.rt:61:5
 or-else-requires : tie.Need-or-else-requires
 or-else-requires c κs = search needs
 
--- src/bare.rt:57:1
 returns : tie.Need-returns
 returns c =
     c .or-else .ensures ∙ ap₂ orElse (c .before .before .masks .ensures) (c .before .switches .ensures)

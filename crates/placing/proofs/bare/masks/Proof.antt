@@ -24,7 +24,6 @@ Inv-loop file head count n₀ n =
 abbrev μ-loop : tie.MeasureT-loop
 μ-loop file head count n₀ n = count + 1 - n
 
--- src/bare.rt:19:5
 loop-holds : tie.Need-loop-holds Inv-loop μ-loop
 unfolding masksAnswer
 loop-holds c =
@@ -33,11 +32,9 @@ loop-holds c =
     let all : a .head .count .sessions + 1 - 1 ≡ a .head .count .sessions = omega arith in
     (omega arith, refl, omega arith, ap (firstOf (λ k. eqb (item noSession (C .sessions) k .mask) 0) (λ k. refused 14 0) 1) (all ∙ sym (sessions-held (a .file .now) (a .head))))
 
--- src/bare.rt:20:13
 session-requires : tie.Need-session-requires Inv-loop μ-loop
 session-requires c κs = search needs
 
--- src/bare.rt:22:13
 returns : tie.Need-returns Inv-loop μ-loop
 returns c =
     let a = c .before .before .before .before .before .before .args in
@@ -45,16 +42,13 @@ returns c =
     let wrong : eqb (item noSession (contentsAt (a .file .now) (a .head) .sessions) (l .n) .mask) 0 ≡ false = ne-eqb (item noSession (contentsAt (a .file .now) (a .head) .sessions) (l .n) .mask) 0 (λ z. c .if1 .taken (ap (λ (s : Session). s .mask) (c .before .before .session .ensures) ∙ z)) in
     sym (first-stops (λ k. eqb (item noSession (contentsAt (a .file .now) (a .head) .sessions) k .mask) 0) (λ k. refused 14 0) (l .n) (a .head .count .sessions) (omega arith) wrong) ∙ l .inv .3
 
--- src/bare.rt:27:9
 add-n : tie.Need-add-n Inv-loop μ-loop
 add-n c =
     omega (arith, c .before .before .before .before .before .before .pre)
 
--- src/bare.rt:19:5
 loop-less : tie.Need-loop-less Inv-loop μ-loop
 loop-less c = search needs
 
--- src/bare.rt:19:5
 loop-again : tie.Need-loop-again Inv-loop μ-loop
 loop-again c =
     let a = c .before .before .before .before .before .before .args in
@@ -62,7 +56,6 @@ loop-again c =
     let right : eqb (item noSession (contentsAt (a .file .now) (a .head) .sessions) (l .n) .mask) 0 ≡ true = eq-eqb (item noSession (contentsAt (a .file .now) (a .head) .sessions) (l .n) .mask) 0 (sym (ap (λ (s : Session). s .mask) (c .before .before .session .ensures)) ∙ c .if1 .left) in
     (omega arith, refl, omega arith, sym (first-goes-on (λ k. eqb (item noSession (contentsAt (a .file .now) (a .head) .sessions) k .mask) 0) (λ k. refused 14 0) (l .n) (a .head .count .sessions) (omega arith) right) ∙ l .inv .3)
 
--- src/bare.rt:13:1
 returns-2 : tie.Need-returns-2 Inv-loop μ-loop
 returns-2 c =
     let a = c .before .before .before .args in

@@ -24,7 +24,6 @@ Inv-loop file head count n₀ n =
 abbrev μ-loop : tie.MeasureT-loop
 μ-loop file head count n₀ n = count + 1 - n
 
--- src/bare.rt:41:5
 loop-holds : tie.Need-loop-holds Inv-loop μ-loop
 unfolding switchesAnswer
 loop-holds c =
@@ -32,11 +31,9 @@ loop-holds c =
     let all : a .head .count .nodes + 1 - 1 ≡ a .head .count .nodes = omega arith in
     (omega arith, refl, omega arith, ap (firstOf (λ k. ltb (item noNode (contentsAt (a .file .now) (a .head) .nodes) k .tag) 7) (λ k. refused 14 k) 1) (all ∙ sym (nodes-held (a .file .now) (a .head))))
 
--- src/bare.rt:42:16
 node-tag-requires : tie.Need-node-tag-requires Inv-loop μ-loop
 node-tag-requires c κs = search needs
 
--- src/bare.rt:43:13
 returns : tie.Need-returns Inv-loop μ-loop
 returns c =
     let a = c .before .before .before .before .before .args in
@@ -44,15 +41,12 @@ returns c =
     let wrong : ltb (item noNode (contentsAt (a .file .now) (a .head) .nodes) (l .n) .tag) 7 ≡ false = le-ltb (item noNode (contentsAt (a .file .now) (a .head) .nodes) (l .n) .tag) 7 (omega (arith, c .if1 .taken, c .before .node-tag .ensures)) in
     sym (first-stops (λ k. ltb (item noNode (contentsAt (a .file .now) (a .head) .nodes) k .tag) 7) (λ k. refused 14 k) (l .n) (a .head .count .nodes) (omega arith) wrong) ∙ l .inv .3
 
--- src/bare.rt:48:9
 add-n : tie.Need-add-n Inv-loop μ-loop
 add-n c = omega (arith, c .before .before .before .before .before .pre .nodes)
 
--- src/bare.rt:41:5
 loop-less : tie.Need-loop-less Inv-loop μ-loop
 loop-less c = search needs
 
--- src/bare.rt:41:5
 loop-again : tie.Need-loop-again Inv-loop μ-loop
 loop-again c =
     let a = c .before .before .before .before .before .args in
@@ -60,7 +54,6 @@ loop-again c =
     let right : ltb (item noNode (contentsAt (a .file .now) (a .head) .nodes) (l .n) .tag) 7 ≡ true = lt-ltb (item noNode (contentsAt (a .file .now) (a .head) .nodes) (l .n) .tag) 7 (omega (arith, c .if1 .left, c .before .node-tag .ensures)) in
     (omega arith, refl, omega arith, sym (first-goes-on (λ k. ltb (item noNode (contentsAt (a .file .now) (a .head) .nodes) k .tag) 7) (λ k. refused 14 k) (l .n) (a .head .count .nodes) (omega arith) right) ∙ l .inv .3)
 
--- src/bare.rt:35:1
 returns-2 : tie.Need-returns-2 Inv-loop μ-loop
 returns-2 c =
     let a = c .before .before .before .args in

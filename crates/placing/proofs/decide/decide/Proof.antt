@@ -17,15 +17,12 @@ use Rattle.placing.proofs.bare.bare.Reads as bare-reads
 use Rattle.placing.proofs.decide.refused.Reads as refused-reads
 use Rattle.placing.proofs.decide.settle.Reads as settle-reads
 
--- src/decide.rt:68:9
 bare-requires : tie.Need-bare-requires
 bare-requires c κs = search needs
 
--- src/decide.rt:70:9
 refused-requires : tie.Need-refused-requires
 refused-requires c κs = search needs
 
--- src/decide.rt:70:9
 returns : tie.Need-returns
 returns c =
     let a = c .before .before .before .before .before .before .before .before .args in
@@ -38,19 +35,15 @@ returns c =
       λ z. absurd (c .before .if1 .taken (sym (ap (λ (d : Decision). d .verdict .number) (c .refused .ensures)) ∙ z)),
     )
 
--- src/decide.rt:72:5
 settle-requires : tie.Need-settle-requires
 settle-requires c κs = search needs
 
--- src/decide.rt:57:1
 same-length : tie.Need-same-length
 same-length c = search needs
 
--- src/decide.rt:57:1
 same-length-2 : tie.Need-same-length-2
 same-length-2 c = search needs
 
--- src/decide.rt:57:1
 returns-2 : tie.Need-returns-2
 returns-2 c =
     let a = c .before .before .before .before .before .before .before .before .before .before .before .before .before .before .args in

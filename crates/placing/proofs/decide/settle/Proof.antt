@@ -29,15 +29,12 @@ use Rattle.states.proofs.turns.Reads as turns-reads
 abbrev decision : Verdict → Sums → Decision
 decision v k = record { verdict = v; sums = k }
 
--- src/decide.rt:39:9
 unserved-requires : tie.Need-unserved-requires
 unserved-requires c κs = search needs
 
--- src/decide.rt:41:9
 refused-requires : tie.Need-refused-requires
 refused-requires c κs = search needs
 
--- src/decide.rt:41:9
 returns : tie.Need-returns
 returns c =
     let a = c .before .before .before .before .before .before .before .before .args in
@@ -51,7 +48,6 @@ returns c =
       λ z. absurd (c .before .if1 .taken (sym (ap (λ (d : Decision). d .verdict .number) (c .refused .ensures)) ∙ z)),
     )
 
--- src/decide.rt:43:5
 turns-requires : tie.Need-turns-requires
 turns-requires c κs =
     let a = c .before .before .before .before .before .before .before .before .args in
@@ -60,23 +56,18 @@ turns-requires c κs =
     let quiet : Quiet (unservedFrom 1 ls) = sym (ap (λ (x : Verdict). x .number) (c .before .before .before .unserved .ensures)) ∙ c .before .if1 .left in
     (pre .0, pre .1, pre .2, all-served 1 ls quiet)
 
--- src/decide.rt:44:9
 starts-requires : tie.Need-starts-requires
 starts-requires c κs = search needs
 
--- src/decide.rt:46:9
 refused-requires-2 : tie.Need-refused-requires-2
 refused-requires-2 c κs = search needs
 
--- src/decide.rt:46:9
 same-length : tie.Need-same-length
 same-length c = search needs
 
--- src/decide.rt:46:9
 same-length-2 : tie.Need-same-length-2
 same-length-2 c = search needs
 
--- src/decide.rt:46:9
 returns-2 : tie.Need-returns-2
 returns-2 c =
     let a = c .before .before .before .before .before .before .before .before .before .before .before .before .before .before .before .before .before .before .before .args in
@@ -96,15 +87,12 @@ returns-2 c =
       λ z. let no-way : ⊥ = omega (arith, sym (ap (λ (d : Decision). d .verdict .number) (c .refused2 .ensures)) ∙ z) in absurd no-way,
     )
 
--- src/decide.rt:34:1
 same-length-3 : tie.Need-same-length-3
 same-length-3 c = search needs
 
--- src/decide.rt:34:1
 same-length-4 : tie.Need-same-length-4
 same-length-4 c = search needs
 
--- src/decide.rt:34:1
 returns-3 : tie.Need-returns-3
 returns-3 c =
     let a = c .before .before .before .before .before .before .before .before .before .before .before .before .before .before .before .before .before .before .args in

@@ -26,31 +26,24 @@ Inv-loop file head roles count n₀ n =
 abbrev μ-loop : tie.MeasureT-loop
 μ-loop file head roles count n₀ n = count + 1 - n
 
--- src/served.rt:29:5
 loop-holds : tie.Need-loop-holds Inv-loop μ-loop
 loop-holds c = (omega arith, refl, omega arith, refl)
 
--- src/served.rt:30:24
 node-tag-requires : tie.Need-node-tag-requires Inv-loop μ-loop
 node-tag-requires c κs = search needs
 
--- src/served.rt:30:55
 wide-requires : tie.Need-wide-requires Inv-loop μ-loop
 wide-requires c κs = search needs
 
--- src/served.rt:30:49
 mul-is-unserved : tie.Need-mul-is-unserved Inv-loop μ-loop
 mul-is-unserved c = search needs
 
--- src/served.rt:30:49
 shared-slice-read-is-unserved : tie.Need-shared-slice-read-is-unserved Inv-loop μ-loop
 shared-slice-read-is-unserved c = search needs
 
--- src/served.rt:30:12
 is-unserved-requires : tie.Need-is-unserved-requires Inv-loop μ-loop
 is-unserved-requires c κs = search needs
 
--- src/served.rt:31:13
 returns : tie.Need-returns Inv-loop μ-loop
 returns c =
     let a = c .before .before .before .before .before .before .before .before .before .args in
@@ -60,15 +53,12 @@ returns c =
     c .before .is-unserved .ensures ∙ ap₂ (λ t j. needy t && eqb (getD (a .roles .now) j 0) 0) (c .before .before .before .before .node-tag .ensures) (c .before .before .before .wide .ensures .0) in
     sym (left-unserved ns (a .roles .now) (l .n) (omega arith) (omega (arith, nodes-held (a .file .now) (a .head))) (omega (arith, c .before .before .before .before .before .before .before .before .before .pre)) (sym found ∙ c .if1 .taken)) ∙ l .inv .3
 
--- src/served.rt:36:9
 add-n : tie.Need-add-n Inv-loop μ-loop
 add-n c = omega (arith, c .before .before .before .before .before .before .before .before .before .pre)
 
--- src/served.rt:29:5
 loop-less : tie.Need-loop-less Inv-loop μ-loop
 loop-less c = search needs
 
--- src/served.rt:29:5
 loop-again : tie.Need-loop-again Inv-loop μ-loop
 loop-again c =
     let a = c .before .before .before .before .before .before .before .before .before .args in
@@ -82,7 +72,6 @@ loop-again c =
       sym (left-served ns (a .roles .now) (l .n) (omega arith) (omega (arith, nodes-held (a .file .now) (a .head))) (omega (arith, c .before .before .before .before .before .before .before .before .before .pre)) (sym found ∙ c .if1 .left)) ∙ l .inv .3,
     )
 
--- src/served.rt:23:1
 returns-2 : tie.Need-returns-2 Inv-loop μ-loop
 returns-2 c =
     let a = c .before .before .before .before .args in

@@ -25,48 +25,37 @@ Inv-loop table₀ role it way k₀ table k =
 abbrev μ-loop : tie.MeasureT-loop
 μ-loop table₀ role it way k₀ table k = k
 
--- src/grants.rt:71:5
 loop-holds : tie.Need-loop-holds Inv-loop μ-loop
 loop-holds c = let a = c .before .args in
     (omega arith, refl, refl, add-none (granted (a .way) (a .it)) (a .role .0) (a .table .now) (length (a .table .now)) refl)
 
--- src/grants.rt:72:9
 sub-k : tie.Need-sub-k Inv-loop μ-loop
 sub-k c = search needs
 
--- src/grants.rt:73:72
 narrow-requires : tie.Need-narrow-requires Inv-loop μ-loop
 narrow-requires c κs = search needs
 
--- src/grants.rt:73:28
 mul-with-if : tie.Need-mul-with-if Inv-loop μ-loop
 mul-with-if c = search needs
 
--- src/grants.rt:73:28
 slice-read-with-if : tie.Need-slice-read-with-if Inv-loop μ-loop
 slice-read-with-if c = search needs
 
--- src/grants.rt:73:44
 role-permits-requires : tie.Need-role-permits-requires Inv-loop μ-loop
 role-permits-requires c κs = search needs
 
--- src/grants.rt:73:20
 with-if-requires : tie.Need-with-if-requires Inv-loop μ-loop
 with-if-requires c κs = search needs
 
--- src/grants.rt:73:9
 mul-table : tie.Need-mul-table Inv-loop μ-loop
 mul-table c = search needs
 
--- src/grants.rt:73:9
 slice-write-table : tie.Need-slice-write-table Inv-loop μ-loop
 slice-write-table c = search needs
 
--- src/grants.rt:71:5
 loop-less : tie.Need-loop-less Inv-loop μ-loop
 loop-less c = search needs
 
--- src/grants.rt:71:5
 loop-again : tie.Need-loop-again Inv-loop μ-loop
 loop-again c =
     let a = c .before .before .before .before .before .before .before .args in
@@ -79,11 +68,9 @@ loop-again c =
     let more = add-more (granted (a .way) (a .it)) (a .role .0) (a .table .now) (l .table) (l .k) (c .with-if .result) (omega arith) (omega arith) (l .inv .1) its (l .inv .2) (l .inv .3) in
     (omega arith, simp length-set (omega arith), more .0, more .1)
 
--- src/grants.rt:66:1
 same-length : tie.Need-same-length Inv-loop μ-loop
 same-length c = search needs
 
--- src/grants.rt:66:1
 returns : tie.Need-returns Inv-loop μ-loop
 returns c =
     let l = c .before .loop in

@@ -1,6 +1,6 @@
 -- The invariant: the tables have the roles 1 to n.
 use borrow.Author.Needs.{needs}
-use mathlib.Core.Path.{_≡_, refl, sym, ap, _∙_}
+use mathlib.Core.Path.{_≡_, refl, ap, _∙_}
 use Prim.Native.Nat.{_+_, _≤_, _-_}
 use native.Mathlib.Omega.{arith}
 use lib.ListN.{length}
@@ -27,7 +27,6 @@ Inv-loop file head sends₀ receives₀ n₀ sends receives n =
 abbrev μ-loop : tie.MeasureT-loop
 μ-loop file head sends₀ receives₀ n₀ sends receives n = head .count .roles - n
 
--- src/grants.rt:84:5
 loop-holds : tie.Need-loop-holds Inv-loop μ-loop
 loop-holds c = let a = c .before .before .before .args in
     let D = schemaOf (contentsAt (a .file .now) (a .head)) in
@@ -41,27 +40,21 @@ loop-holds c = let a = c .before .before .before .args in
       beyond-none D Receives,
     )
 
--- src/grants.rt:85:9
 add-n : tie.Need-add-n Inv-loop μ-loop
 add-n c = search needs
 
--- src/grants.rt:86:13
 role-requires : tie.Need-role-requires Inv-loop μ-loop
 role-requires c κs = search needs
 
--- src/grants.rt:87:9
 add-role-requires : tie.Need-add-role-requires Inv-loop μ-loop
 add-role-requires c κs = search needs
 
--- src/grants.rt:88:9
 add-role-requires-2 : tie.Need-add-role-requires-2 Inv-loop μ-loop
 add-role-requires-2 c κs = search needs
 
--- src/grants.rt:84:5
 loop-less : tie.Need-loop-less Inv-loop μ-loop
 loop-less c = search needs
 
--- src/grants.rt:84:5
 loop-again : tie.Need-loop-again Inv-loop μ-loop
 loop-again c =
     let a = c .before .before .before .before .before .before .before .before .before .before .before .before .before .before .before .args in
@@ -81,22 +74,18 @@ loop-again c =
       beyond-more D Receives (it .result .receives) (l .n) (ap (λ (x : Role). x .receives) (it .ensures)) (omega arith) (l .inv .6),
     )
 
--- src/grants.rt:78:1
 same-length : tie.Need-same-length Inv-loop μ-loop
 same-length c = search needs
 
--- src/grants.rt:78:1
 same-length-2 : tie.Need-same-length-2 Inv-loop μ-loop
 same-length-2 c = search needs
 
--- src/grants.rt:78:1
 returns : tie.Need-returns Inv-loop μ-loop
 returns c =
     let a = c .before .before .before .before .before .before .args in
     let l = c .before .before .loop in
-    let all : l .n ≡ a .head .count .roles = omega arith in
-    let held : l .n ≡ length (contentsAt (a .file .now) (a .head) .roles) = all ∙ sym (roles-held (a .file .now) (a .head)) in
-    (rw held at (l .inv .3), rw held at (l .inv .4), rw all at (l .inv .5), rw all at (l .inv .6))
+    let held : l .n ≡ length (contentsAt (a .file .now) (a .head) .roles) = omega (arith, roles-held (a .file .now) (a .head)) in
+    (rw held at (l .inv .3), rw held at (l .inv .4), rw held at (l .inv .5), rw held at (l .inv .6))
 
 pub fill-grants-spec : {M : Type 1} → statement M
 fill-grants-spec =

@@ -8,23 +8,18 @@ use Rattle.rules.proofs.grants.grant_of.Reads as reads
 use Rattle.rules.proofs.grants.grant_of.Lts as lts
 use Rattle.format.proofs.words.wide.Reads as wide-reads
 
--- src/grants.rt:97:9
 wide-requires : tie.Need-wide-requires
 wide-requires c κs = search needs
 
--- src/grants.rt:99:16
 mul-result : tie.Need-mul-result
 mul-result c = search needs
 
--- src/grants.rt:99:16
 shared-slice-read-result : tie.Need-shared-slice-read-result
 shared-slice-read-result c = search needs
 
--- src/grants.rt:99:9
 returns : tie.Need-returns
 returns c = let a = c .before .before .before .before .args in ap (λ k. getD (a .table .now) k 0) (c .before .before .wide .ensures .0)
 
--- src/grants.rt:94:1
 returns-2 : tie.Need-returns-2
 returns-2 c = let a = c .before .before .before .args in sym (List·getD-eq-default (a .table .now) 0 {n = a .kind} (omega (arith, c .before .wide .ensures .0)))
 

@@ -10,15 +10,12 @@ use Rattle.rules.proofs.grants.permits.Lts as lts
 use Rattle.format.proofs.sections.role.Reads as role-reads
 use Rattle.rules.proofs.grants.role_permits.Reads as role-permits-reads
 
--- src/grants.rt:44:18
 role-requires : tie.Need-role-requires
 role-requires c κs = search needs
 
--- src/grants.rt:44:5
 role-permits-requires : tie.Need-role-permits-requires
 role-permits-requires c κs = search needs
 
--- src/grants.rt:40:1
 returns : tie.Need-returns
 unfolding permits
 returns c =

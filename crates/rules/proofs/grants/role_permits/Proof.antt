@@ -8,15 +8,12 @@ use Rattle.rules.proofs.grants.role_permits.Lts as lts
 use Rattle.masks.proofs.has_kind.Reads as has-kind-reads
 use Rattle.rules.proofs.grants.granted_by.Reads as granted-by-reads
 
--- src/grants.rt:36:14
 granted-by-requires : tie.Need-granted-by-requires
 granted-by-requires c κs = search needs
 
--- src/grants.rt:36:5
 has-kind-requires : tie.Need-has-kind-requires
 has-kind-requires c κs = search needs
 
--- src/grants.rt:33:1
 returns : tie.Need-returns
 returns c = let a = c .before .before .args in c .has-kind .ensures ∙ ap (λ g. has g (a .kind .0)) (c .before .granted-by .ensures)
 

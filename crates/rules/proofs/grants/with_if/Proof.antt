@@ -5,15 +5,12 @@ use Rattle.rules.proofs.grants.with_if.Reads as reads
 use Rattle.rules.proofs.grants.with_if.Lts as lts
 use Rattle.masks.proofs.with_role.Reads as with-role-reads
 
--- src/grants.rt:44:9
 with-role-requires : tie.Need-with-role-requires
 with-role-requires c κs = search needs
 
--- src/grants.rt:44:9
 returns : tie.Need-returns
 returns c = rw (c .before .if1 .taken) (c .with-role .ensures)
 
--- src/grants.rt:39:1
 returns-2 : tie.Need-returns-2
 returns-2 c = search needs
 

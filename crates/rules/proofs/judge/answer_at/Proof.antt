@@ -4,11 +4,9 @@ use Rattle.rules.proofs.judge.answer_at.Tie as tie
 use Rattle.rules.proofs.judge.answer_at.Reads as reads
 use Rattle.rules.proofs.judge.answer_at.Lts as lts
 
--- src/judge.rt:71:9
 returns : tie.Need-returns
 returns c = rw (eq-eqb _ _ (c .if1 .taken))
 
--- src/judge.rt:67:1
 returns-2 : tie.Need-returns-2
 returns-2 c = rw (ne-eqb _ _ (c .if1 .left))
 

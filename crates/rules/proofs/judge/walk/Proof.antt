@@ -15,10 +15,11 @@ use Rattle.rules.specs.declared.Step.{Step}
 use Rattle.rules.specs.Schema.{schemaOf}
 use Rattle.rules.specs.Rules.{Context}
 use Rattle.rules.specs.Checking.{openings}
-use Rattle.rules.specs.Kept.{Named, unpacking, contextOf, waiting, Waits, Given, answerAt}
+use Rattle.rules.specs.Kept.{NameTable, unpacking, contextOf, waiting, Waits, Given, answerAt}
 use Rattle.rules.proofs.NameLaws.{Held, held-less, named-kept}
 use Rattle.rules.proofs.StepLaws.{Right, step-right}
-use Rattle.rules.proofs.StackLaws.{waiting-top, waiting-none, waiting-push, waits-push, waits-more, contexts-kept, contexts-bare}
+use Rattle.format.proofs.StackLaws.{read-none, read-top, read-push}
+use Rattle.rules.proofs.StackLaws.{waits-push, waits-more, contexts-kept, contexts-bare}
 use Rattle.rules.proofs.PassLaws.{Left, begins, goes-on, after-step, refuses, runs-out, ends, ends-tree, forks}
 use Rattle.rules.proofs.judge.walk.Statement.{statement}
 use Rattle.rules.proofs.judge.walk.Tie as tie
@@ -36,7 +37,7 @@ use Rattle.rules.proofs.steps.step_at.Reads as step-at-reads
 abbrev Inv-loop : tie.InvT-loop
 Inv-loop file head sends receives names₀ roles₀ fine stack₀ depth₀ here₀ first₀ nodes i₀ names roles stack depth here first i =
     (1 ≤ i) × (i ≤ nodes + 1) × (length stack ≡ 1057) × (length names ≡ 1537) × (length roles ≡ 1025) × (depth ≤ 30 + i) × (here .bound < i)
-    × (here .assigned ≡ schemaOf (contentsAt file head) .assigned (here .user)) × Named (schemaOf (contentsAt file head)) (head .count .users) (head .count .channels) names
+    × Given (schemaOf (contentsAt file head)) here × NameTable (schemaOf (contentsAt file head)) (head .count .users) (head .count .channels) names
     × Held names (here .bound) × Waits (Given (schemaOf (contentsAt file head))) (here .bound) (waiting stack depth)
     × Left (contentsAt file head) roles₀ i (contextOf names here ∷ map (contextOf names) (waiting stack depth)) first roles
 
@@ -55,44 +56,36 @@ right-at c =
     let few : l .here .bound < 1024 = omega (arith, l .inv .6, c .before .before .before .before .loop-test .taken, pre .0 .nodes) in
     let users = users-held (a .file .now) (a .head) in
     let channels = channels-held (a .file .now) (a .head) in
-    let named = subst (λ k. Named D k (D .channels) (l .names)) (sym users) (subst (λ k. Named D (a .head .count .users) k (l .names)) (sym channels) (l .inv .8)) in
+    let named = subst (λ k. NameTable D k (D .channels) (l .names)) (sym users) (subst (λ k. NameTable D (a .head .count .users) k (l .names)) (sym channels) (l .inv .8)) in
     subst (λ (s : Step). Right D (l .names) (l .here) n s) (sym (c .step-at .ensures .0))
-    (step-right D (l .names) (l .here) n (omega (arith, users, pre .0 .users)) (omega (arith, channels, pre .0 .channels)) named (omega (arith, few, l .inv .3)) (l .inv .9) (l .inv .7) (c .before .before .match .rest .0 .1) (c .before .before .match .rest .1) (omega arith) (c .step-at .ensures .1))
+    (step-right D (l .names) (l .here) n (omega (arith, users, pre .0 .users)) (omega (arith, channels, pre .0 .channels)) named (omega (arith, few, l .inv .3)) (l .inv .9) (l .inv .7 .0) (c .before .before .match .rest .0 .1) (c .before .before .match .rest .1) (omega arith) (c .step-at .ensures .1))
 
--- src/judge.rt:102:47
 slice-aggregate-open-sessions : tie.Need-slice-aggregate-open-sessions Inv-loop μ-loop
 slice-aggregate-open-sessions c = search needs
 
--- src/judge.rt:102:9
 open-sessions-requires : tie.Need-open-sessions-requires Inv-loop μ-loop
 open-sessions-requires c κs = search needs
 
--- src/judge.rt:104:9
 returns : tie.Need-returns Inv-loop μ-loop
 returns c =
     let a = c .before .before .before .before .before .before .before .before .before .args in
     let os = c .before .before .open-sessions .ensures in
     let stack = c .before .before .open-sessions .last .1 .1 .0 in
-    let none : [] ≡ openings (contentsAt (a .file .now) (a .head)) = ap (map (contextOf [])) (sym (ap (waiting stack) (c .if1 .taken) ∙ waiting-none unpacking stack)) ∙ os .3 in
+    let none : [] ≡ openings (contentsAt (a .file .now) (a .head)) = ap (map (contextOf [])) (sym (ap (waiting stack) (c .if1 .taken) ∙ read-none 0 unpacking stack)) ∙ os .3 in
     runs-out (contentsAt (a .file .now) (a .head)) (a .roles .now) 1 fine (a .roles .now) (begins (contentsAt (a .file .now) (a .head)) (a .roles .now) [] none)
 
--- src/judge.rt:109:5
 sub-depth : tie.Need-sub-depth Inv-loop μ-loop
 sub-depth c = search needs
 
--- src/judge.rt:110:29
 mul-unpacked : tie.Need-mul-unpacked Inv-loop μ-loop
 mul-unpacked c = search needs
 
--- src/judge.rt:110:29
 array-read-unpacked : tie.Need-array-read-unpacked Inv-loop μ-loop
 array-read-unpacked c = search needs
 
--- src/judge.rt:110:9
 unpacked-requires : tie.Need-unpacked-requires Inv-loop μ-loop
 unpacked-requires c κs = search needs
 
--- src/judge.rt:114:5
 loop-holds : tie.Need-loop-holds Inv-loop μ-loop
 loop-holds c =
     let a = c .before .before .before .before .before .before .before .before .before .before .args in
@@ -103,84 +96,70 @@ loop-holds c =
     let p = c .unpacked .result in
     let D = schemaOf (contentsAt (a .file .now) (a .head)) in
     let pos : 0 < r = omega arith in
-    let top : waiting stack r ≡ p ∷ waiting stack (r - 1) = waiting-top unpacking stack r pos ∙ ap (λ (q : Point). q ∷ waiting stack (r - 1)) (sym (c .unpacked .ensures)) in
+    let top : waiting stack r ≡ p ∷ waiting stack (r - 1) = read-top 0 unpacking stack r pos ∙ ap (λ (q : Point). q ∷ waiting stack (r - 1)) (sym (c .unpacked .ensures)) in
     let w : Waits (Given D) 0 (p ∷ waiting stack (r - 1)) = subst (λ (ps : List Point). Waits (Given D) 0 ps) top (os .2) in
     let st : contextOf (a .names .now) p ∷ map (contextOf (a .names .now)) (waiting stack (r - 1)) ≡ openings (contentsAt (a .file .now) (a .head)) =
     ap (map (contextOf (a .names .now))) (sym top) ∙ contexts-bare (Given D) (a .names .now) (waiting stack r) (os .2) ∙ os .3 in (
       omega arith,
       omega arith,
       os .1,
-      pre .3,
-      pre .5,
+      pre .4,
+      pre .6,
       omega (arith, os .0, pre .0 .sessions),
       omega (arith, w .0),
       w .1,
-      pre .4,
+      pre .5,
       (λ j low high. let no : ⊥ = omega (arith, low, high, w .0) in absurd no),
       w .2,
       begins (contentsAt (a .file .now) (a .head)) (a .roles .now) _ st,
     )
 
--- src/judge.rt:115:13
 node-requires : tie.Need-node-requires Inv-loop μ-loop
 node-requires c κs = search needs
 
--- src/judge.rt:118:9
 add-i : tie.Need-add-i Inv-loop μ-loop
 add-i c = search needs
 
--- src/judge.rt:121:23
 wide-requires : tie.Need-wide-requires Inv-loop μ-loop
 wide-requires c κs = search needs
 
--- src/judge.rt:121:17
 mul-roles : tie.Need-mul-roles Inv-loop μ-loop
 mul-roles c = search needs
 
--- src/judge.rt:121:17
 slice-write-roles : tie.Need-slice-write-roles Inv-loop μ-loop
 slice-write-roles c = search needs
 
--- src/judge.rt:123:21
 same-length : tie.Need-same-length Inv-loop μ-loop
 same-length c = search needs
 
--- src/judge.rt:123:21
 same-length-2 : tie.Need-same-length-2 Inv-loop μ-loop
-same-length-2 c = length-set (c .before .before .before .before .before .loop .roles) (c .before .wide .result) _ ∙ c .before .before .before .before .before .loop .inv .4 ∙ sym (c .before .before .before .before .before .before .before .before .before .before .before .before .before .before .before .before .pre .5)
+same-length-2 c = length-set (c .before .before .before .before .before .loop .roles) (c .before .wide .result) _ ∙ c .before .before .before .before .before .loop .inv .4 ∙ sym (c .before .before .before .before .before .before .before .before .before .before .before .before .before .before .before .before .pre .6)
 
--- src/judge.rt:123:21
 returns-2 : tie.Need-returns-2 Inv-loop μ-loop
 returns-2 c =
     let a = c .before .before .before .before .before .before .before .before .before .before .before .before .before .before .before .before .args in
     let l = c .before .before .before .before .before .loop in
     let n = c .before .before .before .node in
-    let st : map (contextOf (l .names)) (waiting (l .stack) (l .depth)) ≡ [] = ap (λ d. map (contextOf (l .names)) (waiting (l .stack) d)) (c .if2 .taken) ∙ ap (map (contextOf (l .names))) (waiting-none unpacking (l .stack)) in
-    let left = ends-tree (contentsAt (a .file .now) (a .head)) (a .roles .now) (l .i) (contextOf (l .names) (l .here)) _ (l .first) (l .roles) (l .here .assigned) (n .result) (l .inv .0) (omega (arith, nodes-held (a .file .now) (a .head), c .before .before .before .before .loop-test .taken)) (n .ensures) (c .before .before .match .keys1) (l .inv .7) (l .inv .11) in
+    let st : map (contextOf (l .names)) (waiting (l .stack) (l .depth)) ≡ [] = ap (λ d. map (contextOf (l .names)) (waiting (l .stack) d)) (c .if2 .taken) ∙ ap (map (contextOf (l .names))) (read-none 0 unpacking (l .stack)) in
+    let left = ends-tree (contentsAt (a .file .now) (a .head)) (a .roles .now) (l .i) (contextOf (l .names) (l .here)) _ (l .first) (l .roles) (l .here .assigned) (n .result) (l .inv .0) (omega (arith, nodes-held (a .file .now) (a .head), c .before .before .before .before .loop-test .taken)) (n .ensures) (c .before .before .match .keys1) (l .inv .7 .0) (l .inv .11) in
     let over = runs-out (contentsAt (a .file .now) (a .head)) (a .roles .now) (l .i + 1) (l .first) (set (l .roles) (l .i) (l .here .assigned)) (subst (λ (x : List Context). Left (contentsAt (a .file .now) (a .head)) (a .roles .now) (l .i + 1) x (l .first) (set (l .roles) (l .i) (l .here .assigned))) st left) in
     (over .0, ap (λ j. set (l .roles) j (l .here .assigned)) (c .before .wide .ensures .0) ∙ over .1)
 
--- src/judge.rt:128:17
 sub-depth-2 : tie.Need-sub-depth-2 Inv-loop μ-loop
 sub-depth-2 c = search needs
 
--- src/judge.rt:129:33
 mul-unpacked-2 : tie.Need-mul-unpacked-2 Inv-loop μ-loop
 mul-unpacked-2 c = search needs
 
--- src/judge.rt:129:33
 array-read-unpacked-2 : tie.Need-array-read-unpacked-2 Inv-loop μ-loop
 array-read-unpacked-2 c = search needs
 
--- src/judge.rt:129:17
 unpacked-requires-2 : tie.Need-unpacked-requires-2 Inv-loop μ-loop
 unpacked-requires-2 c κs = search needs
 
--- src/judge.rt:114:5
 loop-less : tie.Need-loop-less Inv-loop μ-loop
 loop-less c = search needs
 
--- src/judge.rt:114:5
 loop-again : tie.Need-loop-again Inv-loop μ-loop
 loop-again c =
     let a = c .before .before .before .before .before .before .before .before .before .before .before .before .before .before .before .before .before .args in
@@ -190,9 +169,9 @@ loop-again c =
     let p = c .unpacked2 .result in
     let pos : 0 < l .depth = omega arith in
     let top : waiting (l .stack) (l .depth) ≡ p ∷ waiting (l .stack) (l .depth - 1) =
-    waiting-top unpacking (l .stack) (l .depth) pos ∙ ap (λ (q : Point). q ∷ waiting (l .stack) (l .depth - 1)) (sym (c .unpacked2 .ensures)) in
+    read-top 0 unpacking (l .stack) (l .depth) pos ∙ ap (λ (q : Point). q ∷ waiting (l .stack) (l .depth - 1)) (sym (c .unpacked2 .ensures)) in
     let w : Waits (Given D) (l .here .bound) (p ∷ waiting (l .stack) (l .depth - 1)) = subst (λ (ps : List Point). Waits (Given D) (l .here .bound) ps) top (l .inv .10) in
-    let left = ends-tree (contentsAt (a .file .now) (a .head)) (a .roles .now) (l .i) (contextOf (l .names) (l .here)) _ (l .first) (l .roles) (l .here .assigned) (n .result) (l .inv .0) (omega (arith, nodes-held (a .file .now) (a .head), c .before .before .before .before .before .loop-test .taken)) (n .ensures) (c .before .before .before .match .keys1) (l .inv .7) (l .inv .11) in
+    let left = ends-tree (contentsAt (a .file .now) (a .head)) (a .roles .now) (l .i) (contextOf (l .names) (l .here)) _ (l .first) (l .roles) (l .here .assigned) (n .result) (l .inv .0) (omega (arith, nodes-held (a .file .now) (a .head), c .before .before .before .before .before .loop-test .taken)) (n .ensures) (c .before .before .before .match .keys1) (l .inv .7 .0) (l .inv .11) in
     let at : c .before .before .wide .result ≡ l .i = c .before .before .wide .ensures .0 in (
       omega arith,
       omega arith,
@@ -209,39 +188,30 @@ loop-again c =
           (subst (λ (ps : List Point). Left (contentsAt (a .file .now) (a .head)) (a .roles .now) (l .i + 1) (map (contextOf (l .names)) ps) (l .first) (set (l .roles) (l .i) (l .here .assigned))) top left),
     )
 
--- src/judge.rt:132:23
 wide-requires-2 : tie.Need-wide-requires-2 Inv-loop μ-loop
 wide-requires-2 c κs = search needs
 
--- src/judge.rt:132:17
 mul-roles-2 : tie.Need-mul-roles-2 Inv-loop μ-loop
 mul-roles-2 c = search needs
 
--- src/judge.rt:132:17
 slice-write-roles-2 : tie.Need-slice-write-roles-2 Inv-loop μ-loop
 slice-write-roles-2 c = search needs
 
--- src/judge.rt:133:32
 packed-requires : tie.Need-packed-requires Inv-loop μ-loop
 packed-requires c κs = search needs
 
--- src/judge.rt:133:17
 mul-stack : tie.Need-mul-stack Inv-loop μ-loop
 mul-stack c = search needs
 
--- src/judge.rt:133:17
 array-write-stack : tie.Need-array-write-stack Inv-loop μ-loop
 array-write-stack c = search needs
 
--- src/judge.rt:134:17
 add-depth : tie.Need-add-depth Inv-loop μ-loop
 add-depth c = search needs
 
--- src/judge.rt:114:5
 loop-less-2 : tie.Need-loop-less-2 Inv-loop μ-loop
 loop-less-2 c = search needs
 
--- src/judge.rt:114:5
 loop-again-2 : tie.Need-loop-again-2 Inv-loop μ-loop
 loop-again-2 c =
     let a = c .before .before .before .before .before .before .before .before .before .before .before .before .before .before .before .before .args in
@@ -250,8 +220,8 @@ loop-again-2 c =
     let D = schemaOf (contentsAt (a .file .now) (a .head)) in
     let room : l .depth < length (l .stack) = omega (arith, l .inv .5, l .inv .2, c .before .before .before .before .loop-test .taken, c .before .before .before .before .before .before .before .before .before .before .before .before .before .before .before .before .pre .0 .nodes) in
     let push : waiting (set (l .stack) (l .depth) (c .packed .result)) (l .depth + 1) ≡ l .here ∷ waiting (l .stack) (l .depth) =
-    waiting-push unpacking (l .stack) (l .depth) (c .packed .result) (l .here) room (c .packed .ensures .1) in
-    let left = forks (contentsAt (a .file .now) (a .head)) (a .roles .now) (l .i) (contextOf (l .names) (l .here)) (map (contextOf (l .names)) (waiting (l .stack) (l .depth))) (l .first) (l .roles) (l .here .assigned) (n .result) (l .inv .0) (omega (arith, nodes-held (a .file .now) (a .head), c .before .before .before .before .loop-test .taken)) (n .ensures) (c .before .before .match .keys2) (l .inv .7) (l .inv .11) in
+    read-push 0 unpacking (l .stack) (l .depth) (c .packed .result) (l .here) room (c .packed .ensures .1) in
+    let left = forks (contentsAt (a .file .now) (a .head)) (a .roles .now) (l .i) (contextOf (l .names) (l .here)) (map (contextOf (l .names)) (waiting (l .stack) (l .depth))) (l .first) (l .roles) (l .here .assigned) (n .result) (l .inv .0) (omega (arith, nodes-held (a .file .now) (a .head), c .before .before .before .before .loop-test .taken)) (n .ensures) (c .before .before .match .keys2) (l .inv .7 .0) (l .inv .11) in
     let at : c .before .wide2 .result ≡ l .i = c .before .wide2 .ensures .0 in (
       omega arith,
       omega arith,
@@ -268,27 +238,22 @@ loop-again-2 c =
           (subst (λ (ps : List Point). Left (contentsAt (a .file .now) (a .head)) (a .roles .now) (l .i + 1) (contextOf (l .names) (l .here) ∷ map (contextOf (l .names)) ps) (l .first) (set (l .roles) (l .i) (l .here .assigned))) (sym push) left),
     )
 
--- src/judge.rt:137:21
 step-at-requires : tie.Need-step-at-requires Inv-loop μ-loop
 step-at-requires c κs =
     let pre = c .before .before .before .before .before .before .before .before .before .before .before .before .before .before .before .pre in
     let l = c .before .before .before .before .loop in
     let few : l .here .bound < 1024 = omega (arith, l .inv .6, c .before .before .before .loop-test .taken, pre .0 .nodes) in
-    (pre .0, omega (arith, few), omega (arith, few, l .inv .3), pre .1, pre .2)
+    (pre .0, l .inv .7 .1, omega (arith, few), omega (arith, few, l .inv .3), pre .2, pre .3)
 
--- src/judge.rt:140:32
 answer-at-requires : tie.Need-answer-at-requires Inv-loop μ-loop
 answer-at-requires c κs = search needs
 
--- src/judge.rt:139:21
 same-length-3 : tie.Need-same-length-3 Inv-loop μ-loop
-same-length-3 c = c .before .before .before .before .before .before .before .before .loop .inv .3 ∙ sym (c .before .before .before .before .before .before .before .before .before .before .before .before .before .before .before .before .before .before .before .pre .3)
+same-length-3 c = c .before .before .before .before .before .before .before .before .loop .inv .3 ∙ sym (c .before .before .before .before .before .before .before .before .before .before .before .before .before .before .before .before .before .before .before .pre .4)
 
--- src/judge.rt:139:21
 same-length-4 : tie.Need-same-length-4 Inv-loop μ-loop
-same-length-4 c = c .before .before .before .before .before .before .before .before .loop .inv .4 ∙ sym (c .before .before .before .before .before .before .before .before .before .before .before .before .before .before .before .before .before .before .before .pre .5)
+same-length-4 c = c .before .before .before .before .before .before .before .before .loop .inv .4 ∙ sym (c .before .before .before .before .before .before .before .before .before .before .before .before .before .before .before .before .before .before .before .pre .6)
 
--- src/judge.rt:139:21
 returns-3 : tie.Need-returns-3 Inv-loop μ-loop
 returns-3 c =
     let a = c .before .before .before .before .before .before .before .before .before .before .before .before .before .before .before .before .before .before .before .args in
@@ -299,47 +264,36 @@ returns-3 c =
     let over = refuses (contentsAt (a .file .now) (a .head)) (a .roles .now) (l .i) (contextOf (l .names) (l .here)) _ (l .first) (l .roles) (s .wrong) (n .result) (l .inv .0) (omega (arith, nodes-held (a .file .now) (a .head), c .before .before .before .before .before .before .before .loop-test .taken)) (n .ensures) (right .wrong) (c .before .if3 .taken) (l .inv .11) in
     (ap (λ (x : Verdict). record { names = x; roles = fine }) (c .answer-at .ensures) ∙ over .0, over .1)
 
--- src/judge.rt:144:40
 answer-at-requires-2 : tie.Need-answer-at-requires-2 Inv-loop μ-loop
 answer-at-requires-2 c κs = search needs
 
--- src/judge.rt:144:17
 or-else-requires : tie.Need-or-else-requires Inv-loop μ-loop
 or-else-requires c κs = search needs
 
--- src/judge.rt:145:23
 wide-requires-3 : tie.Need-wide-requires-3 Inv-loop μ-loop
 wide-requires-3 c κs = search needs
 
--- src/judge.rt:145:17
 mul-roles-3 : tie.Need-mul-roles-3 Inv-loop μ-loop
 mul-roles-3 c = search needs
 
--- src/judge.rt:145:17
 slice-write-roles-3 : tie.Need-slice-write-roles-3 Inv-loop μ-loop
 slice-write-roles-3 c = omega (arith, c .wide3 .ensures .0, c .before .before .before .before .before .before .before .before .before .before .loop .inv .4, c .before .before .before .before .before .before .before .before .before .loop-test .taken, c .before .before .before .before .before .before .before .before .before .before .before .before .before .before .before .before .before .before .before .before .before .pre .0 .nodes)
 
--- src/judge.rt:146:29
 wide-requires-4 : tie.Need-wide-requires-4 Inv-loop μ-loop
 wide-requires-4 c κs = search needs
 
--- src/judge.rt:146:23
 add-names : tie.Need-add-names Inv-loop μ-loop
 add-names c = search needs
 
--- src/judge.rt:146:17
 mul-names : tie.Need-mul-names Inv-loop μ-loop
 mul-names c = search needs
 
--- src/judge.rt:146:17
 slice-write-names : tie.Need-slice-write-names Inv-loop μ-loop
 slice-write-names c = omega (arith, c .wide4 .ensures .0, c .before .before .before .before .before .before .before .before .before .before .before .loop .inv .3, c .before .before .before .before .before .before .before .before .before .before .before .loop .inv .6, c .before .before .before .before .before .before .before .before .before .before .loop-test .taken, c .before .before .before .before .before .before .before .before .before .before .before .before .before .before .before .before .before .before .before .before .before .before .pre .0 .nodes)
 
--- src/judge.rt:114:5
 loop-less-3 : tie.Need-loop-less-3 Inv-loop μ-loop
 loop-less-3 c = search needs
 
--- src/judge.rt:114:5
 loop-again-3 : tie.Need-loop-again-3 Inv-loop μ-loop
 loop-again-3 c =
     let a = c .before .before .before .before .before .before .before .before .before .before .before .before .before .before .before .before .before .before .before .before .before .before .before .args in
@@ -368,22 +322,19 @@ loop-again-3 c =
       length-set (l .roles) (c .before .before .wide3 .result) _ ∙ l .inv .4,
       omega (arith, l .inv .5),
       omega (arith, l .inv .6, goes .most),
-      goes .assigned ∙ l .inv .7 ∙ ap (D .assigned) (sym (goes .user)),
+      (goes .assigned ∙ l .inv .7 .0 ∙ ap (D .assigned) (sym (goes .user)), omega (arith, goes .user, l .inv .7 .1)),
       named-kept D (a .head .count .users) (a .head .count .channels) (l .names) (l .here .bound) (s .binding) (l .inv .8),
       goes .held,
       waits-more (Given D) (l .here .bound) (s .child .bound) (waiting (l .stack) (l .depth)) (goes .least) (l .inv .10),
       rw (at, first) left,
     )
 
--- src/judge.rt:85:1
 same-length-5 : tie.Need-same-length-5 Inv-loop μ-loop
 same-length-5 c = search needs
 
--- src/judge.rt:85:1
 same-length-6 : tie.Need-same-length-6 Inv-loop μ-loop
 same-length-6 c = search needs
 
--- src/judge.rt:85:1
 returns-4 : tie.Need-returns-4 Inv-loop μ-loop
 returns-4 c =
     let a = c .before .before .before .before .before .before .before .before .before .before .before .before .args in

@@ -7,15 +7,12 @@ use Rattle.rules.proofs.naming.binding.Reads as reads
 use Rattle.rules.proofs.naming.binding.Lts as lts
 use Rattle.format.proofs.words.paired.Reads as paired-reads
 
--- src/naming.rt:65:18
 paired-requires : tie.Need-paired-requires
 paired-requires c κs = search needs
 
--- src/naming.rt:66:16
 add-t6 : tie.Need-add-t6
 add-t6 c = search needs
 
--- src/naming.rt:59:1
 returns : tie.Need-returns
 returns c = let a = c .before .args in ap (λ k. record { wrong = a .wrong; binding = k; bound = a .bound + 1 }) (c .paired .ensures)
 

@@ -8,9 +8,10 @@ use Rattle.format.specs.Contents.{item, noSession, contentsAt}
 use Rattle.format.specs.declared.Session.{Session}
 use Rattle.format.proofs.ContentsLaws.{sessions-held, from-item, none-past}
 use Rattle.rules.specs.declared.Point.{Point}
+use Rattle.format.specs.Stacks.{stacked}
 use Rattle.rules.specs.Schema.{schemaOf}
-use Rattle.rules.specs.Checking.{opened}
-use Rattle.rules.specs.Kept.{kindIn, ownerIn, contextOf, stacked, Waits, barePoint, unmasked, unpaired, queued, Ownable}
+use Rattle.rules.specs.Checking.{openingsFrom}
+use Rattle.rules.specs.Kept.{kindIn, ownerIn, contextOf, Waits, barePoint, unmasked, unpaired, queued, Ownable}
 use Rattle.rules.proofs.StackLaws.{contexts-push, waits-push, context-bare}
 use Rattle.rules.proofs.naming.open_users.Statement.{statement}
 use Rattle.rules.proofs.naming.open_users.Tie as tie
@@ -24,59 +25,48 @@ use Rattle.format.proofs.words.wide.Reads as wide-reads
 abbrev Inv-loop : tie.InvT-loop
 Inv-loop file head stack₀ sessions depth₀ stack depth =
     (depth ≤ sessions) × (length stack ≡ length stack₀) × Waits Ownable 0 (queued (schemaOf (contentsAt file head)) stack depth)
-    × (map (contextOf []) (queued (schemaOf (contentsAt file head)) stack depth) ≡ map unmasked (opened (drop (sessions - depth) (contentsAt file head .sessions))))
+    × (map (contextOf []) (queued (schemaOf (contentsAt file head)) stack depth) ≡ map unmasked (openingsFrom (drop (sessions - depth) (contentsAt file head .sessions))))
 
 abbrev μ-loop : tie.MeasureT-loop
 μ-loop file head stack₀ sessions depth₀ stack depth = sessions - depth
 
--- src/naming.rt:138:9
 wide-requires : tie.Need-wide-requires Inv-loop μ-loop
 wide-requires c κs = search needs
 
--- src/naming.rt:140:5
 loop-holds : tie.Need-loop-holds Inv-loop μ-loop
-unfolding stacked opened
+unfolding stacked openingsFrom
 loop-holds c =
     let a = c .before .before .before .args in
     let none : drop (c .wide .result - 0) (contentsAt (a .file .now) (a .head) .sessions) ≡ [] =
     none-past (contentsAt (a .file .now) (a .head) .sessions) (c .wide .result - 0) (omega (arith, sessions-held (a .file .now) (a .head), c .wide .ensures .0)) in
     (omega arith, refl, tt, rw none)
 
--- src/naming.rt:141:45
 sub-narrow : tie.Need-sub-narrow Inv-loop μ-loop
 sub-narrow c = search needs
 
--- src/naming.rt:141:38
 narrow-requires : tie.Need-narrow-requires Inv-loop μ-loop
 narrow-requires c κs = search needs
 
--- src/naming.rt:141:13
 session-requires : tie.Need-session-requires Inv-loop μ-loop
 session-requires c κs = search needs
 
--- src/naming.rt:142:24
 paired-requires : tie.Need-paired-requires Inv-loop μ-loop
 paired-requires c κs = search needs
 
--- src/naming.rt:142:9
 mul-stack : tie.Need-mul-stack Inv-loop μ-loop
 mul-stack c = search needs
 
--- src/naming.rt:142:9
 slice-write-stack : tie.Need-slice-write-stack Inv-loop μ-loop
 slice-write-stack c = search needs
 
--- src/naming.rt:143:9
 add-depth : tie.Need-add-depth Inv-loop μ-loop
 add-depth c = search needs
 
--- src/naming.rt:140:5
 loop-less : tie.Need-loop-less Inv-loop μ-loop
 loop-less c = search needs
 
--- src/naming.rt:140:5
 loop-again : tie.Need-loop-again Inv-loop μ-loop
-unfolding opened
+unfolding openingsFrom
 loop-again c =
     let a = c .before .before .before .before .before .before .before .before .args in
     let l = c .before .before .before .before .loop in
@@ -98,18 +88,16 @@ loop-again c =
       rw (one, turn, ← its) (contexts-push (unpaired D) [] (l .stack) (l .depth) (c .paired .result) p (omega arith) is (context-bare (p .user) (p .assigned) 0) (l .inv .3)),
     )
 
--- src/naming.rt:133:1
 same-length : tie.Need-same-length Inv-loop μ-loop
 same-length c = search needs
 
--- src/naming.rt:133:1
 returns : tie.Need-returns Inv-loop μ-loop
 returns c =
     let a = c .before .before .before .before .before .args in
     let l = c .before .loop in
     let all : l .depth ≡ a .head .count .sessions = omega (arith, c .before .before .wide .ensures .0) in
     let none : c .before .before .wide .result - l .depth ≡ 0 = omega arith in
-    (all, l .inv .2, l .inv .3 ∙ ap (λ k. map unmasked (opened (drop k (contentsAt (a .file .now) (a .head) .sessions)))) none)
+    (all, l .inv .2, l .inv .3 ∙ ap (λ k. map unmasked (openingsFrom (drop k (contentsAt (a .file .now) (a .head) .sessions)))) none)
 
 pub open-users-spec : {M : Type 1} → statement M
 open-users-spec =

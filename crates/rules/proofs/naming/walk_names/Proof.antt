@@ -11,12 +11,13 @@ use Rattle.format.proofs.ContentsLaws.{users-held, channels-held, nodes-held}
 use Rattle.rules.specs.declared.NameStep.{NameStep}
 use Rattle.rules.specs.declared.Point.{Point}
 use Rattle.rules.specs.Schema.{schemaOf}
-use Rattle.rules.specs.Rules.{Context, after}
+use Rattle.rules.specs.Rules.{Context, waitingAfter}
 use Rattle.rules.specs.Checking.{openings}
-use Rattle.rules.specs.Kept.{Named, contextOf, Waits, barePoint, unmasked, unpaired, queued, Ownable}
+use Rattle.rules.specs.Kept.{NameTable, contextOf, Waits, barePoint, unmasked, unpaired, queued, Ownable}
 use Rattle.rules.proofs.NameLaws.{Held, held-less, named-kept}
 use Rattle.rules.proofs.StepLaws.{Told, told, step-right}
-use Rattle.rules.proofs.StackLaws.{waiting-top, waiting-none, waiting-push, waits-push, waits-more, contexts-kept, contexts-bare}
+use Rattle.format.proofs.StackLaws.{read-none, read-top, read-push}
+use Rattle.rules.proofs.StackLaws.{waits-push, waits-more, contexts-kept, contexts-bare}
 use Rattle.rules.proofs.PassLaws.{Names, names-begin, names-on, after-step, names-refused, names-tree, names-fork, names-out, names-end}
 use Rattle.rules.proofs.naming.walk_names.Statement.{statement}
 use Rattle.rules.proofs.naming.walk_names.Tie as tie
@@ -25,16 +26,16 @@ use Rattle.rules.proofs.naming.walk_names.Lts as lts
 use Rattle.format.proofs.sections.node.Reads as node-reads
 use Rattle.format.proofs.words.paired.Reads as paired-reads
 use Rattle.format.proofs.words.wide.Reads as wide-reads
-use Rattle.rules.proofs.naming.kind_of.Reads as kind-of-reads
-use Rattle.rules.proofs.naming.name_all.Reads as name-all-reads
+use Rattle.rules.proofs.names.kind_of.Reads as kind-of-reads
+use Rattle.rules.proofs.names.name_all.Reads as name-all-reads
 use Rattle.rules.proofs.naming.naming_at.Reads as naming-at-reads
 use Rattle.rules.proofs.naming.open_users.Reads as open-users-reads
-use Rattle.rules.proofs.naming.owner_of.Reads as owner-of-reads
+use Rattle.rules.proofs.names.owner_of.Reads as owner-of-reads
 
 abbrev Inv-loop : tie.InvT-loop
 Inv-loop file head names₀ stack₀ fine depth₀ top user₀ bound₀ nodes i₀ names stack depth user bound i =
     (1 ≤ i) × (i ≤ nodes + 1) × (length stack ≡ length stack₀) × (length names ≡ length names₀) × (depth + 2 ≤ head .count .sessions + i) × (bound < i) × (user < 65534)
-    × Named (schemaOf (contentsAt file head)) (head .count .users) (head .count .channels) names × Held names bound
+    × NameTable (schemaOf (contentsAt file head)) (head .count .users) (head .count .channels) names × Held names bound
     × Waits Ownable bound (queued (schemaOf (contentsAt file head)) stack depth)
     × Names (contentsAt file head) i (contextOf names (barePoint (schemaOf (contentsAt file head)) user bound) ∷ map (contextOf names) (queued (schemaOf (contentsAt file head)) stack depth))
 
@@ -51,59 +52,48 @@ told-at c =
     let D = schemaOf (contentsAt (a .file .now) (a .head)) in
     let users = users-held (a .file .now) (a .head) in
     let channels = channels-held (a .file .now) (a .head) in
-    let named = subst (λ k. Named D k (D .channels) (l .names)) (sym users) (subst (λ k. Named D (a .head .count .users) k (l .names)) (sym channels) (l .inv .7)) in
+    let named = subst (λ k. NameTable D k (D .channels) (l .names)) (sym users) (subst (λ k. NameTable D (a .head .count .users) k (l .names)) (sym channels) (l .inv .7)) in
     let long : 512 + l .bound < length (l .names) = omega (arith, l .inv .3, l .inv .5, c .before .before .before .before .loop-test .taken, c .before .before .before .before .before .before .before .before .before .before .before .before .before .before .before .before .name-all .ensures .0, pre .2) in
     subst (λ (s : NameStep). Told D (l .names) (l .user) (l .bound) n s) (sym (c .naming-at .ensures .0))
     (told D (l .names) (l .user) (l .bound) n
     (step-right D (l .names) (barePoint D (l .user) (l .bound)) n (omega (arith, users, pre .0 .users)) (omega (arith, channels, pre .0 .channels)) named long (l .inv .8) refl (c .before .before .match .rest .0 .1) (c .before .before .match .rest .1) (omega arith) (c .naming-at .ensures .1)))
 
--- src/naming.rt:159:5
 name-all-requires : tie.Need-name-all-requires Inv-loop μ-loop
 name-all-requires c κs = search needs
 
--- src/naming.rt:160:9
 open-users-requires : tie.Need-open-users-requires Inv-loop μ-loop
 open-users-requires c κs = search needs
 
--- src/naming.rt:162:9
 same-length : tie.Need-same-length Inv-loop μ-loop
 same-length c = search needs
 
--- src/naming.rt:162:9
 same-length-2 : tie.Need-same-length-2 Inv-loop μ-loop
 same-length-2 c = search needs
 
--- src/naming.rt:162:9
 returns : tie.Need-returns Inv-loop μ-loop
 returns c =
     let a = c .before .before .before .before .before .before .before .before .before .before .before .before .args in
     let os = c .before .before .before .open-users in
     let C = contentsAt (a .file .now) (a .head) in
     let stack = os .last .1 .1 .0 in
-    let none : [] ≡ map unmasked (openings C) = ap (map (contextOf [])) (sym (ap (queued (schemaOf C) stack) (c .if1 .taken) ∙ waiting-none (unpaired (schemaOf C)) stack)) ∙ os .ensures .2 in
+    let none : [] ≡ map unmasked (openings C) = ap (map (contextOf [])) (sym (ap (queued (schemaOf C) stack) (c .if1 .taken) ∙ read-none 0 (unpaired (schemaOf C)) stack)) ∙ os .ensures .2 in
     names-out C 1 (names-begin C [] none)
 
--- src/naming.rt:164:5
 sub-depth : tie.Need-sub-depth Inv-loop μ-loop
 sub-depth c = search needs
 
--- src/naming.rt:165:15
 mul-top : tie.Need-mul-top Inv-loop μ-loop
 mul-top c = search needs
 
--- src/naming.rt:165:15
 slice-read-top : tie.Need-slice-read-top Inv-loop μ-loop
 slice-read-top c = search needs
 
--- src/naming.rt:166:9
 kind-of-requires : tie.Need-kind-of-requires Inv-loop μ-loop
 kind-of-requires c κs = search needs
 
--- src/naming.rt:167:9
 owner-of-requires : tie.Need-owner-of-requires Inv-loop μ-loop
 owner-of-requires c κs = search needs
 
--- src/naming.rt:170:5
 loop-holds : tie.Need-loop-holds Inv-loop μ-loop
 loop-holds c =
     let a = c .before .before .before .before .before .before .before .before .before .before .before .before .before .before .before .args in
@@ -117,7 +107,7 @@ loop-holds c =
     let p = barePoint D (c .before .kind-of .result) (c .owner-of .result) in
     let pos : 0 < r = omega arith in
     let top : queued D stack r ≡ p ∷ queued D stack (r - 1) =
-    waiting-top (unpaired D) stack r pos ∙ ap (λ (q : Point). q ∷ queued D stack (r - 1)) (ap₂ (barePoint D) (sym (c .before .kind-of .ensures)) (sym (c .owner-of .ensures))) in
+    read-top 0 (unpaired D) stack r pos ∙ ap (λ (q : Point). q ∷ queued D stack (r - 1)) (ap₂ (barePoint D) (sym (c .before .kind-of .ensures)) (sym (c .owner-of .ensures))) in
     let w : Waits Ownable 0 (p ∷ queued D stack (r - 1)) = subst (λ (ps : List Point). Waits Ownable 0 ps) top (os .ensures .1) in
     let st : contextOf t p ∷ map (contextOf t) (queued D stack (r - 1)) ≡ map unmasked (openings C) =
     ap (map (contextOf t)) (sym top) ∙ contexts-bare Ownable t (queued D stack r) (os .ensures .1) ∙ os .ensures .2 in (
@@ -134,23 +124,18 @@ loop-holds c =
       names-begin C _ st,
     )
 
--- src/naming.rt:171:13
 node-requires : tie.Need-node-requires Inv-loop μ-loop
 node-requires c κs = search needs
 
--- src/naming.rt:174:9
 add-i : tie.Need-add-i Inv-loop μ-loop
 add-i c = search needs
 
--- src/naming.rt:178:21
 same-length-3 : tie.Need-same-length-3 Inv-loop μ-loop
 same-length-3 c = search needs
 
--- src/naming.rt:178:21
 same-length-4 : tie.Need-same-length-4 Inv-loop μ-loop
 same-length-4 c = search needs
 
--- src/naming.rt:178:21
 returns-2 : tie.Need-returns-2 Inv-loop μ-loop
 returns-2 c =
     let a = c .before .before .before .before .before .before .before .before .before .before .before .before .before .before .before .before .before .before .before .before .args in
@@ -158,35 +143,28 @@ returns-2 c =
     let n = c .before .before .node in
     let C = contentsAt (a .file .now) (a .head) in
     let st : map (contextOf (l .names)) (queued (schemaOf C) (l .stack) (l .depth)) ≡ [] =
-    ap (λ d. map (contextOf (l .names)) (queued (schemaOf C) (l .stack) d)) (c .if2 .taken) ∙ ap (map (contextOf (l .names))) (waiting-none (unpaired (schemaOf C)) (l .stack)) in
+    ap (λ d. map (contextOf (l .names)) (queued (schemaOf C) (l .stack) d)) (c .if2 .taken) ∙ ap (map (contextOf (l .names))) (read-none 0 (unpaired (schemaOf C)) (l .stack)) in
     let left = names-tree C (l .i) (contextOf (l .names) (barePoint (schemaOf C) (l .user) (l .bound))) _ (n .result) (l .inv .0) (omega (arith, nodes-held (a .file .now) (a .head), c .before .before .before .loop-test .taken)) (n .ensures) (c .before .match .keys1) (l .inv .10) in
     names-out C (l .i + 1) (subst (λ (x : List Context). Names C (l .i + 1) x) st left)
 
--- src/naming.rt:180:17
 sub-depth-2 : tie.Need-sub-depth-2 Inv-loop μ-loop
 sub-depth-2 c = search needs
 
--- src/naming.rt:181:28
 mul-next : tie.Need-mul-next Inv-loop μ-loop
 mul-next c = search needs
 
--- src/naming.rt:181:28
 slice-read-next : tie.Need-slice-read-next Inv-loop μ-loop
 slice-read-next c = search needs
 
--- src/naming.rt:182:17
 kind-of-requires-2 : tie.Need-kind-of-requires-2 Inv-loop μ-loop
 kind-of-requires-2 c κs = search needs
 
--- src/naming.rt:183:17
 owner-of-requires-2 : tie.Need-owner-of-requires-2 Inv-loop μ-loop
 owner-of-requires-2 c κs = search needs
 
--- src/naming.rt:170:5
 loop-less : tie.Need-loop-less Inv-loop μ-loop
 loop-less c = search needs
 
--- src/naming.rt:170:5
 loop-again : tie.Need-loop-again Inv-loop μ-loop
 loop-again c =
     let a = c .before .before .before .before .before .before .before .before .before .before .before .before .before .before .before .before .before .before .before .before .before .before .before .args in
@@ -197,7 +175,7 @@ loop-again c =
     let p = barePoint D (c .before .kind-of2 .result) (c .owner-of2 .result) in
     let pos : 0 < l .depth = omega arith in
     let top : queued D (l .stack) (l .depth) ≡ p ∷ queued D (l .stack) (l .depth - 1) =
-    waiting-top (unpaired D) (l .stack) (l .depth) pos ∙ ap (λ (q : Point). q ∷ queued D (l .stack) (l .depth - 1)) (ap₂ (barePoint D) (sym (c .before .kind-of2 .ensures)) (sym (c .owner-of2 .ensures))) in
+    read-top 0 (unpaired D) (l .stack) (l .depth) pos ∙ ap (λ (q : Point). q ∷ queued D (l .stack) (l .depth - 1)) (ap₂ (barePoint D) (sym (c .before .kind-of2 .ensures)) (sym (c .owner-of2 .ensures))) in
     let w : Waits Ownable (l .bound) (p ∷ queued D (l .stack) (l .depth - 1)) = subst (λ (ps : List Point). Waits Ownable (l .bound) ps) top (l .inv .9) in
     let left = names-tree C (l .i) (contextOf (l .names) (barePoint D (l .user) (l .bound))) _ (n .result) (l .inv .0) (omega (arith, nodes-held (a .file .now) (a .head), c .before .before .before .before .before .before .loop-test .taken)) (n .ensures) (c .before .before .before .before .match .keys1) (l .inv .10) in (
       omega arith,
@@ -213,27 +191,21 @@ loop-again c =
       subst (λ (ps : List Point). Names C (l .i + 1) (map (contextOf (l .names)) ps)) top left,
     )
 
--- src/naming.rt:186:32
 paired-requires : tie.Need-paired-requires Inv-loop μ-loop
 paired-requires c κs = search needs
 
--- src/naming.rt:186:17
 mul-stack : tie.Need-mul-stack Inv-loop μ-loop
 mul-stack c = search needs
 
--- src/naming.rt:186:17
 slice-write-stack : tie.Need-slice-write-stack Inv-loop μ-loop
 slice-write-stack c = search needs
 
--- src/naming.rt:187:17
 add-depth : tie.Need-add-depth Inv-loop μ-loop
 add-depth c = search needs
 
--- src/naming.rt:170:5
 loop-less-2 : tie.Need-loop-less-2 Inv-loop μ-loop
 loop-less-2 c = search needs
 
--- src/naming.rt:170:5
 loop-again-2 : tie.Need-loop-again-2 Inv-loop μ-loop
 loop-again-2 c =
     let a = c .before .before .before .before .before .before .before .before .before .before .before .before .before .before .before .before .before .before .before .before .args in
@@ -244,7 +216,7 @@ loop-again-2 c =
     let p = barePoint D (l .user) (l .bound) in
     let room : l .depth < length (l .stack) = omega (arith, l .inv .4, l .inv .2, c .before .before .before .loop-test .taken, c .before .before .before .before .before .before .before .before .before .before .before .before .before .before .before .before .before .before .before .before .pre .4) in
     let is : unpaired D (c .paired .result) ≡ p = ap₂ (barePoint D) (omega (arith, c .paired .ensures)) (omega (arith, c .paired .ensures)) in
-    let push = waiting-push (unpaired D) (l .stack) (l .depth) (c .paired .result) p room is in
+    let push = read-push 0 (unpaired D) (l .stack) (l .depth) (c .paired .result) p room is in
     let left = names-fork C (l .i) (contextOf (l .names) p) (map (contextOf (l .names)) (queued D (l .stack) (l .depth))) (n .result) (l .inv .0) (omega (arith, nodes-held (a .file .now) (a .head), c .before .before .before .loop-test .taken)) (n .ensures) (c .before .match .keys2) (l .inv .10) in (
       omega arith,
       omega arith,
@@ -259,19 +231,15 @@ loop-again-2 c =
       subst (λ (ps : List Point). Names C (l .i + 1) (contextOf (l .names) p ∷ map (contextOf (l .names)) ps)) (sym push) left,
     )
 
--- src/naming.rt:190:21
 naming-at-requires : tie.Need-naming-at-requires Inv-loop μ-loop
 naming-at-requires c κs = search needs
 
--- src/naming.rt:192:21
 same-length-5 : tie.Need-same-length-5 Inv-loop μ-loop
 same-length-5 c = search needs
 
--- src/naming.rt:192:21
 same-length-6 : tie.Need-same-length-6 Inv-loop μ-loop
 same-length-6 c = search needs
 
--- src/naming.rt:192:21
 returns-3 : tie.Need-returns-3 Inv-loop μ-loop
 returns-3 c =
     let a = c .before .before .before .before .before .before .before .before .before .before .before .before .before .before .before .before .before .before .before .before .before .before .before .args in
@@ -281,27 +249,21 @@ returns-3 c =
     names-refused C (l .i) (contextOf (l .names) (barePoint (schemaOf C) (l .user) (l .bound))) _ (c .before .before .naming-at .result .wrong) (n .result) (l .inv .0) (omega (arith, nodes-held (a .file .now) (a .head), c .before .before .before .before .before .before .loop-test .taken)) (n .ensures)
     (told-at (c .before .before) .wrong) (c .if3 .taken) (l .inv .10)
 
--- src/naming.rt:197:29
 wide-requires : tie.Need-wide-requires Inv-loop μ-loop
 wide-requires c κs = search needs
 
--- src/naming.rt:197:23
 add-names : tie.Need-add-names Inv-loop μ-loop
 add-names c = search needs
 
--- src/naming.rt:197:17
 mul-names : tie.Need-mul-names Inv-loop μ-loop
 mul-names c = search needs
 
--- src/naming.rt:197:17
 slice-write-names : tie.Need-slice-write-names Inv-loop μ-loop
 slice-write-names c = let l = c .before .before .before .before .before .before .before .before .loop in omega (arith, c .wide .ensures .0, l .inv .3, l .inv .5, c .before .before .before .before .before .before .before .loop-test .taken, c .before .before .before .before .before .before .before .before .before .before .before .before .before .before .before .before .before .before .before .name-all .ensures .0, c .before .before .before .before .before .before .before .before .before .before .before .before .before .before .before .before .before .before .before .before .before .before .before .before .pre .2)
 
--- src/naming.rt:170:5
 loop-less-3 : tie.Need-loop-less-3 Inv-loop μ-loop
 loop-less-3 c = search needs
 
--- src/naming.rt:170:5
 loop-again-3 : tie.Need-loop-again-3 Inv-loop μ-loop
 loop-again-3 c =
     let a = c .before .before .before .before .before .before .before .before .before .before .before .before .before .before .before .before .before .before .before .before .before .before .before .before .args in
@@ -319,7 +281,7 @@ loop-again-3 c =
     let kept = contexts-kept Ownable (l .names) (l .bound) (s .binding) (l .bound) (queued D (l .stack) (l .depth)) same (l .inv .9) in
     let t = set (l .names) (512 + l .bound) (s .binding) in
     let more = contextOf t (barePoint D (l .user) (s .bound)) ∷ map (contextOf t) (queued D (l .stack) (l .depth)) in
-    let next : map unmasked more ≡ map unmasked (after D here (n .result) rest) =
+    let next : map unmasked more ≡ map unmasked (waitingAfter D here (n .result) rest) =
     ap₂ _∷_ (it .child good) (ap (map unmasked) kept) ∙ ap (map unmasked) (after-step D here (n .result) rest (c .before .before .before .before .before .match .rest .0 .1) (c .before .before .before .before .before .match .rest .1) refl refl) in
     let left = names-on C (l .i) here rest more (n .result) (l .inv .0) (omega (arith, nodes-held (a .file .now) (a .head), c .before .before .before .before .before .before .before .loop-test .taken)) (n .ensures) (sym (it .wrong) ∙ good) next (l .inv .10) in
     rw (to) (
@@ -336,15 +298,12 @@ loop-again-3 c =
       left,
     )
 
--- src/naming.rt:150:1
 same-length-7 : tie.Need-same-length-7 Inv-loop μ-loop
 same-length-7 c = search needs
 
--- src/naming.rt:150:1
 same-length-8 : tie.Need-same-length-8 Inv-loop μ-loop
 same-length-8 c = search needs
 
--- src/naming.rt:150:1
 returns-4 : tie.Need-returns-4 Inv-loop μ-loop
 returns-4 c =
     let a = c .before .before .before .before .before .before .before .before .before .before .before .before .before .before .before .before .before .args in

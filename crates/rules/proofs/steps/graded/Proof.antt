@@ -4,15 +4,12 @@ use Rattle.rules.proofs.steps.graded.Tie as tie
 use Rattle.rules.proofs.steps.graded.Reads as reads
 use Rattle.rules.proofs.steps.graded.Lts as lts
 
--- src/steps.rt:34:9
 returns : tie.Need-returns
 returns c = rw (not-true (c .before .args .names) (c .if1 .taken))
 
--- src/steps.rt:37:9
 returns-2 : tie.Need-returns-2
 returns-2 c = rw (not-false (c .before .before .args .names) (c .before .if1 .left), not-true (c .before .before .args .kinds) (c .if2 .taken))
 
--- src/steps.rt:30:1
 returns-3 : tie.Need-returns-3
 returns-3 c = rw (not-false (c .before .before .args .names) (c .before .if1 .left), not-false (c .before .before .args .kinds) (c .if2 .left))
 

@@ -12,35 +12,27 @@ use Rattle.rules.proofs.steps.staying.Reads as staying-reads
 use Rattle.rules.proofs.steps.turning.Reads as turning-reads
 use Rattle.rules.proofs.steps.unless.Reads as unless-reads
 
--- src/steps.rt:170:9
 in-count-requires : tie.Need-in-count-requires
 in-count-requires c κs = search needs
 
--- src/steps.rt:171:9
 staying-requires : tie.Need-staying-requires
 staying-requires c κs = search needs
 
--- src/steps.rt:171:9
 returns : tie.Need-returns
 returns c = c .staying .ensures ∙ rw (← c .before .before .in-count .ensures, not-true (c .before .before .in-count .result) (c .before .if1 .taken))
 
--- src/steps.rt:175:16
 has-role-requires : tie.Need-has-role-requires
 has-role-requires c κs = search needs
 
--- src/steps.rt:175:9
 unless-requires : tie.Need-unless-requires
 unless-requires c κs = search needs
 
--- src/steps.rt:176:9
 without-role-requires : tie.Need-without-role-requires
 without-role-requires c κs = search needs
 
--- src/steps.rt:173:5
 turning-requires : tie.Need-turning-requires
 turning-requires c κs = search needs
 
--- src/steps.rt:167:1
 returns-2 : tie.Need-returns-2
 returns-2 c =
     c .turning .ensures ∙ rw (c .before .without-role .ensures, c .before .before .unless .ensures, c .before .before .before .has-role .ensures, ← c .before .before .before .before .before .in-count .ensures, not-false (c .before .before .before .before .before .in-count .result) (c .before .before .before .before .if1 .left))

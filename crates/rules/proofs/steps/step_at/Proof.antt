@@ -10,10 +10,10 @@ use Rattle.rules.proofs.steps.step_at.Statement.{statement}
 use Rattle.rules.proofs.steps.step_at.Tie as tie
 use Rattle.rules.proofs.steps.step_at.Reads as reads
 use Rattle.rules.proofs.steps.step_at.Lts as lts
-use Rattle.rules.proofs.names.is_named.Reads as is-named-reads
+use Rattle.rules.proofs.names.owner_of.Reads as owner-of-reads
 use Rattle.format.proofs.sections.in_count.Reads as in-count-reads
-use Rattle.rules.proofs.names.kind_in.Reads as kind-in-reads
-use Rattle.rules.proofs.names.look.Reads as look-reads
+use Rattle.rules.proofs.names.kind_of.Reads as kind-of-reads
+use Rattle.rules.proofs.names.look_up.Reads as look-up-reads
 use Rattle.rules.proofs.steps.graded.Reads as graded-reads
 use Rattle.rules.proofs.steps.new_at.Reads as new-at-reads
 use Rattle.rules.proofs.steps.off_at.Reads as off-at-reads
@@ -22,87 +22,66 @@ use Rattle.rules.proofs.steps.receive_at.Reads as receive-at-reads
 use Rattle.rules.proofs.steps.send_at.Reads as send-at-reads
 use Rattle.rules.proofs.steps.staying.Reads as staying-reads
 
--- src/steps.rt:196:14
 staying-requires : tie.Need-staying-requires
 staying-requires c κs = search needs
 
--- src/steps.rt:197:14
 new-at-requires : tie.Need-new-at-requires
 new-at-requires c κs = search needs
 
--- src/steps.rt:199:17
-look-requires : tie.Need-look-requires
-look-requires c κs = search needs
+look-up-requires : tie.Need-look-up-requires
+look-up-requires c κs = search needs
 
--- src/steps.rt:200:17
-look-requires-2 : tie.Need-look-requires-2
-look-requires-2 c κs = search needs
+look-up-requires-2 : tie.Need-look-up-requires-2
+look-up-requires-2 c κs = search needs
 
--- src/steps.rt:202:17
-is-named-requires : tie.Need-is-named-requires
-is-named-requires c κs = search needs
+owner-of-requires : tie.Need-owner-of-requires
+owner-of-requires c κs = search needs
 
--- src/steps.rt:202:33
-is-named-requires-2 : tie.Need-is-named-requires-2
-is-named-requires-2 c κs = search needs
+owner-of-requires-2 : tie.Need-owner-of-requires-2
+owner-of-requires-2 c κs = search needs
 
--- src/steps.rt:203:17
-kind-in-requires : tie.Need-kind-in-requires
-kind-in-requires c κs = search needs
+kind-of-requires : tie.Need-kind-of-requires
+kind-of-requires c κs = search needs
 
--- src/steps.rt:203:33
-kind-in-requires-2 : tie.Need-kind-in-requires-2
-kind-in-requires-2 c κs = search needs
+kind-of-requires-2 : tie.Need-kind-of-requires-2
+kind-of-requires-2 c κs = search needs
 
--- src/steps.rt:201:17
 graded-requires : tie.Need-graded-requires
 graded-requires c κs = search needs
 
--- src/steps.rt:205:13
 staying-requires-2 : tie.Need-staying-requires-2
 staying-requires-2 c κs = search needs
 
--- src/steps.rt:212:13
-look-requires-3 : tie.Need-look-requires-3
-look-requires-3 c κs = search needs
+look-up-requires-3 : tie.Need-look-up-requires-3
+look-up-requires-3 c κs = search needs
 
--- src/steps.rt:207:14
 receive-at-requires : tie.Need-receive-at-requires
 receive-at-requires c κs = search needs
 
--- src/steps.rt:215:17
-look-requires-4 : tie.Need-look-requires-4
-look-requires-4 c κs = search needs
+look-up-requires-4 : tie.Need-look-up-requires-4
+look-up-requires-4 c κs = search needs
 
--- src/steps.rt:222:17
-look-requires-5 : tie.Need-look-requires-5
-look-requires-5 c κs = search needs
+look-up-requires-5 : tie.Need-look-up-requires-5
+look-up-requires-5 c κs = search needs
 
--- src/steps.rt:216:13
 send-at-requires : tie.Need-send-at-requires
 send-at-requires c κs = search needs
 
--- src/steps.rt:225:14
 on-at-requires : tie.Need-on-at-requires
 on-at-requires c κs = search needs
 
--- src/steps.rt:226:14
 off-at-requires : tie.Need-off-at-requires
 off-at-requires c κs = search needs
 
--- src/steps.rt:229:20
 in-count-requires : tie.Need-in-count-requires
 in-count-requires c κs = search needs
 
--- src/steps.rt:229:13
 graded-requires-2 : tie.Need-graded-requires-2
 graded-requires-2 c κs = search needs
 
--- src/steps.rt:227:14
 staying-requires-3 : tie.Need-staying-requires-3
 staying-requires-3 c κs = search needs
 
--- src/steps.rt:181:1
 returns : tie.Need-returns
 returns c =
     let a = c .before .before .before .before .before .before .args in
@@ -112,7 +91,6 @@ returns c =
       λ z. let no : ⊥ = omega (arith, c .before .match .keys1, z) in absurd no,
     )
 
--- src/steps.rt:181:1
 returns-2 : tie.Need-returns-2
 returns-2 c =
     let a = c .before .before .before .before .before .before .args in
@@ -122,7 +100,6 @@ returns-2 c =
       λ z. let no : ⊥ = omega (arith, c .before .match .keys2, z) in absurd no,
     )
 
--- src/steps.rt:181:1
 returns-3 : tie.Need-returns-3
 returns-3 c =
     let a = c .before .before .before .before .before .before .before .before .before .before .before .before .before .args in
@@ -131,37 +108,34 @@ returns-3 c =
       c .staying2 .ensures
           ∙ rw (
             c .before .graded .ensures,
-            c .before .before .kind-in2 .ensures,
-            c .before .before .before .kind-in .ensures,
-            c .before .before .before .before .is-named2 .ensures,
-            c .before .before .before .before .before .is-named .ensures,
-            c .before .before .before .before .before .before .look2 .ensures,
-            c .before .before .before .before .before .before .before .look .ensures,
+            c .before .before .kind-of2 .ensures,
+            c .before .before .before .kind-of .ensures,
+            c .before .before .before .before .owner-of2 .ensures,
+            c .before .before .before .before .before .owner-of .ensures,
+            c .before .before .before .before .before .before .look-up2 .ensures,
+            c .before .before .before .before .before .before .before .look-up .ensures,
           ) (law (c .before .before .before .before .before .before .before .before .match .keys3)),
       λ z. let no : ⊥ = omega (arith, c .before .before .before .before .before .before .before .before .match .keys3, z) in absurd no,
     )
 
--- src/steps.rt:181:1
 returns-4 : tie.Need-returns-4
 returns-4 c =
     let a = c .before .before .before .before .before .before .before .args in
     let D = schemaOf (contentsAt (a .file .now) (a .head)) in
     let law = step-receive D (a .names .now) (a .here) (a .it) in (
-      c .receive-at .ensures .0 ∙ ap (receiveStep D (a .here)) (c .before .look3 .ensures) ∙ law (c .before .before .match .keys4),
-      λ z. rw (c .before .look3 .ensures) at (c .receive-at .ensures .1),
+      c .receive-at .ensures .0 ∙ ap (receiveStep D (a .here)) (c .before .look-up3 .ensures) ∙ law (c .before .before .match .keys4),
+      λ z. rw (c .before .look-up3 .ensures) at (c .receive-at .ensures .1),
     )
 
--- src/steps.rt:181:1
 returns-5 : tie.Need-returns-5
 returns-5 c =
     let a = c .before .before .before .before .before .before .before .before .args in
     let D = schemaOf (contentsAt (a .file .now) (a .head)) in
     let law = step-send D (a .names .now) (a .here) (a .it) in (
-      c .send-at .ensures ∙ ap₂ (sendStep D (a .here)) (c .before .before .look4 .ensures) (c .before .look5 .ensures) ∙ law (c .before .before .before .match .keys5),
+      c .send-at .ensures ∙ ap₂ (sendStep D (a .here)) (c .before .before .look-up4 .ensures) (c .before .look-up5 .ensures) ∙ law (c .before .before .before .match .keys5),
       λ z. let no : ⊥ = omega (arith, c .before .before .before .match .keys5, z) in absurd no,
     )
 
--- src/steps.rt:181:1
 returns-6 : tie.Need-returns-6
 returns-6 c =
     let a = c .before .before .before .before .before .before .args in
@@ -171,7 +145,6 @@ returns-6 c =
       λ z. let no : ⊥ = omega (arith, c .before .match .keys6, z) in absurd no,
     )
 
--- src/steps.rt:181:1
 returns-7 : tie.Need-returns-7
 returns-7 c =
     let a = c .before .before .before .before .before .before .args in
@@ -181,7 +154,6 @@ returns-7 c =
       λ z. let no : ⊥ = omega (arith, c .before .match .keys7, z) in absurd no,
     )
 
--- src/steps.rt:181:1
 returns-8 : tie.Need-returns-8
 returns-8 c =
     let a = c .before .before .before .before .before .before .before .before .args in
@@ -197,18 +169,18 @@ step-at-spec =
     (tie.spec
     staying-requires
     new-at-requires
-    look-requires
-    look-requires-2
-    is-named-requires
-    is-named-requires-2
-    kind-in-requires
-    kind-in-requires-2
+    look-up-requires
+    look-up-requires-2
+    owner-of-requires
+    owner-of-requires-2
+    kind-of-requires
+    kind-of-requires-2
     graded-requires
     staying-requires-2
-    look-requires-3
+    look-up-requires-3
     receive-at-requires
-    look-requires-4
-    look-requires-5
+    look-up-requires-4
+    look-up-requires-5
     send-at-requires
     on-at-requires
     off-at-requires

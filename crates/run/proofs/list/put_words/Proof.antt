@@ -2,7 +2,7 @@ use Prim.Native.Nat.{_-_, _/_, _≤_}
 use mathlib.Core.Path.{_≡_, refl}
 use lib.ListN.{length}
 use lib.Seq.{sets}
-use Rattle.run.specs.WordList.{wordsFrom}
+use Rattle.run.specs.WordList.{wordsOfBytes}
 use native.Mathlib.Omega.{arith}
 use Rattle.run.proofs.WordLaws.{words-begin, words-turn, words-end}
 use borrow.Author.Needs.{needs}
@@ -12,7 +12,7 @@ use Rattle.run.proofs.list.put_words.Tie as tie
 abbrev Inv-loop : tie.InvT-loop
 Inv-loop bytes words₀ count i₀ words i =
     (i ≤ count) × (count ≡ length bytes / 2) × (length words ≡ length words₀)
-    × (sets words i (wordsFrom bytes i (count - i)) ≡ sets words₀ 0 (wordsFrom bytes 0 count))
+    × (sets words i (wordsOfBytes bytes i (count - i)) ≡ sets words₀ 0 (wordsOfBytes bytes 0 count))
 
 abbrev μ-loop : tie.MeasureT-loop
 μ-loop bytes words₀ count i₀ words i = count - i

@@ -9,23 +9,18 @@ use Rattle.running.proofs.out.put_four.Reads as reads
 use Rattle.running.proofs.out.put_four.Lts as lts
 use Rattle.running.proofs.out.put_two.Reads as put-two-reads
 
--- src/out.rt:31:5
 put-two-requires : tie.Need-put-two-requires
 put-two-requires c κs = search needs
 
--- src/out.rt:32:18
 add-put-two : tie.Need-add-put-two
 add-put-two c = search needs
 
--- src/out.rt:32:5
 put-two-requires-2 : tie.Need-put-two-requires-2
 put-two-requires-2 c κs = search needs
 
--- src/out.rt:27:1
 same-length : tie.Need-same-length
 same-length c = search needs
 
--- src/out.rt:27:1
 returns : tie.Need-returns
 returns c =
     let a = c .before .before .before .before .before .before .before .before .before .args in

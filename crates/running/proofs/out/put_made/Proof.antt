@@ -22,57 +22,44 @@ Inv-loop beside made out₀ i₀ out i =
 abbrev μ-loop : tie.MeasureT-loop
 μ-loop beside made out₀ i₀ out i = made - i
 
--- src/out.rt:52:5
 loop-holds : tie.Need-loop-holds Inv-loop μ-loop
 loop-holds c =
     let a = c .before .before .args in
     (omega arith, refl, made-begin (a .beside .now) (a .out .now) (a .made))
 
--- src/out.rt:53:22
 mul-at : tie.Need-mul-at Inv-loop μ-loop
 mul-at c = search needs
 
--- src/out.rt:53:18
 add-at : tie.Need-add-at Inv-loop μ-loop
 add-at c = search needs
 
--- src/out.rt:54:22
 add-put-two : tie.Need-add-put-two Inv-loop μ-loop
 add-put-two c = search needs
 
--- src/out.rt:54:30
 mul-put-two : tie.Need-mul-put-two Inv-loop μ-loop
 mul-put-two c = search needs
 
--- src/out.rt:54:30
 shared-slice-read-put-two : tie.Need-shared-slice-read-put-two Inv-loop μ-loop
 shared-slice-read-put-two c = search needs
 
--- src/out.rt:54:49
 add-put-two-2 : tie.Need-add-put-two-2 Inv-loop μ-loop
 add-put-two-2 c = search needs
 
--- src/out.rt:54:42
 mul-put-two-2 : tie.Need-mul-put-two-2 Inv-loop μ-loop
 mul-put-two-2 c = search needs
 
--- src/out.rt:54:42
 shared-slice-read-put-two-2 : tie.Need-shared-slice-read-put-two-2 Inv-loop μ-loop
 shared-slice-read-put-two-2 c = search needs
 
--- src/out.rt:54:9
 put-two-requires : tie.Need-put-two-requires Inv-loop μ-loop
 put-two-requires c κs = search needs
 
--- src/out.rt:55:9
 add-i : tie.Need-add-i Inv-loop μ-loop
 add-i c = search needs
 
--- src/out.rt:52:5
 loop-less : tie.Need-loop-less Inv-loop μ-loop
 loop-less c = search needs
 
--- src/out.rt:52:5
 loop-again : tie.Need-loop-again Inv-loop μ-loop
 loop-again c =
     let a = c .before .before .before .before .before .before .before .before .before .before .args in
@@ -83,11 +70,9 @@ loop-again c =
       made-turn (a .beside .now) (l .out) (g .last .0) _ (a .made) (l .i) (omega arith) (g .ensures) (l .inv .2),
     )
 
--- src/out.rt:47:1
 same-length : tie.Need-same-length Inv-loop μ-loop
 same-length c = search needs
 
--- src/out.rt:47:1
 returns : tie.Need-returns Inv-loop μ-loop
 returns c =
     let a = c .before .before .before .before .args in

@@ -9,55 +9,42 @@ use Rattle.running.proofs.out.put_four.Reads as put-four-reads
 use Rattle.running.proofs.out.put_made.Reads as put-made-reads
 use Rattle.running.proofs.out.put_threads.Reads as put-threads-reads
 
--- src/out.rt:80:21
 shared-slice-read-wide : tie.Need-shared-slice-read-wide
 shared-slice-read-wide c = search needs
 
--- src/out.rt:80:9
 wide-requires : tie.Need-wide-requires
 wide-requires c κs = search needs
 
--- src/out.rt:81:54
 shared-slice-read-put-four : tie.Need-shared-slice-read-put-four
 shared-slice-read-put-four c = search needs
 
--- src/out.rt:81:65
 shared-slice-read-put-four-2 : tie.Need-shared-slice-read-put-four-2
 shared-slice-read-put-four-2 c = search needs
 
--- src/out.rt:81:5
 put-four-requires : tie.Need-put-four-requires
 put-four-requires c κs = search needs
 
--- src/out.rt:82:5
 put-made-requires : tie.Need-put-made-requires
 put-made-requires c κs = search needs
 
--- src/out.rt:83:31
 shared-slice-read-wide-2 : tie.Need-shared-slice-read-wide-2
 shared-slice-read-wide-2 c = search needs
 
--- src/out.rt:83:26
 wide-requires-2 : tie.Need-wide-requires-2
 wide-requires-2 c κs = search needs
 
--- src/out.rt:83:52
 mul-put-threads : tie.Need-mul-put-threads
 mul-put-threads c = search needs
 
--- src/out.rt:83:48
 add-put-threads : tie.Need-add-put-threads
 add-put-threads c = search needs
 
--- src/out.rt:83:5
 put-threads-requires : tie.Need-put-threads-requires
 put-threads-requires c κs = search needs
 
--- src/out.rt:72:1
 same-length : tie.Need-same-length
 same-length c = search needs
 
--- src/out.rt:72:1
 returns : tie.Need-returns
 returns c =
     let a = c .before .before .before .before .before .before .before .before .before .before .before .before .before .before .before .before .before .before .before .before .before .args in

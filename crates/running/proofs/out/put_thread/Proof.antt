@@ -8,67 +8,51 @@ use Rattle.running.proofs.out.put_thread.Lts as lts
 use Rattle.masks.proofs.role_count.Reads as role-count-reads
 use Rattle.running.proofs.out.put_four.Reads as put-four-reads
 
--- src/out.rt:41:50
 role-count-requires : tie.Need-role-count-requires
 role-count-requires c κs = search needs
 
--- src/out.rt:41:5
 put-four-requires : tie.Need-put-four-requires
 put-four-requires c κs = search needs
 
--- src/out.rt:42:19
 add-put-four : tie.Need-add-put-four
 add-put-four c = search needs
 
--- src/out.rt:42:27
 array-read-put-four : tie.Need-array-read-put-four
 array-read-put-four c = search needs
 
--- src/out.rt:42:36
 array-read-put-four-2 : tie.Need-array-read-put-four-2
 array-read-put-four-2 c = search needs
 
--- src/out.rt:42:45
 array-read-put-four-3 : tie.Need-array-read-put-four-3
 array-read-put-four-3 c = search needs
 
--- src/out.rt:42:54
 array-read-put-four-4 : tie.Need-array-read-put-four-4
 array-read-put-four-4 c = search needs
 
--- src/out.rt:42:5
 put-four-requires-2 : tie.Need-put-four-requires-2
 put-four-requires-2 c κs = search needs
 
--- src/out.rt:43:19
 add-put-four-2 : tie.Need-add-put-four-2
 add-put-four-2 c = search needs
 
--- src/out.rt:43:27
 array-read-put-four-5 : tie.Need-array-read-put-four-5
 array-read-put-four-5 c = search needs
 
--- src/out.rt:43:36
 array-read-put-four-6 : tie.Need-array-read-put-four-6
 array-read-put-four-6 c = search needs
 
--- src/out.rt:43:45
 array-read-put-four-7 : tie.Need-array-read-put-four-7
 array-read-put-four-7 c = search needs
 
--- src/out.rt:43:54
 array-read-put-four-8 : tie.Need-array-read-put-four-8
 array-read-put-four-8 c = search needs
 
--- src/out.rt:43:5
 put-four-requires-3 : tie.Need-put-four-requires-3
 put-four-requires-3 c κs = search needs
 
--- src/out.rt:36:1
 same-length : tie.Need-same-length
 same-length c = search needs
 
--- src/out.rt:36:1
 returns : tie.Need-returns
 returns c =
     let a = c .before .before .before .before .before .before .before .before .before .before .before .before .before .before .before .args in

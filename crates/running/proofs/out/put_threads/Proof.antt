@@ -23,37 +23,29 @@ Inv-loop threads count out₀ base i₀ out i =
 abbrev μ-loop : tie.MeasureT-loop
 μ-loop threads count out₀ base i₀ out i = count - i
 
--- src/out.rt:65:5
 loop-holds : tie.Need-loop-holds Inv-loop μ-loop
 loop-holds c =
     let a = c .before .before .args in
     (omega arith, refl, threads-begin (a .threads .now) (a .out .now) (a .base) (a .count))
 
--- src/out.rt:66:32
 mul-put-thread : tie.Need-mul-put-thread Inv-loop μ-loop
 mul-put-thread c = search needs
 
--- src/out.rt:66:25
 add-put-thread : tie.Need-add-put-thread Inv-loop μ-loop
 add-put-thread c = search needs
 
--- src/out.rt:66:40
 thread-at-requires : tie.Need-thread-at-requires Inv-loop μ-loop
 thread-at-requires c κs = search needs
 
--- src/out.rt:66:9
 put-thread-requires : tie.Need-put-thread-requires Inv-loop μ-loop
 put-thread-requires c κs = search needs
 
--- src/out.rt:67:9
 add-i : tie.Need-add-i Inv-loop μ-loop
 add-i c = search needs
 
--- src/out.rt:65:5
 loop-less : tie.Need-loop-less Inv-loop μ-loop
 loop-less c = search needs
 
--- src/out.rt:65:5
 loop-again : tie.Need-loop-again Inv-loop μ-loop
 loop-again c =
     let a = c .before .before .before .before .before .before .before .before .before .args in
@@ -65,11 +57,9 @@ loop-again c =
       threads-turn (a .threads .now) (l .out) (g .last .0) _ (a .base) (a .count) (l .i) (t .result) (omega arith) (t .ensures) (g .ensures) (l .inv .2),
     )
 
--- src/out.rt:60:1
 same-length : tie.Need-same-length Inv-loop μ-loop
 same-length c = search needs
 
--- src/out.rt:60:1
 returns : tie.Need-returns Inv-loop μ-loop
 returns c =
     let a = c .before .before .before .before .args in

@@ -9,23 +9,18 @@ use Rattle.running.proofs.out.put_two.Reads as reads
 use Rattle.running.proofs.out.put_two.Lts as lts
 use Rattle.format.proofs.words.put_word.Reads as put-word-reads
 
--- src/out.rt:22:5
 put-word-requires : tie.Need-put-word-requires
 put-word-requires c κs = search needs
 
--- src/out.rt:23:19
 add-put-word : tie.Need-add-put-word
 add-put-word c = search needs
 
--- src/out.rt:23:5
 put-word-requires-2 : tie.Need-put-word-requires-2
 put-word-requires-2 c κs = search needs
 
--- src/out.rt:18:1
 same-length : tie.Need-same-length
 same-length c = search needs
 
--- src/out.rt:18:1
 returns : tie.Need-returns
 returns c =
     let a = c .before .before .before .before .before .before .before .before .before .args in

@@ -17,33 +17,26 @@ use Rattle.steps.proofs.Thread.value.Reads as value-reads
 use Rattle.steps.proofs.act.is_able.Reads as is-able-reads
 use Rattle.steps.proofs.act.kind_held.Reads as kind-held-reads
 
--- src/pairs.rt:43:9
 value-requires : tie.Need-value-requires
 value-requires c κs = search needs
 
--- src/pairs.rt:44:16
 value-requires-2 : tie.Need-value-requires-2
 value-requires-2 c κs = search needs
 
--- src/pairs.rt:45:9
 returns : tie.Need-returns
 returns c =
     let a = c .before .before .before .before .before .before .before .args in
     agrees-apart (clinicOf (contentsAt (a .file .now) (a .head))) (madeIn (a .beside .now) 2 (getD (a .beside .now) 1 0)) (a .own) (a .it) (a .other) (a .theirs) (λ e. c .if1 .taken (c .before .before .value .ensures ∙ e ∙ sym (c .before .value2 .ensures)))
 
--- src/pairs.rt:47:9
 kind-held-requires : tie.Need-kind-held-requires
 kind-held-requires c κs = search needs
 
--- src/pairs.rt:48:5
 is-able-requires : tie.Need-is-able-requires
 is-able-requires c κs = search needs
 
--- src/pairs.rt:48:38
 is-able-requires-2 : tie.Need-is-able-requires-2
 is-able-requires-2 c κs = search needs
 
--- src/pairs.rt:29:1
 returns-2 : tie.Need-returns-2
 returns-2 c =
     let s = c .before .before .before .before .before .before .before .before .before .before in

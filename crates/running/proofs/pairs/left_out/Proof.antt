@@ -12,28 +12,23 @@ use Rattle.running.proofs.pairs.left_out.Lts as lts
 use Rattle.format.proofs.sections.in_count.Reads as in-count-reads
 use Rattle.format.proofs.sections.node.Reads as node-reads
 
--- src/pairs.rt:86:9
 in-count-requires : tie.Need-in-count-requires
 in-count-requires c κs = search needs
 
--- src/pairs.rt:87:9
 returns : tie.Need-returns
 returns c =
     let a = c .before .before .before .args in
     out-past (a .head .count .nodes) (a .at) (clinicOf (contentsAt (a .file .now) (a .head)) .node (a .at) .tag) (a .count) (sym (c .before .in-count .ensures) ∙ not-true _ (c .if1 .taken))
 
--- src/pairs.rt:89:9
 node-requires : tie.Need-node-requires
 node-requires c κs = search needs
 
--- src/pairs.rt:91:9
 returns-2 : tie.Need-returns-2
 returns-2 c =
     let a = c .before .before .before .before .before .before .args in
     let tag = ap (λ (x : Node). x .tag) (c .before .before .node .ensures) in
     out-other (a .head .count .nodes) (a .at) _ (a .count) (λ e. c .if2 .taken (tag ∙ e))
 
--- src/pairs.rt:82:1
 returns-3 : tie.Need-returns-3
 returns-3 c =
     let a = c .before .before .before .before .before .before .args in

@@ -1,9 +1,9 @@
-use mathlib.Core.Path.{_≡_, sym, ap, _∙_}
+use mathlib.Core.Path.{_≡_, sym, _∙_}
 use mathlib.Core.Bool.{Bool}
 use lib.ListN.{length, getD}
 use borrow.Author.Tests.{not-true, not-false}
 use Rattle.format.specs.Contents.{inCount, contentsAt}
-use Rattle.format.proofs.ContentsLaws.{nodes-held}
+use Rattle.format.proofs.ContentsLaws.{nodes-counted}
 use Rattle.steps.specs.Choice.{clinicOf}
 use Rattle.steps.specs.Kept.{madeIn}
 use Rattle.running.proofs.PairLaws.{met-out, met-elsewhere, met-from-out, met-from-elsewhere, met}
@@ -19,61 +19,47 @@ use Rattle.running.proofs.pairs.agrees.Reads as agrees-reads
 -- a thread's node is in count, or not
 theirs-in : (c : tie.After-in-count) {b : Bool} → c .in-count .result ≡ b
     → let a = c .before .before .before .before .before .args in inCount (length (contentsAt (a .file .now) (a .head) .nodes)) (a .other .node) ≡ b
-theirs-in c h =
-    let a = c .before .before .before .before .before .args in
-    ap (λ k. inCount k (a .other .node)) (nodes-held (a .file .now) (a .head)) ∙ sym (c .in-count .ensures) ∙ h
+theirs-in c h = let a = c .before .before .before .before .before .args in sym (nodes-counted (a .file .now) (a .head) (a .other .node)) ∙ sym (c .in-count .ensures) ∙ h
 
 own-in : (c : tie.After-in-count2) {b : Bool} → c .in-count2 .result ≡ b
     → let a = c .before .before .before .before .before .before .before .before .before .before .args in inCount (length (contentsAt (a .file .now) (a .head) .nodes)) (a .own .node) ≡ b
-own-in c h =
-    let a = c .before .before .before .before .before .before .before .before .before .before .args in
-    ap (λ k. inCount k (a .own .node)) (nodes-held (a .file .now) (a .head)) ∙ sym (c .in-count2 .ensures) ∙ h
+own-in c h = let a = c .before .before .before .before .before .before .before .before .before .before .args in sym (nodes-counted (a .file .now) (a .head) (a .own .node)) ∙ sym (c .in-count2 .ensures) ∙ h
 
--- src/pairs.rt:64:9
 in-count-requires : tie.Need-in-count-requires
 in-count-requires c κs = search needs
 
--- src/pairs.rt:65:9
 returns : tie.Need-returns
 returns c =
     let a = c .before .before .before .before .before .before .args in
     met-out (clinicOf (contentsAt (a .file .now) (a .head))) (getD (a .beside .now) 0 0) (madeIn (a .beside .now) 2 (getD (a .beside .now) 1 0)) (a .own) (a .other) (theirs-in (c .before) (not-true _ (c .if1 .taken)))
 
--- src/pairs.rt:67:9
 node-requires : tie.Need-node-requires
 node-requires c κs = search needs
 
--- src/pairs.rt:69:9
 returns-2 : tie.Need-returns-2
 returns-2 c =
     let a = c .before .before .before .before .before .before .before .before .before .args in
     met-elsewhere (clinicOf (contentsAt (a .file .now) (a .head))) (getD (a .beside .now) 0 0) (madeIn (a .beside .now) 2 (getD (a .beside .now) 1 0)) (a .own) (a .other) (c .before .before .node .result) (c .before .before .node .ensures) (theirs-in (c .before .before .before .before) (not-false _ (c .before .before .before .if1 .left))) (c .if2 .taken)
 
--- src/pairs.rt:71:9
 in-count-requires-2 : tie.Need-in-count-requires-2
 in-count-requires-2 c κs = search needs
 
--- src/pairs.rt:72:9
 returns-3 : tie.Need-returns-3
 returns-3 c =
     let a = c .before .before .before .before .before .before .before .before .before .before .before .args in
     met-from-out (clinicOf (contentsAt (a .file .now) (a .head))) (getD (a .beside .now) 0 0) (madeIn (a .beside .now) 2 (getD (a .beside .now) 1 0)) (a .own) (a .other) (own-in (c .before) (not-true _ (c .if3 .taken)))
 
--- src/pairs.rt:74:9
 node-requires-2 : tie.Need-node-requires-2
 node-requires-2 c κs = search needs
 
--- src/pairs.rt:76:9
 returns-4 : tie.Need-returns-4
 returns-4 c =
     let a = c .before .before .before .before .before .before .before .before .before .before .before .before .before .before .args in
     met-from-elsewhere (clinicOf (contentsAt (a .file .now) (a .head))) (getD (a .beside .now) 0 0) (madeIn (a .beside .now) 2 (getD (a .beside .now) 1 0)) (a .own) (a .other) (c .before .before .node2 .result) (c .before .before .node2 .ensures) (own-in (c .before .before .before .before) (not-false _ (c .before .before .before .if3 .left))) (c .if4 .taken)
 
--- src/pairs.rt:78:5
 agrees-requires : tie.Need-agrees-requires
 agrees-requires c κs = c .before .before .before .before .before .before .before .before .before .before .before .before .before .before .pre
 
--- src/pairs.rt:52:1
 returns-5 : tie.Need-returns-5
 returns-5 c =
     let a = c .before .before .before .before .before .before .before .before .before .before .before .before .before .before .before .args in

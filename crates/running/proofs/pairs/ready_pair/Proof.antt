@@ -35,33 +35,26 @@ Inv-senders file head sends receives threads beside count sender₀ receiver₀ 
 abbrev μ-senders : tie.MeasureT-senders
 μ-senders file head sends receives threads beside count sender₀ receiver₀ i₀ sender receiver i = getD beside 0 0 - i
 
--- src/pairs.rt:89:17
 shared-slice-read-count : tie.Need-shared-slice-read-count Inv-loop μ-loop Inv-senders μ-senders
 shared-slice-read-count c = search needs
 
--- src/pairs.rt:93:5
 senders-holds : tie.Need-senders-holds Inv-loop μ-loop Inv-senders μ-senders
 senders-holds c =
     let a = c .before .before .before .before .before .before .args in
     (omega arith, refl, refl, senders-begin (clinicOf (contentsAt (a .file .now) (a .head))) (a .threads .now) (a .beside .now))
 
--- src/pairs.rt:94:38
 wide-requires : tie.Need-wide-requires Inv-loop μ-loop Inv-senders μ-senders
 wide-requires c κs = search needs
 
--- src/pairs.rt:94:13
 thread-at-requires : tie.Need-thread-at-requires Inv-loop μ-loop Inv-senders μ-senders
 thread-at-requires c κs = search needs
 
--- src/pairs.rt:95:9
 add-i : tie.Need-add-i Inv-loop μ-loop Inv-senders μ-senders
 add-i c = search needs
 
--- src/pairs.rt:96:13
 left-out-requires : tie.Need-left-out-requires Inv-loop μ-loop Inv-senders μ-senders
 left-out-requires c κs = search needs
 
--- src/pairs.rt:97:9
 loop-holds : tie.Need-loop-holds Inv-loop μ-loop Inv-senders μ-senders
 loop-holds c =
     let a = c .before .before .before .before .before .before .before .before .before .before .before .args in
@@ -69,11 +62,9 @@ loop-holds c =
     let (le, all) = receivers-begin (clinicOf (contentsAt (a .file .now) (a .head))) (a .threads .now) (a .beside .now) (c .before .thread-at .result) (a .head .count .nodes) (c .left-out .result) (nodes-held (a .file .now) (a .head)) (c .left-out .ensures) in
     (le, s .inv .1, s .inv .2, all)
 
--- src/pairs.rt:93:5
 senders-less : tie.Need-senders-less Inv-loop μ-loop Inv-senders μ-senders
 senders-less c = search needs
 
--- src/pairs.rt:93:5
 senders-again : tie.Need-senders-again Inv-loop μ-loop Inv-senders μ-senders
 senders-again c =
     let a = c .before .before .before .before .before .before .before .before .before .before .before .before .before .args in
@@ -86,27 +77,21 @@ senders-again c =
     let none = receivers-end C w b (own .result) (l .j) (receiverFrom C (stateIn w b) (own .result) 1 (threadsIn w 0 (getD b 0 0))) (omega arith) (l .inv .3) in
     (omega arith, l .inv .1, l .inv .2, sender-passed C w b (own .result) (s .i) _ _ (omega arith) (c .before .before .before .before .wide .ensures .0) (own .ensures) none (s .inv .3))
 
--- src/pairs.rt:98:44
 wide-requires-2 : tie.Need-wide-requires-2 Inv-loop μ-loop Inv-senders μ-senders
 wide-requires-2 c κs = search needs
 
--- src/pairs.rt:98:17
 thread-at-requires-2 : tie.Need-thread-at-requires-2 Inv-loop μ-loop Inv-senders μ-senders
 thread-at-requires-2 c κs = search needs
 
--- src/pairs.rt:99:13
 add-j : tie.Need-add-j Inv-loop μ-loop Inv-senders μ-senders
 add-j c = search needs
 
--- src/pairs.rt:100:16
 meets-requires : tie.Need-meets-requires Inv-loop μ-loop Inv-senders μ-senders
 meets-requires c κs = search needs
 
--- src/pairs.rt:97:9
 loop-less : tie.Need-loop-less Inv-loop μ-loop Inv-senders μ-senders
 loop-less c = search needs
 
--- src/pairs.rt:97:9
 loop-again : tie.Need-loop-again Inv-loop μ-loop Inv-senders μ-senders
 loop-again c =
     let a = c .before .before .before .before .before .before .before .before .before .before .before .before .before .before .before .before .before .args in
@@ -124,7 +109,6 @@ loop-again c =
           (l .inv .3),
     )
 
--- src/pairs.rt:75:1
 returns : tie.Need-returns Inv-loop μ-loop Inv-senders μ-senders
 returns c =
     let a = c .before .before .before .before .before .before .before .before .args in
@@ -134,7 +118,6 @@ returns c =
     let b = a .beside .now in
     rw (s .inv .1, s .inv .2) (two (readyPair C (stateIn w b)) 0 0 (senders-end C w b (s .i) _ (omega arith) (s .inv .3)))
 
--- src/pairs.rt:75:1
 returns-2 : tie.Need-returns-2 Inv-loop μ-loop Inv-senders μ-senders
 returns-2 c =
     let a = c .before .before .before .before .before .before .before .before .before .before .before .before .before .before .before .before .before .args in

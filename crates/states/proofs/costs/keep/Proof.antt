@@ -5,7 +5,7 @@ use native.Mathlib.Omega.{arith}
 use lib.Dec.{eqb}
 use borrow.Author.Tests.{eqb-true, eqb-false}
 use Rattle.states.specs.States.{needs}
-use Rattle.states.specs.Kept.{allowed, upper, lower, bothIn, someIn, bestOf, alsoOf, mostOf, wordBy, cellOf, wordOf}
+use Rattle.states.specs.Kept.{allowedStates, upper, lower, bothIn, someIn, bestOf, alsoOf, mostOf, wordBy, cellOf, wordOf}
 use Rattle.states.proofs.CellLaws.{mask-small, best-small, also-small, most-few}
 use borrow.Author.Needs as search-needs
 use Rattle.states.proofs.costs.keep.Statement.{statement}
@@ -16,7 +16,7 @@ use Rattle.states.proofs.costs.either.Reads as either-reads
 use Rattle.states.proofs.costs.word_by.Reads as word-by-reads
 
 abbrev m : tie.After-either9 → ℕ
-m c = allowed (c .before .before .before .before .before .before .before .before .before .args .tag) (c .before .before .before .before .before .before .before .before .before .args .roles)
+m c = allowedStates (c .before .before .before .before .before .before .before .before .before .args .tag) (c .before .before .before .before .before .before .before .before .before .args .roles)
 
 abbrev a : tie.After-either9 → ℕ
 a c = upper (c .before .before .before .before .before .before .before .before .before .args .tag) (c .before .before .before .before .before .before .before .before .before .args .one)
@@ -28,47 +28,36 @@ bit-or-none : (t : Bool) → cond t 0 1 ≤ 1
 bit-or-none true = omega arith
 bit-or-none false = omega arith
 
--- src/costs.rt:37:16
 either-requires : tie.Need-either-requires
 either-requires c κs = search search-needs.needs
 
--- src/costs.rt:37:56
 mul-mask : tie.Need-mul-mask
 mul-mask c = search search-needs.needs
 
--- src/costs.rt:37:16
 add-mask : tie.Need-add-mask
 add-mask c = omega (arith, c .either .ensures, bit-or-none (needs (c .before .args .tag)))
 
--- src/costs.rt:38:9
 either-requires-2 : tie.Need-either-requires-2
 either-requires-2 c κs = search search-needs.needs
 
--- src/costs.rt:39:9
 either-requires-3 : tie.Need-either-requires-3
 either-requires-3 c κs = search search-needs.needs
 
--- src/costs.rt:42:34
 either-requires-4 : tie.Need-either-requires-4
 either-requires-4 c κs = search search-needs.needs
 
--- src/costs.rt:42:9
 either-requires-5 : tie.Need-either-requires-5
 either-requires-5 c κs = search search-needs.needs
 
--- src/costs.rt:43:9
 either-requires-6 : tie.Need-either-requires-6
 either-requires-6 c κs = search search-needs.needs
 
--- src/costs.rt:44:16
 add-most : tie.Need-add-most
 add-most c = search search-needs.needs
 
--- src/costs.rt:44:60
 either-requires-7 : tie.Need-either-requires-7
 either-requires-7 c κs = search search-needs.needs
 
--- src/costs.rt:44:42
 either-requires-8 : tie.Need-either-requires-8
 either-requires-8 c κs = search search-needs.needs
 
@@ -84,15 +73,12 @@ at-most false u x y e g = omega (arith, g)
 two : (c : tie.After-either8) → c .either8 .result ≤ 2
 two c = at-most (eqb (bothIn (c .before .before .before .before .before .before .before .either .result + 2 * c .before .before .before .before .before .before .before .before .args .roles) (c .before .before .before .before .before .before .either2 .result) (c .before .before .before .before .before .either3 .result)) 0) (eqb (someIn (c .before .before .before .before .before .before .before .either .result + 2 * c .before .before .before .before .before .before .before .before .args .roles) (c .before .before .before .before .before .before .either2 .result) (c .before .before .before .before .before .either3 .result)) 0) (c .before .either7 .result) (c .either8 .result) (c .before .either7 .ensures) (c .either8 .ensures)
 
--- src/costs.rt:44:16
 add-most-2 : tie.Need-add-most-2
 add-most-2 c = omega (arith, c .before .before .before .before .before .before .either2 .ensures, c .before .before .before .before .before .either3 .ensures, fewer (eqb (c .before .before .before .before .before .before .before .before .args .tag) 0) (c .before .before .before .before .before .before .before .before .args .one) .0, fewer (eqb (c .before .before .before .before .before .before .before .before .args .tag) 1) (c .before .before .before .before .before .before .before .before .args .two) .1, two c)
 
--- src/costs.rt:46:15
 mul-t17 : tie.Need-mul-t17
 mul-t17 c = search search-needs.needs
 
--- src/costs.rt:46:49
 either-requires-9 : tie.Need-either-requires-9
 either-requires-9 c κs = search search-needs.needs
 
@@ -158,23 +144,18 @@ m-small c = mask-small (c .before .before .before .before .before .before .befor
 few : (c : tie.After-either9) → a c / 131072 + b c / 131072 ≤ 1024
 few c = omega (arith, fewer (eqb (c .before .before .before .before .before .before .before .before .before .args .tag) 0) (c .before .before .before .before .before .before .before .before .before .args .one) .0, fewer (eqb (c .before .before .before .before .before .before .before .before .before .args .tag) 1) (c .before .before .before .before .before .before .before .before .before .args .two) .1)
 
--- src/costs.rt:46:42
 sub-t19 : tie.Need-sub-t19
 sub-t19 c = most-is c .0
 
--- src/costs.rt:46:32
 mul-t13 : tie.Need-mul-t13
 mul-t13 c = omega (arith, most-is c .1, few c, most-few (a c / 131072 + b c / 131072) (bothIn (m c) (a c) (b c)) (someIn (m c) (a c) (b c)))
 
--- src/costs.rt:46:15
 add-t21 : tie.Need-add-t21
 add-t21 c = omega (arith, most-is c .1, few c, most-few (a c / 131072 + b c / 131072) (bothIn (m c) (a c) (b c)) (someIn (m c) (a c) (b c)), best-is c, best-small (m c) (a c) (b c) (m-small c))
 
--- src/costs.rt:47:15
 word-by-requires : tie.Need-word-by-requires
 word-by-requires c κs = (omega (arith, best-is c, best-small (m c) (a c) (b c) (m-small c)), omega (arith, also-is c, also-small (m c) (a c) (b c) (m-small c)))
 
--- src/costs.rt:33:1
 returns : tie.Need-returns
 unfolding cellOf wordOf
 returns c = (

@@ -19,27 +19,21 @@ is best also h = ap (bitOr best) (below-form also (lowest best) (lowest-most bes
 below : (best also : ℕ) → best < 131072 → also < 131072 → bitOr best (bitAnd also (1 * 2 ^ lowest best % 4294967296 - 1)) < 131072
 below best also h k = omega (arith, is best also h, kept-below best also (lowest best) h k)
 
--- src/costs.rt:28:33
 shl-kept : tie.Need-shl-kept
 shl-kept c = omega (arith, lowest-most (c .args .best) (omega arith))
 
--- src/costs.rt:28:32
 sub-kept : tie.Need-sub-kept
 sub-kept c = omega (arith, one-bit 32 (lowest (c .args .best)) (omega (arith, lowest-most (c .args .best) (omega arith))), pow-pos (lowest (c .args .best)))
 
--- src/costs.rt:29:5
 mul-result : tie.Need-mul-result
 mul-result c = omega (arith, below (c .args .best) (c .args .also) (omega arith) (omega arith))
 
--- src/costs.rt:29:22
 mul-result-2 : tie.Need-mul-result-2
 mul-result-2 c = omega (arith, lowest-most (c .args .best) (omega arith))
 
--- src/costs.rt:29:5
 add-result : tie.Need-add-result
 add-result c = omega (arith, below (c .args .best) (c .args .also) (omega arith) (omega arith), lowest-most (c .args .best) (omega arith))
 
--- src/costs.rt:23:1
 returns : tie.Need-returns
 returns c = ap (λ x. 2 * (x / 2) + 131072 * lowest (c .args .best)) (is (c .args .best) (c .args .also) (omega arith))
 

@@ -6,9 +6,10 @@ use native.Mathlib.Omega.{arith}
 use lib.Dec.{eqb}
 use lib.ListN.{length, getD, drop, length-set}
 use Rattle.format.specs.Contents.{item, noNode, contentsAt}
+use Rattle.format.specs.Stacks.{stacked}
 use Rattle.format.proofs.ContentsLaws.{nodes-held}
 use Rattle.states.specs.Kept.{cells, keptAll}
-use Rattle.states.proofs.PassLaws.{held, Same, labelsFrom, labels-few, labels-roled, cells-fit, right-cells, right-words, right-begins, right-empty, right-depth, first-kept}
+use Rattle.states.proofs.PassLaws.{Same, labelsFrom, labels-few, labels-roled, cells-fit, right-cells, right-words, right-begins, right-empty, right-depth, first-kept}
 use Rattle.states.proofs.pass.decide.Statement.{statement}
 use Rattle.states.proofs.pass.decide.Tie as tie
 use Rattle.states.proofs.pass.decide.Reads as reads
@@ -23,7 +24,7 @@ use Rattle.states.proofs.pass.less.Reads as less-reads
 abbrev Inv-loop : tie.InvT-loop
 Inv-loop file head roles words₀ stack₀ depth₀ row₀ i₀ words stack depth row i =
     (i ≤ head .count .nodes) × (depth ≤ head .count .nodes - i) × (length stack ≡ 1025) × (getD stack 0 0 ≡ 0) × (length words ≡ 1024)
-    × Same (row ∷ held 0 stack depth) (cells (labelsFrom (contentsAt file head .nodes) roles i))
+    × Same (row ∷ stacked 0 stack (depth + 1)) (cells (labelsFrom (contentsAt file head .nodes) roles i))
     × (drop i words ≡ keptAll (labelsFrom (contentsAt file head .nodes) roles i) ++ drop (head .count .nodes) words₀)
 
 abbrev μ-loop : tie.MeasureT-loop
@@ -39,12 +40,11 @@ left c =
 few : (c : tie.After-by-tag Inv-loop μ-loop) → c .by-tag .result ≤ c .before .before .before .before .before .before .before .loop .depth + 1
 few c = right-depth (c .before .before .before .before .node-tag .result) (c .before .before .before .before .before .before .before .loop .depth) (c .by-tag .result) (left c)
 
--- src/pass.rt:48:9
 wide-requires : tie.Need-wide-requires Inv-loop μ-loop
 wide-requires c κs = omega arith
 
--- src/pass.rt:49:5
 loop-holds : tie.Need-loop-holds Inv-loop μ-loop
+unfolding stacked
 loop-holds c =
     let a = c .before .before .before .before .args in
     let n = c .wide .result in
@@ -59,84 +59,65 @@ loop-holds c =
       ap (λ k. drop k (a .words .now)) (c .wide .ensures .0) ∙ right-empty ns (a .roles .now) (drop (a .head .count .nodes) (a .words .now)) n all,
     )
 
--- src/pass.rt:50:40
 narrow-requires : tie.Need-narrow-requires Inv-loop μ-loop
 narrow-requires c κs = omega arith
 
--- src/pass.rt:50:13
 node-tag-requires : tie.Need-node-tag-requires Inv-loop μ-loop
 node-tag-requires c κs = c .before .before .before .before .before .before .before .pre .0
 
--- src/pass.rt:51:9
 sub-i : tie.Need-sub-i Inv-loop μ-loop
 sub-i c = omega arith
 
--- src/pass.rt:52:34
 add-keep : tie.Need-add-keep Inv-loop μ-loop
 add-keep c = omega arith
 
--- src/pass.rt:52:28
 mul-keep : tie.Need-mul-keep Inv-loop μ-loop
 mul-keep c = omega arith
 
--- src/pass.rt:52:28
 shared-slice-read-keep : tie.Need-shared-slice-read-keep Inv-loop μ-loop
 shared-slice-read-keep c = omega arith
 
--- src/pass.rt:52:47
 mul-keep-2 : tie.Need-mul-keep-2 Inv-loop μ-loop
 mul-keep-2 c = omega arith
 
--- src/pass.rt:52:47
 array-read-keep : tie.Need-array-read-keep Inv-loop μ-loop
 array-read-keep c = omega arith
 
--- src/pass.rt:52:13
 keep-requires : tie.Need-keep-requires Inv-loop μ-loop
 keep-requires c κs =
     let a = c .before .before .before .before .before .before .before .before .before .args in
     let l = c .before .before .before .before .loop in
     let ns = contentsAt (a .file .now) (a .head) .nodes in
     let roled = labels-roled (drop (l .i) ns) (suc (l .i)) (a .roles .now) (λ i. omega (arith, c .before .before .before .before .before .before .before .shared-slice-known2 .given i)) in
-    omega (arith, cells-fit (l .row) (l .stack) (l .depth) (labelsFrom ns (a .roles .now) (l .i)) roled (l .inv .3) (l .inv .5), labels-few ns (a .roles .now) (l .i), nodes-held (a .file .now) (a .head))
+    omega (arith, cells-fit (l .row) (l .stack) (l .depth) (labelsFrom ns (a .roles .now) (l .i)) roled (l .inv .5), labels-few ns (a .roles .now) (l .i), nodes-held (a .file .now) (a .head))
 
--- src/pass.rt:53:15
 add-stack : tie.Need-add-stack Inv-loop μ-loop
 add-stack c = omega arith
 
--- src/pass.rt:53:9
 mul-stack : tie.Need-mul-stack Inv-loop μ-loop
 mul-stack c = omega arith
 
--- src/pass.rt:53:9
 array-write-stack : tie.Need-array-write-stack Inv-loop μ-loop
 array-write-stack c = omega arith
 
--- src/pass.rt:54:29
 add-by-tag : tie.Need-add-by-tag Inv-loop μ-loop
 add-by-tag c = omega arith
 
--- src/pass.rt:54:40
 less-requires : tie.Need-less-requires Inv-loop μ-loop
 less-requires c κs = omega arith
 
--- src/pass.rt:54:9
 by-tag-requires : tie.Need-by-tag-requires Inv-loop μ-loop
 by-tag-requires c κs = omega arith
 
--- src/pass.rt:56:9
 mul-words : tie.Need-mul-words Inv-loop μ-loop
 mul-words c = omega arith
 
--- src/pass.rt:56:9
 slice-write-words : tie.Need-slice-write-words Inv-loop μ-loop
 slice-write-words c = omega arith
 
--- src/pass.rt:49:5
 loop-less : tie.Need-loop-less Inv-loop μ-loop
 loop-less c = omega arith
 
--- src/pass.rt:49:5
 loop-again : tie.Need-loop-again Inv-loop μ-loop
 loop-again c =
     let a = c .before .before .before .before .before .before .before .before .before .before .before .before .args in
@@ -149,7 +130,7 @@ loop-again c =
     let it = c .before .before .keep in
     let back : i + 1 ≡ l .i = omega arith in
     let its : tag ≡ item noNode ns (i + 1) .tag = c .before .before .before .before .node-tag .ensures ∙ ap (λ n. item noNode ns n .tag) (c .before .before .before .before .before .narrow .ensures ∙ sym back) in
-    let st : Same (l .row ∷ held 0 (l .stack) (l .depth)) (cells (labelsFrom ns rs (i + 1))) = λ k. l .inv .5 k ∙ ap (λ x. getD (cells (labelsFrom ns rs x)) k 0) (sym back) in
+    let st : Same (l .row ∷ stacked 0 (l .stack) (l .depth + 1)) (cells (labelsFrom ns rs (i + 1))) = λ k. l .inv .5 k ∙ ap (λ x. getD (cells (labelsFrom ns rs x)) k 0) (sym back) in
     let done : drop (i + 1) (l .words) ≡ keptAll (labelsFrom ns rs (i + 1)) ++ ends =
     ap (λ x. drop x (l .words)) back ∙ l .inv .6 ∙ ap (λ x. keptAll (labelsFrom ns rs x) ++ ends) (sym back) in
     let held-all = nodes-held (a .file .now) (a .head) in (
@@ -164,11 +145,9 @@ loop-again c =
           (l .words) ends (it .result .word) (it .ensures .1) (omega arith) done,
     )
 
--- src/pass.rt:41:1
 same-length : tie.Need-same-length Inv-loop μ-loop
 same-length c = omega arith
 
--- src/pass.rt:41:1
 returns : tie.Need-returns Inv-loop μ-loop
 returns c =
     let a = c .before .before .before .before .before .before .args in

@@ -7,10 +7,11 @@ use lib.Dec.{eqb}
 use lib.ListN.{length, getD, drop, set, length-set}
 use lib.Seq.{sets}
 use Rattle.format.specs.Contents.{item, noNode, contentsAt}
+use Rattle.format.specs.Stacks.{stacked}
 use Rattle.format.proofs.ContentsLaws.{nodes-held}
-use Rattle.states.specs.States.{onward, packed}
+use Rattle.states.specs.States.{statesAfter, packed}
 use Rattle.states.specs.Kept.{followed}
-use Rattle.states.proofs.PassLaws.{held, Same, Under, under-onward, under-same, same-followed, left-stack, left-turn, left-begins, left-ends, left-depth, first-kept}
+use Rattle.states.proofs.PassLaws.{Same, Under, under-onward, under-same, same-followed, left-stack, left-turn, left-begins, left-ends, left-depth, first-kept}
 use Rattle.states.proofs.pass.follow.Statement.{statement}
 use Rattle.states.proofs.pass.follow.Tie as tie
 use Rattle.states.proofs.pass.follow.Reads as reads
@@ -26,8 +27,8 @@ use Rattle.states.proofs.pass.state_after.Reads as state-after-reads
 abbrev Inv-loop : tie.InvT-loop
 Inv-loop file head words turns₀ stack₀ depth₀ from₀ n i₀ turns stack depth from i =
     (n ≡ head .count .nodes) × (i ≤ n) × (depth ≤ i) × (length stack ≡ 1025) × (getD stack 0 0 ≡ 0) × (length turns ≡ 1025)
-    × Under 31 (from ∷ held 0 stack depth)
-    × (sets turns (i + 1) (map packed (followed (drop i (contentsAt file head .nodes)) (drop i words) (from ∷ held 0 stack depth)))
+    × Under 31 (from ∷ stacked 0 stack (depth + 1))
+    × (sets turns (i + 1) (map packed (followed (drop i (contentsAt file head .nodes)) (drop i words) (from ∷ stacked 0 stack (depth + 1))))
     ≡ sets turns₀ 1 (map packed (followed (contentsAt file head .nodes) words [])))
 
 abbrev μ-loop : tie.MeasureT-loop
@@ -40,103 +41,80 @@ left c =
     let tag = c .before .before .before .node-tag .result in
     c .by-tag .ensures ∙ ap (λ x. cond (eqb tag 0) x (cond (eqb tag 1) (d + 1) d)) (c .before .less .ensures)
 
--- src/pass.rt:89:9
 wide-requires : tie.Need-wide-requires Inv-loop μ-loop
 wide-requires c κs = omega arith
 
--- src/pass.rt:91:5
 loop-holds : tie.Need-loop-holds Inv-loop μ-loop
-unfolding Under
+unfolding Under stacked
 loop-holds c =
     let a = c .before .before .before .before .args in
-    (c .wide .ensures .0, omega arith, omega arith, refl, refl, omega arith, (omega arith, tt), left-begins (contentsAt (a .file .now) (a .head) .nodes) (a .words .now) (a .turns .now))
+    (c .wide .ensures .0, omega arith, omega arith, refl, refl, omega arith, (omega arith, (omega arith, tt)), left-begins (contentsAt (a .file .now) (a .head) .nodes) (a .words .now) (a .turns .now))
 
 -- the next node's is one of these
 small : (c : tie.After-shared-slice-known3 Inv-loop μ-loop) → c .before .before .loop .from ≤ 31
 unfolding Under
 small c = c .before .before .loop .inv .6 .0
 
--- src/pass.rt:92:30
 mul-state-after : tie.Need-mul-state-after Inv-loop μ-loop
 mul-state-after c = omega arith
 
--- src/pass.rt:92:30
 shared-slice-read-state-after : tie.Need-shared-slice-read-state-after Inv-loop μ-loop
 shared-slice-read-state-after c = omega arith
 
--- src/pass.rt:92:13
 state-after-requires : tie.Need-state-after-requires Inv-loop μ-loop
 state-after-requires c κs = omega (arith, small c)
 
--- src/pass.rt:93:9
 add-i : tie.Need-add-i Inv-loop μ-loop
 add-i c = omega arith
 
--- src/pass.rt:94:40
 narrow-requires : tie.Need-narrow-requires Inv-loop μ-loop
 narrow-requires c κs = omega arith
 
--- src/pass.rt:94:13
 node-tag-requires : tie.Need-node-tag-requires Inv-loop μ-loop
 node-tag-requires c κs = c .before .before .before .before .before .before .before .before .before .pre .0
 
--- src/pass.rt:95:27
 mul-turns : tie.Need-mul-turns Inv-loop μ-loop
 mul-turns c = omega (arith, small (c .before .before .before))
 
--- src/pass.rt:95:20
 add-turns : tie.Need-add-turns Inv-loop μ-loop
 add-turns c = omega (arith, small (c .before .before .before))
 
--- src/pass.rt:95:9
 mul-turns-2 : tie.Need-mul-turns-2 Inv-loop μ-loop
 mul-turns-2 c = omega arith
 
--- src/pass.rt:95:9
 slice-write-turns : tie.Need-slice-write-turns Inv-loop μ-loop
 slice-write-turns c = omega arith
 
--- src/pass.rt:96:32
 mul-above-next : tie.Need-mul-above-next Inv-loop μ-loop
 mul-above-next c = omega arith
 
--- src/pass.rt:96:32
 array-read-above-next : tie.Need-array-read-above-next Inv-loop μ-loop
 array-read-above-next c = omega arith
 
--- src/pass.rt:96:9
 above-next-requires : tie.Need-above-next-requires Inv-loop μ-loop
 above-next-requires c κs = omega arith
 
--- src/pass.rt:97:15
 add-stack : tie.Need-add-stack Inv-loop μ-loop
 add-stack c = omega arith
 
--- src/pass.rt:97:9
 mul-stack : tie.Need-mul-stack Inv-loop μ-loop
 mul-stack c = omega arith
 
--- src/pass.rt:97:9
 array-write-stack : tie.Need-array-write-stack Inv-loop μ-loop
 array-write-stack c = omega arith
 
--- src/pass.rt:98:29
 less-requires : tie.Need-less-requires Inv-loop μ-loop
 less-requires c κs = omega arith
 
--- src/pass.rt:98:42
 add-by-tag : tie.Need-add-by-tag Inv-loop μ-loop
 add-by-tag c = omega arith
 
--- src/pass.rt:98:9
 by-tag-requires : tie.Need-by-tag-requires Inv-loop μ-loop
 by-tag-requires c κs = omega arith
 
--- src/pass.rt:91:5
 loop-less : tie.Need-loop-less Inv-loop μ-loop
 loop-less c = omega arith
 
--- src/pass.rt:91:5
 loop-again : tie.Need-loop-again Inv-loop μ-loop
 loop-again c =
     let a = c .before .before .before .before .before .before .before .before .before .before .before .before .before .args in
@@ -146,7 +124,7 @@ loop-again c =
     let to = c .before .before .before .before .before .state-after in
     let next = c .before .before .above-next in
     let its : tag ≡ item noNode ns (l .i + 1) .tag = c .before .before .before .node-tag .ensures ∙ ap (λ n. item noNode ns n .tag) (c .before .before .before .before .narrow .ensures) in
-    let st : Same (next .result ∷ held 0 (set (l .stack) (l .depth + 1) (to .result)) (c .by-tag .result)) (onward tag (to .result) (held 0 (l .stack) (l .depth))) =
+    let st : Same (next .result ∷ stacked 0 (set (l .stack) (l .depth + 1) (to .result)) (c .by-tag .result + 1)) (statesAfter tag (to .result) (stacked 0 (l .stack) (l .depth + 1))) =
     left-stack tag (to .result) (l .stack) (l .depth) (next .result) (c .by-tag .result) (omega arith) (l .inv .4) (next .ensures) (left c) in (
       l .inv .0,
       omega arith,
@@ -154,25 +132,23 @@ loop-again c =
       simp length-set (l .inv .3),
       first-kept 0 (l .stack) (l .depth + 1) (to .result) (omega arith) ∙ l .inv .4,
       simp length-set (l .inv .5),
-      under-same 31 (next .result ∷ held 0 (set (l .stack) (l .depth + 1) (to .result)) (c .by-tag .result)) (onward tag (to .result) (held 0 (l .stack) (l .depth))) st
-          (under-onward 31 tag (to .result) (l .from ∷ held 0 (l .stack) (l .depth)) (to .ensures .1) (l .inv .6)),
+      under-same 31 (next .result ∷ stacked 0 (set (l .stack) (l .depth + 1) (to .result)) (c .by-tag .result + 1)) (statesAfter tag (to .result) (stacked 0 (l .stack) (l .depth + 1))) st
+          (under-onward 31 tag (to .result) (l .from ∷ stacked 0 (l .stack) (l .depth + 1)) (to .ensures .1) (l .inv .6)),
       ap (λ ts. sets (set (l .turns) (l .i + 1) (l .from + 256 * to .result)) (l .i + 1 + 1) (map packed ts))
           (same-followed (drop (l .i + 1) ns) (drop (l .i + 1) (a .words .now))
-          (next .result ∷ held 0 (set (l .stack) (l .depth + 1) (to .result)) (c .by-tag .result)) (onward tag (to .result) (held 0 (l .stack) (l .depth))) st)
-          ∙ left-turn ns (l .i) (a .words .now) (l .turns) _ (l .from ∷ held 0 (l .stack) (l .depth)) _ tag (l .from) (to .result)
+          (next .result ∷ stacked 0 (set (l .stack) (l .depth + 1) (to .result)) (c .by-tag .result + 1)) (statesAfter tag (to .result) (stacked 0 (l .stack) (l .depth + 1))) st)
+          ∙ left-turn ns (l .i) (a .words .now) (l .turns) _ (l .from ∷ stacked 0 (l .stack) (l .depth + 1)) _ tag (l .from) (to .result)
           (omega (arith, nodes-held (a .file .now) (a .head))) (omega arith) its refl (to .ensures .0) refl (l .inv .7),
     )
 
--- src/pass.rt:82:1
 same-length : tie.Need-same-length Inv-loop μ-loop
 same-length c = omega arith
 
--- src/pass.rt:82:1
 returns : tie.Need-returns Inv-loop μ-loop
 returns c =
     let a = c .before .before .before .before .before .before .args in
     let l = c .before .loop in
-    left-ends (contentsAt (a .file .now) (a .head) .nodes) (l .i) (drop (l .i) (a .words .now)) (l .turns) (l .from ∷ held 0 (l .stack) (l .depth)) (omega (arith, nodes-held (a .file .now) (a .head))) ∙ l .inv .7
+    left-ends (contentsAt (a .file .now) (a .head) .nodes) (l .i) (drop (l .i) (a .words .now)) (l .turns) (l .from ∷ stacked 0 (l .stack) (l .depth + 1)) (omega (arith, nodes-held (a .file .now) (a .head))) ∙ l .inv .7
 
 pub follow-spec : {M : Type 1} → statement M
 follow-spec =

@@ -5,15 +5,12 @@ use Rattle.steps.proofs.Thread.off.Reads as reads
 use Rattle.steps.proofs.Thread.off.Lts as lts
 use Rattle.masks.proofs.without_role.Reads as without-role-reads
 
--- src/threads.rt:78:9
 without-role-requires : tie.Need-without-role-requires
 without-role-requires c κs = search needs
 
--- src/threads.rt:79:9
 add-self : tie.Need-add-self
 add-self c = search needs
 
--- src/threads.rt:74:5
 returns : tie.Need-returns
 returns c = cc
 

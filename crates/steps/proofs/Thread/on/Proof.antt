@@ -5,15 +5,12 @@ use Rattle.steps.proofs.Thread.on.Reads as reads
 use Rattle.steps.proofs.Thread.on.Lts as lts
 use Rattle.masks.proofs.with_role.Reads as with-role-reads
 
--- src/threads.rt:68:9
 with-role-requires : tie.Need-with-role-requires
 with-role-requires c κs = search needs
 
--- src/threads.rt:69:9
 add-self : tie.Need-add-self
 add-self c = search needs
 
--- src/threads.rt:64:5
 returns : tie.Need-returns
 returns c = cc
 

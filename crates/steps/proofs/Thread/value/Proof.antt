@@ -5,75 +5,57 @@ use Rattle.steps.proofs.Thread.value.Tie as tie
 use Rattle.steps.proofs.Thread.value.Reads as reads
 use Rattle.steps.proofs.Thread.value.Lts as lts
 
--- src/threads.rt:31:13
 returns : tie.Need-returns
 returns c = value-itself (c .before .args .t1) (c .before .args .x) (c .if1 .taken)
 
--- src/threads.rt:34:20
 element-copy-out-result : tie.Need-element-copy-out-result
 element-copy-out-result c = search needs
 
--- src/threads.rt:35:20
 element-copy-out-result-2 : tie.Need-element-copy-out-result-2
 element-copy-out-result-2 c = search needs
 
--- src/threads.rt:36:20
 element-copy-out-result-3 : tie.Need-element-copy-out-result-3
 element-copy-out-result-3 c = search needs
 
--- src/threads.rt:37:20
 element-copy-out-result-4 : tie.Need-element-copy-out-result-4
 element-copy-out-result-4 c = search needs
 
--- src/threads.rt:38:20
 element-copy-out-result-5 : tie.Need-element-copy-out-result-5
 element-copy-out-result-5 c = search needs
 
--- src/threads.rt:39:20
 element-copy-out-result-6 : tie.Need-element-copy-out-result-6
 element-copy-out-result-6 c = search needs
 
--- src/threads.rt:40:20
 element-copy-out-result-7 : tie.Need-element-copy-out-result-7
 element-copy-out-result-7 c = search needs
 
--- src/threads.rt:41:20
 element-copy-out-result-8 : tie.Need-element-copy-out-result-8
 element-copy-out-result-8 c = search needs
 
--- src/threads.rt:27:5
 returns-2 : tie.Need-returns-2
 returns-2 c = let a = c .before .before .before .args in value-variable (a .t1) (a .x) 0 (c .before .match .keys1)
 
--- src/threads.rt:27:5
 returns-3 : tie.Need-returns-3
 returns-3 c = let a = c .before .before .before .args in value-variable (a .t1) (a .x) 1 (c .before .match .keys2)
 
--- src/threads.rt:27:5
 returns-4 : tie.Need-returns-4
 returns-4 c = let a = c .before .before .before .args in value-variable (a .t1) (a .x) 2 (c .before .match .keys3)
 
--- src/threads.rt:27:5
 returns-5 : tie.Need-returns-5
 returns-5 c = let a = c .before .before .before .args in value-variable (a .t1) (a .x) 3 (c .before .match .keys4)
 
--- src/threads.rt:27:5
 returns-6 : tie.Need-returns-6
 returns-6 c = let a = c .before .before .before .args in value-variable (a .t1) (a .x) 4 (c .before .match .keys5)
 
--- src/threads.rt:27:5
 returns-7 : tie.Need-returns-7
 returns-7 c = let a = c .before .before .before .args in value-variable (a .t1) (a .x) 5 (c .before .match .keys6)
 
--- src/threads.rt:27:5
 returns-8 : tie.Need-returns-8
 returns-8 c = let a = c .before .before .before .args in value-variable (a .t1) (a .x) 6 (c .before .match .keys7)
 
--- src/threads.rt:27:5
 returns-9 : tie.Need-returns-9
 returns-9 c = let a = c .before .before .before .args in value-variable (a .t1) (a .x) 7 (c .before .match .keys8)
 
--- src/threads.rt:27:5
 returns-10 : tie.Need-returns-10
 returns-10 c =
     let w = c .before .before in

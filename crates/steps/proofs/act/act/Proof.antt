@@ -1,10 +1,10 @@
-use mathlib.Core.Path.{_≡_, sym, ap, _∙_}
+use mathlib.Core.Path.{_≡_, sym, _∙_}
 use mathlib.Core.Bool.{Bool}
 use native.Mathlib.Omega.{arith}
 use lib.ListN.{length, getD}
 use borrow.Author.Tests.{not-true, not-false}
 use Rattle.format.specs.Contents.{inCount, contentsAt}
-use Rattle.format.proofs.ContentsLaws.{in-count, nodes-held}
+use Rattle.format.proofs.ContentsLaws.{in-count, nodes-held, nodes-counted}
 use Rattle.steps.specs.Choice.{clinicOf}
 use Rattle.steps.specs.Kept.{madeIn}
 use Rattle.steps.proofs.ActLaws.{answered, length-made, acting-out, acting-send, acting-receive, acting-partner, acting-lone}
@@ -22,29 +22,22 @@ use Rattle.steps.proofs.act.step.Reads as step-reads
 -- the thread's node is in count, or not
 counted : (c : tie.After-in-count) {b : Bool} → c .in-count .result ≡ b
     → let a = c .before .before .before .before .before .args in inCount (length (contentsAt (a .file .now) (a .head) .nodes)) (a .own .node) ≡ b
-counted c h =
-    let a = c .before .before .before .before .before .args in
-    ap (λ k. inCount k (a .own .node)) (nodes-held (a .file .now) (a .head)) ∙ sym (c .in-count .ensures) ∙ h
+counted c h = let a = c .before .before .before .before .before .args in sym (nodes-counted (a .file .now) (a .head) (a .own .node)) ∙ sym (c .in-count .ensures) ∙ h
 
--- src/act.rt:251:9
 in-count-requires : tie.Need-in-count-requires
 in-count-requires c κs = search needs
 
--- src/act.rt:252:9
 refused-requires : tie.Need-refused-requires
 refused-requires c κs = search needs
 
--- src/act.rt:252:9
 returns : tie.Need-returns
 returns c =
     let a = c .before .before .before .before .before .before .before .args in
     answered (acting-out (clinicOf (contentsAt (a .file .now) (a .head))) (getD (a .beside .now) 0 0) (madeIn (a .beside .now) 2 (getD (a .beside .now) 1 0)) (a .own) (a .partner) (a .other) (counted (c .before .before) (not-true _ (c .before .if1 .taken)))) (c .refused .ensures)
 
--- src/act.rt:254:9
 node-requires : tie.Need-node-requires
 node-requires c κs = search needs
 
--- src/act.rt:256:9
 send-requires : tie.Need-send-requires
 send-requires c κs =
     let a = c .before .before .before .before .before .before .before .before .before .args in
@@ -52,41 +45,33 @@ send-requires c κs =
     let p = c .before .before .before .before .before .before .before .before .before .pre in
     (p .0, omega (arith, p .0 .nodes, nodes-held (a .file .now) (a .head), w .1), p .1, p .2, p .3, p .4)
 
--- src/act.rt:256:9
 returns-2 : tie.Need-returns-2
 returns-2 c =
     let a = c .before .before .before .before .before .before .before .before .before .before .args in
     answered (acting-send (clinicOf (contentsAt (a .file .now) (a .head))) (getD (a .beside .now) 0 0) (madeIn (a .beside .now) 2 (getD (a .beside .now) 1 0)) (a .own) (a .partner) (a .other) (c .before .before .before .node .result) (c .before .before .before .node .ensures) (counted (c .before .before .before .before .before) (not-false _ (c .before .before .before .before .if1 .left))) (c .before .if2 .taken)) (c .send .ensures)
 
--- src/act.rt:259:9
 refused-requires-2 : tie.Need-refused-requires-2
 refused-requires-2 c κs = search needs
 
--- src/act.rt:259:9
 returns-3 : tie.Need-returns-3
 returns-3 c =
     let a = c .before .before .before .before .before .before .before .before .before .before .before .before .args in
     answered (acting-receive (clinicOf (contentsAt (a .file .now) (a .head))) (getD (a .beside .now) 0 0) (madeIn (a .beside .now) 2 (getD (a .beside .now) 1 0)) (a .own) (a .partner) (a .other) (c .before .before .before .before .before .node .result) (c .before .before .before .before .before .node .ensures) (counted (c .before .before .before .before .before .before .before) (not-false _ (c .before .before .before .before .before .before .if1 .left))) (c .before .if3 .taken)) (c .refused2 .ensures)
 
--- src/act.rt:262:9
 refused-requires-3 : tie.Need-refused-requires-3
 refused-requires-3 c κs = search needs
 
--- src/act.rt:262:9
 returns-4 : tie.Need-returns-4
 returns-4 c =
     let a = c .before .before .before .before .before .before .before .before .before .before .before .before .before .args in
     answered (acting-partner (clinicOf (contentsAt (a .file .now) (a .head))) (getD (a .beside .now) 0 0) (madeIn (a .beside .now) 2 (getD (a .beside .now) 1 0)) (a .own) (a .partner) (a .other) (c .before .before .before .before .before .before .node .result) (c .before .before .before .before .before .before .node .ensures) (counted (c .before .before .before .before .before .before .before .before) (not-false _ (c .before .before .before .before .before .before .before .if1 .left))) (c .before .before .before .before .if2 .left) (c .before .before .if3 .left) (c .before .if4 .taken)) (c .refused3 .ensures)
 
--- src/act.rt:264:22
 shared-slice-read-step : tie.Need-shared-slice-read-step
 shared-slice-read-step c = search needs
 
--- src/act.rt:264:33
 shared-slice-read-step-2 : tie.Need-shared-slice-read-step-2
 shared-slice-read-step-2 c = search needs
 
--- src/act.rt:264:5
 step-requires : tie.Need-step-requires
 step-requires c κs =
     let a = c .before .before .before .before .before .before .before .before .before .before .before .before .before .before .args in
@@ -94,7 +79,6 @@ step-requires c κs =
     let p = c .before .before .before .before .before .before .before .before .before .before .before .before .before .before .pre in
     (p .0, omega (arith, p .0 .nodes, nodes-held (a .file .now) (a .head), w .1))
 
--- src/act.rt:238:1
 returns-5 : tie.Need-returns-5
 returns-5 c =
     let a = c .before .before .before .before .before .before .before .before .before .before .before .before .before .before .before .args in

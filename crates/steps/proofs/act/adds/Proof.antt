@@ -6,15 +6,12 @@ use Rattle.steps.proofs.act.adds.Reads as reads
 use Rattle.steps.proofs.act.adds.Lts as lts
 use Rattle.steps.proofs.act.refused.Reads as refused-reads
 
--- src/act.rt:108:9
 returns : tie.Need-returns
 returns c = rw (lt-ltb _ _ (c .if1 .taken))
 
--- src/act.rt:114:5
 refused-requires : tie.Need-refused-requires
 refused-requires c κs = search needs
 
--- src/act.rt:104:1
 returns-2 : tie.Need-returns-2
 returns-2 c = rw (le-ltb _ _ (c .before .if1 .left)) (c .refused .ensures)
 

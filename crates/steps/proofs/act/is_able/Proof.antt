@@ -9,11 +9,9 @@ use Rattle.steps.proofs.act.is_able.Reads as reads
 use Rattle.steps.proofs.act.is_able.Lts as lts
 use Rattle.rules.proofs.grants.grant_of.Reads as grant-of-reads
 
--- src/act.rt:62:13
 grant-of-requires : tie.Need-grant-of-requires
 grant-of-requires c κs = search needs
 
--- src/act.rt:59:1
 returns : tie.Need-returns
 returns c = rw (c .grant-of .ensures)
 

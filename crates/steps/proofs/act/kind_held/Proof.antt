@@ -14,63 +14,50 @@ use Rattle.steps.proofs.act.kind_held.Lts as lts
 use Rattle.format.proofs.sections.channel.Reads as channel-reads
 use Rattle.format.proofs.words.wide.Reads as wide-reads
 
--- src/act.rt:45:9
 returns : tie.Need-returns
 returns c =
     let a = c .before .before .before .args in
     kind-plain (schemaOf (contentsAt (now (a .file)) (a .head))) (now (a .beside)) (getD (now (a .beside)) 1 0) (a .v) (c .if1 .taken)
 
--- src/act.rt:48:38
 sub-channel : tie.Need-sub-channel
 sub-channel c = search needs
 
--- src/act.rt:48:13
 channel-requires : tie.Need-channel-requires
 channel-requires c κs = search needs
 
--- src/act.rt:49:9
 returns-2 : tie.Need-returns-2
 returns-2 c =
     let a = c .before .before .before .before .before .args in
     ap (λ (y : Channel). y .kind .0) (c .channel .ensures)
     ∙ kind-channel (schemaOf (contentsAt (now (a .file)) (a .head))) (now (a .beside)) (getD (now (a .beside)) 1 0) (a .v) (c .before .before .if1 .left) (c .before .if2 .taken)
 
--- src/act.rt:51:9
 wide-requires : tie.Need-wide-requires
 wide-requires c κs = search needs
 
--- src/act.rt:52:17
 shared-slice-read-wide : tie.Need-shared-slice-read-wide
 shared-slice-read-wide c = search needs
 
--- src/act.rt:52:12
 wide-requires-2 : tie.Need-wide-requires-2
 wide-requires-2 c κs = search needs
 
--- src/act.rt:53:23
 mul-result : tie.Need-mul-result
 mul-result c = search needs
 
--- src/act.rt:53:23
 add-result : tie.Need-add-result
 add-result c = search needs
 
--- src/act.rt:53:16
 mul-result-2 : tie.Need-mul-result-2
 mul-result-2 c = search needs
 
--- src/act.rt:53:16
 shared-slice-read-result : tie.Need-shared-slice-read-result
 shared-slice-read-result c = search needs
 
--- src/act.rt:53:9
 returns-3 : tie.Need-returns-3
 returns-3 c =
     let w = c .before .before .before .before in
     let a = w .before .before .before .before .before .args in
     kind-of-made (schemaOf (contentsAt (now (a .file)) (a .head))) (now (a .beside)) (getD (now (a .beside)) 1 0) (a .v) (w .wide .result) (w .before .if2 .left) (w .wide .ensures .0) (search needs)
 
--- src/act.rt:40:1
 returns-4 : tie.Need-returns-4
 returns-4 c =
     let w = c .before .before .before in

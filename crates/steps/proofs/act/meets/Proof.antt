@@ -8,7 +8,7 @@ use Rattle.rules.specs.declared.Way.the-variants.{Sends, Receives}
 use Rattle.steps.specs.declared.Thread.{Thread}
 use Rattle.steps.specs.declared.Outcome.the-variants.{Meets}
 use Rattle.steps.specs.Threads.{value, bound}
-use Rattle.steps.specs.Choice.{clinicOf, allowed}
+use Rattle.steps.specs.Choice.{clinicOf, isAllowed}
 use Rattle.steps.specs.Kept.{madeIn}
 use Rattle.steps.specs.Acted.{actedOf}
 use Rattle.steps.proofs.ActLaws.{answered, able-by, meeting-sender, meeting-receiver, meeting-apart, meeting-both}
@@ -26,13 +26,13 @@ use Rattle.steps.proofs.act.refused.Reads as refused-reads
 
 -- what a test says of rule 6: for the sender; for the receiver on a channel of its own; for the receiver on the sender's channel
 sent : (c : tie.After-is-able) {b : Bool} → c .is-able .result ≡ b
-    → let a = c .before .before .before .before .before .before .before .args in allowed (clinicOf (contentsAt (a .file .now) (a .head))) (madeIn (a .beside .now) 2 (getD (a .beside .now) 1 0)) (a .own) Sends (a .it .f1) ≡ b
+    → let a = c .before .before .before .before .before .before .before .args in isAllowed (clinicOf (contentsAt (a .file .now) (a .head))) (madeIn (a .beside .now) 2 (getD (a .beside .now) 1 0)) (a .own) Sends (a .it .f1) ≡ b
 sent c h =
     let a = c .before .before .before .before .before .before .before .args in
     able-by (schemaOf (contentsAt (a .file .now) (a .head))) Sends (a .sends .now) (a .own .mask) (madeIn (a .beside .now) 2 (getD (a .beside .now) 1 0)) (c .before .kind-held .result) (c .before .before .value .result) (value (a .own) (a .it .f1)) (c .is-able .result) _ (c .before .before .before .before .before .before .before .pre .3) (c .before .kind-held .ensures) (c .before .before .value .ensures) (c .is-able .ensures) h
 
 apart : (c : tie.After-is-able2) {b : Bool} → c .is-able2 .result ≡ b
-    → let a = c .before .before .before .before .before .before .before .before .before .before .before .before .args in allowed (clinicOf (contentsAt (a .file .now) (a .head))) (madeIn (a .beside .now) 2 (getD (a .beside .now) 1 0)) (a .other) Receives (a .theirs .f1) ≡ b
+    → let a = c .before .before .before .before .before .before .before .before .before .before .before .before .args in isAllowed (clinicOf (contentsAt (a .file .now) (a .head))) (madeIn (a .beside .now) 2 (getD (a .beside .now) 1 0)) (a .other) Receives (a .theirs .f1) ≡ b
 apart c h =
     let a = c .before .before .before .before .before .before .before .before .before .before .before .before .args in
     able-by (schemaOf (contentsAt (a .file .now) (a .head))) Receives (a .receives .now) (a .other .mask) (madeIn (a .beside .now) 2 (getD (a .beside .now) 1 0)) (c .before .kind-held2 .result) (c .before .before .before .value2 .result) (value (a .other) (a .theirs .f1)) (c .is-able2 .result) _ (c .before .before .before .before .before .before .before .before .before .before .before .before .pre .4) (c .before .kind-held2 .ensures) (c .before .before .before .value2 .ensures) (c .is-able2 .ensures) h
@@ -41,92 +41,73 @@ same : (c : tie.Else2) → let a = c .before .before .before .before .before .be
 same c = sym (c .before .before .before .before .before .value .ensures) ∙ c .if2 .left ∙ c .before .value2 .ensures
 
 received : (c : tie.After-is-able3) {b : Bool} → c .is-able3 .result ≡ b
-    → let a = c .before .before .before .before .before .before .before .before .before .before .before .args in allowed (clinicOf (contentsAt (a .file .now) (a .head))) (madeIn (a .beside .now) 2 (getD (a .beside .now) 1 0)) (a .other) Receives (a .theirs .f1) ≡ b
+    → let a = c .before .before .before .before .before .before .before .before .before .before .before .args in isAllowed (clinicOf (contentsAt (a .file .now) (a .head))) (madeIn (a .beside .now) 2 (getD (a .beside .now) 1 0)) (a .other) Receives (a .theirs .f1) ≡ b
 received c h =
     let a = c .before .before .before .before .before .before .before .before .before .before .before .args in
     able-by (schemaOf (contentsAt (a .file .now) (a .head))) Receives (a .receives .now) (a .other .mask) (madeIn (a .beside .now) 2 (getD (a .beside .now) 1 0)) (c .before .before .before .before .before .kind-held .result) (c .before .before .before .before .before .before .value .result) (value (a .other) (a .theirs .f1)) (c .is-able3 .result) _ (c .before .before .before .before .before .before .before .before .before .before .before .pre .4) (c .before .before .before .before .before .kind-held .ensures) (c .before .before .before .before .before .before .value .ensures ∙ same (c .before)) (c .is-able3 .ensures) h
 
--- src/act.rt:182:9
 value-requires : tie.Need-value-requires
 value-requires c κs = search needs
 
--- src/act.rt:183:9
 kind-held-requires : tie.Need-kind-held-requires
 kind-held-requires c κs = search needs
 
--- src/act.rt:184:9
 is-able-requires : tie.Need-is-able-requires
 is-able-requires c κs = search needs
 
--- src/act.rt:185:9
 refused-requires : tie.Need-refused-requires
 refused-requires c κs = search needs
 
--- src/act.rt:185:9
 returns : tie.Need-returns
 returns c =
     let a = c .before .before .before .before .before .before .before .before .before .args in
     answered (meeting-sender (clinicOf (contentsAt (a .file .now) (a .head))) (madeIn (a .beside .now) 2 (getD (a .beside .now) 1 0)) (a .own) (a .it) (a .other) (a .theirs) (sent (c .before .before) (not-true _ (c .before .if1 .taken)))) (c .refused .ensures)
 
--- src/act.rt:187:9
 value-requires-2 : tie.Need-value-requires-2
 value-requires-2 c κs = search needs
 
--- src/act.rt:189:42
 kind-held-requires-2 : tie.Need-kind-held-requires-2
 kind-held-requires-2 c κs = search needs
 
--- src/act.rt:189:12
 is-able-requires-2 : tie.Need-is-able-requires-2
 is-able-requires-2 c κs = search needs
 
--- src/act.rt:190:13
 refused-requires-2 : tie.Need-refused-requires-2
 refused-requires-2 c κs = search needs
 
--- src/act.rt:190:13
 returns-2 : tie.Need-returns-2
 returns-2 c =
     let a = c .before .before .before .before .before .before .before .before .before .before .before .before .before .before .args in
     answered (meeting-apart (clinicOf (contentsAt (a .file .now) (a .head))) (madeIn (a .beside .now) 2 (getD (a .beside .now) 1 0)) (a .own) (a .it) (a .other) (a .theirs) (sent (c .before .before .before .before .before .before .before) (not-false _ (c .before .before .before .before .before .before .if1 .left))) (apart (c .before .before) (c .before .if3 .taken)) (λ e. c .before .before .before .before .if2 .taken (c .before .before .before .before .before .before .before .before .before .value .ensures ∙ e ∙ sym (c .before .before .before .before .before .value2 .ensures)))) (c .refused2 .ensures)
 
--- src/act.rt:192:9
 refused-requires-3 : tie.Need-refused-requires-3
 refused-requires-3 c κs = search needs
 
--- src/act.rt:192:9
 returns-3 : tie.Need-returns-3
 returns-3 c =
     let a = c .before .before .before .before .before .before .before .before .before .before .before .before .before .before .args in
     answered (meeting-receiver (clinicOf (contentsAt (a .file .now) (a .head))) (madeIn (a .beside .now) 2 (getD (a .beside .now) 1 0)) (a .own) (a .it) (a .other) (a .theirs) (sent (c .before .before .before .before .before .before .before) (not-false _ (c .before .before .before .before .before .before .if1 .left))) (apart (c .before .before) (c .before .if3 .left))) (c .refused3 .ensures)
 
--- src/act.rt:194:9
 is-able-requires-3 : tie.Need-is-able-requires-3
 is-able-requires-3 c κs = search needs
 
--- src/act.rt:195:9
 refused-requires-4 : tie.Need-refused-requires-4
 refused-requires-4 c κs = search needs
 
--- src/act.rt:195:9
 returns-4 : tie.Need-returns-4
 returns-4 c =
     let a = c .before .before .before .before .before .before .before .before .before .before .before .before .before .args in
     answered (meeting-receiver (clinicOf (contentsAt (a .file .now) (a .head))) (madeIn (a .beside .now) 2 (getD (a .beside .now) 1 0)) (a .own) (a .it) (a .other) (a .theirs) (sent (c .before .before .before .before .before .before) (not-false _ (c .before .before .before .before .before .if1 .left))) (received (c .before .before) (not-true _ (c .before .if4 .taken)))) (c .refused4 .ensures)
 
--- src/act.rt:199:16
 onward-requires : tie.Need-onward-requires
 onward-requires c κs = search needs
 
--- src/act.rt:200:29
 value-requires-3 : tie.Need-value-requires-3
 value-requires-3 c κs = search needs
 
--- src/act.rt:200:17
 bound-requires : tie.Need-bound-requires
 bound-requires c κs = search needs
 
--- src/act.rt:168:1
 returns-5 : tie.Need-returns-5
 returns-5 c =
     let a = c .before .before .before .before .before .before .before .before .before .before .before .before .before .before .before .args in

@@ -6,19 +6,15 @@ use Rattle.steps.proofs.act.moves_if.Lts as lts
 use Rattle.steps.proofs.act.refused.Reads as refused-reads
 use Rattle.steps.proofs.act.sole.Reads as sole-reads
 
--- src/act.rt:98:9
 sole-requires : tie.Need-sole-requires
 sole-requires c κs = search needs
 
--- src/act.rt:98:9
 returns : tie.Need-returns
 returns c = rw (c .before .if1 .taken) (c .sole .ensures)
 
--- src/act.rt:100:5
 refused-requires : tie.Need-refused-requires
 refused-requires c κs = search needs
 
--- src/act.rt:94:1
 returns-2 : tie.Need-returns-2
 returns-2 c = rw (c .before .if1 .left) (c .refused .ensures)
 

@@ -9,15 +9,12 @@ use Rattle.steps.proofs.act.refused.Lts as lts
 use Rattle.steps.proofs.act.no_thread.Reads as no-thread-reads
 use Rattle.steps.proofs.act.sole.Reads as sole-reads
 
--- src/act.rt:90:35
 no-thread-requires : tie.Need-no-thread-requires
 no-thread-requires c κs = search needs
 
--- src/act.rt:90:5
 sole-requires : tie.Need-sole-requires
 sole-requires c κs = search needs
 
--- src/act.rt:87:1
 returns : tie.Need-returns
 returns c = c .sole .ensures ∙ ap (leaving (answers.Refused (c .before .before .args .number))) (c .before .no-thread .ensures)
 

@@ -1,10 +1,10 @@
-use mathlib.Core.Path.{_≡_, sym, ap, _∙_}
+use mathlib.Core.Path.{_≡_, sym, _∙_}
 use mathlib.Core.Bool.{Bool}
 use native.Mathlib.Omega.{arith}
 use lib.ListN.{length, getD}
 use borrow.Author.Tests.{not-true, not-false}
 use Rattle.format.specs.Contents.{inCount, contentsAt}
-use Rattle.format.proofs.ContentsLaws.{in-count, nodes-held}
+use Rattle.format.proofs.ContentsLaws.{in-count, nodes-held, nodes-counted}
 use Rattle.steps.specs.Choice.{clinicOf}
 use Rattle.steps.specs.Kept.{madeIn}
 use Rattle.steps.proofs.ActLaws.{answered, sending-alone, sending-missing, sending-out, sending-elsewhere, sending-received}
@@ -21,63 +21,49 @@ use Rattle.steps.proofs.act.refused.Reads as refused-reads
 -- the partner's node is in count, or not
 counted : (c : tie.After-in-count) {b : Bool} → c .in-count .result ≡ b
     → let a = c .before .before .before .before .before .before .before .before .args in inCount (length (contentsAt (a .file .now) (a .head) .nodes)) (a .other .node) ≡ b
-counted c h =
-    let a = c .before .before .before .before .before .before .before .before .args in
-    ap (λ k. inCount k (a .other .node)) (nodes-held (a .file .now) (a .head)) ∙ sym (c .in-count .ensures) ∙ h
+counted c h = let a = c .before .before .before .before .before .before .before .before .args in sym (nodes-counted (a .file .now) (a .head) (a .other .node)) ∙ sym (c .in-count .ensures) ∙ h
 
--- src/act.rt:220:9
 refused-requires : tie.Need-refused-requires
 refused-requires c κs = search needs
 
--- src/act.rt:220:9
 returns : tie.Need-returns
 returns c =
     let a = c .before .before .before .before .before .before .args in
     answered (sending-alone (clinicOf (contentsAt (a .file .now) (a .head))) (madeIn (a .beside .now) 2 (getD (a .beside .now) 1 0)) (a .own) (a .it) (getD (a .beside .now) 0 0) (a .partner) (a .other) (c .before .if1 .taken)) (c .refused .ensures)
 
--- src/act.rt:222:8
 shared-slice-read-if2 : tie.Need-shared-slice-read-if2
 shared-slice-read-if2 c = search needs
 
--- src/act.rt:223:9
 refused-requires-2 : tie.Need-refused-requires-2
 refused-requires-2 c κs = search needs
 
--- src/act.rt:223:9
 returns-2 : tie.Need-returns-2
 returns-2 c =
     let a = c .before .before .before .before .before .before .before .before .args in
     answered (sending-missing (clinicOf (contentsAt (a .file .now) (a .head))) (madeIn (a .beside .now) 2 (getD (a .beside .now) 1 0)) (a .own) (a .it) (getD (a .beside .now) 0 0) (a .partner) (a .other) (c .before .before .before .if1 .left) (c .before .if2 .taken)) (c .refused2 .ensures)
 
--- src/act.rt:225:9
 in-count-requires : tie.Need-in-count-requires
 in-count-requires c κs = search needs
 
--- src/act.rt:226:9
 refused-requires-3 : tie.Need-refused-requires-3
 refused-requires-3 c κs = search needs
 
--- src/act.rt:226:9
 returns-3 : tie.Need-returns-3
 returns-3 c =
     let a = c .before .before .before .before .before .before .before .before .before .before .args in
     answered (sending-out (clinicOf (contentsAt (a .file .now) (a .head))) (madeIn (a .beside .now) 2 (getD (a .beside .now) 1 0)) (a .own) (a .it) (getD (a .beside .now) 0 0) (a .partner) (a .other) (c .before .before .before .before .before .if1 .left) (c .before .before .before .if2 .left) (counted (c .before .before) (not-true _ (c .before .if3 .taken)))) (c .refused3 .ensures)
 
--- src/act.rt:220:9
 node-requires : tie.Need-node-requires
 node-requires c κs = search needs
 
--- src/act.rt:230:9
 refused-requires-4 : tie.Need-refused-requires-4
 refused-requires-4 c κs = search needs
 
--- src/act.rt:230:9
 returns-4 : tie.Need-returns-4
 returns-4 c =
     let a = c .before .before .before .before .before .before .before .before .before .before .before .before .before .args in
     answered (sending-elsewhere (clinicOf (contentsAt (a .file .now) (a .head))) (madeIn (a .beside .now) 2 (getD (a .beside .now) 1 0)) (a .own) (a .it) (getD (a .beside .now) 0 0) (a .partner) (a .other) (c .before .before .before .node .result) (c .before .before .before .node .ensures) (c .before .before .before .before .before .before .before .before .if1 .left) (c .before .before .before .before .before .before .if2 .left) (counted (c .before .before .before .before .before) (not-false _ (c .before .before .before .before .if3 .left))) (c .before .if4 .taken)) (c .refused4 .ensures)
 
--- src/act.rt:232:5
 meets-requires : tie.Need-meets-requires
 meets-requires c κs =
     let a = c .before .before .before .before .before .before .before .before .before .before .before .before .args in
@@ -85,7 +71,6 @@ meets-requires c κs =
     let p = c .before .before .before .before .before .before .before .before .before .before .before .before .pre in
     (p .0, p .1, omega (arith, p .0 .nodes, nodes-held (a .file .now) (a .head), w .1), p .2, p .3, p .4, p .5)
 
--- src/act.rt:205:1
 returns-5 : tie.Need-returns-5
 returns-5 c =
     let a = c .before .before .before .before .before .before .before .before .before .before .before .before .before .args in

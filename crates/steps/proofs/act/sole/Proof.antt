@@ -5,11 +5,9 @@ use Rattle.steps.proofs.act.sole.Reads as reads
 use Rattle.steps.proofs.act.sole.Lts as lts
 use Rattle.steps.proofs.act.no_thread.Reads as no-thread-reads
 
--- src/act.rt:83:17
 no-thread-requires : tie.Need-no-thread-requires
 no-thread-requires c κs = search needs
 
--- src/act.rt:77:1
 returns : tie.Need-returns
 returns c = cc
 

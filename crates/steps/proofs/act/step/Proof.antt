@@ -21,117 +21,92 @@ use Rattle.steps.proofs.act.refused.Reads as refused-reads
 use Rattle.steps.proofs.act.sole.Reads as sole-reads
 use Rattle.steps.proofs.act.switches_on.Reads as switches-on-reads
 
--- src/act.rt:153:33
 no-thread-requires : tie.Need-no-thread-requires
 no-thread-requires c κs = search needs
 
--- src/act.rt:153:14
 sole-requires : tie.Need-sole-requires
 sole-requires c κs = search needs
 
--- src/act.rt:154:28
 onward-requires : tie.Need-onward-requires
 onward-requires c κs = search needs
 
--- src/act.rt:154:42
 moved-to-requires : tie.Need-moved-to-requires
 moved-to-requires c κs = search needs
 
--- src/act.rt:154:14
 adds-requires : tie.Need-adds-requires
 adds-requires c κs = search needs
 
--- src/act.rt:155:33
 onward-requires-2 : tie.Need-onward-requires-2
 onward-requires-2 c κs = search needs
 
--- src/act.rt:155:14
 adds-requires-2 : tie.Need-adds-requires-2
 adds-requires-2 c κs = search needs
 
--- src/act.rt:156:14
 makes-requires : tie.Need-makes-requires
 makes-requires c κs = search needs
 
--- src/act.rt:157:23
 value-requires : tie.Need-value-requires
 value-requires c κs = search needs
 
--- src/act.rt:157:43
 value-requires-2 : tie.Need-value-requires-2
 value-requires-2 c κs = search needs
 
--- src/act.rt:157:61
 onward-requires-3 : tie.Need-onward-requires-3
 onward-requires-3 c κs = search needs
 
--- src/act.rt:157:14
 moves-if-requires : tie.Need-moves-if-requires
 moves-if-requires c κs = search needs
 
--- src/act.rt:158:14
 switches-on-requires : tie.Need-switches-on-requires
 switches-on-requires c κs = search needs
 
--- src/act.rt:161:22
 has-role-requires : tie.Need-has-role-requires
 has-role-requires c κs = search needs
 
--- src/act.rt:161:48
 off-requires : tie.Need-off-requires
 off-requires c κs = search needs
 
--- src/act.rt:161:13
 moves-if-requires-2 : tie.Need-moves-if-requires-2
 moves-if-requires-2 c κs = search needs
 
--- src/act.rt:163:14
 refused-requires : tie.Need-refused-requires
 refused-requires c κs = search needs
 
--- src/act.rt:147:1
 returns : tie.Need-returns
 returns c =
     let a = c .before .before .before .before .args in
     answered (lone-end (clinicOf (contentsAt (a .file .now) (a .head))) (a .threads) (a .made) (a .own) (a .it) (c .before .before .match .keys1)) (c .sole .ensures ∙ ap (leaving answers.Ends) (c .before .no-thread .ensures))
 
--- src/act.rt:147:1
 returns-2 : tie.Need-returns-2
 returns-2 c =
     let a = c .before .before .before .before .before .args in
     answered (lone-fork (clinicOf (contentsAt (a .file .now) (a .head))) (a .threads) (a .made) (a .own) (a .it) (c .before .before .before .match .keys2) (c .before .before .onward .result) (c .before .moved-to .result) (c .before .before .onward .ensures) (c .before .moved-to .ensures)) (c .adds .ensures)
 
--- src/act.rt:147:1
 returns-3 : tie.Need-returns-3
 returns-3 c =
     let a = c .before .before .before .before .args in
     answered (lone-repeat (clinicOf (contentsAt (a .file .now) (a .head))) (a .threads) (a .made) (a .own) (a .it) (c .before .before .match .keys3) (c .before .onward2 .result) (c .before .onward2 .ensures)) (c .adds2 .ensures)
 
--- src/act.rt:147:1
 returns-4 : tie.Need-returns-4
 returns-4 c =
     let a = c .before .before .before .args in
     answered (lone-new (clinicOf (contentsAt (a .file .now) (a .head))) (a .threads) (a .made) (a .own) (a .it) (c .before .match .keys4)) (c .makes .ensures)
 
--- src/act.rt:147:1
 returns-5 : tie.Need-returns-5
 returns-5 c =
     let a = c .before .before .before .before .before .before .args in
     answered (lone-compare (clinicOf (contentsAt (a .file .now) (a .head))) (a .threads) (a .made) (a .own) (a .it) (c .before .before .before .before .match .keys5) (c .before .before .before .value .result) (c .before .before .value2 .result) (c .before .onward3 .result) (c .before .before .before .value .ensures) (c .before .before .value2 .ensures) (c .before .onward3 .ensures)) (c .moves-if .ensures)
 
--- src/act.rt:147:1
 returns-6 : tie.Need-returns-6
 returns-6 c =
     let a = c .before .before .before .args in
     answered (lone-on (clinicOf (contentsAt (a .file .now) (a .head))) (a .threads) (a .made) (a .own) (a .it) (c .before .match .keys6)) (c .switches-on .ensures)
 
--- src/act.rt:147:1
 returns-7 : tie.Need-returns-7
 returns-7 c =
     let a = c .before .before .before .before .before .args in
     answered (lone-off (clinicOf (contentsAt (a .file .now) (a .head))) (a .threads) (a .made) (a .own) (a .it) (c .before .before .before .match .keys7) (c .before .before .has-role .result) (c .before .off .result) (c .before .before .has-role .ensures) (c .before .off .ensures)) (c .moves-if2 .ensures)
 
--- src/act.rt:147:1
 returns-8 : tie.Need-returns-8
 returns-8 c =
     let g = c .before .match .rest in

@@ -23,33 +23,26 @@ assigned c h =
     let a = c .before .before .before .args in
     ap (λ m. has m (a .role .0)) (sym (c .before .user-roles .ensures)) ∙ sym (c .has-role .ensures) ∙ h
 
--- src/act.rt:140:17
 user-roles-requires : tie.Need-user-roles-requires
 user-roles-requires c κs = search needs
 
--- src/act.rt:140:8
 has-role-requires : tie.Need-has-role-requires
 has-role-requires c κs = search needs
 
--- src/act.rt:141:36
 on-requires : tie.Need-on-requires
 on-requires c κs =
     (c .before .before .before .before .pre .1, role-low (c .before .before .user-roles .result) (c .before .before .before .before .args .role .0) (search needs) (sym (c .before .has-role .ensures) ∙ c .if1 .taken))
 
--- src/act.rt:141:9
 sole-requires : tie.Need-sole-requires
 sole-requires c κs = search needs
 
--- src/act.rt:141:9
 returns : tie.Need-returns
 returns c =
     rw (assigned (c .before .before .before) (c .before .before .if1 .taken)) (c .sole .ensures ∙ ap (leaving answers.Moves) (c .before .on .ensures))
 
--- src/act.rt:143:5
 refused-requires : tie.Need-refused-requires
 refused-requires c κs = search needs
 
--- src/act.rt:133:1
 returns-2 : tie.Need-returns-2
 returns-2 c = rw (assigned (c .before .before) (c .before .if1 .left)) (c .refused .ensures)
 

@@ -15,37 +15,29 @@ Inv-loop vars k₀ k = Sought vars k × (k ≤ 8) × (length vars ≡ 8)
 abbrev μ-loop : tie.MeasureT-loop
 μ-loop vars k₀ k = 8 - k
 
--- src/threads.rt:16:5
 loop-holds : tie.Need-loop-holds Inv-loop μ-loop
 loop-holds c = (omega arith, search needs, search needs)
 
--- src/threads.rt:17:12
 mul-if1 : tie.Need-mul-if1 Inv-loop μ-loop
 mul-if1 c = search needs
 
--- src/threads.rt:17:12
 array-read-if1 : tie.Need-array-read-if1 Inv-loop μ-loop
 array-read-if1 c = search needs
 
--- src/threads.rt:18:13
 returns : tie.Need-returns Inv-loop μ-loop
 returns c = let v = c .before .before .loop .inv in free-here (c .before .before .before .args .t1) (c .before .before .loop .k) (omega arith) (v .0) (c .if1 .taken)
 
--- src/threads.rt:20:9
 add-k : tie.Need-add-k Inv-loop μ-loop
 add-k c = search needs
 
--- src/threads.rt:16:5
 loop-less : tie.Need-loop-less Inv-loop μ-loop
 loop-less c = omega arith
 
--- src/threads.rt:16:5
 loop-again : tie.Need-loop-again Inv-loop μ-loop
 loop-again c =
     let v = c .before .before .loop .inv in
     (free-later (c .before .before .before .args .t1) (c .before .before .loop .k) (omega arith) (v .0) (c .if1 .left), omega arith, v .2)
 
--- src/threads.rt:12:1
 returns-2 : tie.Need-returns-2 Inv-loop μ-loop
 returns-2 c = let v = c .before .loop .inv in free-none (c .before .before .args .t1) (c .before .loop .k) (omega arith) (v .0)
 

@@ -4,19 +4,15 @@ use Rattle.trees.proofs.ends.end_of.Tie as tie
 use Rattle.trees.proofs.ends.end_of.Reads as reads
 use Rattle.trees.proofs.ends.end_of.Lts as lts
 
--- src/ends.rt:16:9
 returns : tie.Need-returns
 returns c = rw (eq-eqb _ _ (c .if1 .taken))
 
--- src/ends.rt:19:9
 returns-2 : tie.Need-returns-2
 returns-2 c = rw (ne-eqb _ _ (c .before .if1 .left), eq-eqb _ _ (c .if2 .taken))
 
--- src/ends.rt:22:9
 returns-3 : tie.Need-returns-3
 returns-3 c = rw (ne-eqb _ _ (c .before .before .if1 .left), ne-eqb _ _ (c .before .if2 .left), le-leb _ _ (c .if3 .taken))
 
--- src/ends.rt:12:1
 returns-4 : tie.Need-returns-4
 returns-4 c = rw (ne-eqb _ _ (c .before .before .if1 .left), ne-eqb _ _ (c .before .if2 .left), lt-leb _ _ (c .if3 .left))
 

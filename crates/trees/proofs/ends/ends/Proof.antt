@@ -24,27 +24,21 @@ Inv-loop file head ends₀ n i₀ ends i =
 abbrev μ-loop : tie.MeasureT-loop
 μ-loop file head ends₀ n i₀ ends i = i
 
--- src/ends.rt:34:9
 wide-requires : tie.Need-wide-requires Inv-loop μ-loop
 wide-requires c κs = search needs
 
--- src/ends.rt:35:5
 slice-write-ends : tie.Need-slice-write-ends Inv-loop μ-loop
 slice-write-ends c = search needs
 
--- src/ends.rt:36:10
 add-ends : tie.Need-add-ends Inv-loop μ-loop
 add-ends c = search needs
 
--- src/ends.rt:36:5
 mul-ends : tie.Need-mul-ends Inv-loop μ-loop
 mul-ends c = search needs
 
--- src/ends.rt:36:5
 slice-write-ends-2 : tie.Need-slice-write-ends-2 Inv-loop μ-loop
 slice-write-ends-2 c = simp length-set (omega arith)
 
--- src/ends.rt:38:5
 loop-holds : tie.Need-loop-holds Inv-loop μ-loop
 loop-holds c =
     let a = c .before .before .before .args in
@@ -53,70 +47,54 @@ loop-holds c =
     let h = begin (contentsAt (a .file .now) (a .head) .nodes) n (a .ends .now) all (omega arith) in
     (omega arith, omega arith, simp length-set (omega arith), h .0, h .1)
 
--- src/ends.rt:39:40
 narrow-requires : tie.Need-narrow-requires Inv-loop μ-loop
 narrow-requires c κs = search needs
 
--- src/ends.rt:39:13
 node-tag-requires : tie.Need-node-tag-requires Inv-loop μ-loop
 node-tag-requires c κs = search needs
 
--- src/ends.rt:40:24
 add-one : tie.Need-add-one Inv-loop μ-loop
 add-one c = search needs
 
--- src/ends.rt:40:19
 mul-one : tie.Need-mul-one Inv-loop μ-loop
 mul-one c = search needs
 
--- src/ends.rt:40:19
 slice-read-one : tie.Need-slice-read-one Inv-loop μ-loop
 slice-read-one c = search needs
 
--- src/ends.rt:41:24
 wide-requires-2 : tie.Need-wide-requires-2 Inv-loop μ-loop
 wide-requires-2 c κs = search needs
 
--- src/ends.rt:41:19
 mul-two : tie.Need-mul-two Inv-loop μ-loop
 mul-two c = search needs
 
--- src/ends.rt:41:19
 slice-read-two : tie.Need-slice-read-two Inv-loop μ-loop
 slice-read-two c =
     let a = c .before .before .before .before .before .before .before .before .before .before .args in
     let l = c .before .before .before .before .before .before .loop in
     omega (arith, in-table (l .ends) (l .i) (drop (l .i) (contentsAt (a .file .now) (a .head) .nodes)) (omega arith) (l .inv .3) (l .inv .4))
 
--- src/ends.rt:42:38
 add-narrow : tie.Need-add-narrow Inv-loop μ-loop
 add-narrow c = search needs
 
--- src/ends.rt:42:31
 narrow-requires-2 : tie.Need-narrow-requires-2 Inv-loop μ-loop
 narrow-requires-2 c κs = search needs
 
--- src/ends.rt:42:19
 end-of-requires : tie.Need-end-of-requires Inv-loop μ-loop
 end-of-requires c κs = search needs
 
--- src/ends.rt:42:9
 mul-ends-2 : tie.Need-mul-ends-2 Inv-loop μ-loop
 mul-ends-2 c = search needs
 
--- src/ends.rt:42:9
 slice-write-ends-3 : tie.Need-slice-write-ends-3 Inv-loop μ-loop
 slice-write-ends-3 c = search needs
 
--- src/ends.rt:43:9
 sub-i : tie.Need-sub-i Inv-loop μ-loop
 sub-i c = search needs
 
--- src/ends.rt:38:5
 loop-less : tie.Need-loop-less Inv-loop μ-loop
 loop-less c = search needs
 
--- src/ends.rt:38:5
 loop-again : tie.Need-loop-again Inv-loop μ-loop
 loop-again c =
     let a = c .before .before .before .before .before .before .before .before .before .before .before .before .args in
@@ -133,11 +111,9 @@ loop-again c =
           (ap (λ k. getD (l .ends) k 0) (c .before .before .before .wide2 .ensures .0))),
     )
 
--- src/ends.rt:30:1
 same-length : tie.Need-same-length Inv-loop μ-loop
 same-length c = search needs
 
--- src/ends.rt:30:1
 returns : tie.Need-returns Inv-loop μ-loop
 returns c =
     let a = c .before .before .before .before .before .args in

@@ -7,19 +7,15 @@ use Rattle.trees.proofs.shape.bound_below.Reads as reads
 use Rattle.trees.proofs.shape.bound_below.Lts as lts
 use Rattle.trees.proofs.shape.binds_one.Reads as binds-one-reads
 
--- src/shape.rt:83:8
 binds-one-requires : tie.Need-binds-one-requires
 binds-one-requires c κs = search needs
 
--- src/shape.rt:84:16
 add-result : tie.Need-add-result
 add-result c = omega (arith, c .before .before .pre (sym (c .before .binds-one .ensures) ∙ c .if1 .taken))
 
--- src/shape.rt:84:9
 returns : tie.Need-returns
 returns c = rw (sym (c .before .binds-one .ensures) ∙ c .if1 .taken)
 
--- src/shape.rt:79:1
 returns-2 : tie.Need-returns-2
 returns-2 c = rw (sym (c .before .binds-one .ensures) ∙ c .if1 .left)
 

@@ -5,23 +5,18 @@ use Rattle.trees.proofs.shape.depth_after.Tie as tie
 use Rattle.trees.proofs.shape.depth_after.Reads as reads
 use Rattle.trees.proofs.shape.depth_after.Lts as lts
 
--- src/shape.rt:95:16
 sub-result : tie.Need-sub-result
 sub-result c = search needs
 
--- src/shape.rt:95:9
 returns : tie.Need-returns
 returns c = rw (eq-eqb _ _ (c .if1 .taken))
 
--- src/shape.rt:98:16
 add-result : tie.Need-add-result
 add-result c = search needs
 
--- src/shape.rt:98:9
 returns-2 : tie.Need-returns-2
 returns-2 c = rw (ne-eqb _ _ (c .before .if1 .left), eq-eqb _ _ (c .if2 .taken))
 
--- src/shape.rt:90:1
 returns-3 : tie.Need-returns-3
 returns-3 c = rw (ne-eqb _ _ (c .before .if1 .left), ne-eqb _ _ (c .if2 .left))
 

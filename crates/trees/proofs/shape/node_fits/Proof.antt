@@ -10,27 +10,21 @@ use Rattle.trees.proofs.shape.root_fits.Reads as root-fits-reads
 use Rattle.trees.proofs.shape.second_fits.Reads as second-fits-reads
 use Rattle.trees.proofs.shape.unused_fit.Reads as unused-fit-reads
 
--- src/shape.rt:71:5
 root-fits-requires : tie.Need-root-fits-requires
 root-fits-requires c κs = search needs
 
--- src/shape.rt:73:11
 unused-fit-requires : tie.Need-unused-fit-requires
 unused-fit-requires c κs = search needs
 
--- src/shape.rt:74:11
 second-fits-requires : tie.Need-second-fits-requires
 second-fits-requires c κs = search needs
 
--- src/shape.rt:75:13
 binds-one-requires : tie.Need-binds-one-requires
 binds-one-requires c κs = search needs
 
--- src/shape.rt:75:33
 bound-of-requires : tie.Need-bound-of-requires
 bound-of-requires c κs = search needs
 
--- src/shape.rt:68:1
 returns : tie.Need-returns
 unfolding nodeFits
 returns c = cc

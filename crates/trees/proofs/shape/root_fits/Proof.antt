@@ -4,19 +4,15 @@ use Rattle.trees.proofs.shape.root_fits.Tie as tie
 use Rattle.trees.proofs.shape.root_fits.Reads as reads
 use Rattle.trees.proofs.shape.root_fits.Lts as lts
 
--- src/shape.rt:29:19
 enum-known-d : tie.Need-enum-known-d
 enum-known-d c = search needs
 
--- src/shape.rt:30:26
 enum-told : tie.Need-enum-told
 enum-told c = search needs
 
--- src/shape.rt:25:1
 returns : tie.Need-returns
 returns c = rw (c .before .d .given .1)
 
--- src/shape.rt:25:1
 returns-2 : tie.Need-returns-2
 returns-2 c = search needs
 

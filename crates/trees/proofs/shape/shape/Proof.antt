@@ -12,36 +12,28 @@ use Rattle.format.proofs.words.wide.Reads as wide-reads
 use Rattle.trees.proofs.shape.shape_by.Reads as shape-by-reads
 use Rattle.trees.proofs.sound.sound_shape.Reads as sound-shape-reads
 
--- src/shape.rt:171:8
 sound-shape-requires : tie.Need-sound-shape-requires
 sound-shape-requires c κs = search needs
 
--- src/shape.rt:172:9
 returns : tie.Need-returns
 returns c = sym (c .before .sound-shape .ensures (c .if1 .taken))
 
--- src/shape.rt:175:9
 wide-requires : tie.Need-wide-requires
 wide-requires c κs = search needs
 
--- src/shape.rt:176:39
 add-table : tie.Need-add-table
 add-table c = search needs
 
--- src/shape.rt:176:26
 array-borrow-prefix-table : tie.Need-array-borrow-prefix-table
 array-borrow-prefix-table c = search needs
 
--- src/shape.rt:176:26
 slice-aggregate-shape-by : tie.Need-slice-aggregate-shape-by
 slice-aggregate-shape-by c = sym (length-take-le (c .before .wide .result + 2) (replicate 1026 0) (omega arith))
 
--- src/shape.rt:176:5
 shape-by-requires : tie.Need-shape-by-requires
 shape-by-requires c κs =
     (c .before .before .before .before .before .pre, length-take-le (c .before .wide .result + 2) (replicate 1026 0) (omega arith) ∙ ap (λ k. k + 2) (c .before .wide .ensures .0))
 
--- src/shape.rt:167:1
 returns-2 : tie.Need-returns-2
 returns-2 c = search needs
 

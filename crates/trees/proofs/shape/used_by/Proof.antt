@@ -3,15 +3,12 @@ use Rattle.trees.proofs.shape.used_by.Tie as tie
 use Rattle.trees.proofs.shape.used_by.Reads as reads
 use Rattle.trees.proofs.shape.used_by.Lts as lts
 
--- src/shape.rt:46:9
 returns : tie.Need-returns
 returns c = rw (c .if1 .taken)
 
--- src/shape.rt:49:9
 returns-2 : tie.Need-returns-2
 returns-2 c = rw (c .before .if1 .left, c .if2 .taken)
 
--- src/shape.rt:42:1
 returns-3 : tie.Need-returns-3
 returns-3 c = rw (c .before .if1 .left, c .if2 .left)
 

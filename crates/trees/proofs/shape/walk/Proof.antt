@@ -7,12 +7,14 @@ use borrow.Author.Tests.{not-true, not-false}
 use lib.ListN.{length, getD, set, length-set, drop}
 use Rattle.format.specs.Contents.{contentsAt, item, noSession}
 use Rattle.format.specs.Answers.{refused}
+use Rattle.format.specs.Stacks.{stacked}
 use Rattle.format.proofs.ContentsLaws.{sessions-held, nodes-held, none-past}
-use Rattle.trees.specs.Shape.{boundBelow, boundOf, onward, shapeFrom, roots, shapeAnswer}
+use Rattle.format.proofs.StackLaws.{stacked-top}
+use Rattle.trees.specs.Shape.{boundBelow, boundOf, dueAfter, shapeFrom, roots, shapeAnswer}
 use Rattle.format.specs.declared.Session.{Session}
 use Rattle.trees.specs.declared.Due.the-variants.{Root, Below}
 use Rattle.trees.proofs.FitsLaws.{fits-room}
-use Rattle.trees.proofs.ShapeLaws.{pile, blank, pile-top, roots-push, due-after, judged, over-empty, over-due, left-over, table-size, depth-most}
+use Rattle.trees.proofs.ShapeLaws.{blank, roots-push, due-after, judged, over-empty, over-due, left-over, table-size, depth-most}
 use Rattle.trees.proofs.shape.walk.Statement.{statement}
 use Rattle.trees.proofs.shape.walk.Tie as tie
 use Rattle.trees.proofs.shape.walk.Reads as reads
@@ -28,7 +30,7 @@ use Rattle.format.proofs.words.wide.Reads as wide-reads
 
 abbrev Inv-loop : tie.InvT-loop
 Inv-loop file head ends stack₀ sessions depth₀ stack depth =
-    (depth ≤ sessions) × (length stack ≡ 1057) × (pile blank stack depth ≡ roots (drop (sessions - depth) (contentsAt file head .sessions)))
+    (depth ≤ sessions) × (length stack ≡ 1057) × (stacked blank stack depth ≡ roots (drop (sessions - depth) (contentsAt file head .sessions)))
 
 abbrev μ-loop : tie.MeasureT-loop
 μ-loop file head ends stack₀ sessions depth₀ stack depth = sessions - depth
@@ -36,7 +38,7 @@ abbrev μ-loop : tie.MeasureT-loop
 abbrev Inv-loop2 : tie.InvT-loop2
 Inv-loop2 file head ends stack₀ sessions depth₀ nodes i₀ stack depth i =
     (1 ≤ i) × (i ≤ nodes + 1) × (length stack ≡ 1057) × (depth ≤ 31 + i)
-    × (shapeFrom i (drop (i - 1) (contentsAt file head .nodes)) (pile blank stack depth) ≡ shapeAnswer (contentsAt file head))
+    × (shapeFrom i (drop (i - 1) (contentsAt file head .nodes)) (stacked blank stack depth) ≡ shapeAnswer (contentsAt file head))
 
 abbrev μ-loop2 : tie.MeasureT-loop2
 μ-loop2 file head ends stack₀ sessions depth₀ nodes i₀ stack depth i = nodes + 1 - i
@@ -46,7 +48,7 @@ module _ (c : tie.After-node-fits Inv-loop μ-loop Inv-loop2 μ-loop2) where
   going : cond (c .node-fits .result)
       (shapeFrom (c .before .before .before .before .before .before .before .loop2 .i + 1)
       (drop (c .before .before .before .before .before .before .before .loop2 .i + 1 - 1) (contentsAt (c .before .before .before .before .before .before .before .before .before .before .before .before .before .args .file .now) (c .before .before .before .before .before .before .before .before .before .before .before .before .before .args .head) .nodes))
-      (onward (c .before .before .before .node .result) (getD (c .before .before .before .before .before .before .before .loop2 .stack) (c .before .before .before .before .before .before .before .loop2 .depth - 1) blank) (pile blank (c .before .before .before .before .before .before .before .loop2 .stack) (c .before .before .before .before .before .before .before .loop2 .depth - 1))))
+      (dueAfter (c .before .before .before .node .result) (getD (c .before .before .before .before .before .before .before .loop2 .stack) (c .before .before .before .before .before .before .before .loop2 .depth - 1) blank) (stacked blank (c .before .before .before .before .before .before .before .loop2 .stack) (c .before .before .before .before .before .before .before .loop2 .depth - 1))))
       (refused 8 (c .before .before .before .before .before .before .before .loop2 .i))
       ≡ shapeAnswer (contentsAt (c .before .before .before .before .before .before .before .before .before .before .before .before .before .args .file .now) (c .before .before .before .before .before .before .before .before .before .before .before .before .before .args .head))
   going =
@@ -54,52 +56,42 @@ module _ (c : tie.After-node-fits Inv-loop μ-loop Inv-loop2 μ-loop2) where
       let l = c .before .before .before .before .before .before .before .loop2 in
       let held : length (contentsAt (a .file .now) (a .head) .nodes) ≡ a .head .count .nodes = nodes-held (a .file .now) (a .head) in
       judged (a .ends .now) (contentsAt (a .file .now) (a .head) .nodes) (l .i) (getD (l .stack) (l .depth - 1) blank)
-      (pile blank (l .stack) (l .depth - 1)) (shapeAnswer (contentsAt (a .file .now) (a .head))) (c .before .before .before .node .result) (c .node-fits .result)
+      (stacked blank (l .stack) (l .depth - 1)) (shapeAnswer (contentsAt (a .file .now) (a .head))) (c .before .before .before .node .result) (c .node-fits .result)
       (getD (a .ends .now) (c .before .before .wide2 .result + 1) 0) (c .before .before .before .before .before .before .before .before .before .before .before .before .before .pre .1) (omega arith) (omega arith) (c .before .before .before .node .ensures)
       (ap (λ k. getD (a .ends .now) (k + 1) 0) (c .before .before .wide2 .ensures .0)) (c .node-fits .ensures)
       (ap (shapeFrom (l .i) (drop (l .i - 1) (contentsAt (a .file .now) (a .head) .nodes)))
-      (sym (pile-top blank (l .stack) (l .depth) (omega arith))) ∙ l .inv .4)
+      (sym (stacked-top blank (l .stack) (l .depth) (omega arith))) ∙ l .inv .4)
 
--- src/shape.rt:109:9
 wide-requires : tie.Need-wide-requires Inv-loop μ-loop Inv-loop2 μ-loop2
 wide-requires c κs = omega arith
 
--- src/shape.rt:111:5
 loop-holds : tie.Need-loop-holds Inv-loop μ-loop Inv-loop2 μ-loop2
-unfolding roots
+unfolding roots stacked
 loop-holds c =
     let a = c .before .before .before .args in
     (omega arith, refl, rw (none-past (contentsAt (a .file .now) (a .head) .sessions) (c .wide .result - 0) (omega (arith, sessions-held (a .file .now) (a .head)))))
 
--- src/shape.rt:112:45
 sub-narrow : tie.Need-sub-narrow Inv-loop μ-loop Inv-loop2 μ-loop2
 sub-narrow c = omega arith
 
--- src/shape.rt:112:38
 narrow-requires : tie.Need-narrow-requires Inv-loop μ-loop Inv-loop2 μ-loop2
 narrow-requires c κs = omega arith
 
--- src/shape.rt:112:13
 session-requires : tie.Need-session-requires Inv-loop μ-loop Inv-loop2 μ-loop2
 session-requires c κs = search needs
 
--- src/shape.rt:113:9
 mul-stack : tie.Need-mul-stack Inv-loop μ-loop Inv-loop2 μ-loop2
 mul-stack c = omega arith
 
--- src/shape.rt:113:9
 array-set-from-stack : tie.Need-array-set-from-stack Inv-loop μ-loop Inv-loop2 μ-loop2
 array-set-from-stack c = omega arith
 
--- src/shape.rt:114:9
 add-depth : tie.Need-add-depth Inv-loop μ-loop Inv-loop2 μ-loop2
 add-depth c = omega arith
 
--- src/shape.rt:111:5
 loop-less : tie.Need-loop-less Inv-loop μ-loop Inv-loop2 μ-loop2
 loop-less c = omega arith
 
--- src/shape.rt:111:5
 loop-again : tie.Need-loop-again Inv-loop μ-loop Inv-loop2 μ-loop2
 loop-again c =
     let a = c .before .before .before .before .before .before .before .args in
@@ -111,78 +103,65 @@ loop-again c =
     ap (λ (x : Session). x .root) (c .session .ensures) ∙ ap (λ k. item noSession ss k .root) (c .before .narrow .ensures) in (
       omega arith,
       simp length-set (omega arith),
-      ap (λ x. pile blank (set (l .stack) (l .depth) (Root x)) (l .depth + 1)) root
+      ap (λ x. stacked blank (set (l .stack) (l .depth) (Root x)) (l .depth + 1)) root
           ∙ roots-push ss s (l .depth) (l .stack) all (omega arith) (omega arith) (l .inv .2),
     )
 
--- src/shape.rt:118:5
 loop2-holds : tie.Need-loop2-holds Inv-loop μ-loop Inv-loop2 μ-loop2
 unfolding shapeAnswer
 loop2-holds c =
     let a = c .before .before .before .before .before .args in
     let l = c .before .loop in
     let none : c .before .before .wide .result - l .depth ≡ 0 = omega arith in
-    let st : pile blank (l .stack) (l .depth) ≡ roots (contentsAt (a .file .now) (a .head) .sessions) = rw none at (l .inv .2) in
+    let st : stacked blank (l .stack) (l .depth) ≡ roots (contentsAt (a .file .now) (a .head) .sessions) = rw none at (l .inv .2) in
     (omega arith, omega arith, l .inv .1, omega arith, ap (shapeFrom 1 (contentsAt (a .file .now) (a .head) .nodes)) st)
 
--- src/shape.rt:120:13
 returns : tie.Need-returns Inv-loop μ-loop Inv-loop2 μ-loop2
+unfolding stacked
 returns c =
     let a = c .before .before .before .before .before .before .before .before .args in
     let l = c .before .before .loop2 in
     let ns = contentsAt (a .file .now) (a .head) .nodes in
     sym (left-over ns (l .i) (l .inv .0) (omega (arith, nodes-held (a .file .now) (a .head))))
-    ∙ ap (λ d. shapeFrom (l .i) (drop (l .i - 1) ns) (pile blank (l .stack) d)) (sym (c .if1 .taken)) ∙ l .inv .4
+    ∙ ap (λ d. shapeFrom (l .i) (drop (l .i - 1) ns) (stacked blank (l .stack) d)) (sym (c .if1 .taken)) ∙ l .inv .4
 
--- src/shape.rt:122:25
 sub-due : tie.Need-sub-due Inv-loop μ-loop Inv-loop2 μ-loop2
 sub-due c = omega arith
 
--- src/shape.rt:122:19
 mul-due : tie.Need-mul-due Inv-loop μ-loop Inv-loop2 μ-loop2
 mul-due c = omega arith
 
--- src/shape.rt:122:19
 array-copy-out-due : tie.Need-array-copy-out-due Inv-loop μ-loop Inv-loop2 μ-loop2
 array-copy-out-due c = omega arith
 
--- src/shape.rt:123:13
 node-requires : tie.Need-node-requires Inv-loop μ-loop Inv-loop2 μ-loop2
 node-requires c κs = search needs
 
--- src/shape.rt:124:40
 wide-requires-2 : tie.Need-wide-requires-2 Inv-loop μ-loop Inv-loop2 μ-loop2
 wide-requires-2 c κs = omega arith
 
--- src/shape.rt:124:40
 add-node-fits : tie.Need-add-node-fits Inv-loop μ-loop Inv-loop2 μ-loop2
 add-node-fits c = omega arith
 
--- src/shape.rt:124:35
 mul-node-fits : tie.Need-mul-node-fits Inv-loop μ-loop Inv-loop2 μ-loop2
 mul-node-fits c = omega arith
 
--- src/shape.rt:124:35
 shared-slice-read-node-fits :
     tie.Need-shared-slice-read-node-fits Inv-loop μ-loop Inv-loop2 μ-loop2
 shared-slice-read-node-fits c =
     let a = c .before .before .before .before .before .before .before .before .before .before .before .before .args in
     omega (arith, table-size (a .ends .now) (contentsAt (a .file .now) (a .head) .nodes) (c .before .before .before .before .before .before .before .before .before .before .before .before .pre .1), nodes-held (a .file .now) (a .head), c .before .wide2 .ensures .0)
 
--- src/shape.rt:124:13
 node-fits-requires : tie.Need-node-fits-requires Inv-loop μ-loop Inv-loop2 μ-loop2
 node-fits-requires c κs = omega arith
 
--- src/shape.rt:125:13
 returns-2 : tie.Need-returns-2 Inv-loop μ-loop Inv-loop2 μ-loop2
 returns-2 c =
     let h = going (c .before) in rw (not-true (c .before .node-fits .result) (c .if2 .taken)) at h
 
--- src/shape.rt:127:52
 bound-of-requires : tie.Need-bound-of-requires Inv-loop μ-loop Inv-loop2 μ-loop2
 bound-of-requires c κs = omega arith
 
--- src/shape.rt:127:32
 bound-below-requires : tie.Need-bound-below-requires Inv-loop μ-loop Inv-loop2 μ-loop2
 bound-below-requires c κs =
     λ b. let l = c .before .before .before .before .before .before .before .before .before .loop2 in
@@ -190,39 +169,30 @@ bound-below-requires c κs =
     fits-room _ _ _ _ (sym (c .before .before .node-fits .ensures) ∙ not-false _ (c .before .if2 .left)) b in
     omega (arith, c .bound-of .ensures)
 
--- src/shape.rt:128:15
 sub-stack : tie.Need-sub-stack Inv-loop μ-loop Inv-loop2 μ-loop2
 sub-stack c = omega arith
 
--- src/shape.rt:128:9
 mul-stack-2 : tie.Need-mul-stack-2 Inv-loop μ-loop Inv-loop2 μ-loop2
 mul-stack-2 c = omega arith
 
--- src/shape.rt:128:9
 array-set-from-stack-2 : tie.Need-array-set-from-stack-2 Inv-loop μ-loop Inv-loop2 μ-loop2
 array-set-from-stack-2 c = omega arith
 
--- src/shape.rt:129:9
 mul-stack-3 : tie.Need-mul-stack-3 Inv-loop μ-loop Inv-loop2 μ-loop2
 mul-stack-3 c = omega arith
 
--- src/shape.rt:129:9
 array-set-from-stack-3 : tie.Need-array-set-from-stack-3 Inv-loop μ-loop Inv-loop2 μ-loop2
 array-set-from-stack-3 c = omega arith
 
--- src/shape.rt:130:9
 depth-after-requires : tie.Need-depth-after-requires Inv-loop μ-loop Inv-loop2 μ-loop2
 depth-after-requires c κs = omega arith
 
--- src/shape.rt:131:9
 add-i : tie.Need-add-i Inv-loop μ-loop Inv-loop2 μ-loop2
 add-i c = omega arith
 
--- src/shape.rt:118:5
 loop2-less : tie.Need-loop2-less Inv-loop μ-loop Inv-loop2 μ-loop2
 loop2-less c = omega arith
 
--- src/shape.rt:118:5
 loop2-again : tie.Need-loop2-again Inv-loop μ-loop Inv-loop2 μ-loop2
 loop2-again c =
     let l = c .before .before .before .before .before .before .before .before .before .before .before .loop2 in
@@ -238,29 +208,28 @@ loop2-again c =
       simp length-set (l .inv .2),
       omega (arith, c .depth-after .ensures, depth-most (n .tag) (l .depth)),
       ap (shapeFrom (l .i + 1) _)
-          (ap₂ (λ x k. pile blank (set (set (l .stack) (l .depth - 1) (Below x)) (l .depth) (Below x)) k) bound (c .depth-after .ensures)
+          (ap₂ (λ x k. stacked blank (set (set (l .stack) (l .depth - 1) (Below x)) (l .depth) (Below x)) k) bound (c .depth-after .ensures)
           ∙ due-after n (l .stack) (l .depth) due pos room)
           ∙ (rw (not-false (c .before .before .before .before .node-fits .result) (c .before .before .before .if2 .left)) at left),
     )
 
--- src/shape.rt:134:9
 returns-3 : tie.Need-returns-3 Inv-loop μ-loop Inv-loop2 μ-loop2
+unfolding stacked
 returns-3 c =
     let a = c .before .before .before .before .before .before .before .before .args in
     let l = c .before .before .loop2 in
     let ns = contentsAt (a .file .now) (a .head) .nodes in
     sym (over-empty ns (l .i) (omega (arith, nodes-held (a .file .now) (a .head))))
-    ∙ ap (λ d. shapeFrom (l .i) (drop (l .i - 1) ns) (pile blank (l .stack) d)) (sym (c .if3 .taken)) ∙ l .inv .4
+    ∙ ap (λ d. shapeFrom (l .i) (drop (l .i - 1) ns) (stacked blank (l .stack) d)) (sym (c .if3 .taken)) ∙ l .inv .4
 
--- src/shape.rt:104:1
 returns-4 : tie.Need-returns-4 Inv-loop μ-loop Inv-loop2 μ-loop2
 returns-4 c =
     let a = c .before .before .before .before .before .before .before .before .args in
     let l = c .before .before .loop2 in
     let ns = contentsAt (a .file .now) (a .head) .nodes in
     let some : 0 < l .depth = omega arith in
-    sym (over-due ns (l .i) (getD (l .stack) (l .depth - 1) blank) (pile blank (l .stack) (l .depth - 1)) (omega (arith, nodes-held (a .file .now) (a .head))))
-    ∙ ap (shapeFrom (l .i) (drop (l .i - 1) ns)) (sym (pile-top blank (l .stack) (l .depth) some)) ∙ l .inv .4
+    sym (over-due ns (l .i) (getD (l .stack) (l .depth - 1) blank) (stacked blank (l .stack) (l .depth - 1)) (omega (arith, nodes-held (a .file .now) (a .head))))
+    ∙ ap (shapeFrom (l .i) (drop (l .i - 1) ns)) (sym (stacked-top blank (l .stack) (l .depth) some)) ∙ l .inv .4
 
 pub walk-spec : {M : Type 1} → statement M
 walk-spec =

@@ -6,15 +6,12 @@ use Rattle.trees.proofs.sound.goes_on.Lts as lts
 use Rattle.trees.proofs.shape.binds_one.Reads as binds-one-reads
 use Rattle.trees.proofs.shape.unused_fit.Reads as unused-fit-reads
 
--- src/sound.rt:36:20
 unused-fit-requires : tie.Need-unused-fit-requires
 unused-fit-requires c κs = search needs
 
--- src/sound.rt:36:38
 binds-one-requires : tie.Need-binds-one-requires
 binds-one-requires c κs = search needs
 
--- src/sound.rt:33:1
 returns : tie.Need-returns
 returns c = cc
 

@@ -1,0 +1,16 @@
+-- what the tests say: masks, operands, steps
+pub mod PermittedRoles
+pub mod OperandKinds
+pub mod StepRules
+pub mod KnownKinds
+-- the first refusal
+pub mod ContextStack
+pub mod FirstNode
+pub mod NameFaults
+pub mod RoleFaults
+pub mod CheckFirst
+-- whole trees, and what a file holds
+pub mod ClearTrees
+pub mod TreeRules
+pub mod FileRules
+pub mod CheckExact

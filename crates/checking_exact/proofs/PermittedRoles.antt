@@ -1,0 +1,62 @@
+-- Rule 6 as a test of masks says that an active role permits.
+use Prim.Native.Nat.{ℕ, zero, suc}
+use mathlib.Core.Path.{_≡_, refl, sym, ap, _∙_}
+use mathlib.Core.Logic.{_↔_}
+use mathlib.Core.Bool.{Bool, true, false, cond, not, false≢true}
+use native.Mathlib.Omega.{arith}
+use lib.Bits.{bitAnd}
+use lib.Dec.{eqb}
+use borrow.Author.Tests.{eqb-true, eqb-false, ne-eqb}
+use Rattle.masks.specs.Mask.{has, with}
+use Rattle.masks.specs.declared.ChannelKind.{ChannelKind}
+use Rattle.masks.proofs.Laws.{has-none, has-with}
+use Rattle.masks.proofs.Meets.{meet-iff}
+use Rattle.rules.specs.declared.Way.{Way}
+use Rattle.rules.specs.Schema.{Schema, permits, permittingTo, permitting}
+use Rattle.rules.specs.Rules.{able}
+use Rattle.reading_exact.specs.File.{InCount}
+use Rattle.checking_exact.specs.Typing.{Permitted}
+
+module _ (D : Schema) (w : Way) (k : ChannelKind) where
+  -- one of the roles 1 to n, and it permits
+  abbrev Permits : ℕ → ℕ → Type 0
+  Permits n r = InCount n r × (permits D w (record { 0 = r }) k ≡ true)
+
+  pub permitting-iff : (n r : ℕ) → (has (permittingTo D w k n) r ≡ true) ↔ Permits n r
+  unfolding permittingTo
+  permitting-iff zero r = (λ h. absurd (false≢true (sym (has-none r) ∙ h)), λ h. let no : ⊥ = omega arith in absurd no)
+  permitting-iff (suc n) r = go (permits D w (record { 0 = suc n }) k) refl (permitting-iff n r) (eqb r (suc n)) refl
+    where
+      go : (b : Bool) → permits D w (record { 0 = suc n }) k ≡ b → (has (permittingTo D w k n) r ≡ true) ↔ Permits n r → (c : Bool) → eqb r (suc n) ≡ c
+          → (has (cond b (with (permittingTo D w k n) (suc n)) (permittingTo D w k n)) r ≡ true) ↔ Permits (suc n) r
+      go true p ih true e =
+          let z : r ≡ suc n = eqb-true r (suc n) e in
+          let q : permits D w (record { 0 = r }) k ≡ true = ap (λ (x : ℕ). permits D w (record { 0 = x }) k) z ∙ p in
+          (λ h. ((omega arith, omega arith), q), λ h. has-with (permittingTo D w k n) (suc n) r (omega arith) ∙ rw e)
+      go true p ih false e =
+          let z = eqb-false r (suc n) e in
+          let same : has (with (permittingTo D w k n) (suc n)) r ≡ has (permittingTo D w k n) r = has-with (permittingTo D w k n) (suc n) r (omega arith) ∙ rw e in
+          (λ h. let (c, q) = ih .0 (sym same ∙ h) in ((c .0, omega arith), q), λ (c, q). same ∙ ih .1 ((c .0, omega arith), q))
+      go false p ih true e =
+          let z : r ≡ suc n = eqb-true r (suc n) e in
+          let q : permits D w (record { 0 = r }) k ≡ false = ap (λ (x : ℕ). permits D w (record { 0 = x }) k) z ∙ p in
+          (λ h. let ((a, b), q′) = ih .0 h in ((a, omega arith), q′), λ (c, q′). absurd (false≢true (sym q ∙ q′)))
+      go false p ih false e =
+          let z = eqb-false r (suc n) e in
+          (λ h. let ((a, b), q) = ih .0 h in ((a, omega arith), q), λ (c, q). ih .1 ((c .0, omega arith), q))
+
+pub able-iff : (D : Schema) (m : ℕ) (w : Way) (k : ℕ) → (able D m w k ≡ true) ↔ Permitted D m w k
+unfolding able
+able-iff D m w k = (to (eqb (bitAnd m (permitting D w k)) 0) refl, back)
+  where
+    to : (b : Bool) → eqb (bitAnd m (permitting D w k)) 0 ≡ b → not b ≡ true → Permitted D m w k
+    to true e h = absurd (false≢true h)
+    to false e h =
+        let (r, a, b) = meet-iff m (permitting D w k) .0 (eqb-false (bitAnd m (permitting D w k)) 0 e) in
+        let (c, q) = permitting-iff D w (record { 0 = k }) (D .roles) r .0 b in
+        (r, c, a, q)
+
+    back : Permitted D m w k → not (eqb (bitAnd m (permitting D w k)) 0) ≡ true
+    back (r, c, a, q) =
+        let b = permitting-iff D w (record { 0 = k }) (D .roles) r .1 (c, q) in
+        rw (ne-eqb (bitAnd m (permitting D w k)) 0 (meet-iff m (permitting D w k) .1 (r, a, b)))

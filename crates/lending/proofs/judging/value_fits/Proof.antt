@@ -1,0 +1,40 @@
+use mathlib.Core.Path.{sym, _∙_}
+use lib.ListN.{getD}
+use borrow.Author.Tests.{not-true, not-false}
+use borrow.Author.Needs.{needs}
+use Rattle.steps.specs.Kept.{madeIn}
+use Rattle.steps.proofs.ActLaws.{length-made}
+use Rattle.lending.proofs.judging.value_fits.Statement.{statement}
+use Rattle.lending.proofs.judging.value_fits.Tie as tie
+use Rattle.lending.proofs.judging.value_fits.Reads as reads
+use Rattle.lending.proofs.judging.value_fits.Lts as lts
+use Rattle.lending.proofs.judging.is_value.Reads as is-value-reads
+use Rattle.steps.proofs.act.kind_held.Reads as kind-held-reads
+
+shared-slice-read-is-value : tie.Need-shared-slice-read-is-value
+shared-slice-read-is-value c = search needs
+
+is-value-requires : tie.Need-is-value-requires
+is-value-requires c κs = search needs
+
+returns : tie.Need-returns
+returns c =
+    let a = c .before .before .before .before .before .args in
+    let n = getD (a .beside .now) 1 0 in
+    let e = sym (c .before .is-value .ensures (a .file .now) (madeIn (a .beside .now) 2 n) (length-made (a .beside .now) 2 n)) ∙ not-true _ (c .if1 .taken) in
+    rw e
+
+kind-held-requires : tie.Need-kind-held-requires
+kind-held-requires c κs = search needs
+
+returns-2 : tie.Need-returns-2
+returns-2 c =
+    let a = c .before .before .before .before .before .before .args in
+    let n = getD (a .beside .now) 1 0 in
+    let e = sym (c .before .before .is-value .ensures (a .file .now) (madeIn (a .beside .now) 2 n) (length-made (a .beside .now) 2 n)) ∙ not-false _ (c .before .if1 .left) in
+    rw (e, ← c .kind-held .ensures)
+
+pub value-fits-spec : {M : Type 1} → statement M
+value-fits-spec =
+    tie.close
+    (tie.spec shared-slice-read-is-value is-value-requires returns kind-held-requires returns-2)

@@ -1,0 +1,103 @@
+-- The live desk's own list: records of threads, and beside them the thread count, the number of made channels, and owner and kind of 64 made channels.
+use Prim.Native.Nat.{ℕ, _+_, _-_}
+use mathlib.Core.Bool.{Bool, true, false, cond, _&&_, _||_}
+use mathlib.Core.List.{List, [], _∷_}
+use lib.Dec.{eqb, leb, ltb}
+use lib.ListN.{length, getD, take}
+use lib.Seq.{sets}
+use Rattle.masks.specs.Mask.{within}
+use Rattle.format.specs.Answers.{fine, refused, orElse}
+use Rattle.format.specs.Contents.{Contents, inCount, contentsOf}
+use Rattle.format.specs.declared.Verdict.{Verdict}
+use Rattle.format.specs.declared.Node.{Node}
+use Rattle.rules.specs.Schema.{Schema, schemaOf}
+use Rattle.rules.specs.Names.{Bound, isUser, isChannel}
+use Rattle.rules.specs.Rules.{Context, waitingAfter}
+use Rattle.rules.specs.Checking.{openings}
+use Rattle.checking.specs.Check.{readingNames}
+use Rattle.steps.specs.declared.Thread.{Thread}
+use Rattle.steps.specs.declared.Made.{Made}
+use Rattle.steps.specs.Choice.{clinicOf, kindHeld, State, Chosen, halts, goes, choice}
+use Rattle.steps.specs.Kept.{madeIn, besideWords}
+use Rattle.running.specs.Run.{madeWords}
+use Rattle.checking_exact.specs.Faults.{nowhere}
+
+-- the contexts of the nodes, in order
+unfoldable pub contextsFrom : Schema → List Node → List Context → List Context
+contextsFrom D [] st = []
+contextsFrom D (n ∷ ns) [] = []
+contextsFrom D (n ∷ ns) (c ∷ st) = c ∷ contextsFrom D ns (waitingAfter D c n st)
+
+abbrev pub contextAt : Contents → ℕ → Context
+contextAt C j = getD (contextsFrom (schemaOf C) (C .nodes) (openings C)) (j - 1) nowhere
+
+-- a value names a user, a channel or a lent made channel
+unfoldable pub isValue : Schema → List Made → ℕ → Bool
+isValue D made v = isUser D v || (isChannel D v || (ltb 384 v && leb v (384 + length made)))
+
+-- a variable of the kind that rule 1 gives it, 0 where none is bound
+unfoldable pub varsFit : Schema → List Made → List Bound → List ℕ → Bool
+varsFit D made [] [] = true
+varsFit D made (b ∷ bs) [] = false
+varsFit D made [] (v ∷ vs) = eqb v 0 && varsFit D made [] vs
+varsFit D made (b ∷ bs) (v ∷ vs) = (isValue D made v && eqb (kindHeld D made v) (b .sort)) && varsFit D made bs vs
+
+-- a counted thread: its node in count, its user that of the node's session, every role in its mask assigned to that user, its variables
+unfoldable pub threadFits : Contents → List Made → Thread → Bool
+threadFits C made t =
+    let c : Context = contextAt C (t .node) in
+    inCount (length (C .nodes)) (t .node)
+    && (eqb (t .user) (c .user) && (within (t .mask) (schemaOf C .assigned (t .user)) && varsFit (schemaOf C) made (c .vars) (t .vars)))
+
+-- a made channel's owner and kind in count
+unfoldable pub madeFits : Schema → Made → Bool
+madeFits D m = inCount (D .users) (m .owner) && inCount (D .kinds) (m .kind)
+
+unfoldable pub every : {A : Type 0} → (A → Bool) → List A → Bool
+every test [] = true
+every test (x ∷ xs) = test x && every test xs
+
+-- the state that is lent: records past the count are no part of it, nor are made channels past their number
+abbrev pub stateOf : List Thread → List ℕ → State
+stateOf l b = record { threads = take (getD b 0 0) l; made = madeIn b 2 (getD b 1 0) }
+
+-- 130 words beside 64 records, and no count above 64
+abbrev pub sizesFit : ℕ → List ℕ → Bool
+sizesFit records b = eqb (length b) besideWords && ((eqb records 64 && leb (getD b 0 0) 64) && leb (getD b 1 0) 64)
+
+-- what may be lent with a file that 1 to 10 let through
+unfoldable pub mayBeLent : Contents → List Thread → List ℕ → Bool
+mayBeLent C l b =
+    sizesFit (length l) b
+    && (every (madeFits (schemaOf C)) (stateOf l b .made) && every (threadFits C (stateOf l b .made)) (stateOf l b .threads))
+
+-- what refuses before the choice: the file by 1 to 10, then what is lent, 18 at place 0
+unfoldable pub lending : List ℕ → List Thread → List ℕ → Verdict
+lending f l b = orElse (readingNames f) (cond (mayBeLent (contentsOf f) l b) fine (refused 18 0))
+
+-- the choice itself has place 1
+abbrev pub chosenAnswer : Chosen → Verdict
+chosenAnswer (halts n) = refused n 1
+chosenAnswer (goes s) = fine
+
+abbrev pub chosenIn : List ℕ → List Thread → List ℕ → ℕ → ℕ → Chosen
+chosenIn f l b i p = choice (clinicOf (contentsOf f)) (stateOf l b) i p
+
+unfoldable pub choosing : List ℕ → List Thread → List ℕ → ℕ → ℕ → Verdict
+choosing f l b i p = orElse (lending f l b) (chosenAnswer (chosenIn f l b i p))
+
+-- the list after a choice, and the words beside it: a refused choice leaves them unchanged; records past the count after the choice keep what they
+-- held, and so do words past the made channels
+abbrev pub recordsAfter : List Thread → Chosen → List Thread
+recordsAfter l (halts n) = l
+recordsAfter l (goes s) = sets l 0 (s .threads)
+
+abbrev pub besideAfter : List ℕ → Chosen → List ℕ
+besideAfter b (halts n) = b
+besideAfter b (goes s) = sets b 0 (length (s .threads) ∷ length (s .made) ∷ madeWords (s .made))
+
+unfoldable pub recordsOver : List ℕ → List Thread → List ℕ → ℕ → ℕ → List Thread
+recordsOver f l b i p = cond (eqb (lending f l b .number) 0) (recordsAfter l (chosenIn f l b i p)) l
+
+unfoldable pub besideOver : List ℕ → List Thread → List ℕ → ℕ → ℕ → List ℕ
+besideOver f l b i p = cond (eqb (lending f l b .number) 0) (besideAfter b (chosenIn f l b i p)) b

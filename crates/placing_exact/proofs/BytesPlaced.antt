@@ -1,0 +1,95 @@
+-- What placing does with what a well formed file holds that 1 to 10 and 14 leave is what it does with the file's trees.
+use Prim.Native.Nat.{_≤_}
+use mathlib.Core.Path.{_≡_, sym, ap, _∙_, subst}
+use mathlib.Core.Logic.{_↔_}
+use mathlib.Core.Bool.{true}
+use mathlib.Core.List.{List, [], map}
+use native.Mathlib.Omega.{arith}
+use lib.ListN.{length}
+use Rattle.format.specs.Contents.{Contents}
+use Rattle.format.specs.Answers.{fine}
+use Rattle.format.specs.Header.{headAt, lengthFor}
+use Rattle.format.specs.Writing.{encoded}
+use Rattle.format.specs.declared.Head.{Head}
+use Rattle.rules.specs.Schema.{Schema}
+use Rattle.states.specs.declared.Turn.{Turn}
+use Rattle.states.specs.States.{Label, turnsFrom, turnsOf}
+use Rattle.groups.specs.Groups.{sizesOf, onsOf, startsOf, placedContents}
+use Rattle.placing.specs.Placing.{labelsIn, turnsFor, unservedFrom, placedBytes}
+use Rattle.reading_exact.specs.File.{File, WellFormed, nodesOf, contentsFor, encode}
+use Rattle.reading_exact.proofs.SectionRows.{head-back}
+use Rattle.reading_exact.proofs.Places.{length-encoded}
+use Rattle.reading_exact.proofs.FileContents.{length-rooted, contents-back}
+use Rattle.checking_exact.specs.Tables.{schemaFor}
+use Rattle.checking_exact.specs.Typing.{WellKinded}
+use Rattle.placing_exact.specs.Placement.{onStepsOf, graft}
+use Rattle.placing_exact.specs.Placed.{placedTrees, placedFile, AllStates, listedAll, insertAll, takingAll, servedAll, Bare}
+use Rattle.placing_exact.proofs.SwitchFree.{bare-free}
+use Rattle.placing_exact.proofs.Preorder.{walkedAll, all-states}
+use Rattle.placing_exact.proofs.ReadLabels.{labels-read}
+use Rattle.placing_exact.proofs.TreeRows.{all-turns}
+use Rattle.placing_exact.proofs.GroupSessions.{placed-inserted, all-sizes, all-ons, contents-placed}
+use Rattle.placing_exact.proofs.ServedLabels.{served-iff}
+use Rattle.placing_exact.proofs.FormedTrees.{grafted-length, formed}
+pub use Rattle.placing_exact.proofs.BareAnswers.{masks-bare, switches-bare}
+pub use Rattle.placing_exact.proofs.OnNodes.{on-nodes}
+
+module _ (F : File) (W : WellFormed F) (N : WellKinded F) (B : Bare F) where
+  abbrev C : Contents
+  C = contentsFor F
+
+  abbrev D : Schema
+  D = schemaFor F
+
+  -- the states taken, of all sessions
+  abbrev states : AllStates D (F .sessions)
+  states = takingAll D (F .sessions)
+
+  turns-read : turnsFor C ≡ walkedAll D (F .sessions) states
+  unfolding turnsOf
+  turns-read = ap (λ (ls : List Label). turnsFrom ls []) (labels-read F W N B) ∙ all-turns D (F .sessions)
+
+  file-read : graft F (insertAll D (F .sessions) states) ≡ placedFile F
+  file-read = ap (graft F) (sym (placed-inserted D (F .sessions)))
+
+  placed-contents : placedContents C (turnsFor C) (startsOf (turnsFor C)) ≡ contentsFor (placedFile F)
+  placed-contents =
+      ap (λ (ts : List Turn). placedContents C ts (startsOf ts)) turns-read ∙ contents-placed F D states (bare-free F B) ∙ ap (λ (G : File). contentsFor G) file-read
+
+  -- the bytes written are the placed file
+  pub placed-bytes : placedBytes (encode F) ≡ encode (placedFile F)
+  unfolding placedBytes encode
+  placed-bytes =
+      ap (λ (X : Contents). encoded (placedContents X (turnsFor X) (startsOf (turnsFor X)))) (contents-back F) ∙ ap encoded placed-contents
+
+  pub placed-size : sizesOf (turnsFor (contentsFor F)) ≡ length (nodesOf (placedFile F))
+  placed-size = ap sizesOf turns-read ∙ all-sizes D 1 (F .sessions) states ∙ ap (λ (G : File). length (nodesOf G)) file-read
+
+  -- the length answered is the placed file's, in bytes
+  pub placed-length : lengthFor (headAt (encode F) .at .nodes) (sizesOf (turnsFor (contentsFor F))) ≡ length (encode (placedFile F))
+  unfolding encode
+  placed-length =
+      let G : File = placedFile F in
+      omega (
+        arith,
+        placed-size,
+        ap (λ (h : Head). h .at .nodes) (head-back C),
+        length-encoded (contentsFor G),
+        length-rooted 1 (F .sessions),
+        length-rooted 1 (G .sessions),
+        grafted-length D (F .sessions),
+      )
+
+  -- the on steps answered are the placed trees'
+  pub placed-ons : onsOf (turnsFor (contentsFor F)) ≡ onStepsOf (placedTrees (schemaFor F) (F .sessions))
+  placed-ons = ap onsOf turns-read ∙ all-ons D (F .sessions) states ∙ ap onStepsOf (sym (placed-inserted D (F .sessions)))
+
+  pub placed-states : map (λ (t : Turn). t .to) (turnsFor (contentsFor F)) ≡ listedAll (schemaFor F) (F .sessions) (takingAll (schemaFor F) (F .sessions))
+  placed-states = ap (map (λ (t : Turn). t .to)) turns-read ∙ all-states D (F .sessions) states
+
+  -- 15
+  pub served-answer : (unservedFrom 1 (labelsIn (contentsFor F)) ≡ fine) ↔ (servedAll (schemaFor F) (F .sessions) ≡ true)
+  served-answer = subst (λ (ls : List Label). (unservedFrom 1 ls ≡ fine) ↔ (servedAll D (F .sessions) ≡ true)) (sym (labels-read F W N B)) (served-iff F W 1)
+
+  pub placed-formed : servedAll (schemaFor F) (F .sessions) ≡ true → length (nodesOf (placedFile F)) ≤ 1024 → WellFormed (placedFile F)
+  placed-formed h l = formed F W l

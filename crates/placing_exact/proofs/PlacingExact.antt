@@ -1,0 +1,336 @@
+-- Placing answers, or refuses, exactly as the paper fixes it: what a placed file is, and when each of 14 to 16 is the answer.
+use Prim.Native.Nat.{ℕ, _+_, _≤_, _<_}
+use mathlib.Core.Path.{_≡_, refl, sym, ap, _∙_, subst}
+use mathlib.Core.Logic.{_↔_, _⊎_, inl, inr, _≢_}
+use mathlib.Core.Bool.{true}
+use mathlib.Core.List.{List, [], _∷_, _++_, map}
+use native.Mathlib.Omega.{arith}
+use lib.ListN.{length, drop}
+use lib.Seq.{sets-eq}
+use borrow.Author.Tests.{eq-eqb, ne-eqb}
+use Rattle.format.specs.Contents.{Contents, contentsOf}
+use Rattle.format.specs.Answers.{fine, refused}
+use Rattle.format.specs.Header.{headAt, largest, roomFor}
+use Rattle.format.specs.declared.Verdict.{Verdict}
+use Rattle.rules.specs.Schema.{Schema}
+use Rattle.rules.specs.Candidates.{candidatesIn}
+use Rattle.checking.specs.Check.{readingNames, checking}
+use Rattle.states.specs.declared.Turn.{Turn}
+use Rattle.groups.specs.Groups.{sizesOf, onsOf}
+use Rattle.placing.specs.declared.Placed.{Placed}
+use Rattle.placing.specs.Placing.{labelsIn, turnsFor, masksAnswer, switchesAnswer, unservedFrom, sizeAnswer, noPlace, placedIn, placing, placedBytes, placedOver}
+use Rattle.reading_exact.specs.Lists.{All}
+use Rattle.reading_exact.specs.Tree.{Tree}
+use Rattle.reading_exact.specs.File.{Routine, File, WellFormed, nodesOf, contentsFor, encode}
+use Rattle.reading_exact.proofs.AllLaws.{all-map, all-both}
+use Rattle.reading_exact.proofs.EncodedBytes.{encode-bytes}
+use Rattle.reading_exact.proofs.Exact.{single}
+use Rattle.reading_exact.proofs.Places.{length-encoded}
+use Rattle.reading_exact.proofs.FileContents.{treesOf, length-rooted, contents-back, contents-held}
+use Rattle.checking_exact.specs.Tables.{schemaFor}
+use Rattle.checking_exact.specs.Typing.{WellKinded}
+use Rattle.checking_exact.proofs.CheckExact.{names-exact, check-exact}
+use Rattle.placing_exact.specs.Placement.{plain, onStepsOf, grafted, Placement}
+use Rattle.placing_exact.specs.Placed.{placedTree, placedTrees, placedFile, takingAll, servedAll, Bare}
+use Rattle.placing_exact.specs.Counts.{onNodes}
+use Rattle.placing_exact.specs.Promised.{WellPlaced, Clean, SomeMask, IsSwitch, Unserved, Lowest, Unrefused, NoPlacement, PlacedWith}
+use Rattle.placing_exact.proofs.GroupSessions.{placed-inserted}
+use Rattle.placing_exact.proofs.FilePlaced.{states-allowed, placed-good, fewest, placement-served, smallest}
+use Rattle.placing_exact.proofs.BytesPlaced.{
+  placed-bytes,
+  placed-size,
+  placed-length,
+  placed-ons,
+  placed-states,
+  served-answer,
+  placed-formed,
+  masks-bare,
+  switches-bare,
+  on-nodes,
+}
+use Rattle.placing_exact.proofs.AnswerStages.{
+  unserved-answers,
+  size-answers,
+  room-stage,
+  names-stage,
+  placed-answer,
+  sixteen-stage,
+  fifteen-stage,
+  masks-stage,
+  switches-stage,
+  placed-stage,
+}
+use Rattle.placing_exact.proofs.RefusedPlaces.{masks-some, switches-lowest, unserved-lowest, lowest-unserved, nodes-served}
+
+-- the trees grafted are those given
+grafted-trees : (D : Schema) (ss : List Routine) → treesOf (grafted ss (placedTrees D ss)) ≡ placedTrees D ss
+unfolding grafted placedTrees
+grafted-trees D [] = refl
+grafted-trees D (s ∷ ss) = ap {B = List Tree} (λ l. placedTree D (s .user) (s .tree) ∷ l) (grafted-trees D ss)
+
+-- the largest file has 6,874 bytes
+pub at-largest : (F : File) → WellFormed F → length (encode F) ≤ largest
+unfolding encode
+at-largest F W =
+    omega (
+      arith,
+      length-encoded (contentsFor F),
+      length-rooted 1 (F .sessions),
+      W .few-users,
+      W .few-roles,
+      W .few-kinds,
+      W .few-channels,
+      W .few-sessions,
+      W .few-nodes,
+    )
+
+-- what 1 to 10 and 14 leave of a file
+record Ready (F : File) : Type 0 where
+  formed : WellFormed F
+  named : WellKinded F
+  bare : Bare F
+
+bare-iff : (F : File) → ((masksAnswer (contentsFor F) ≡ fine) × (switchesAnswer (contentsFor F) ≡ fine)) ↔ Bare F
+bare-iff F = (
+  λ (m, s). all-both (λ (s : Routine). s .mask ≡ 0) (λ (s : Routine). plain (s .tree) ≡ s .tree) (F .sessions) (masks-bare F .0 m) (switches-bare F .0 s),
+  λ b. (masks-bare F .1 (all-map (λ s h. h .0) (F .sessions) b), switches-bare F .1 (all-map (λ s h. h .1) (F .sessions) b)),
+)
+
+-- 17 first of all: output under 6,874 bytes
+pub seventeen-exactly : (f : List ℕ) (room : ℕ) → (placing f room ≡ noPlace 17 0) ↔ (room < roomFor f)
+seventeen-exactly f room = room-stage f room
+
+-- then 1 to 10, as they are read
+pub ten-exactly : (f : List ℕ) (room n p : ℕ) → 1 ≤ n → n ≤ 10 → (placing f room ≡ noPlace n p) ↔ ((roomFor f ≤ room) × (readingNames f ≡ refused n p))
+ten-exactly f room = names-stage f room
+
+module _ (f : List ℕ) (bytes : All (λ b. b < 256) f) where
+  -- a file whose bytes these are is well formed, and its names and kinds are right
+  pub named-file : readingNames f ≡ fine → (F : File) → encode F ≡ f → WellFormed F × WellKinded F
+  named-file r F e =
+      let (G, W, e′, N) = names-exact f bytes .0 r in
+      subst (λ (H : File). WellFormed H × WellKinded H) (single G F (e′ ∙ sym e)) (W, N)
+
+  module _ (room : ℕ) where
+    some-file : Unrefused f room → (F : File) × (encode F ≡ f)
+    some-file u = let (F, W, e, N) = names-exact f bytes .0 (u .names) in (F, e)
+
+    ready : Unrefused f room → (F : File) → encode F ≡ f → Ready F
+    ready u F e =
+        let (W, N) = named-file (u .names) F e in
+        let same = subst (λ (C : Contents). (masksAnswer C ≡ fine) × (switchesAnswer C ≡ fine)) (contents-held F f e) (u .masks, u .switches) in
+        record { formed = W; named = N; bare = bare-iff F .0 same }
+
+    -- nothing before 15 refuses exactly where nothing before 14 does, all starting masks are 0 and there is no on or off
+    pub bare-exactly : Unrefused f room ↔ (Clean f room × ((F : File) × (encode F ≡ f) × Bare F))
+    bare-exactly = (
+      λ u. let (F, e) = some-file u in (record { wide = u .wide; names = u .names }, (F, e, ready u F e .bare)),
+      λ (c, (F, e, b)).
+          let (m, s) = subst (λ (C : Contents). (masksAnswer C ≡ fine) × (switchesAnswer C ≡ fine)) (sym (contents-held F f e)) (bare-iff F .1 b) in
+          record { wide = c .wide; names = c .names; masks = m; switches = s },
+    )
+
+    -- 15 finds nothing exactly where every node is served; then there is a placement, and only then
+    served-read : (F : File) → encode F ≡ f → Ready F → (unservedFrom 1 (labelsIn (contentsOf f)) ≡ fine) ↔ (servedAll (schemaFor F) (F .sessions) ≡ true)
+    served-read F e r =
+        subst (λ (C : Contents). (unservedFrom 1 (labelsIn C) ≡ fine) ↔ (servedAll (schemaFor F) (F .sessions) ≡ true)) (sym (contents-held F f e))
+        (served-answer F (r .formed) (r .named) (r .bare))
+
+    size-read : (F : File) → encode F ≡ f → Ready F → sizesOf (turnsFor (contentsOf f)) ≡ length (nodesOf (placedFile F))
+    size-read F e r = ap (λ (C : Contents). sizesOf (turnsFor C)) (contents-held F f e) ∙ placed-size F (r .formed) (r .named) (r .bare)
+
+    -- 15: there is no placement
+    pub fifteen-exactly : ((p : ℕ) × (placing f room ≡ noPlace 15 p)) ↔ (Unrefused f room × NoPlacement f)
+    fifteen-exactly = (
+      λ (p, h). let (u, s) = fifteen-stage f room p .0 h in (u, without p u s),
+      λ (u, n). let (p, s) = lacking u n (unserved-answers 1 (labelsIn (contentsOf f))) in (p, fifteen-stage f room p .1 (u, s)),
+    )
+      where
+        without : (p : ℕ) → Unrefused f room → unservedFrom 1 (labelsIn (contentsOf f)) ≡ refused 15 p → NoPlacement f
+        without p u s F e ts P =
+            let r = ready u F e in
+            let served = placement-served F (r .formed) (r .named) (r .bare) ts P in
+            omega (arith, ap (λ (v : Verdict). v .number) (sym (served-read F e r .1 served) ∙ s))
+
+        lacking : Unrefused f room → NoPlacement f
+            → (unservedFrom 1 (labelsIn (contentsOf f)) ≡ fine) ⊎ ((p : ℕ) × (unservedFrom 1 (labelsIn (contentsOf f)) ≡ refused 15 p))
+            → (p : ℕ) × (unservedFrom 1 (labelsIn (contentsOf f)) ≡ refused 15 p)
+        lacking u n (inl s) =
+            let (F, e) = some-file u in
+            let r = ready u F e in
+            absurd (n F e (placedTrees (schemaFor F) (F .sessions)) (placed-good F (r .formed) (r .named) (r .bare) (served-read F e r .0 s)))
+        lacking u n (inr z) = z
+
+    -- what 15 leaves
+    placement-read : (Size : ℕ → Type 0) → Unrefused f room → unservedFrom 1 (labelsIn (contentsOf f)) ≡ fine → Size (sizesOf (turnsFor (contentsOf f)))
+        → PlacedWith Size f
+    placement-read Size u s z =
+        let (F, e) = some-file u in
+        let r = ready u F e in (
+          F,
+          placedTrees (schemaFor F) (F .sessions),
+          e,
+          placed-good F (r .formed) (r .named) (r .bare) (served-read F e r .0 s),
+          subst Size (size-read F e r) z,
+        )
+
+    read-placement : (Size : ℕ → Type 0) → Unrefused f room → PlacedWith Size f
+        → (unservedFrom 1 (labelsIn (contentsOf f)) ≡ fine) × Size (sizesOf (turnsFor (contentsOf f)))
+    read-placement Size u (F, ts, e, P, z) =
+        let r = ready u F e in
+        (served-read F e r .1 (placement-served F (r .formed) (r .named) (r .bare) ts P), subst Size (sym (size-read F e r)) z)
+
+    -- 16: there is one, and the result has over 1,024 nodes
+    pub sixteen-exactly : ((p : ℕ) × (placing f room ≡ noPlace 16 p)) ↔ (Unrefused f room × PlacedWith (λ n. 1024 < n) f)
+    sixteen-exactly = (
+      λ (p, h).
+          let (u, s, z) = sixteen-stage f room p .0 h in
+          (u, placement-read (λ n. 1024 < n) u s (over p (size-answers (sizesOf (turnsFor (contentsOf f)))) z)),
+      λ (u, q).
+          let (s, l) = read-placement (λ n. 1024 < n) u q in
+          (0, sixteen-stage f room 0 .1 (u, s, at (size-answers (sizesOf (turnsFor (contentsOf f)))) l)),
+    )
+      where
+        over : {n : ℕ} (p : ℕ) → ((sizeAnswer n ≡ fine) × (n ≤ 1024)) ⊎ ((sizeAnswer n ≡ refused 16 0) × (1024 < n)) → sizeAnswer n ≡ refused 16 p → 1024 < n
+        over p (inl (e, l)) h = absurd (omega (arith, ap (λ (v : Verdict). v .number) (sym e ∙ h)))
+        over p (inr (e, l)) h = l
+
+        at : {n : ℕ} → ((sizeAnswer n ≡ fine) × (n ≤ 1024)) ⊎ ((sizeAnswer n ≡ refused 16 0) × (1024 < n)) → 1024 < n → sizeAnswer n ≡ refused 16 0
+        at (inl (e, k)) l = absurd (omega (arith, k, l))
+        at (inr (e, k)) l = e
+
+    -- nothing is refused: there is one, and the result has at most 1,024
+    pub placed-exactly : (placing f room .number ≡ 0) ↔ (Unrefused f room × PlacedWith (λ n. n ≤ 1024) f)
+    placed-exactly = (
+      λ h. let (u, s, l) = placed-stage f room .0 h in (u, placement-read (λ n. n ≤ 1024) u s l),
+      λ (u, q). let (s, l) = read-placement (λ n. n ≤ 1024) u q in placed-stage f room .1 (u, s, l),
+    )
+
+    -- 14: a starting mask, at place 0
+    pub fourteen-masks : (placing f room ≡ noPlace 14 0) ↔ (Clean f room × SomeMask (contentsOf f))
+    fourteen-masks = (
+      λ h. let (c, m) = masks-stage f room .0 h in (c, masks-some (contentsOf f) .0 m),
+      λ (c, s). masks-stage f room .1 (c, masks-some (contentsOf f) .1 s),
+    )
+
+    -- 14: no starting mask, and the lowest node that is on or off
+    pub fourteen-node : (p : ℕ) → 1 ≤ p
+        → (placing f room ≡ noPlace 14 p) ↔ (Clean f room × (masksAnswer (contentsOf f) ≡ fine) × Lowest (IsSwitch (contentsOf f .nodes)) p)
+    fourteen-node p l = (
+      λ h. let (c, m, s) = switches-stage f room p l .0 h in (c, m, switches-lowest f (c .names) p .0 s),
+      λ (c, m, s). switches-stage f room p l .1 (c, m, switches-lowest f (c .names) p .1 s),
+    )
+
+    -- 15, by its place: the lowest send or receive that no role of the user permits
+    pub fifteen-place : (p : ℕ) → (placing f room ≡ noPlace 15 p) ↔ (Unrefused f room × Lowest (Unserved (contentsOf f)) p)
+    fifteen-place p = (
+      λ h. let (u, s) = fifteen-stage f room p .0 h in (u, unserved-lowest (contentsOf f) p s),
+      λ (u, s). fifteen-stage f room p .1 (u, lowest-unserved (contentsOf f) p (long u) s),
+    )
+      where
+        long : Unrefused f room → length (contentsOf f .nodes) ≤ length (candidatesIn (contentsOf f))
+        long u =
+            let (F, e) = some-file u in
+            let r = ready u F e in
+            subst (λ (C : Contents). length (C .nodes) ≤ length (candidatesIn C)) (sym (contents-held F f e)) (nodes-served F (r .formed) (r .named) (r .bare))
+
+    -- 16 has the place 0
+    pub sixteen-place : (p : ℕ) → placing f room ≡ noPlace 16 p → p ≡ 0
+    sixteen-place p h = let (u, s, z) = sixteen-stage f room p .0 h in go (size-answers (sizesOf (turnsFor (contentsOf f)))) z
+      where
+        go : {n : ℕ} → ((sizeAnswer n ≡ fine) × (n ≤ 1024)) ⊎ ((sizeAnswer n ≡ refused 16 0) × (1024 < n)) → sizeAnswer n ≡ refused 16 p → p ≡ 0
+        go (inl (e, l)) z = absurd (omega (arith, ap (λ (v : Verdict). v .number) (sym e ∙ z)))
+        go (inr (e, l)) z = ap (λ (v : Verdict). v .place) (sym z ∙ e)
+
+-- a placed file
+module _ (F : File) (r : Ready F) (served : servedAll (schemaFor F) (F .sessions) ≡ true) (few : length (nodesOf (placedFile F)) ≤ 1024) where
+  abbrev G : File
+  G = placedFile F
+
+  abbrev g : List ℕ
+  g = placedBytes (encode F)
+
+  written : encode G ≡ g
+  written = sym (placed-bytes F (r .formed) (r .named) (r .bare))
+
+  good : Placement F (placedTrees (schemaFor F) (F .sessions))
+  good = placed-good F (r .formed) (r .named) (r .bare) served
+
+  formed : WellFormed G
+  formed = placed-formed F (r .formed) (r .named) (r .bare) served few
+
+  checked : checking g ≡ fine
+  checked =
+      let whole : checking (encode G) ≡ fine = check-exact (encode G) (encode-bytes G formed) .1 (G, formed, refl, good .passes) in
+      subst (λ (b : List ℕ). checking b ≡ fine) written whole
+
+  counted : onsOf (turnsFor (contentsFor F)) ≡ onNodes (contentsOf g .nodes)
+  counted =
+      placed-ons F (r .formed) (r .named) (r .bare)
+      ∙ ap onStepsOf (sym (grafted-trees (schemaFor F) (F .sessions)))
+      ∙ sym (on-nodes G)
+      ∙ ap (λ (C : Contents). onNodes (C .nodes)) (sym (contents-held G g written))
+
+  file-well : (a : Placed) → a .length ≡ length g → a .«on_steps» ≡ onsOf (turnsFor (contentsFor F)) → WellPlaced (encode F) a g
+  file-well a long ons =
+      let steps : a .«on_steps» ≡ onStepsOf (placedTrees (schemaFor F) (F .sessions)) = ons ∙ placed-ons F (r .formed) (r .named) (r .bare) in
+      record {
+        file = F;
+        formed = r .formed;
+        reads = refl;
+        trees = placedTrees (schemaFor F) (F .sessions);
+        writes = written;
+        placement = good;
+        passes = checked;
+        sized = long;
+        counted = ons ∙ counted;
+        fewest = λ ts P. omega (arith, fewest F (r .formed) (r .named) (r .bare) ts P);
+        states = takingAll (schemaFor F) (F .sessions);
+        allowed = states-allowed F (r .formed) (r .named) (r .bare) served;
+        taken = ap (λ (C : Contents). map (λ (t : Turn). t .to) (turnsFor C)) (contents-back F) ∙ placed-states F (r .formed) (r .named) (r .bare);
+        turned = placed-inserted (schemaFor F) (F .sessions);
+        smallest = λ other h l. smallest F (r .formed) (r .named) (r .bare) served other h (omega arith);
+      }
+
+-- The answer and the output.
+
+module _ (f : List ℕ) (bytes : All (λ b. b < 256) f) (room : ℕ) (placed : placing f room .number ≡ 0) where
+  -- the file, and that all its nodes are served
+  found : (F : File) × (encode F ≡ f) × Ready F × (servedAll (schemaFor F) (F .sessions) ≡ true) × (length (nodesOf (placedFile F)) ≤ 1024)
+  found =
+      let (u, (F, ts, e, P, l)) = placed-exactly f bytes room .0 placed in
+      let r = ready f bytes room u F e in
+      (F, e, r, placement-served F (r .formed) (r .named) (r .bare) ts P, l)
+
+  -- what is placed
+  pub placed-well : WellPlaced f (placing f room) (placedBytes f)
+  placed-well =
+      let (F, e, r, s, l) = found in
+      let answer = subst (λ (b : List ℕ). placing b room .number ≡ 0) (sym e) placed in
+      let same = placed-answer (encode F) room answer ∙ ap (placedIn (headAt (encode F))) (contents-back F) in
+      let long : placing (encode F) room .length ≡ length (placedBytes (encode F)) =
+      ap (λ (a : Placed). a .length) same ∙ placed-length F (r .formed) (r .named) (r .bare) ∙ ap length (written F r s l) in
+      subst (λ (b : List ℕ). WellPlaced b (placing b room) (placedBytes b)) e
+      (file-well F r s l (placing (encode F) room) long (ap (λ (a : Placed). a .«on_steps») same))
+
+  -- the output has room for it
+  pub placed-fits : length (placedBytes f) ≤ room
+  placed-fits =
+      let (F, e, r, s, l) = found in
+      let wide = placed-exactly f bytes room .0 placed .0 .wide in
+      omega (arith, at-largest (placedFile F) (formed F r s l), ap length (written F r s l), ap (λ (b : List ℕ). length (placedBytes b)) e)
+
+-- a refusal leaves the output as it was
+pub out-kept : (f out : List ℕ) → placing f (length out) .number ≢ 0 → placedOver f out ≡ out
+unfolding placedOver
+out-kept f out h = rw (ne-eqb (placing f (length out) .number) 0 h)
+
+-- output bytes past the placed file keep what they held
+pub out-written : (f : List ℕ) → All (λ b. b < 256) f → (out : List ℕ) → placing f (length out) .number ≡ 0
+    → placedOver f out ≡ placedBytes f ++ drop (length (placedBytes f)) out
+unfolding placedOver
+out-written f bytes out h =
+    let long : 0 + length (placedBytes f) ≤ length out = omega (arith, placed-fits f bytes (length out) h) in
+    let all : 0 + length (placedBytes f) ≡ length (placedBytes f) = omega arith in
+    rw (eq-eqb (placing f (length out) .number) 0 h)
+    (sets-eq (placedBytes f) out 0 long ∙ ap (λ (n : ℕ). placedBytes f ++ drop n out) all)

@@ -1,0 +1,28 @@
+-- The starred cases, computed on the definitions.
+use mathlib.Core.Path.{refl}
+use Rattle.masks.specs.Mask.{has, with, without, namesOnly, within}
+use Rattle.format.specs.Words.{bytesOf}
+use Rattle.format.specs.Answers.{firstOf}
+use Rattle.format.specs.Header.{from2, from3, from4, from5, headOf}
+use Rattle.format.specs.Contents.{tabled, item, contentsAt}
+use Rattle.format.specs.Writing.{roleWords, channelWords, sessionWords, nodeWords, tableWords, fileWords, encoded}
+use Rattle.tables.specs.Records.{recordFits, sectionAnswer, recordsAnswer}
+use Rattle.trees.specs.Ends.{following}
+use Rattle.trees.specs.Shape.{nodeFits, shapeFrom, roots, shapeAnswer}
+use Rattle.reading.specs.Reading.{reading}
+use Rattle.rules.specs.Schema.{permits, permittingTo}
+use Rattle.rules.specs.Names.{named, kindOf, mine}
+use Rattle.rules.specs.Rules.{namesFit, kindsFit, able, wrong, barred, childOf}
+use Rattle.rules.specs.Checking.{firstBy, openingsFrom, namesAnswer, rolesAnswer}
+use Rattle.rules.specs.Candidates.{candidates, candidatesFrom, candidatesIn}
+use Rattle.checking.specs.Check.{readingNames, checking}
+use Rattle.optimum.specs.Optimum.{scan, gate}
+use Rattle.states.specs.States.{suits, up, rowOf, taken, rows, turnsFrom, turnsOf, labelled}
+use Rattle.groups.specs.Groups.{before, sizesOf, onsOf, startsFrom, groupsFrom, sessionsFrom}
+use Rattle.placing.specs.Placing.{masksAnswer, switchesAnswer, unservedFrom, placeable, judging, placing, placedBytes}
+use Rattle.reading_exact.specs.Lists.{All}
+use Rattle.placing_exact.specs.Cases.{Shown, cases}
+
+pub starred : All Shown cases
+unfolding has with without namesOnly within bytesOf firstOf from2 from3 from4 from5 headOf tabled item contentsAt roleWords channelWords sessionWords nodeWords tableWords fileWords encoded recordFits sectionAnswer recordsAnswer following nodeFits shapeFrom roots shapeAnswer reading permits permittingTo named kindOf mine namesFit kindsFit able wrong barred childOf firstBy openingsFrom namesAnswer rolesAnswer candidates candidatesFrom candidatesIn readingNames checking scan gate suits up rowOf taken rows turnsFrom turnsOf labelled before sizesOf onsOf startsFrom groupsFrom sessionsFrom masksAnswer switchesAnswer unservedFrom placeable judging placing placedBytes
+starred = ((refl, refl), (refl, (refl, ((refl, refl), ((refl, refl), (refl, (refl, (refl, ((refl, refl), (refl, (refl, (refl, (refl, tt)))))))))))))

@@ -1,0 +1,109 @@
+-- Placing on trees: the states taken, and the tree with off and on put in.
+use Prim.Native.Nat.{ℕ, zero, suc}
+use mathlib.Core.Path.{_≡_}
+use mathlib.Core.Bool.{Bool, true, cond, _&&_}
+use mathlib.Core.List.{List, [], _∷_}
+use lib.Dec.{eqb}
+use Rattle.format.specs.declared.Node.{Node}
+use Rattle.rules.specs.Schema.{Schema}
+use Rattle.rules.specs.Names.{Bound}
+use Rattle.rules.specs.Rules.{Context, childOf}
+use Rattle.rules.specs.Candidates.{candidates}
+use Rattle.optimum.specs.Optimum.{Bin, nil, node, States, listed, Within, Allowed, served, choose}
+use Rattle.states.specs.States.{Label, suits, cost}
+use Rattle.reading_exact.specs.Lists.{All}
+use Rattle.reading_exact.specs.Tree.{Step, Tree, end, fork, step, switch, on, off, words, stepNode}
+use Rattle.reading_exact.specs.File.{Routine, File}
+use Rattle.checking_exact.specs.Tables.{schemaFor}
+use Rattle.placing_exact.specs.Placement.{plain, graft}
+
+-- a context without roles
+abbrev pub context : ℕ → List Bound → Context
+context u vs = record { user = u; mask = 0; vars = vs }
+
+-- a node as placing sees it: its tag, and the roles of the user that it may be given
+abbrev pub label : Schema → ℕ → List Bound → Node → Label
+label D u vs n = record { tag = n .tag; roles = candidates D (context u vs) n }
+
+-- the variables bound below a step
+abbrev pub varsBelow : Schema → ℕ → List Bound → Step → List Bound
+varsBelow D u vs s = childOf D (context u vs) (stepNode s) .vars
+
+-- a tree's nodes as placing sees them; on and off are passed over
+abbrev pub labels : Schema → ℕ → List Bound → Tree → Bin Label
+labels D u vs end = node (label D u vs (words 0 0 0)) nil nil
+labels D u vs (fork a b) = node (label D u vs (words 1 0 0)) (labels D u vs a) (labels D u vs b)
+labels D u vs (step s t) = node (label D u vs (stepNode s)) (labels D u (varsBelow D u vs s) t) nil
+labels D u vs (switch w r t) = labels D u vs t
+
+-- a node whose state differs from its parent's gets, before it, off for the parent's role if there was one, then on for its own if any
+unfoldable pub leave : ℕ → Tree → Tree
+leave zero t = t
+leave (suc r) t = switch off (suc r) t
+
+unfoldable pub enter : ℕ → Tree → Tree
+enter zero t = t
+enter (suc r) t = switch on (suc r) t
+
+unfoldable pub turned : ℕ → ℕ → Tree → Tree
+turned p s t = cond (eqb p s) t (leave p (enter s t))
+
+-- a tree with a state for each node, below a node of state p
+unfoldable pub insert : (D : Schema) (u p : ℕ) (vs : List Bound) (t : Tree) → States (labels D u vs t) → Tree
+insert D u p vs end a = turned p (a .0) end
+insert D u p vs (fork x y) a = turned p (a .0) (fork (insert D u (a .0) vs x (a .1)) (insert D u (a .0) vs y (a .2)))
+insert D u p vs (step s t) a = turned p (a .0) (step s (insert D u (a .0) (varsBelow D u vs s) t (a .1)))
+insert D u p vs (switch w r t) a = insert D u p vs t a
+
+-- the states taken: the fewest on steps, and among those the smallest list
+unfoldable pub taking : (D : Schema) (u : ℕ) (t : Tree) → States (labels D u [] t)
+taking D u t = choose cost 16 0 (labels D u [] t)
+
+unfoldable pub placedTree : Schema → ℕ → Tree → Tree
+placedTree D u t = insert D u 0 [] t (taking D u t)
+
+-- sessions are placed one by one
+unfoldable pub placedTrees : Schema → List Routine → List Tree
+placedTrees D [] = []
+placedTrees D (s ∷ ss) = placedTree D (s .user) (s .tree) ∷ placedTrees D ss
+
+abbrev pub placedFile : File → File
+placedFile F = graft F (placedTrees (schemaFor F) (F .sessions))
+
+-- a state for each node of every session, and all of them in node order
+abbrev pub AllStates : Schema → List Routine → Type 0
+AllStates D [] = Unit {0}
+AllStates D (s ∷ ss) = States (labels D (s .user) [] (s .tree)) × AllStates D ss
+
+unfoldable pub listedAll : (D : Schema) (ss : List Routine) → AllStates D ss → List ℕ
+listedAll D [] a = []
+listedAll D (s ∷ ss) a = listed (labels D (s .user) [] (s .tree)) (a .0) (listedAll D ss (a .1))
+
+-- the trees with these states
+unfoldable pub insertAll : (D : Schema) (ss : List Routine) → AllStates D ss → List Tree
+insertAll D [] a = []
+insertAll D (s ∷ ss) a = insert D (s .user) 0 [] (s .tree) (a .0) ∷ insertAll D ss (a .1)
+
+-- each state is 0 or a role of the user, and permits the node's step
+abbrev pub AllAllowed : (D : Schema) (ss : List Routine) → AllStates D ss → Type 0
+AllAllowed D [] a = Unit {0}
+AllAllowed D (s ∷ ss) a =
+    Within 16 (labels D (s .user) [] (s .tree)) (a .0) × Allowed suits (labels D (s .user) [] (s .tree)) (a .0) × AllAllowed D ss (a .1)
+
+abbrev pub takingAll : (D : Schema) (ss : List Routine) → AllStates D ss
+takingAll D [] = tt
+takingAll D (s ∷ ss) = (taking D (s .user) (s .tree), takingAll D ss)
+
+-- no send or receive is without a role of the user that permits it
+unfoldable pub servedAll : Schema → List Routine → Bool
+servedAll D [] = true
+servedAll D (s ∷ ss) = served suits 16 (labels D (s .user) [] (s .tree)) && servedAll D ss
+
+-- what 14 leaves: all starting masks are 0 and there is no on or off
+abbrev pub Bare : File → Type 0
+Bare F = All (λ (s : Routine). (s .mask ≡ 0) × (plain (s .tree) ≡ s .tree)) (F .sessions)
+
+-- a role that every node may be given: it is the user's, and permits each send and receive
+abbrev pub Throughout : ℕ → Bin Label → Type 0
+Throughout r nil = Unit {0}
+Throughout r (node l a b) = (suits l r ≡ true) × Throughout r a × Throughout r b

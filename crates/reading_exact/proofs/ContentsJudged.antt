@@ -1,0 +1,87 @@
+-- What reading judges of contents: their bytes are read without refusal where the contents fit, and only there.
+use Prim.Native.Nat.{ℕ, _≤_}
+use mathlib.Core.Path.{_≡_, refl, sym, ap, _∙_, subst}
+use mathlib.Core.Logic.{_↔_}
+use mathlib.Core.List.{List, map}
+use lib.ListN.{length}
+use Rattle.format.specs.Contents.{Contents, contentsOf}
+use Rattle.format.specs.Writing.{headFor, encoded}
+use Rattle.format.specs.Answers.{fine}
+use Rattle.format.specs.Header.{headAt, Laid}
+use Rattle.tables.specs.Records.{recordsAnswer}
+use Rattle.trees.specs.Shape.{shapeFrom, shapeAnswer}
+use Rattle.reading.specs.Reading.{reading, bodyAnswer}
+use Rattle.format.specs.declared.Head.{Head}
+use Rattle.trees.specs.declared.Due.the-variants.{Root}
+use Rattle.format.proofs.HeadLaws.{Headed}
+use Rattle.format.proofs.AnswerLaws.{both-quiet}
+use Rattle.reading.proofs.ReadingLaws.{reading-iff}
+use Rattle.reading_exact.proofs.Standing.{rootsIn, roots-due}
+use Rattle.reading_exact.proofs.SectionRows.{head-back}
+use Rattle.reading_exact.proofs.Places.{length-encoded, encoded-back}
+use Rattle.reading_exact.proofs.FirstLaws.{number-of}
+use Rattle.reading_exact.proofs.RecordsJudged.{RecordsFit, records-iff}
+
+-- counts in range, records that name only what exists, and a shape of nodes that is not refused
+pub record ContentsFit (C : Contents) : Type 0 where
+  pub few-users : length (C .users) ≤ 32
+  pub few-roles : length (C .roles) ≤ 16
+  pub few-kinds : length (C .kinds) ≤ 32
+  pub few-channels : length (C .channels) ≤ 64
+  pub few-sessions : length (C .sessions) ≤ 32
+  pub few-nodes : length (C .nodes) ≤ 1024
+  pub records : RecordsFit C
+  pub shape : shapeFrom 1 (C .nodes) (map Root (rootsIn (C .sessions))) ≡ fine
+
+module _ (C : Contents) where
+  abbrev file : List ℕ
+  file = encoded C
+
+  body-same : bodyAnswer (headAt file) (contentsOf file) ≡ bodyAnswer (headFor C) C
+  body-same = ap (bodyAnswer (headAt file)) (encoded-back C) ∙ ap (λ (h : Head). bodyAnswer h C) (head-back C)
+
+  shape-read : shapeAnswer C ≡ shapeFrom 1 (C .nodes) (map Root (rootsIn (C .sessions)))
+  unfolding shapeAnswer
+  shape-read = ap (shapeFrom 1 (C .nodes)) (roots-due (C .sessions))
+
+  body-iff : (bodyAnswer (headFor C) C ≡ fine) ↔ ((recordsAnswer (headFor C) C .number ≡ 0) × (shapeAnswer C ≡ fine))
+  body-iff = both-quiet (λ v. v ≡ fine) (recordsAnswer (headFor C) C) (shapeAnswer C) number-of
+
+  pub judged : reading file ≡ fine → ContentsFit C
+  judged e =
+      let (d, body) = reading-iff file .0 e in
+      let l : Laid file (headFor C) = subst (Laid file) (head-back C) (d .laid) in
+      let (zero, shape) = body-iff .0 (sym body-same ∙ body) in
+      record {
+        few-users = l .users;
+        few-roles = l .roles;
+        few-kinds = l .kinds;
+        few-channels = l .channels;
+        few-sessions = l .sessions;
+        few-nodes = l .nodes;
+        records = records-iff (headFor C) C .0 zero;
+        shape = sym shape-read ∙ shape;
+      }
+
+  fit-laid : ContentsFit C → Laid file (headFor C)
+  fit-laid t = record {
+    users = t .few-users;
+    roles = t .few-roles;
+    kinds = t .few-kinds;
+    channels = t .few-channels;
+    sessions = t .few-sessions;
+    nodes = t .few-nodes;
+    users-at = refl;
+    roles-at = refl;
+    kinds-at = refl;
+    channels-at = refl;
+    sessions-at = refl;
+    nodes-at = refl;
+    sized = length-encoded C;
+  }
+
+  fit-headed : ContentsFit C → Headed file
+  fit-headed t = record { version = ap (λ (h : Head). h .version) (head-back C); laid = subst (Laid file) (sym (head-back C)) (fit-laid t) }
+
+  pub not-refused : ContentsFit C → reading file ≡ fine
+  not-refused t = reading-iff file .1 (fit-headed t, body-same ∙ body-iff .1 (records-iff (headFor C) C .1 (t .records), shape-read ∙ t .shape))

@@ -1,0 +1,95 @@
+-- The encoding of a well formed file is bytes: everything in it fits a word.
+use Prim.Native.Nat.{ℕ, _+_, _-_, _^_, _≤_, _<_}
+use mathlib.Core.Path.{sym, subst}
+use mathlib.Core.List.{List, [], _∷_, _++_}
+use native.Mathlib.Omega.{arith}
+use lib.ListN.{length}
+use Rattle.masks.specs.Mask.{NamesOnly}
+use Rattle.masks.proofs.Bounds.{namesOnly-iff, namesOnly-lt}
+use Rattle.format.specs.Header.{headWords}
+use Rattle.format.specs.Writing.{headFor, fileWords, encoded}
+use Rattle.format.specs.declared.Role.{Role}
+use Rattle.format.specs.declared.Node.{Node}
+use Rattle.reading_exact.specs.Lists.{All}
+use Rattle.reading_exact.specs.Tree.{past, flatten, Worded}
+use Rattle.reading_exact.specs.File.{Routine, File, WellFormed, nodesOf, rooted, contentsFor, encode}
+use Rattle.reading_exact.proofs.TreeEnds.{past-length}
+use Rattle.reading_exact.proofs.WordedTrees.{WordsFit, worded-nodes}
+use Rattle.reading_exact.proofs.Bytes.{Byte, Word, small-bytes}
+use Rattle.reading_exact.proofs.Rows.{cat}
+use Rattle.reading_exact.proofs.SectionRows.{oneRow, roleRow, channelRow, sessionRow, nodeRow, rowWords, file-rows}
+use Rattle.reading_exact.proofs.AllLaws.{all-map, all-append, all-get}
+use Rattle.reading_exact.proofs.RecordsJudged.{Seated}
+use Rattle.reading_exact.proofs.FileContents.{treesOf, length-rooted, all-trees}
+
+-- every one is a word; a record, so that the list is found from it
+record Small (l : List ℕ) : Type 0 where
+  words : All Word l
+
+small-append : {k l : List ℕ} → Small k → Small l → Small (k ++ l)
+small-append {k} {l} h g = record { words = all-append Word k l (h .words) (g .words) }
+
+small-cat : {A : Type 0} (enc : A → List ℕ) (xs : List A) → All (λ x. All Word (enc x)) xs → Small (cat enc xs)
+unfolding cat
+small-cat enc [] h = record { words = tt }
+small-cat enc (x ∷ xs) h = let first : Small (enc x) = record { words = h .0 } in small-append first (small-cat enc xs (h .1))
+
+-- a mask of items up to n is below 2 ^ k for any k from n on
+mask-lt : (k n m : ℕ) → n ≤ k → NamesOnly n m → m < 2 ^ k
+mask-lt k n m l h = namesOnly-lt k m .0 (namesOnly-iff k m .1 (λ x p. let b : x ≤ n = h x p in omega arith))
+
+-- a root is at most the number after the last node
+small-rooted : (at : ℕ) (ss : List Routine) → at + length (flatten at (treesOf ss)) ≤ 1025
+    → All (λ (s : Routine). (s .user < 65536) × (s .mask < 65536)) ss → All (λ s. All Word (sessionRow s)) (rooted at ss)
+unfolding rooted flatten
+small-rooted at [] l h = tt
+small-rooted at (s ∷ ss) l h =
+    let e = past-length at (s .tree) (flatten (past at (s .tree)) (treesOf ss)) in
+    ((h .0 .0, (h .0 .1, (omega arith, tt))), small-rooted (past at (s .tree)) ss (omega arith) (h .1))
+
+module _ (F : File) (w : WellFormed F) where
+  small-mask : (m : ℕ) → NamesOnly (length (F .roles)) m → Word m
+  small-mask m h = mask-lt 16 (length (F .roles)) m (w .few-roles) h
+
+  small-role : (r : Role) → NamesOnly (length (F .kinds)) (r .sends) × NamesOnly (length (F .kinds)) (r .receives) → All Word (roleRow r)
+  small-role r h =
+      let a : r .sends < 4294967296 = mask-lt 32 (length (F .kinds)) (r .sends) (w .few-kinds) (h .0) in
+      let b : r .receives < 4294967296 = mask-lt 32 (length (F .kinds)) (r .receives) (w .few-kinds) (h .1) in
+      omega arith
+
+  small-user : (s : Routine) → Seated (F .users) (s .user) (s .mask) → (s .user < 65536) × (s .mask < 65536)
+  small-user s h =
+      let few = w .few-users in
+      let there : s .user - 1 < length (F .users) = omega arith in
+      let all = all-get (NamesOnly (length (F .roles))) (F .users) (s .user - 1) 0 there (w .users-fit) in
+      (omega arith, small-mask (s .mask) (λ x p. all x (h .1 x p)))
+
+  small-node : (n : Node) → WordsFit n → All Word (nodeRow n)
+  small-node n h = (h .0, (h .1, (h .2, tt)))
+
+  small-nodes : All (λ n. All Word (nodeRow n)) (nodesOf F)
+  small-nodes =
+      let worded : All Worded (treesOf (F .sessions)) = all-trees Worded (F .sessions) .1 (all-map (λ s h. h .1) (F .sessions) (w .trees-fit)) in
+      let few = w .few-nodes in
+      all-map small-node (nodesOf F) (worded-nodes 1 (treesOf (F .sessions)) worded (omega arith))
+
+  small-head : Small (headWords (headFor (contentsFor F)))
+  small-head = record { words = omega (arith, length-rooted 1 (F .sessions)) }
+
+  small-file : Small (rowWords (contentsFor F))
+  small-file =
+      let few = w .few-nodes in
+      let few-users = w .few-users in
+      let few-kinds = w .few-kinds in
+      let users = small-cat oneRow (F .users) (all-map (λ m h. (small-mask m h, tt)) (F .users) (w .users-fit)) in
+      let roles = small-cat roleRow (F .roles) (all-map small-role (F .roles) (w .roles-fit)) in
+      let kinds = small-cat oneRow (F .kinds) (all-map (λ k h. omega arith) (F .kinds) (w .kinds-fit)) in
+      let channels = small-cat channelRow (F .channels) (all-map (λ c h. omega arith) (F .channels) (w .channels-fit)) in
+      let sessions = small-cat sessionRow (rooted 1 (F .sessions)) (small-rooted 1 (F .sessions) (omega arith) (all-map small-user (F .sessions) (w .sessions-fit))) in
+      let nodes = small-cat nodeRow (nodesOf F) small-nodes in
+      small-append small-head (small-append users (small-append roles (small-append kinds (small-append channels (small-append sessions nodes)))))
+
+  -- so that `sound` speaks of every file that `complete` does
+  pub encode-bytes : All Byte (encode F)
+  unfolding encode encoded
+  encode-bytes = small-bytes (fileWords (contentsFor F)) (subst (All Word) (sym (file-rows (contentsFor F))) (small-file .words))

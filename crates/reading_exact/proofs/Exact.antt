@@ -1,0 +1,117 @@
+-- Reading a file without a refusal of 1 to 8 is the same as its bytes being the encoding of a well formed file, and of exactly one.
+use Prim.Native.Nat.{ℕ, zero, suc, _+_, _≤_, _<_}
+use mathlib.Core.Path.{_≡_, sym, ap, ap₂, _∙_, subst}
+use mathlib.Core.List.{List, map}
+use Rattle.format.specs.Words.{wordAt}
+use Rattle.format.specs.Answers.{fine}
+use Rattle.format.specs.Header.{headAt}
+use Rattle.format.specs.Sections.{placeOf, nodeAt}
+use Rattle.format.specs.Contents.{Contents, tabled, contentsAt, contentsOf}
+use Rattle.format.specs.Writing.{encoded}
+use Rattle.format.specs.declared.Head.{Head}
+use Rattle.format.specs.declared.Section.the-variants.{Nodes}
+use Rattle.trees.specs.Shape.{shapeFrom}
+use Rattle.reading.specs.Reading.{reading}
+use Rattle.trees.specs.declared.Due.the-variants.{Root}
+use Rattle.reading.proofs.ReadingLaws.{reading-iff}
+use Rattle.reading_exact.specs.Lists.{All}
+use Rattle.reading_exact.specs.Tree.{Tree, flatten, height, Worded}
+use Rattle.reading_exact.specs.File.{File, WellFormed, rooted, contentsFor, encode}
+use Rattle.reading_exact.proofs.Standing.{rootsIn, rootsOf}
+use Rattle.reading_exact.proofs.ShapeComplete.{shape-complete}
+use Rattle.reading_exact.proofs.ShapeSound.{shape-sound}
+use Rattle.reading_exact.proofs.NodeSorts.{flatten-single}
+use Rattle.reading_exact.proofs.WordedTrees.{FieldsFit, worded-trees}
+use Rattle.reading_exact.proofs.Bytes.{Word, small-words}
+use Rattle.reading_exact.proofs.WholeFile.{bytes-back}
+use Rattle.reading_exact.proofs.AllLaws.{all-map, all-both}
+use Rattle.reading_exact.proofs.RecordsJudged.{Seated}
+use Rattle.reading_exact.proofs.ContentsJudged.{ContentsFit, judged, not-refused}
+use Rattle.reading_exact.proofs.FileContents.{treesOf, routines, length-rooted, roots-rooted, trees-routines, rooted-routines, all-rooted, all-trees}
+use Rattle.reading_exact.proofs.FileContents.{fileOf, file-back, contents-back}
+
+-- a tree that a file may have
+abbrev Fair : Tree → Type 0
+Fair t = (height t ≤ 8) × Worded t
+
+contents-fit : (F : File) → WellFormed F → ContentsFit (contentsFor F)
+contents-fit F w = record {
+  few-users = w .few-users;
+  few-roles = w .few-roles;
+  few-kinds = w .few-kinds;
+  few-channels = w .few-channels;
+  few-sessions = rw (length-rooted 1 (F .sessions)) (w .few-sessions);
+  few-nodes = w .few-nodes;
+  records = record {
+    users-fit = w .users-fit;
+    roles-fit = w .roles-fit;
+    kinds-fit = w .kinds-fit;
+    channels-fit = w .channels-fit;
+    sessions-fit = all-rooted (Seated (F .users)) 1 (F .sessions) .1 (w .sessions-fit);
+  };
+  shape =
+      ap (λ (l : List ℕ). shapeFrom 1 (flatten 1 (treesOf (F .sessions))) (map Root l)) (roots-rooted 1 (F .sessions))
+      ∙ shape-complete (treesOf (F .sessions)) (all-map (λ t h. h .0) (treesOf (F .sessions)) (all-trees Fair (F .sessions) .1 (w .trees-fit)));
+}
+
+formed : (F : File) → ContentsFit (contentsFor F) → All Fair (treesOf (F .sessions)) → WellFormed F
+formed F t fair = record {
+  few-users = t .few-users;
+  few-roles = t .few-roles;
+  few-kinds = t .few-kinds;
+  few-channels = t .few-channels;
+  few-sessions = subst (λ (n : ℕ). n ≤ 32) (length-rooted 1 (F .sessions)) (t .few-sessions);
+  few-nodes = t .few-nodes;
+  users-fit = t .records .users-fit;
+  roles-fit = t .records .roles-fit;
+  kinds-fit = t .records .kinds-fit;
+  channels-fit = t .records .channels-fit;
+  sessions-fit = all-rooted (Seated (F .users)) 1 (F .sessions) .0 (t .records .sessions-fit);
+  trees-fit = all-trees Fair (F .sessions) .0 fair;
+}
+
+-- the file that contents and trees make has these contents
+same-contents : (C : Contents) (ts : List Tree) → C .nodes ≡ flatten 1 ts → rootsIn (C .sessions) ≡ rootsOf 1 ts → contentsFor (fileOf C ts) ≡ C
+same-contents C ts nodes roots =
+    let sessions : rooted 1 (routines (C .sessions) ts) ≡ C .sessions = rooted-routines 1 (C .sessions) ts roots in
+    let trees : flatten 1 (treesOf (routines (C .sessions) ts)) ≡ C .nodes = ap (flatten 1) (trees-routines 1 (C .sessions) ts roots) ∙ sym nodes in
+    λ i. record { users = C .users; roles = C .roles; kinds = C .kinds; channels = C .channels; sessions = sessions i; nodes = trees i }
+
+-- the operands of the nodes read are words
+read-fields : (f : List ℕ) (h : Head) → ((i : ℕ) → Word (wordAt f i)) → All FieldsFit (contentsAt f h .nodes)
+unfolding contentsAt tabled
+read-fields f h small = go 1 (h .count .nodes)
+  where
+    go : (i k : ℕ) → All FieldsFit (tabled (λ n. nodeAt f (placeOf h Nodes n)) i k)
+    go i zero = tt
+    go i (suc k) = ((small (placeOf h Nodes i + 1), small (placeOf h Nodes i + 2)), go (suc i) k)
+
+-- read, then encode, gives the bytes back
+pub sound : (f : List ℕ) → All (λ b. b < 256) f → reading f ≡ fine → (F : File) × WellFormed F × (encode F ≡ f)
+unfolding encode
+sound f bytes e =
+    let (d, body) = reading-iff f .0 e in
+    let C : Contents = contentsOf f in
+    let back : encoded C ≡ f = bytes-back f d bytes in
+    let fit : ContentsFit C = judged C (subst (λ (g : List ℕ). reading g ≡ fine) (sym back) e) in
+    let (ts, nodes, roots, low) = shape-sound (C .nodes) (rootsIn (C .sessions)) (fit .shape) in
+    let F : File = fileOf C ts in
+    let same : contentsFor F ≡ C = same-contents C ts nodes roots in
+    let trees : treesOf (F .sessions) ≡ ts = trees-routines 1 (C .sessions) ts roots in
+    let worded : All Worded ts = worded-trees 1 ts (subst (All FieldsFit) nodes (read-fields f (headAt f) (small-words f bytes))) in (
+      F,
+      formed F (subst ContentsFit (sym same) fit) (subst (All Fair) (sym trees) (all-both (λ t. height t ≤ 8) Worded ts low worded)),
+      ap encoded same ∙ back,
+    )
+
+-- encode, then read, is not refused
+pub complete : (F : File) → WellFormed F → reading (encode F) ≡ fine
+unfolding encode
+complete F w = not-refused (contentsFor F) (contents-fit F w)
+
+-- no two files have the same bytes, well formed or not
+pub single : (F G : File) → encode F ≡ encode G → F ≡ G
+single F G e =
+    let contents = sym (contents-back F) ∙ ap (λ (f : List ℕ). contentsOf f) e ∙ contents-back G in
+    let trees = flatten-single (treesOf (F .sessions)) (treesOf (G .sessions)) (ap (λ (C : Contents). C .nodes) contents) in
+    sym (file-back F) ∙ ap₂ fileOf contents trees ∙ file-back G

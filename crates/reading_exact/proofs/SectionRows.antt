@@ -1,0 +1,130 @@
+-- The words of a record of each section, that a record is read back from them, and the words of a file section by section.
+use Prim.Native.Nat.{ℕ, _+_, _/_, _%_}
+use mathlib.Core.Path.{_≡_, refl, ap, _∙_}
+use mathlib.Core.List.{List, [], _∷_, _++_, append-assoc}
+use native.Mathlib.Omega.{arith}
+use lib.ListN.{getD}
+use Rattle.format.specs.Words.{wordAt, wideAt, bytesOf}
+use Rattle.format.specs.Header.{headAt, headWords}
+use Rattle.format.specs.Sections.{nodeAt}
+use Rattle.format.specs.Contents.{Contents}
+use Rattle.format.specs.Writing.{roleWords, channelWords, sessionWords, nodeWords, tableWords, headFor, fileWords, encoded}
+use Rattle.format.specs.declared.Role.{Role}
+use Rattle.format.specs.declared.Channel.{Channel}
+use Rattle.format.specs.declared.Session.{Session}
+use Rattle.format.specs.declared.Node.{Node}
+use Rattle.reading_exact.proofs.Bytes.{word-back}
+use Rattle.reading_exact.proofs.Rows.{Holds, cat}
+
+abbrev pub oneRow : ℕ → List ℕ
+oneRow x = x ∷ []
+
+cat-one : (xs : List ℕ) → cat oneRow xs ≡ xs
+unfolding cat
+cat-one [] = refl
+cat-one (x ∷ xs) = ap {B = List ℕ} (λ l. x ∷ l) (cat-one xs)
+
+abbrev pub roleRow : Role → List ℕ
+roleRow r = r .sends % 65536 ∷ r .sends / 65536 ∷ r .receives % 65536 ∷ r .receives / 65536 ∷ []
+
+abbrev pub channelRow : Channel → List ℕ
+channelRow c = c .owner ∷ c .kind .0 ∷ []
+
+abbrev pub sessionRow : Session → List ℕ
+sessionRow s = s .user ∷ s .mask ∷ s .root ∷ []
+
+abbrev pub nodeRow : Node → List ℕ
+nodeRow n = n .tag ∷ n .f1 ∷ n .f2 ∷ []
+
+-- A record of each section at an offset.
+
+abbrev pub roleAt : List ℕ → ℕ → Role
+roleAt f p = record { sends = wideAt f p; receives = wideAt f (p + 2) }
+
+abbrev pub channelAt : List ℕ → ℕ → Channel
+channelAt f p = record { owner = wordAt f p; kind = record { 0 = wordAt f (p + 1) } }
+
+abbrev pub sessionAt : List ℕ → ℕ → Session
+sessionAt f p = record { user = wordAt f p; mask = wordAt f (p + 1); root = wordAt f (p + 2) }
+
+-- the first of the words that a file holds from p on
+here : (f : List ℕ) (p : ℕ) (l : List ℕ) → Holds f p l → wordAt f p ≡ getD l 0 0
+here f p l h = let z : p ≡ p + 0 = omega arith in ap (wordAt f) z ∙ h 0
+
+pub one-back : (f : List ℕ) (p x : ℕ) (post : List ℕ) → Holds f p (oneRow x ++ post) → wordAt f p ≡ x
+one-back f p x post h = here f p (oneRow x ++ post) h
+
+pub role-back : (f : List ℕ) (p : ℕ) (r : Role) (post : List ℕ) → Holds f p (roleRow r ++ post) → roleAt f p ≡ r
+role-back f p r post h =
+    let low : wordAt f p ≡ r .sends % 65536 = here f p (roleRow r ++ post) h in
+    let high : wordAt f (p + 1) ≡ r .sends / 65536 = h 1 in
+    let low′ : wordAt f (p + 2) ≡ r .receives % 65536 = h 2 in
+    let three : p + 2 + 1 ≡ p + 3 = omega arith in
+    let high′ : wordAt f (p + 2 + 1) ≡ r .receives / 65536 = ap (wordAt f) three ∙ h 3 in
+    let sends : wideAt f p ≡ r .sends = omega arith in
+    let receives : wideAt f (p + 2) ≡ r .receives = omega arith in
+    λ i. record { sends = sends i; receives = receives i }
+
+pub channel-back : (f : List ℕ) (p : ℕ) (c : Channel) (post : List ℕ) → Holds f p (channelRow c ++ post) → channelAt f p ≡ c
+channel-back f p c post h =
+    let owner : wordAt f p ≡ c .owner = here f p (channelRow c ++ post) h in
+    let kind : wordAt f (p + 1) ≡ c .kind .0 = h 1 in
+    λ i. record { owner = owner i; kind = record { 0 = kind i } }
+
+pub session-back : (f : List ℕ) (p : ℕ) (s : Session) (post : List ℕ) → Holds f p (sessionRow s ++ post) → sessionAt f p ≡ s
+session-back f p s post h =
+    let user : wordAt f p ≡ s .user = here f p (sessionRow s ++ post) h in
+    let mask : wordAt f (p + 1) ≡ s .mask = h 1 in
+    let root : wordAt f (p + 2) ≡ s .root = h 2 in
+    λ i. record { user = user i; mask = mask i; root = root i }
+
+pub node-back : (f : List ℕ) (p : ℕ) (n : Node) (post : List ℕ) → Holds f p (nodeRow n ++ post) → nodeAt f p ≡ n
+node-back f p n post h =
+    let tag : wordAt f p ≡ n .tag = here f p (nodeRow n ++ post) h in
+    let f1 : wordAt f (p + 1) ≡ n .f1 = h 1 in
+    let f2 : wordAt f (p + 2) ≡ n .f2 = h 2 in
+    λ i. record { tag = tag i; f1 = f1 i; f2 = f2 i }
+
+-- the words of each section, as format writes them
+
+roles-cat : (rs : List Role) → roleWords rs ≡ cat roleRow rs
+unfolding roleWords cat
+roles-cat [] = refl
+roles-cat (r ∷ rs) = ap {B = List ℕ} (λ l. roleRow r ++ l) (roles-cat rs)
+
+channels-cat : (cs : List Channel) → channelWords cs ≡ cat channelRow cs
+unfolding channelWords cat
+channels-cat [] = refl
+channels-cat (c ∷ cs) = ap {B = List ℕ} (λ l. channelRow c ++ l) (channels-cat cs)
+
+sessions-cat : (ss : List Session) → sessionWords ss ≡ cat sessionRow ss
+unfolding sessionWords cat
+sessions-cat [] = refl
+sessions-cat (s ∷ ss) = ap {B = List ℕ} (λ l. sessionRow s ++ l) (sessions-cat ss)
+
+nodes-cat : (ns : List Node) → nodeWords ns ≡ cat nodeRow ns
+unfolding nodeWords cat
+nodes-cat [] = refl
+nodes-cat (n ∷ ns) = ap {B = List ℕ} (λ l. nodeRow n ++ l) (nodes-cat ns)
+
+-- a file's words section by section
+abbrev pub rowWords : Contents → List ℕ
+rowWords C =
+    headWords (headFor C)
+    ++ (cat oneRow (C .users)
+    ++ (cat roleRow (C .roles)
+    ++ (cat oneRow (C .kinds) ++ (cat channelRow (C .channels) ++ (cat sessionRow (C .sessions) ++ cat nodeRow (C .nodes))))))
+
+pub file-rows : (C : Contents) → fileWords C ≡ rowWords C
+unfolding fileWords tableWords
+file-rows C = simp (roles-cat, channels-cat, sessions-cat, nodes-cat, cat-one, append-assoc)
+
+pub head-back : (C : Contents) → headAt (encoded C) ≡ headFor C
+unfolding encoded fileWords
+head-back C =
+    let w : (i : ℕ) → wordAt (bytesOf (fileWords C)) i ≡ getD (fileWords C) i 0 = word-back (fileWords C) in
+    λ i. record {
+      version = w 0 i;
+      count = record { users = w 1 i; roles = w 2 i; kinds = w 3 i; channels = w 4 i; sessions = w 5 i; nodes = w 6 i };
+      at = record { users = w 7 i; roles = w 8 i; kinds = w 9 i; channels = w 10 i; sessions = w 11 i; nodes = w 12 i };
+    }

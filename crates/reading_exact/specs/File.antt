@@ -1,0 +1,70 @@
+-- The clinic file as data, when it is well formed, and its bytes.
+use Prim.Native.Nat.{ℕ, _-_, _≤_}
+use mathlib.Core.List.{List, [], _∷_, map}
+use lib.ListN.{length, getD}
+use Rattle.format.specs.Contents.{Contents}
+use Rattle.format.specs.Writing.{encoded}
+use Rattle.masks.specs.Mask.{NamesOnly, Within}
+use Rattle.format.specs.declared.Role.{Role}
+use Rattle.format.specs.declared.Channel.{Channel}
+use Rattle.format.specs.declared.Session.{Session}
+use Rattle.format.specs.declared.Node.{Node}
+use Rattle.reading_exact.specs.Lists.{All}
+use Rattle.reading_exact.specs.Tree.{Tree, past, flatten, height, Worded}
+
+-- a session with its tree
+pub record Routine : Type 0 where
+  pub user : ℕ
+  pub mask : ℕ
+  pub tree : Tree
+
+-- each user's mask of roles, the roles, what each kind carries, the channels, the sessions
+pub record File : Type 0 where
+  pub users : List ℕ
+  pub roles : List Role
+  pub kinds : List ℕ
+  pub channels : List Channel
+  pub sessions : List Routine
+
+abbrev pub nodesOf : File → List Node
+nodesOf F = flatten 1 (map (λ (s : Routine). s .tree) (F .sessions))
+
+-- an item of 1 to n
+abbrev pub InCount : ℕ → ℕ → Type 0
+InCount n x = (1 ≤ x) × (x ≤ n)
+
+-- counts in range; records that name only what exists; each session's user exists, and its starting roles are assigned to that user;
+-- at most 8 variables on a path; operands that are words
+pub record WellFormed (F : File) : Type 0 where
+  pub few-users : length (F .users) ≤ 32
+  pub few-roles : length (F .roles) ≤ 16
+  pub few-kinds : length (F .kinds) ≤ 32
+  pub few-channels : length (F .channels) ≤ 64
+  pub few-sessions : length (F .sessions) ≤ 32
+  pub few-nodes : length (nodesOf F) ≤ 1024
+  pub users-fit : All (λ m. NamesOnly (length (F .roles)) m) (F .users)
+  pub roles-fit : All (λ r. NamesOnly (length (F .kinds)) (r .sends) × NamesOnly (length (F .kinds)) (r .receives)) (F .roles)
+  pub kinds-fit : All (λ k. k ≤ length (F .kinds)) (F .kinds)
+  pub channels-fit : All (λ c. InCount (length (F .users)) (c .owner) × InCount (length (F .kinds)) (c .kind .0)) (F .channels)
+  pub sessions-fit : All (λ s. InCount (length (F .users)) (s .user) × Within (s .mask) (getD (F .users) (s .user - 1) 0)) (F .sessions)
+  pub trees-fit : All (λ s. (height (s .tree) ≤ 8) × Worded (s .tree)) (F .sessions)
+
+-- the sessions' records: session 1's root is 1, and each root follows the tree before it
+unfoldable pub rooted : ℕ → List Routine → List Session
+rooted at [] = []
+rooted at (s ∷ ss) = record { user = s .user; mask = s .mask; root = at } ∷ rooted (past at (s .tree)) ss
+
+-- what the file holds: its trees as nodes
+abbrev pub contentsFor : File → Contents
+contentsFor F = record {
+  users = F .users;
+  roles = F .roles;
+  kinds = F .kinds;
+  channels = F .channels;
+  sessions = rooted 1 (F .sessions);
+  nodes = nodesOf F;
+}
+
+-- its bytes
+unfoldable pub encode : File → List ℕ
+encode F = encoded (contentsFor F)

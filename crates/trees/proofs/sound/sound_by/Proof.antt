@@ -1,0 +1,356 @@
+use Prim.Native.Nat.{_+_, _-_, _≤_, _<_}
+use mathlib.Core.Path.{_≡_, refl, sym, ap, _∙_}
+use mathlib.Core.Bool.{Bool, true, false, not, _&&_, false≢true, and-eq-true-iff}
+use mathlib.Core.List.{_∷_, map}
+use native.Mathlib.Omega.{arith}
+use borrow.Author.Needs.{needs}
+use borrow.Author.Tests.{not-false, eqb-true}
+use lib.ListN.{length, getD, set, drop, length-set}
+use lib.Dec.{eqb}
+use Rattle.format.specs.Contents.{contentsAt, item, noSession}
+use Rattle.format.specs.Answers.{fine}
+use Rattle.format.proofs.ContentsLaws.{sessions-held, nodes-held, none-past}
+use Rattle.format.specs.Stacks.{stacked}
+use Rattle.format.proofs.StackLaws.{stacked-more, read-top}
+use Rattle.format.specs.declared.Session.{Session}
+use Rattle.trees.specs.Shape.{shapeAnswer}
+use Rattle.trees.proofs.SoundLaws.{waiting, unpack, held, held-push, accepts, waits, waits-push, starts, on-end, on-fork, on-other, has-room, on-last}
+use Rattle.trees.proofs.sound.sound_by.Statement.{statement}
+use Rattle.trees.proofs.sound.sound_by.Tie as tie
+use Rattle.trees.proofs.sound.sound_by.Reads as reads
+use Rattle.trees.proofs.sound.sound_by.Lts as lts
+use Rattle.format.proofs.sections.node.Reads as node-reads
+use Rattle.format.proofs.sections.session.Reads as session-reads
+use Rattle.format.proofs.words.narrow.Reads as narrow-reads
+use Rattle.format.proofs.words.paired.Reads as paired-reads
+use Rattle.format.proofs.words.wide.Reads as wide-reads
+use Rattle.trees.proofs.shape.bound_below.Reads as bound-below-reads
+use Rattle.trees.proofs.sound.bound_above.Reads as bound-above-reads
+use Rattle.trees.proofs.sound.goes_on.Reads as goes-on-reads
+use Rattle.trees.proofs.sound.named.Reads as named-reads
+
+abbrev Inv-loop : tie.InvT-loop
+Inv-loop file head stack₀ nodes sessions depth₀ stack depth =
+    (depth ≤ sessions) × (length stack ≡ length stack₀)
+    × (held stack (depth + 1) ≡ waits (drop (sessions - depth) (contentsAt file head .sessions)) (nodes + 1))
+
+abbrev μ-loop : tie.MeasureT-loop
+μ-loop file head stack₀ nodes sessions depth₀ stack depth = sessions - depth
+
+abbrev Inv-loop2 : tie.InvT-loop2
+Inv-loop2 file head stack₀ nodes sessions depth₀ bound₀ i₀ stack depth bound i =
+    (1 ≤ i) × (i ≤ nodes + 1) × (length stack ≡ length stack₀) × (depth + 1 ≤ sessions + i)
+    × (accepts i (drop (i - 1) (contentsAt file head .nodes)) bound (held stack depth) ≡ true → shapeAnswer (contentsAt file head) ≡ fine)
+
+abbrev μ-loop2 : tie.MeasureT-loop2
+μ-loop2 file head stack₀ nodes sessions depth₀ bound₀ i₀ stack depth bound i = nodes + 1 - i
+
+-- two tests that both held
+both : (a b : Bool) → not (a && b) ≡ false → (a ≡ true) × (b ≡ true)
+both a b h = and-eq-true-iff a b .0 (not-false (a && b) h)
+
+-- the stack is as long as it was lent
+kept : (c : tie.At-loop Inv-loop μ-loop Inv-loop2 μ-loop2) → length (c .loop .stack) ≡ length (c .before .before .before .before .before .args .stack .now)
+kept c = c .loop .inv .1 ∙ length-set (c .before .before .before .before .before .args .stack .now) 0 (c .before .paired .result)
+
+kept2 : (c : tie.At-loop2 Inv-loop μ-loop Inv-loop2 μ-loop2) → length (c .loop2 .stack) ≡ length (c .before .before .before .before .before .before .before .before .before .before .args .stack .now)
+kept2 c = c .loop2 .inv .2 ∙ kept (c .before .before .before .before .before)
+
+wide-requires : tie.Need-wide-requires Inv-loop μ-loop Inv-loop2 μ-loop2
+wide-requires c κs = omega arith
+
+add-paired : tie.Need-add-paired Inv-loop μ-loop Inv-loop2 μ-loop2
+add-paired c = omega arith
+
+paired-requires : tie.Need-paired-requires Inv-loop μ-loop Inv-loop2 μ-loop2
+paired-requires c κs = omega arith
+
+slice-write-stack : tie.Need-slice-write-stack Inv-loop μ-loop Inv-loop2 μ-loop2
+slice-write-stack c = omega arith
+
+loop-holds : tie.Need-loop-holds Inv-loop μ-loop Inv-loop2 μ-loop2
+unfolding waits stacked
+loop-holds c =
+    let a = c .before .before .before .before .args in
+    let n = a .head .count .nodes in
+    let none = none-past (contentsAt (a .file .now) (a .head) .sessions) (c .before .wide .result - 0) (omega (arith, sessions-held (a .file .now) (a .head))) in (
+      omega arith,
+      refl,
+      rw none (ap (λ v. held (set (a .stack .now) 0 v) 1) (c .paired .ensures) ∙ held-push (a .stack .now) 0 (n + 1) 0 (omega arith) (omega arith)),
+    )
+
+sub-narrow : tie.Need-sub-narrow Inv-loop μ-loop Inv-loop2 μ-loop2
+sub-narrow c = omega arith
+
+narrow-requires : tie.Need-narrow-requires Inv-loop μ-loop Inv-loop2 μ-loop2
+narrow-requires c κs = omega arith
+
+session-requires : tie.Need-session-requires Inv-loop μ-loop Inv-loop2 μ-loop2
+session-requires c κs = search needs
+
+add-depth : tie.Need-add-depth Inv-loop μ-loop Inv-loop2 μ-loop2
+add-depth c = omega arith
+
+paired-requires-2 : tie.Need-paired-requires-2 Inv-loop μ-loop Inv-loop2 μ-loop2
+paired-requires-2 c κs = omega arith
+
+mul-stack : tie.Need-mul-stack Inv-loop μ-loop Inv-loop2 μ-loop2
+mul-stack c = omega arith
+
+slice-write-stack-2 : tie.Need-slice-write-stack-2 Inv-loop μ-loop Inv-loop2 μ-loop2
+slice-write-stack-2 c = omega (arith, kept (c .before .before .before .before))
+
+loop-less : tie.Need-loop-less Inv-loop μ-loop Inv-loop2 μ-loop2
+loop-less c = omega arith
+
+loop-again : tie.Need-loop-again Inv-loop μ-loop Inv-loop2 μ-loop2
+loop-again c =
+    let a = c .before .before .before .before .before .before .before .before .before .args in
+    let l = c .before .before .before .before .loop in
+    let s = c .before .before .before .before .before .before .wide .result in
+    let x = c .before .session .result .root in
+    let ss = contentsAt (a .file .now) (a .head) .sessions in
+    let all : length ss ≡ s = omega (arith, sessions-held (a .file .now) (a .head)) in
+    let root : x ≡ item noSession ss (s - l .depth) .root =
+    ap (λ (y : Session). y .root) (c .before .session .ensures) ∙ ap (λ k. item noSession ss k .root) (c .before .before .narrow .ensures) in (
+      omega arith,
+      simp length-set (kept (c .before .before .before .before)),
+      ap (λ v. held (set (l .stack) (l .depth + 1) v) (l .depth + 1 + 1)) (c .paired2 .ensures)
+          ∙ waits-push ss s (l .depth) (a .head .count .nodes + 1) x (l .stack) all (omega arith) (omega (arith, kept (c .before .before .before .before))) (omega arith) root (l .inv .2),
+    )
+
+mul-named : tie.Need-mul-named Inv-loop μ-loop Inv-loop2 μ-loop2
+mul-named c = omega arith
+
+slice-read-named : tie.Need-slice-read-named Inv-loop μ-loop Inv-loop2 μ-loop2
+slice-read-named c = omega (arith, kept (c .before .before))
+
+named-requires : tie.Need-named-requires Inv-loop μ-loop Inv-loop2 μ-loop2
+named-requires c κs = omega arith
+
+same-length : tie.Need-same-length Inv-loop μ-loop Inv-loop2 μ-loop2
+same-length c = omega (arith, kept (c .before .before .before .before))
+
+returns : tie.Need-returns Inv-loop μ-loop Inv-loop2 μ-loop2
+returns c = λ e. absurd (false≢true e)
+
+loop2-holds : tie.Need-loop2-holds Inv-loop μ-loop Inv-loop2 μ-loop2
+unfolding shapeAnswer
+loop2-holds c =
+    let a = c .before .before .before .before .before .before .before .before .before .args in
+    let l = c .before .before .before .before .loop in
+    let C = contentsAt (a .file .now) (a .head) in
+    let n = a .head .count .nodes in
+    let top = unpack (getD (l .stack) (l .depth) 0) in
+    let none : c .before .before .before .before .before .before .wide .result - l .depth ≡ 0 = omega arith in
+    let st : top ∷ held (l .stack) (l .depth) ≡ waits (C .sessions) (n + 1) =
+    sym (ap (map unpack) (stacked-more 0 (l .stack) (l .depth))) ∙ l .inv .2 ∙ ap (λ k. waits (drop k (C .sessions)) (n + 1)) none in
+    let one : top .number ≡ 1 = sym (c .before .named .ensures) ∙ c .if1 .left in (
+      omega arith,
+      omega arith,
+      refl,
+      omega arith,
+      starts (C .sessions) (n + 1) (C .nodes) top (held (l .stack) (l .depth)) st one (omega (arith, nodes-held (a .file .now) (a .head))),
+    )
+
+node-requires : tie.Need-node-requires Inv-loop μ-loop Inv-loop2 μ-loop2
+node-requires c κs = search needs
+
+add-i : tie.Need-add-i Inv-loop μ-loop Inv-loop2 μ-loop2
+add-i c = omega arith
+
+same-length-2 : tie.Need-same-length-2 Inv-loop μ-loop Inv-loop2 μ-loop2
+same-length-2 c = omega (arith, kept2 (c .before .before .before .before .before .before))
+
+returns-2 : tie.Need-returns-2 Inv-loop μ-loop Inv-loop2 μ-loop2
+returns-2 c = λ e. absurd (false≢true e)
+
+same-length-3 : tie.Need-same-length-3 Inv-loop μ-loop Inv-loop2 μ-loop2
+same-length-3 c = omega (arith, kept2 (c .before .before .before .before .before .before .before))
+
+returns-3 : tie.Need-returns-3 Inv-loop μ-loop Inv-loop2 μ-loop2
+returns-3 c = λ e. absurd (false≢true e)
+
+sub-depth : tie.Need-sub-depth Inv-loop μ-loop Inv-loop2 μ-loop2
+sub-depth c = omega arith
+
+mul-next : tie.Need-mul-next Inv-loop μ-loop Inv-loop2 μ-loop2
+mul-next c = omega arith
+
+slice-read-next : tie.Need-slice-read-next Inv-loop μ-loop Inv-loop2 μ-loop2
+slice-read-next c = omega (arith, kept2 (c .before .before .before .before .before .before .before .before))
+
+named-requires-2 : tie.Need-named-requires-2 Inv-loop μ-loop Inv-loop2 μ-loop2
+named-requires-2 c κs = omega arith
+
+same-length-4 : tie.Need-same-length-4 Inv-loop μ-loop Inv-loop2 μ-loop2
+same-length-4 c = omega (arith, kept2 (c .before .before .before .before .before .before .before .before .before .before))
+
+returns-4 : tie.Need-returns-4 Inv-loop μ-loop Inv-loop2 μ-loop2
+returns-4 c = λ e. absurd (false≢true e)
+
+bound-above-requires : tie.Need-bound-above-requires Inv-loop μ-loop Inv-loop2 μ-loop2
+bound-above-requires c κs = omega arith
+
+loop2-less : tie.Need-loop2-less Inv-loop μ-loop Inv-loop2 μ-loop2
+loop2-less c = omega arith
+
+loop2-again : tie.Need-loop2-again Inv-loop μ-loop Inv-loop2 μ-loop2
+loop2-again c =
+    let a = c .before .before .before .before .before .before .before .before .before .before .before .before .before .before .before .before .before .before .before .before .before .args in
+    let l = c .before .before .before .before .before .before .before .before .before .before .before .loop2 in
+    let node = c .before .before .before .before .before .before .before .before .before .node .result in
+    let law = on-end (contentsAt (a .file .now) (a .head) .nodes) (l .i) (omega arith) (omega (arith, nodes-held (a .file .now) (a .head))) node (c .before .before .before .before .before .before .before .before .before .node .ensures) in
+    let w = unpack (getD (l .stack) (l .depth - 1) 0) in
+    let zeros = both (eqb (node .f1) 0) (eqb (node .f2) 0) (c .before .before .before .before .before .if2 .left) in
+    let pos : 0 < l .depth = omega arith in
+    let number : w .number ≡ l .i + 1 = sym (c .before .before .named2 .ensures) ∙ c .before .if4 .left in (
+      omega arith,
+      omega arith,
+      l .inv .2,
+      omega arith,
+      λ h. l .inv .4 (rw (read-top 0 unpack (l .stack) (l .depth) pos)
+          (law (l .bound) w (held (l .stack) (l .depth - 1)) (c .before .before .before .before .before .before .before .before .match .keys1) (eqb-true _ _ (zeros .0)) (eqb-true _ _ (zeros .1)) number (rw (c .bound-above .ensures) at h))),
+    )
+
+same-length-5 : tie.Need-same-length-5 Inv-loop μ-loop Inv-loop2 μ-loop2
+same-length-5 c = omega (arith, kept2 (c .before .before .before .before .before))
+
+returns-5 : tie.Need-returns-5 Inv-loop μ-loop Inv-loop2 μ-loop2
+returns-5 c = λ e. absurd (false≢true e)
+
+paired-requires-3 : tie.Need-paired-requires-3 Inv-loop μ-loop Inv-loop2 μ-loop2
+paired-requires-3 c κs = omega arith
+
+mul-stack-2 : tie.Need-mul-stack-2 Inv-loop μ-loop Inv-loop2 μ-loop2
+mul-stack-2 c = omega arith
+
+slice-write-stack-3 : tie.Need-slice-write-stack-3 Inv-loop μ-loop Inv-loop2 μ-loop2
+slice-write-stack-3 c = omega (arith, kept2 (c .before .before .before .before .before .before))
+
+add-depth-2 : tie.Need-add-depth-2 Inv-loop μ-loop Inv-loop2 μ-loop2
+add-depth-2 c = omega arith
+
+loop2-less-2 : tie.Need-loop2-less-2 Inv-loop μ-loop Inv-loop2 μ-loop2
+loop2-less-2 c = omega arith
+
+loop2-again-2 : tie.Need-loop2-again-2 Inv-loop μ-loop Inv-loop2 μ-loop2
+loop2-again-2 c =
+    let a = c .before .before .before .before .before .before .before .before .before .before .before .before .before .before .before .before .args in
+    let l = c .before .before .before .before .before .before .loop2 in
+    let node = c .before .before .before .before .node .result in
+    let law = on-fork (contentsAt (a .file .now) (a .head) .nodes) (l .i) (omega arith) (omega (arith, nodes-held (a .file .now) (a .head))) node (c .before .before .before .before .node .ensures) in
+    let room : l .depth < length (l .stack) = omega (arith, kept2 (c .before .before .before .before .before .before)) in
+    let pushed : held (set (l .stack) (l .depth) (c .paired3 .result)) (l .depth + 1) ≡ waiting (node .f1) (l .bound) ∷ held (l .stack) (l .depth) =
+    ap (λ v. held (set (l .stack) (l .depth) v) (l .depth + 1)) (c .paired3 .ensures) ∙ held-push (l .stack) (l .depth) (node .f1) (l .bound) room (omega arith) in (
+      omega arith,
+      omega arith,
+      simp length-set (l .inv .2),
+      omega arith,
+      λ h. l .inv .4 (law (l .bound) (held (l .stack) (l .depth)) (c .before .before .before .match .keys2) (c .before .if5 .left) (rw pushed at h)),
+    )
+
+goes-on-requires : tie.Need-goes-on-requires Inv-loop μ-loop Inv-loop2 μ-loop2
+goes-on-requires c κs = search needs
+
+same-length-6 : tie.Need-same-length-6 Inv-loop μ-loop Inv-loop2 μ-loop2
+same-length-6 c = omega (arith, kept2 (c .before .before .before .before .before))
+
+returns-6 : tie.Need-returns-6 Inv-loop μ-loop Inv-loop2 μ-loop2
+returns-6 c = λ e. absurd (false≢true e)
+
+bound-below-requires : tie.Need-bound-below-requires Inv-loop μ-loop Inv-loop2 μ-loop2
+bound-below-requires c κs =
+    let a = c .before .before .before .before .before .before .before .before .before .before .before .before .before .before .before .args in
+    let l = c .before .before .before .before .before .loop2 in
+    let node = c .before .before .before .node .result in
+    has-room (contentsAt (a .file .now) (a .head) .nodes) (l .i) (omega arith) (omega (arith, nodes-held (a .file .now) (a .head))) node (c .before .before .before .node .ensures) (l .bound)
+    (sym (c .before .goes-on .ensures) ∙ not-false (c .before .goes-on .result) (c .if6 .left))
+
+loop2-less-3 : tie.Need-loop2-less-3 Inv-loop μ-loop Inv-loop2 μ-loop2
+loop2-less-3 c = omega arith
+
+loop2-again-3 : tie.Need-loop2-again-3 Inv-loop μ-loop Inv-loop2 μ-loop2
+loop2-again-3 c =
+    let a = c .before .before .before .before .before .before .before .before .before .before .before .before .before .before .before .before .args in
+    let l = c .before .before .before .before .before .before .loop2 in
+    let node = c .before .before .before .before .node .result in
+    let m = c .before .before .before .match .rest in
+    let law = on-other (contentsAt (a .file .now) (a .head) .nodes) (l .i) (omega arith) (omega (arith, nodes-held (a .file .now) (a .head))) node (c .before .before .before .before .node .ensures) in (
+      omega arith,
+      omega arith,
+      l .inv .2,
+      omega arith,
+      λ h. l .inv .4 (law (l .bound) (held (l .stack) (l .depth)) (m .0 .1) (m .1)
+          (sym (c .before .before .goes-on .ensures) ∙ not-false (c .before .before .goes-on .result) (c .before .if6 .left)) (rw (c .bound-below .ensures) at h)),
+    )
+
+same-length-7 : tie.Need-same-length-7 Inv-loop μ-loop Inv-loop2 μ-loop2
+same-length-7 c = omega (arith, kept2 (c .before))
+
+returns-7 : tie.Need-returns-7 Inv-loop μ-loop Inv-loop2 μ-loop2
+unfolding stacked
+returns-7 c =
+    λ e. let a = c .before .before .before .before .before .before .before .before .before .before .before .args in
+    let l = c .before .loop2 in
+    l .inv .4 (rw (eqb-true (l .depth) 0 e) (on-last (contentsAt (a .file .now) (a .head) .nodes) (l .i) (l .bound) (omega (arith, nodes-held (a .file .now) (a .head)))))
+
+pub sound-by-spec : {M : Type 1} → statement M
+sound-by-spec =
+    tie.close
+    (tie.spec
+    Inv-loop
+    μ-loop
+    Inv-loop2
+    μ-loop2
+    wide-requires
+    add-paired
+    paired-requires
+    slice-write-stack
+    loop-holds
+    sub-narrow
+    narrow-requires
+    session-requires
+    add-depth
+    paired-requires-2
+    mul-stack
+    slice-write-stack-2
+    loop-less
+    loop-again
+    mul-named
+    slice-read-named
+    named-requires
+    same-length
+    returns
+    loop2-holds
+    node-requires
+    add-i
+    same-length-2
+    returns-2
+    same-length-3
+    returns-3
+    sub-depth
+    mul-next
+    slice-read-next
+    named-requires-2
+    same-length-4
+    returns-4
+    bound-above-requires
+    loop2-less
+    loop2-again
+    same-length-5
+    returns-5
+    paired-requires-3
+    mul-stack-2
+    slice-write-stack-3
+    add-depth-2
+    loop2-less-2
+    loop2-again-2
+    goes-on-requires
+    same-length-6
+    returns-6
+    bound-below-requires
+    loop2-less-3
+    loop2-again-3
+    same-length-7
+    returns-7)
