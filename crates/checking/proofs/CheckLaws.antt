@@ -14,7 +14,7 @@ use Rattle.format.specs.Header.{headAt, headOf, Laid}
 use Rattle.format.specs.declared.Verdict.{Verdict}
 use Rattle.format.specs.declared.Head.{Head}
 use Rattle.format.specs.declared.HeadAnswer.the-variants.{Refused as HeadAnswer·Refused}
-use Rattle.format.proofs.AnswerLaws.{Quiet, quiet-first, loud-first, both-quiet}
+use Rattle.format.proofs.AnswerLaws.{NoRefusal, quiet-first, loud-first, both-quiet}
 use Rattle.format.proofs.ContentsLaws.{users-held}
 use Rattle.format.proofs.HeadLaws.{Headed, head-number}
 use Rattle.tables.specs.Records.{recordsAnswer}
@@ -22,7 +22,7 @@ use Rattle.tables.proofs.RecordLaws.{owners-are-users, seated-are-users}
 use Rattle.trees.specs.Shape.{shapeAnswer}
 use Rattle.reading.specs.Reading.{bodyAnswer, reading, withHead, opened}
 use Rattle.reading.specs.declared.Opened.the-variants.{Fine, Refused}
-use Rattle.reading.proofs.LongLaws.{Stands, stands-judged}
+use Rattle.reading.proofs.LongLaws.{StandsFor, stands-judged}
 use Rattle.reading.proofs.ReadingLaws.{refused-by-head, by-body, head-given, refusal-given, opened-fine, opened-refused}
 use Rattle.rules.specs.Schema.{schemaOf}
 use Rattle.rules.specs.Checking.{openings, namesAnswer, rolesAnswer, judgement}
@@ -43,15 +43,15 @@ in-order v n r = go (eqb (v .number) 0) refl
 
 module _ (f : List ℕ) where
   -- where 1 to 8 refuse, that is the whole answer
-  names-first : (Quiet (reading f) → ⊥) → readingNames f ≡ reading f
+  names-first : (NoRefusal (reading f) → ⊥) → readingNames f ≡ reading f
   unfolding readingNames
   names-first l = loud-first (reading f) (namesAnswer (contentsOf f)) l
 
-  check-first : (Quiet (reading f) → ⊥) → checking f ≡ reading f
+  check-first : (NoRefusal (reading f) → ⊥) → checking f ≡ reading f
   unfolding checking
   check-first l = loud-first (reading f) (orElse (namesAnswer (contentsOf f)) (rolesAnswer (contentsOf f))) l
 
-  loud : (n : ℕ) → headOf f ≡ HeadAnswer·Refused n → Quiet (reading f) → ⊥
+  loud : (n : ℕ) → headOf f ≡ HeadAnswer·Refused n → NoRefusal (reading f) → ⊥
   loud n e q = let z = ap (λ (v : Verdict). v .number) (refused-by-head f n e) in omega (arith, q, z, head-number f n e)
 
   pub names-refused : (n : ℕ) → headOf f ≡ HeadAnswer·Refused n → readingNames f ≡ refused n 0
@@ -61,22 +61,22 @@ module _ (f : List ℕ) where
   check-refused n e = check-first (loud n e) ∙ refused-by-head f n e
 
   -- where they refuse nothing, it is that of the rules
-  names-then : Quiet (reading f) → readingNames f ≡ namesAnswer (contentsOf f)
+  names-then : NoRefusal (reading f) → readingNames f ≡ namesAnswer (contentsOf f)
   unfolding readingNames
   names-then q = quiet-first (reading f) (namesAnswer (contentsOf f)) q
 
-  pub names-parts : Quiet (readingNames f) → Quiet (reading f) × Quiet (namesAnswer (contentsOf f))
+  pub names-parts : NoRefusal (readingNames f) → NoRefusal (reading f) × NoRefusal (namesAnswer (contentsOf f))
   unfolding readingNames
-  names-parts q = both-quiet Quiet (reading f) (namesAnswer (contentsOf f)) (λ z. z) .0 q
+  names-parts q = both-quiet NoRefusal (reading f) (namesAnswer (contentsOf f)) (λ z. z) .0 q
 
   -- a file that 1 to 10 refuse with no number is not refused, and has a head
-  pub names-fine : Quiet (readingNames f) → readingNames f ≡ fine
+  pub names-fine : NoRefusal (readingNames f) → readingNames f ≡ fine
   unfolding namesAnswer
   names-fine q =
       let (before, last) = names-parts q in
       names-then before ∙ by-quiet (wrong (schemaOf (contentsOf f))) (schemaOf (contentsOf f)) 1 (contentsOf f .nodes) (openings (contentsOf f)) last
 
-  pub names-headed : Quiet (readingNames f) → Headed f
+  pub names-headed : NoRefusal (readingNames f) → Headed f
   names-headed q = by-body f (names-parts q .0) .0
 
   -- what the way in says of a file
@@ -84,14 +84,14 @@ module _ (f : List ℕ) where
   unfolding entered
   entered-fine h e = let (q, same) = head-given (headAt f) (readingNames f) h e in (subst (Laid f) (sym same) (names-headed q .laid), same, names-fine q)
 
-  pub entered-refused : (w : Verdict) → entered f ≡ Refused w → (Quiet (readingNames f) → ⊥) × (w ≡ readingNames f)
+  pub entered-refused : (w : Verdict) → entered f ≡ Refused w → (NoRefusal (readingNames f) → ⊥) × (w ≡ readingNames f)
   unfolding entered
   entered-refused w e = refusal-given (headAt f) (readingNames f) w e
 
   -- as the code finds it: by 1 to 8, and then by the rules
   module _ (w : Verdict) (e : opened f ≡ Refused w) where
-    early : (Quiet (readingNames f) → ⊥) × (readingNames f ≡ w)
-    early = let (l, same) = opened-refused f w e in (λ q. l (subst Quiet (names-first l) q), names-first l ∙ sym same)
+    early : (NoRefusal (readingNames f) → ⊥) × (readingNames f ≡ w)
+    early = let (l, same) = opened-refused f w e in (λ q. l (subst NoRefusal (names-first l) q), names-first l ∙ sym same)
 
     pub entered-early : Refused w ≡ entered f
     unfolding entered
@@ -108,7 +108,7 @@ module _ (f : List ℕ) where
     same : h ≡ headAt f
     same = opened-fine f h e .1
 
-    quiet : Quiet (reading f)
+    quiet : NoRefusal (reading f)
     quiet = opened-fine f h e .2
 
     names-late : readingNames f ≡ namesAnswer (contentsAt f h)
@@ -129,8 +129,8 @@ module _ (f : List ℕ) where
     pub owned : Owned (contentsAt f h)
     owned =
         let l : Laid f h = opened-fine f h e .0 in
-        let body : Quiet (bodyAnswer h (contentsAt f h)) = subst (λ (k : Head). Quiet (bodyAnswer k (contentsAt f k))) (sym same) (subst Quiet (by-body f quiet .1) quiet) in
-        let records = both-quiet Quiet (recordsAnswer h (contentsAt f h)) (shapeAnswer (contentsAt f h)) (λ z. z) .0 body .0 in
+        let body : NoRefusal (bodyAnswer h (contentsAt f h)) = subst (λ (k : Head). NoRefusal (bodyAnswer k (contentsAt f k))) (sym same) (subst NoRefusal (by-body f quiet .1) quiet) in
+        let records = both-quiet NoRefusal (recordsAnswer h (contentsAt f h)) (shapeAnswer (contentsAt f h)) (λ z. z) .0 body .0 in
         let few : (u : ℕ) → u ≤ length (contentsAt f h .users) → u < 65534 = λ u le. omega (arith, le, users-held f h, l .users) in
         (λ n. few _ (owners-are-users h (contentsAt f h) records n), λ n. few _ (seated-are-users h (contentsAt f h) records n))
 
@@ -144,9 +144,9 @@ module _ (f : List ℕ) where
 
   pub check-late : (h : Head) → entered f ≡ Fine h → examined f .roles ≡ checking f
   check-late h e =
-      let q : Quiet (readingNames f) = ap (λ (v : Verdict). v .number) (entered-fine h e .2) in
+      let q : NoRefusal (readingNames f) = ap (λ (v : Verdict). v .number) (entered-fine h e .2) in
       rw (eq-eqb (readingNames f .number) 0 q) (sym (check-by-names ∙ quiet-first (readingNames f) (rolesAnswer (contentsOf f)) q))
 
 -- what a caller keeps of a long input has the check's answer on the whole
-pub stands-check : (kept input : List ℕ) → Stands kept input → checking kept ≡ checking input
+pub stands-check : (kept input : List ℕ) → StandsFor kept input → checking kept ≡ checking input
 stands-check = stands-judged (λ n. refused n 0) checking check-refused

@@ -28,7 +28,7 @@ use Rattle.reading_exact.proofs.FirstRefusal.{first-refusal, refusable-number, 
 use Rattle.checking.specs.Check.{readingNames, checking}
 use Rattle.checking_exact.specs.Faults.{Objection, of-file, of-node, checkOrder}
 use Rattle.checking_exact.proofs.OperandKinds.{Ranged, laid-ranged}
-use Rattle.checking_exact.proofs.FirstNode.{Stands, Refuses, first-by, all-held}
+use Rattle.checking_exact.proofs.FirstNode.{ReachedAt, Refuses, first-by, all-held}
 use Rattle.checking_exact.proofs.NameFaults.{wrong-fault, fault-wrong}
 use Rattle.checking_exact.proofs.RoleFaults.{barred-fault, fault-barred, fault-number}
 
@@ -120,7 +120,7 @@ module _ (f : List ℕ) where
         first-map checkOrder (Refuses D ns os (barred D)) _ _ to from
         (first-by D ns os (barred D) checkOrder low (λ n p m q a b. roles-stage n (to n p a .1) ∙ sym (roles-stage m (to m q b .1))))
       where
-        clear : (p : ℕ) (c : Context) → Stands D ns os p c → wrong D c (nth ns p) ≡ 0
+        clear : (p : ℕ) (c : Context) → ReachedAt D ns os p c → wrong D c (nth ns p) ≡ 0
         clear = all-held D ns os (wrong D) low (first-clear checkOrder (λ n p. UpToTen n p × (8 < n)) (namesAnswer C) names (λ n p h. named n p (h .0)))
 
         to : (n p : ℕ) → Refuses D ns os (barred D) n p → Objection f n p × (10 < n)

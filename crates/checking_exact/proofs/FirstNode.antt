@@ -17,18 +17,18 @@ use Rattle.reading_exact.specs.File.{InCount}
 use Rattle.reading_exact.specs.Order.{Order, First}
 use Rattle.reading_exact.specs.Refusals.{nth}
 use Rattle.reading_exact.proofs.FirstLaws.{number-of, first-zero, FirstFrom, first-on, first-here}
-use Rattle.reading_exact.proofs.ReachedStack.{none-reached, reached-single, Stands as Waiting, along}
+use Rattle.reading_exact.proofs.ReachedStack.{none-reached, reached-single, TopReached as Waiting, along}
 use Rattle.checking_exact.specs.Faults.{InContext}
 use Rattle.checking_exact.proofs.ContextStack.{contexts}
 
 -- node p is there, in the context c
-abbrev pub Stands : Schema → List Node → List Context → ℕ → Context → Type 0
-Stands D ns os p c = InContext D ns os p c × InCount (length ns) p
+abbrev pub ReachedAt : Schema → List Node → List Context → ℕ → Context → Type 0
+ReachedAt D ns os p c = InContext D ns os p c × InCount (length ns) p
 
 module _ (D : Schema) (ns : List Node) (os : List Context) (rule : Context → Node → ℕ) where
   -- the rule refuses node p with the number n, in its context
   abbrev pub Refuses : ℕ → ℕ → Type 0
-  Refuses n p = (c : Context) × Stands D ns os p c × (rule c (nth ns p) ≡ n) × (n ≢ 0)
+  Refuses n p = (c : Context) × ReachedAt D ns os p c × (rule c (nth ns p) ≡ n) × (n ≢ 0)
 
   module _ (o : Order) (low : (i : ℕ) → InCount (length ns) i → nth ns i .tag ≤ 8) (staged : (n p m q : ℕ) → Refuses n p → Refuses m q → o .stage n ≡ o .stage m) where
     abbrev Answers : ℕ → List Node → List Context → Type 0
@@ -60,7 +60,7 @@ module _ (D : Schema) (ns : List Node) (os : List Context) (rule : Context → N
 
   -- where none is refused the rule holds at every node
   pub all-held : ((i : ℕ) → InCount (length ns) i → nth ns i .tag ≤ 8) → firstBy rule D 1 ns os ≡ fine
-      → (p : ℕ) (c : Context) → Stands D ns os p c → rule c (nth ns p) ≡ 0
+      → (p : ℕ) (c : Context) → ReachedAt D ns os p c → rule c (nth ns p) ≡ 0
   all-held low e p c s = go (eqb (rule c (nth ns p)) 0) refl
     where
       flat : Order

@@ -28,15 +28,15 @@ module _ (D : Schema) (R : Ranged D) (c : Context) where
   cannot m w k = fails-iff (able D m w k) (Permitted D m w k) (able-iff D m w k) .0
 
   -- what barred says at a node whose names fit
-  abbrev Told : ℕ → ℕ → ℕ → Type 0
-  Told t a b =
+  abbrev Refused : ℕ → ℕ → ℕ → Type 0
+  Refused t a b =
       namesFit D (c .vars) (words t a b) ≡ true → (barred D c (words t a b) ≡ 0 → ⊥)
       → Fault D c (words t a b) (barred D c (words t a b)) × (11 ≤ barred D c (words t a b))
 
-  barred-told : (t a b : ℕ) → t ≤ 8 → Told t a b
+  barred-told : (t a b : ℕ) → t ≤ 8 → Refused t a b
   unfolding namesFit barred
   barred-told t a b =
-      by-tag (λ t. Told t a b)
+      by-tag (λ t. Refused t a b)
       (λ n h. absurd (h refl))
       (λ n h. absurd (h refl))
       (λ n h. absurd (h refl))

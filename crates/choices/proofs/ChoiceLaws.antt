@@ -111,11 +111,11 @@ back Ends = refl
 back (Meets q) = refl
 
 -- a choice that is refused has a number
-abbrev pub Told : Chosen → Type 0
-Told (halts n) = n ≡ 0 → ⊥
-Told (goes s) = Unit {0}
+abbrev pub Halts : Chosen → Type 0
+Halts (halts n) = n ≡ 0 → ⊥
+Halts (goes s) = Unit {0}
 
-done-told : (n m : ℕ) (s : State) (i p : ℕ) (o : Outcome) → Fair n m p o → Told (done s i p o)
+done-told : (n m : ℕ) (s : State) (i p : ℕ) (o : Outcome) → Fair n m p o → Halts (done s i p o)
 unfolding done
 done-told n m s i p (Refused k) h = h
 done-told n m s i p (Moves u) h = tt
@@ -124,11 +124,11 @@ done-told n m s i p (Makes q) h = tt
 done-told n m s i p Ends h = tt
 done-told n m s i p (Meets q) h = tt
 
-pub choice-told : (C : Clinic) (s : State) (i p : ℕ) → Told (choice C s i p)
+pub choice-told : (C : Clinic) (s : State) (i p : ℕ) → Halts (choice C s i p)
 unfolding choice
 choice-told C s i p = go (inCount (length (s .threads)) i)
   where
-    go : (b : Bool) → Told (cond b (done s i p (acting C (length (s .threads)) (s .made) (threadAt s i) (partnerAt s p))) (halts 18))
+    go : (b : Bool) → Halts (cond b (done s i p (acting C (length (s .threads)) (s .made) (threadAt s i) (partnerAt s p))) (halts 18))
     go true = done-told (length (s .threads)) (length (s .made)) s i p _ (acting-fair (length (s .threads)) p C (s .made) (threadAt s i) (threadAt s p))
     go false = some 17
 

@@ -15,7 +15,7 @@ use Rattle.choices.specs.Choices.{threadsFrom, start, Ran, follow, run}
 use Rattle.steps.specs.Kept.{threadsIn, madeIn, stateIn, Sized, Carried}
 use Rattle.choices.specs.Stored.{stored, Gone}
 use Rattle.choices.proofs.StateLaws.{threads-add}
-use Rattle.choices.proofs.ChoiceLaws.{Told, choice-told}
+use Rattle.choices.proofs.ChoiceLaws.{Halts, choice-told}
 
 -- a run of which some choices are done already
 abbrev pub after : ℕ → Ran → Ran
@@ -56,7 +56,7 @@ module _ (C : Clinic) (s : State) (ws : List ℕ) (k : ℕ) (now now′ : State)
   pub left-goes : r ≡ 0 → Left C s ws (k + 1) now′
   left-goes none = go (choice C now (getD ws (2 * k) 0) (getD ws (2 * k + 1) 0)) (choice-told C now (getD ws (2 * k) 0) (getD ws (2 * k + 1) 0)) carried here
     where
-      go : (x : Chosen) → Told x → Carried x r now now′ → run C s ws ≡ after k (follow now x (λ y. run C y (drop (2 * (k + 1)) ws))) → Left C s ws (k + 1) now′
+      go : (x : Chosen) → Halts x → Carried x r now now′ → run C s ws ≡ after k (follow now x (λ y. run C y (drop (2 * (k + 1)) ws))) → Left C s ws (k + 1) now′
       go (halts n) told (e, q) h = absurd (told (sym e ∙ none))
       go (goes y) told (e, q) h =
           let R : Ran = run C y (drop (2 * (k + 1)) ws) in

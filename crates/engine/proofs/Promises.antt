@@ -40,7 +40,7 @@ use Rattle.running_exact.specs.Conditions.{Condition, FirstRefusal}
 use Rattle.running_exact.specs.Keeps.{Reaches, Kept}
 use Rattle.lending.specs.Lent.{stateOf, lending, choosing, recordsOver, besideOver}
 use Rattle.lending_exact.specs.Lendable.{Lendable, Eight, Lends, inTurn}
-use Rattle.reading.proofs.LongLaws.{Stands}
+use Rattle.reading.proofs.LongLaws.{StandsFor}
 use Rattle.checking.proofs.CheckLaws.{stands-check}
 use Rattle.checking_exact.proofs.CheckExact.{check-exact, names-exact}
 use Rattle.checking_exact.proofs.CheckFirst.{check-first, names-first}
@@ -94,10 +94,10 @@ pub first-in-order : (f : List ℕ) → First readingOrder (Refusable f) (readin
 first-in-order = first-refusal
 
 -- A program that keeps only the start of a long input answers for the whole of it.
-pub long-input : (kept input : List ℕ) → Stands kept input → checking kept ≡ checking input
+pub long-input : (kept input : List ℕ) → StandsFor kept input → checking kept ≡ checking input
 long-input = stands-check
 
-pub long-input-placed : (room : ℕ) (kept input : List ℕ) → Stands kept input → placing kept room ≡ placing input room
+pub long-input-placed : (room : ℕ) (kept input : List ℕ) → StandsFor kept input → placing kept room ≡ placing input room
 long-input-placed = stands-placed
 
 -- Placing. "A placed file has its input's users, roles, kinds and channels, its sessions' users and starting masks, and is a placement of its input that passes the check, each

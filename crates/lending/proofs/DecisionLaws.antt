@@ -19,7 +19,7 @@ use Rattle.choices.specs.Choices.{Ran, follow, run}
 use Rattle.choices.specs.Stored.{Gone}
 use Rattle.choices.proofs.TableLaws.{threads-length}
 use Rattle.choices.proofs.StateLaws.{made-length}
-use Rattle.choices.proofs.ChoiceLaws.{Told, choice-told}
+use Rattle.choices.proofs.ChoiceLaws.{Halts, choice-told}
 use Rattle.running.specs.Run.{madeWords}
 use Rattle.reading_exact.specs.File.{InCount}
 use Rattle.running_exact.specs.Steps as steps
@@ -223,7 +223,7 @@ module _ (C : Clinic) (ts : List Thread) (b list w k w′ k′ : List ℕ) (g : 
     chosen : choice C (stateOf ts b) i p ≡ goes (stateIn w′ k′)
     chosen = go (choice C (stateOf ts b) i p) refl (choice-told C (stateOf ts b) i p) went
       where
-        go : (x : Chosen) → choice C (stateOf ts b) i p ≡ x → Told x → Went x → choice C (stateOf ts b) i p ≡ goes (stateIn w′ k′)
+        go : (x : Chosen) → choice C (stateOf ts b) i p ≡ x → Halts x → Went x → choice C (stateOf ts b) i p ≡ goes (stateIn w′ k′)
         go (halts n) q told (r, left, z) = absurd (told (sym (ap (λ (y : Counted). y .refusal) r) ∙ quiet))
         go (goes s) q told (r, left, z) = q ∙ ap goes (sym left)
 

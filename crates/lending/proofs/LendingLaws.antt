@@ -11,7 +11,7 @@ use Rattle.format.specs.Contents.{contentsAt, contentsOf}
 use Rattle.format.specs.Answers.{fine, refused}
 use Rattle.format.specs.declared.Verdict.{Verdict}
 use Rattle.format.specs.declared.Head.{Head}
-use Rattle.format.proofs.AnswerLaws.{Quiet, loud-first}
+use Rattle.format.proofs.AnswerLaws.{NoRefusal, loud-first}
 use Rattle.reading.specs.declared.Opened.the-variants.{Fine, Refused}
 use Rattle.rules.specs.Schema.{schemaOf}
 use Rattle.checking.specs.Check.{readingNames, entered}
@@ -56,7 +56,7 @@ module _ (f : List ℕ) (records : ℕ) (ts : List Thread) (b : List ℕ) (i p :
   unfolding lending
   names-give v d all e =
       let (l, same) = entered-refused f v e in
-      let loud : Quiet v → ⊥ = λ q. l (subst Quiet same q) in
+      let loud : NoRefusal v → ⊥ = λ q. l (subst NoRefusal same q) in
       refusal-gives v d all loud (λ k long begins. loud-first (readingNames f) (cond (mayBeLent (contentsOf f) k b) fine (refused 18 0)) l ∙ sym same)
 
   module _ (h : Head) (e : entered f ≡ Fine h) where

@@ -29,7 +29,7 @@ use Rattle.running_exact.proofs.FileNodes.{StandsIn}
 use Rattle.running_exact.proofs.FileLawful.{of-kept, lawful}
 use Rattle.running_exact.proofs.ThreadLists.{all-set}
 use Rattle.running_exact.proofs.ThreadSteps.{Steady, Good}
-use Rattle.running_exact.proofs.OutcomesTold.{MayCome}
+use Rattle.running_exact.proofs.OutcomeClaims.{MayCome}
 use Rattle.running_exact.proofs.ChoiceKeeps.{Invariant, Keeps, choice-keeps}
 use Rattle.running_exact.proofs.RunSafe.{start-kept, choice-kept, run-kept}
 use Rattle.lending.specs.Lent.{stateOf, lending, chosenAnswer, chosenIn, choosing, recordsAfter, besideAfter, recordsOver, besideOver}

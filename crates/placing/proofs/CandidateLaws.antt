@@ -10,7 +10,7 @@ use borrow.Author.Tests.{eqb-false}
 use Rattle.format.specs.Contents.{Contents}
 use Rattle.format.specs.declared.Session.{Session}
 use Rattle.format.specs.declared.Node.{Node}
-use Rattle.format.proofs.AnswerLaws.{Quiet}
+use Rattle.format.proofs.AnswerLaws.{NoRefusal}
 use Rattle.format.specs.Stacks.{top}
 use Rattle.trees.specs.Ends.{following}
 use Rattle.trees.specs.Shape.{nodeFits, dueAfter, shapeFrom, roots, shapeAnswer}
@@ -32,7 +32,7 @@ same-wait D c d n st ds e = go (eqb (n .tag) 0) refl (eqb (n .tag) 1) refl
     go false p false q = rw (p, q) (ap suc e)
 
 listed-from : (D : Schema) (i j : ℕ) (ns : List Node) (st : List Context) (ds : List Due) → length st ≡ length ds
-    → Quiet (shapeFrom i ns ds) → Quiet (firstBy (wrong D) D j ns st) → length (candidatesFrom D ns st) ≡ length ns
+    → NoRefusal (shapeFrom i ns ds) → NoRefusal (firstBy (wrong D) D j ns st) → length (candidatesFrom D ns st) ≡ length ns
 unfolding candidatesFrom shapeFrom firstBy
 listed-from D i j [] st ds e s w = refl
 listed-from D i j (n ∷ ns) [] [] e s w = let no-way : ⊥ = omega (arith, s) in absurd no-way
@@ -42,7 +42,7 @@ listed-from D i j (n ∷ ns) (c ∷ st) (d ∷ ds) e s w =
     go (listed-from D (suc i) (suc j) ns (waitingAfter D c n st) (dueAfter n d ds) (same-wait D c d n st ds (omega (arith, e))))
     (nodeFits i n d (top (following (suc i) ns))) refl (eqb (wrong D c n) 0) refl
   where
-    go : (Quiet (shapeFrom (suc i) ns (dueAfter n d ds)) → Quiet (firstBy (wrong D) D (suc j) ns (waitingAfter D c n st))
+    go : (NoRefusal (shapeFrom (suc i) ns (dueAfter n d ds)) → NoRefusal (firstBy (wrong D) D (suc j) ns (waitingAfter D c n st))
         → length (candidatesFrom D ns (waitingAfter D c n st)) ≡ length ns)
         → (x : Bool) → nodeFits i n d (top (following (suc i) ns)) ≡ x → (y : Bool) → eqb (wrong D c n) 0 ≡ y
         → length (cond (eqb (wrong D c n) 0) (candidates D c n ∷ candidatesFrom D ns (waitingAfter D c n st)) []) ≡ suc (length ns)
@@ -55,7 +55,7 @@ unfolding openingsFrom roots
 same-begin [] = refl
 same-begin (s ∷ ss) = ap suc (same-begin ss)
 
-pub candidates-length : (C : Contents) → Quiet (shapeAnswer C) → Quiet (namesAnswer C) → length (candidatesIn C) ≡ length (C .nodes)
+pub candidates-length : (C : Contents) → NoRefusal (shapeAnswer C) → NoRefusal (namesAnswer C) → length (candidatesIn C) ≡ length (C .nodes)
 unfolding candidatesIn namesAnswer shapeAnswer
 candidates-length C s n = listed-from (schemaOf C) 1 1 (C .nodes) (openings C) (roots (C .sessions)) (same-begin (C .sessions)) s n
 

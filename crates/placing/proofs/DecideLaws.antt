@@ -12,7 +12,7 @@ use Rattle.format.specs.Contents.{Contents}
 use Rattle.format.specs.Answers.{fine, refused, orElse}
 use Rattle.format.specs.declared.Verdict.{Verdict}
 use Rattle.format.specs.declared.Node.{Node}
-use Rattle.format.proofs.AnswerLaws.{Quiet, quiet-first, loud-first, both-quiet}
+use Rattle.format.proofs.AnswerLaws.{NoRefusal, quiet-first, loud-first, both-quiet}
 use Rattle.trees.specs.Shape.{shapeAnswer}
 use Rattle.rules.specs.Checking.{namesAnswer}
 use Rattle.rules.specs.Candidates.{candidatesIn}
@@ -24,21 +24,21 @@ use Rattle.groups.proofs.GroupLaws.{placed-same, starts-table}
 use Rattle.placing.specs.Placing.{labelsIn, Labelled, turnsFor, masksAnswer, switchesAnswer, unservedFrom, sizeAnswer, settling, placeable, decided, noSums, summed}
 use Rattle.placing.proofs.CandidateLaws.{candidates-length, labelled-more}
 
-pub decided-loud : (v : Verdict) (ts : List Turn) → (Quiet v → ⊥) → decided v ts ≡ record { verdict = v; sums = noSums }
+pub decided-loud : (v : Verdict) (ts : List Turn) → (NoRefusal v → ⊥) → decided v ts ≡ record { verdict = v; sums = noSums }
 decided-loud v ts l = rw (ne-eqb (v .number) 0 l)
 
-pub decided-quiet : (v : Verdict) (ts : List Turn) → Quiet v → decided v ts ≡ record { verdict = v; sums = summed ts }
+pub decided-quiet : (v : Verdict) (ts : List Turn) → NoRefusal v → decided v ts ≡ record { verdict = v; sums = summed ts }
 decided-quiet v ts q = rw (eq-eqb (v .number) 0 q)
 
 -- 15 and 16
 module _ (ls : List Label) where
-  pub unserved-loud : (Quiet (unservedFrom 1 ls) → ⊥) → settling ls ≡ unservedFrom 1 ls
+  pub unserved-loud : (NoRefusal (unservedFrom 1 ls) → ⊥) → settling ls ≡ unservedFrom 1 ls
   unserved-loud l = loud-first (unservedFrom 1 ls) (sizeAnswer (sizesOf (turnsOf ls))) l
 
-  pub too-large : Quiet (unservedFrom 1 ls) → 1024 < sizesOf (turnsOf ls) → settling ls ≡ refused 16 0
+  pub too-large : NoRefusal (unservedFrom 1 ls) → 1024 < sizesOf (turnsOf ls) → settling ls ≡ refused 16 0
   too-large q h = quiet-first (unservedFrom 1 ls) (sizeAnswer (sizesOf (turnsOf ls))) q ∙ rw (lt-leb (sizesOf (turnsOf ls)) 1024 h)
 
-  pub not-too-large : Quiet (unservedFrom 1 ls) → sizesOf (turnsOf ls) ≤ 1024 → settling ls ≡ fine
+  pub not-too-large : NoRefusal (unservedFrom 1 ls) → sizesOf (turnsOf ls) ≤ 1024 → settling ls ≡ fine
   not-too-large q h = quiet-first (unservedFrom 1 ls) (sizeAnswer (sizesOf (turnsOf ls))) q ∙ rw (le-leb (sizesOf (turnsOf ls)) 1024 h)
 
 -- a table that was written from 1 on
@@ -75,7 +75,7 @@ turns-written ns rs t t′ fits room e =
 
 module _ (C : Contents) where
   -- the candidates that a pass kept in a table
-  pub labels-kept : (t : List ℕ) → Quiet (shapeAnswer C) → Quiet (namesAnswer C) → length (C .nodes) < length t → Labelled C (sets t 1 (candidatesIn C))
+  pub labels-kept : (t : List ℕ) → NoRefusal (shapeAnswer C) → NoRefusal (namesAnswer C) → length (C .nodes) < length t → Labelled C (sets t 1 (candidatesIn C))
   labels-kept t s n room =
       let e : length (candidatesIn C) ≡ length (C .nodes) = candidates-length C s n in
       ap (labelled (C .nodes)) (from-one t (candidatesIn C) (omega (arith, e, room)))
@@ -85,22 +85,22 @@ module _ (C : Contents) where
   abbrev pub bare : Verdict
   bare = orElse (masksAnswer C) (switchesAnswer C)
 
-  pub bare-loud : (Quiet bare → ⊥) → placeable C ≡ bare
+  pub bare-loud : (NoRefusal bare → ⊥) → placeable C ≡ bare
   unfolding placeable
   bare-loud l = loud-first bare (settling (labelsIn C)) l
 
-  pub bare-quiet : Quiet bare → placeable C ≡ settling (labelsIn C)
+  pub bare-quiet : NoRefusal bare → placeable C ≡ settling (labelsIn C)
   unfolding placeable
   bare-quiet b = quiet-first bare (settling (labelsIn C)) b
 
-  pub few-nodes : Quiet (placeable C) → sizesOf (turnsFor C) ≤ 1024
+  pub few-nodes : NoRefusal (placeable C) → sizesOf (turnsFor C) ≤ 1024
   unfolding placeable
   few-nodes q = go (leb (sizesOf (turnsFor C)) 1024) refl
     where
-      size : Quiet (sizeAnswer (sizesOf (turnsFor C)))
+      size : NoRefusal (sizeAnswer (sizesOf (turnsFor C)))
       size =
-          let settled = both-quiet Quiet bare (settling (labelsIn C)) (λ z. z) .0 q .1 in
-          both-quiet Quiet (unservedFrom 1 (labelsIn C)) (sizeAnswer (sizesOf (turnsFor C))) (λ z. z) .0 settled .1
+          let settled = both-quiet NoRefusal bare (settling (labelsIn C)) (λ z. z) .0 q .1 in
+          both-quiet NoRefusal (unservedFrom 1 (labelsIn C)) (sizeAnswer (sizesOf (turnsFor C))) (λ z. z) .0 settled .1
 
       go : (b : Bool) → leb (sizesOf (turnsFor C)) 1024 ≡ b → sizesOf (turnsFor C) ≤ 1024
       go true e = leb-true (sizesOf (turnsFor C)) 1024 e

@@ -15,13 +15,13 @@ use Rattle.format.specs.Header.{headAt, headOf}
 use Rattle.format.specs.declared.Verdict.{Verdict}
 use Rattle.format.specs.declared.Head.{Head}
 use Rattle.format.specs.declared.HeadAnswer.the-variants.{Refused}
-use Rattle.format.proofs.AnswerLaws.{Quiet, quiet-first, loud-first, both-quiet}
+use Rattle.format.proofs.AnswerLaws.{NoRefusal, quiet-first, loud-first, both-quiet}
 use Rattle.format.proofs.HeadLaws.{head-number}
 use Rattle.tables.specs.Records.{recordsAnswer}
 use Rattle.trees.specs.Shape.{shapeAnswer}
 use Rattle.reading.specs.Reading.{bodyAnswer, reading}
 use Rattle.reading.specs.declared.Opened.the-variants.{Fine as Opened·Fine, Refused as Opened·Refused}
-use Rattle.reading.proofs.LongLaws.{Stands, stands-judged}
+use Rattle.reading.proofs.LongLaws.{StandsFor, stands-judged}
 use Rattle.reading.proofs.ReadingLaws.{by-body}
 use Rattle.rules.specs.Candidates.{candidatesIn}
 use Rattle.checking.specs.Check.{readingNames, entered, surveyed}
@@ -40,7 +40,7 @@ module _ (f : List ℕ) where
   unfolding placing
   answers room h = rw (le-ltb room 6874 h)
 
-  pub placing-refused : (room : ℕ) (v : Verdict) → 6874 ≤ room → judging f ≡ v → (Quiet v → ⊥) → placing f room ≡ noPlace (v .number) (v .place)
+  pub placing-refused : (room : ℕ) (v : Verdict) → 6874 ≤ room → judging f ≡ v → (NoRefusal v → ⊥) → placing f room ≡ noPlace (v .number) (v .place)
   placing-refused room v h e l = answers room h ∙ ap (placedAnswer f) e ∙ rw (ne-eqb (v .number) 0 l)
 
   -- where anything is refused the output stays
@@ -52,21 +52,21 @@ module _ (f : List ℕ) where
   pub head-refused : (room n : ℕ) → 6874 ≤ room → headOf f ≡ Refused n → placing f room ≡ noPlace n 0
   unfolding judging
   head-refused room n h e =
-      let loud : Quiet (refused n 0) → ⊥ = λ z. let no-way : ⊥ = omega (arith, head-number f n e, z) in no-way in
+      let loud : NoRefusal (refused n 0) → ⊥ = λ z. let no-way : ⊥ = omega (arith, head-number f n e, z) in no-way in
       let names : readingNames f ≡ refused n 0 = names-refused f n e in
       placing-refused room (refused n 0) h (ap (λ v. orElse v (placeable (contentsOf f))) names ∙ loud-first (refused n 0) (placeable (contentsOf f)) loud) loud
 
   -- a file that 1 to 10 refuse
-  pub names-loud : (w : Verdict) → entered f ≡ Opened·Refused w → (judging f ≡ w) × (Quiet w → ⊥)
+  pub names-loud : (w : Verdict) → entered f ≡ Opened·Refused w → (judging f ≡ w) × (NoRefusal w → ⊥)
   unfolding judging
   names-loud w e =
-      let (l, same) = entered-refused f w e in (loud-first (readingNames f) (placeable (contentsOf f)) l ∙ sym same, λ q. l (subst Quiet same q))
+      let (l, same) = entered-refused f w e in (loud-first (readingNames f) (placeable (contentsOf f)) l ∙ sym same, λ q. l (subst NoRefusal same q))
 
   -- where nothing is refused
-  pub placing-placed : (room : ℕ) → 6874 ≤ room → Quiet (judging f) → placing f room ≡ placedIn (headAt f) (contentsOf f)
+  pub placing-placed : (room : ℕ) → 6874 ≤ room → NoRefusal (judging f) → placing f room ≡ placedIn (headAt f) (contentsOf f)
   placing-placed room r q = answers room r ∙ rw (eq-eqb (judging f .number) 0 q)
 
-  pub over-placed : (out : List ℕ) → 6874 ≤ length out → Quiet (judging f) → placedOver f out ≡ sets out 0 (placedBytes f)
+  pub over-placed : (out : List ℕ) → 6874 ≤ length out → NoRefusal (judging f) → placedOver f out ≡ sets out 0 (placedBytes f)
   unfolding placedOver
   over-placed out r q = ap (λ a. cond (eqb (a .number) 0) (sets out 0 (placedBytes f)) out) (placing-placed (length out) r q)
 
@@ -75,7 +75,7 @@ module _ (f : List ℕ) where
     same : h ≡ headAt f
     same = entered-fine f h e .1
 
-    names-quiet : Quiet (readingNames f)
+    names-quiet : NoRefusal (readingNames f)
     names-quiet = ap (λ (v : Verdict). v .number) (entered-fine f h e .2)
 
     pub head-version : h .version ≡ 1
@@ -97,25 +97,25 @@ module _ (f : List ℕ) where
     unfolding surveyed
     surveyed-labels t t′ q room =
         let (r, n) = names-parts f names-quiet in
-        let body : Quiet (bodyAnswer (headAt f) (contentsOf f)) = subst Quiet (by-body f r .1) r in
-        let shaped = both-quiet Quiet (recordsAnswer (headAt f) (contentsOf f)) (shapeAnswer (contentsOf f)) (λ z. z) .0 body .1 in
+        let body : NoRefusal (bodyAnswer (headAt f) (contentsOf f)) = subst NoRefusal (by-body f r .1) r in
+        let shaped = both-quiet NoRefusal (recordsAnswer (headAt f) (contentsOf f)) (shapeAnswer (contentsOf f)) (λ z. z) .0 body .1 in
         let filled : t′ ≡ sets t 1 (candidatesIn (contentsOf f)) = q ∙ rw (eq-eqb (reading f .number) 0 r) in
         let fits = subst (λ (k : Head). length (contentsAt f k .nodes) < length t) same room in
         let labels = subst (Labelled (contentsOf f)) (sym filled) (labels-kept (contentsOf f) t shaped n fits) in
         (subst (λ (k : Head). Labelled (contentsAt f k) t′) (sym same) labels, ap length filled ∙ length-sets t 1 (candidatesIn (contentsOf f)))
 
 -- what a caller keeps of a long input is placed as the whole is
-pub stands-placed : (room : ℕ) (kept input : List ℕ) → Stands kept input → placing kept room ≡ placing input room
+pub stands-placed : (room : ℕ) (kept input : List ℕ) → StandsFor kept input → placing kept room ≡ placing input room
 stands-placed room = go (ltb room 6874) refl
   where
-    go : (b : Bool) → ltb room 6874 ≡ b → (kept input : List ℕ) → Stands kept input → placing kept room ≡ placing input room
+    go : (b : Bool) → ltb room 6874 ≡ b → (kept input : List ℕ) → StandsFor kept input → placing kept room ≡ placing input room
     go true e kept input s = let small = ltb-true room 6874 e in too-small kept room small ∙ sym (too-small input room small)
     go false e kept input s = stands-judged (λ n. noPlace n 0) (λ f. placing f room) (λ f n. head-refused f room n (ltb-false room 6874 e)) kept input s
 
-pub stands-over : (out kept input : List ℕ) → Stands kept input → placedOver kept out ≡ placedOver input out
+pub stands-over : (out kept input : List ℕ) → StandsFor kept input → placedOver kept out ≡ placedOver input out
 stands-over out = go (ltb (length out) 6874) refl
   where
-    go : (b : Bool) → ltb (length out) 6874 ≡ b → (kept input : List ℕ) → Stands kept input → placedOver kept out ≡ placedOver input out
+    go : (b : Bool) → ltb (length out) 6874 ≡ b → (kept input : List ℕ) → StandsFor kept input → placedOver kept out ≡ placedOver input out
     go true e kept input s = stays kept ∙ sym (stays input)
       where
         stays : (f : List ℕ) → placedOver f out ≡ out
@@ -138,8 +138,8 @@ length-most f room = go (ltb room 6874) refl (eqb (judging f .number) 0) refl
     go false r false j =
         none (judging f .number) (judging f .place) (placing-refused f room (judging f) (ltb-false room 6874 r) refl (eqb-false (judging f .number) 0 j))
     go false r true j =
-        let quiet : Quiet (judging f) = eqb-true (judging f .number) 0 j in
-        let (names, rest) = both-quiet Quiet (readingNames f) (placeable (contentsOf f)) (λ z. z) .0 quiet in
+        let quiet : NoRefusal (judging f) = eqb-true (judging f .number) 0 j in
+        let (names, rest) = both-quiet NoRefusal (readingNames f) (placeable (contentsOf f)) (λ z. z) .0 quiet in
         let size : placing f room .length ≡ 2 * (headAt f .at .nodes + 3 * sizesOf (turnsFor (contentsOf f))) =
         ap (λ (a : Placed). a .length) (placing-placed f room (ltb-false room 6874 r) quiet) in
         omega (arith, size, few-nodes (contentsOf f) rest, names-headed f names .laid)

@@ -12,7 +12,7 @@ use borrow.Author.Tests.{eqb-false}
 use Rattle.format.specs.Answers.{fine, refused}
 use Rattle.format.specs.Contents.{item, noNode}
 use Rattle.format.specs.declared.Node.{Node}
-use Rattle.format.proofs.AnswerLaws.{Quiet}
+use Rattle.format.proofs.AnswerLaws.{NoRefusal}
 use Rattle.format.proofs.ContentsLaws.{from-item, none-past}
 use Rattle.states.specs.States.{Label, needs, labelled}
 use Rattle.states.specs.Kept.{Served}
@@ -47,13 +47,13 @@ unfolding unservedFrom labelled
 left-none ns rs n past = ap (λ (xs : List Node). unservedFrom n (labelled xs (drop n rs))) (none-past ns (n - 1) (omega arith))
 
 -- where there is none, each node that needs a state has one
-pub all-served : (i : ℕ) (ls : List Label) → Quiet (unservedFrom i ls) → Served ls
+pub all-served : (i : ℕ) (ls : List Label) → NoRefusal (unservedFrom i ls) → Served ls
 unfolding unservedFrom Served
 all-served i [] q = tt
 all-served i (l ∷ ls) q = go (needs (l .tag)) refl (eqb (l .roles) 0) refl (all-served (suc i) ls) q
   where
-    go : (x : Bool) → needs (l .tag) ≡ x → (y : Bool) → eqb (l .roles) 0 ≡ y → (Quiet (unservedFrom (suc i) ls) → Served ls)
-        → Quiet (cond (x && y) (refused 15 i) (unservedFrom (suc i) ls)) → (needs (l .tag) ≡ true → l .roles ≡ 0 → ⊥) × Served ls
+    go : (x : Bool) → needs (l .tag) ≡ x → (y : Bool) → eqb (l .roles) 0 ≡ y → (NoRefusal (unservedFrom (suc i) ls) → Served ls)
+        → NoRefusal (cond (x && y) (refused 15 i) (unservedFrom (suc i) ls)) → (needs (l .tag) ≡ true → l .roles ≡ 0 → ⊥) × Served ls
     go true e true g further q = let no-way : ⊥ = omega (arith, q) in absurd no-way
     go true e false g further q = (λ n z. eqb-false (l .roles) 0 g z, further q)
     go false e y g further q = (λ n z. true≢false (sym n ∙ e), further q)

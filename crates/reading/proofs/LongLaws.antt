@@ -71,13 +71,13 @@ head-start f = λ j. record { version = word 0 (omega arith) j; count = six 1 (o
     }
 
 -- What is kept of an input stands for it: all of it, or of one longer than any file the head, and as many bytes as `enough` says.
-pub record Stands (kept input : List ℕ) : Type 0 where
+pub record StandsFor (kept input : List ℕ) : Type 0 where
   pub size : length kept ≡ enough (length input)
   pub head : take 26 kept ≡ take 26 input
   pub all : length input ≤ largest + 2 → kept ≡ input
 
 -- as many bytes of the input as `enough` says
-pub start-stands : (f : List ℕ) → Stands (take (enough (length f)) f) f
+pub start-stands : (f : List ℕ) → StandsFor (take (enough (length f)) f) f
 start-stands f = record {
   size = length-take-le (enough (length f)) f (omega arith);
   head = start (ltb (length f) (largest + 2)) refl;
@@ -89,16 +89,16 @@ start-stands f = record {
     start false e = let long : largest + 2 ≤ length f = ltb-false (length f) (largest + 2) e in take-take 26 (enough (length f)) f (omega arith)
 
 -- and the same of what is kept and the piece that comes behind it
-pub stands-on : (kept input piece : List ℕ) → Stands kept input → Stands (take (enough (length (kept ++ piece))) (kept ++ piece)) (input ++ piece)
+pub stands-on : (kept input piece : List ℕ) → StandsFor kept input → StandsFor (take (enough (length (kept ++ piece))) (kept ++ piece)) (input ++ piece)
 stands-on kept input piece s = go (leb (length input) (largest + 2)) refl
   where
-    go : (b : Bool) → leb (length input) (largest + 2) ≡ b → Stands (take (enough (length (kept ++ piece))) (kept ++ piece)) (input ++ piece)
+    go : (b : Bool) → leb (length input) (largest + 2) ≡ b → StandsFor (take (enough (length (kept ++ piece))) (kept ++ piece)) (input ++ piece)
     go true e = rw (s .all (leb-true (length input) (largest + 2) e)) (start-stands (input ++ piece))
     go false e =
         let long : largest + 2 < length input = leb-false (length input) (largest + 2) e in
         let sum : length (kept ++ piece) ≡ length kept + length piece = length-append kept piece in
         let whole : length (input ++ piece) ≡ length input + length piece = length-append input piece in
-        let cut : Stands (take (enough (length (kept ++ piece))) (kept ++ piece)) (kept ++ piece) = start-stands (kept ++ piece) in
+        let cut : StandsFor (take (enough (length (kept ++ piece))) (kept ++ piece)) (kept ++ piece) = start-stands (kept ++ piece) in
         record {
           size = omega (arith, cut .size, s .size, sum, whole, long);
           head = cut .head ∙ take-append-le 26 kept piece (omega (arith, s .size, long)) ∙ s .head ∙ sym (take-append-le 26 input piece (omega (arith, long)));
@@ -114,7 +114,7 @@ module _ {A : Type 0} (refusal : ℕ → A) (judge : List ℕ → A) (by-head : 
       ∙ ap₂ (λ odd h. refusal (longNumber odd h)) parity heads
       ∙ sym (by-head g (longNumber (length g % 2) (headAt g)) (long-head g g-long))
 
-  pub stands-judged : (kept input : List ℕ) → Stands kept input → judge kept ≡ judge input
+  pub stands-judged : (kept input : List ℕ) → StandsFor kept input → judge kept ≡ judge input
   stands-judged kept input s = go (leb (length input) (largest + 2)) refl
     where
       go : (b : Bool) → leb (length input) (largest + 2) ≡ b → judge kept ≡ judge input
@@ -123,7 +123,7 @@ module _ {A : Type 0} (refusal : ℕ → A) (judge : List ℕ → A) (by-head : 
           let long : largest + 2 < length input = leb-false (length input) (largest + 2) e in
           long-alike kept input (omega (arith, s .size, long)) (omega arith) (omega (arith, s .size, long)) (s .head)
 
-pub stands-read : (kept input : List ℕ) → Stands kept input → reading kept ≡ reading input
+pub stands-read : (kept input : List ℕ) → StandsFor kept input → reading kept ≡ reading input
 stands-read = stands-judged (λ n. refused n 0) reading refused-by-head
 
 -- so the first bytes of an input, as many as `enough` says, have its answer

@@ -17,7 +17,7 @@ use Rattle.format.specs.declared.HeadAnswer.{HeadAnswer}
 use Rattle.format.specs.declared.HeadAnswer.the-variants.{Fine, Refused}
 use Rattle.reading.specs.declared.Opened.{Opened}
 use Rattle.reading.specs.declared.Opened.the-variants.{Fine as Opened·Fine, Refused as Opened·Refused}
-use Rattle.format.proofs.AnswerLaws.{Quiet}
+use Rattle.format.proofs.AnswerLaws.{NoRefusal}
 use Rattle.format.proofs.HeadLaws.{Headed, headed, headed-fine, head-number}
 
 module _ (f : List ℕ) where
@@ -27,7 +27,7 @@ module _ (f : List ℕ) where
   refused-by-head n e = ap (readingBy f) e
 
   -- where nothing is refused there is a head, and the answer is that for what follows it
-  pub by-body : Quiet (reading f) → Headed f × (reading f ≡ bodyAnswer (headAt f) (contentsOf f))
+  pub by-body : NoRefusal (reading f) → Headed f × (reading f ≡ bodyAnswer (headAt f) (contentsOf f))
   unfolding reading
   by-body q = go (headOf f) refl
     where
@@ -41,26 +41,26 @@ module _ (f : List ℕ) where
 
 -- a head comes where an answer refuses nothing, and a refusal where it refuses
 module _ (k : Head) (v : Verdict) where
-  pub head-given : (h : Head) → withHead k v ≡ Opened·Fine h → Quiet v × (h ≡ k)
+  pub head-given : (h : Head) → withHead k v ≡ Opened·Fine h → NoRefusal v × (h ≡ k)
   head-given h e = go (eqb (v .number) 0) refl e
     where
-      go : (b : Bool) → eqb (v .number) 0 ≡ b → cond b (Opened·Fine k) (Opened·Refused v) ≡ Opened·Fine h → Quiet v × (h ≡ k)
+      go : (b : Bool) → eqb (v .number) 0 ≡ b → cond b (Opened·Fine k) (Opened·Refused v) ≡ Opened·Fine h → NoRefusal v × (h ≡ k)
       go true q s = (eqb-true (v .number) 0 q, cc)
       go false q s = let no : _≡_ {A = ℕ} 0 1 = cc in absurd (omega arith)
 
-  pub refusal-given : (w : Verdict) → withHead k v ≡ Opened·Refused w → (Quiet v → ⊥) × (w ≡ v)
+  pub refusal-given : (w : Verdict) → withHead k v ≡ Opened·Refused w → (NoRefusal v → ⊥) × (w ≡ v)
   refusal-given w e = go (eqb (v .number) 0) refl e
     where
-      go : (b : Bool) → eqb (v .number) 0 ≡ b → cond b (Opened·Fine k) (Opened·Refused v) ≡ Opened·Refused w → (Quiet v → ⊥) × (w ≡ v)
+      go : (b : Bool) → eqb (v .number) 0 ≡ b → cond b (Opened·Fine k) (Opened·Refused v) ≡ Opened·Refused w → (NoRefusal v → ⊥) × (w ≡ v)
       go true q s = let no : _≡_ {A = ℕ} 0 1 = cc in absurd (omega arith)
       go false q s = (eqb-false (v .number) 0 q, cc)
 
 module _ (f : List ℕ) where
-  pub opened-fine : (h : Head) → opened f ≡ Opened·Fine h → Laid f h × (h ≡ headAt f) × Quiet (reading f)
+  pub opened-fine : (h : Head) → opened f ≡ Opened·Fine h → Laid f h × (h ≡ headAt f) × NoRefusal (reading f)
   unfolding opened
   opened-fine h e = let (q, s) = head-given (headAt f) (reading f) h e in (subst (Laid f) (sym s) (by-body f q .0 .laid), s, q)
 
-  pub opened-refused : (w : Verdict) → opened f ≡ Opened·Refused w → (Quiet (reading f) → ⊥) × (w ≡ reading f)
+  pub opened-refused : (w : Verdict) → opened f ≡ Opened·Refused w → (NoRefusal (reading f) → ⊥) × (w ≡ reading f)
   unfolding opened
   opened-refused w e = refusal-given (headAt f) (reading f) w e
 

@@ -17,7 +17,7 @@ use Rattle.reading_exact.specs.File.{InCount}
 use Rattle.reading_exact.specs.Refusals.{nth, ReachedWith, Misshapen, not-due, bad-tag, unused-f1, unused-f2, second, past-last, left-over, ninth}
 use Rattle.reading_exact.proofs.TagTests.{one-of, no-field, one-field}
 use Rattle.reading_exact.proofs.FollowedEnds.{endsFrom, follows-on, follows-top, ends-follow}
-use Rattle.reading_exact.proofs.ReachedStack.{stackAt, top-root, top-reached, left-none, top-by, Stands}
+use Rattle.reading_exact.proofs.ReachedStack.{stackAt, top-root, top-reached, left-none, top-by, TopReached}
 use Rattle.reading_exact.proofs.DueStack.{dues}
 
 module _ (ns : List Node) (roots : List ℕ) where
@@ -46,7 +46,7 @@ module _ (ns : List Node) (roots : List ℕ) where
       omega (arith, top-reached (dues roots) ns s r, room n d (f .4) (one-of (n .tag) 3 5 .1 t))
 
   -- a node that does not fit
-  bad-root : (i : ℕ) (d : Due) (st : List Due) → InCount (length ns) i → Stands (dues roots) ns i (d ∷ st) → rootFits i d ≡ false → Misshapen ns roots i
+  bad-root : (i : ℕ) (d : Due) (st : List Due) → InCount (length ns) i → TopReached (dues roots) ns i (d ∷ st) → rootFits i d ≡ false → Misshapen ns roots i
   bad-root i d st c (s, h) =
       top-by (dues roots) ns (λ (x : Due). rootFits i x ≡ false → Misshapen ns roots i) (λ k q b f. not-due k q b c (eqb-false (getD roots (k - 1) 0) i f))
       (λ y n f. absurd (true≢false f)) (λ y n f. absurd (true≢false f)) s (h .0)
@@ -80,7 +80,7 @@ module _ (ns : List Node) (roots : List ℕ) where
       let p = or-fails _ _ f in
       ninth (boundOf d) h (ltb-false (boundOf d) 8 (p .1)) c (one-of (n .tag) 3 5 .0 (not-false _ (p .0)))
 
-  pub unfit-some : (i : ℕ) (d : Due) (st : List Due) → InCount (length ns) i → Stands (dues roots) ns i (d ∷ st) → nodeFits i (nth ns i) d (top (endsFrom ns (suc i))) ≡ false → Misshapen ns roots i
+  pub unfit-some : (i : ℕ) (d : Due) (st : List Due) → InCount (length ns) i → TopReached (dues roots) ns i (d ∷ st) → nodeFits i (nth ns i) d (top (endsFrom ns (suc i))) ≡ false → Misshapen ns roots i
   unfolding nodeFits
   unfit-some i d st c h f =
       let n = nth ns i in

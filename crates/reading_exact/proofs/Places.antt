@@ -17,7 +17,7 @@ use Rattle.reading_exact.proofs.SectionRows.{one-back, role-back, chann
 
 module _ (C : Contents) where
   -- each section's words, and whatever follows them, stand at its offset
-  record Placed : Type 0 where
+  record SectionsPlaced : Type 0 where
     users : (post : List ℕ) × Holds (encoded C) (headFor C .at .users) (cat oneRow (C .users) ++ post)
     roles : (post : List ℕ) × Holds (encoded C) (headFor C .at .roles) (cat roleRow (C .roles) ++ post)
     kinds : (post : List ℕ) × Holds (encoded C) (headFor C .at .kinds) (cat oneRow (C .kinds) ++ post)
@@ -43,7 +43,7 @@ module _ (C : Contents) where
   nodes-length : length (cat nodeRow (C .nodes)) ≡ 3 * length (C .nodes)
   nodes-length = length-cat nodeRow 3 (λ x. refl) (C .nodes)
 
-  places : Placed
+  places : SectionsPlaced
   unfolding encoded
   places =
       let f : List ℕ = encoded C in
@@ -85,7 +85,7 @@ module _ (C : Contents) where
   encoded-back =
       let f : List ℕ = encoded C in
       let at : Head = headFor C in
-      let st : Placed = places in
+      let st : SectionsPlaced = places in
       let users = rows-back oneRow 1 (λ x. refl) f (wordAt f) (at .at .users) (one-back f) (C .users) (st .users .0) (st .users .1) in
       let roles = rows-back roleRow 4 (λ x. refl) f (roleAt f) (at .at .roles) (role-back f) (C .roles) (st .roles .0) (st .roles .1) in
       let kinds = rows-back oneRow 1 (λ x. refl) f (wordAt f) (at .at .kinds) (one-back f) (C .kinds) (st .kinds .0) (st .kinds .1) in

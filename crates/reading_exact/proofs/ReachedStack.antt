@@ -169,16 +169,16 @@ module _ {X C : Type 0} (p : Pass X C) (ns : List Node) where
           (subst (In (suc i)) (sym (p .only-of x n)) (child c o h), λ j g. more j (at-step c o g))
 
   -- the stack before node i
-  abbrev pub Stands : ℕ → List X → Type 0
-  Stands i st = (stackAt i ≡ st) × Chain i st
+  abbrev pub TopReached : ℕ → List X → Type 0
+  TopReached i st = (stackAt i ≡ st) × Chain i st
 
   -- what holds after the last node, and where the stack is empty, and of a node where it holds after it, holds of all nodes
-  module _ (Q : ℕ → List Node → List X → Type 0) (over : (i : ℕ) (st : List X) → i ≡ suc (length ns) → Stands i st → Q i [] st)
-      (none : (i : ℕ) (n : Node) (l : List Node) → InCount (length ns) i → Stands i [] → Q i (n ∷ l) [])
-      (pass : (i : ℕ) (x : X) (l : List Node) (st : List X) → InCount (length ns) i → drop i ns ≡ l → Stands i (x ∷ st)
+  module _ (Q : ℕ → List Node → List X → Type 0) (over : (i : ℕ) (st : List X) → i ≡ suc (length ns) → TopReached i st → Q i [] st)
+      (none : (i : ℕ) (n : Node) (l : List Node) → InCount (length ns) i → TopReached i [] → Q i (n ∷ l) [])
+      (pass : (i : ℕ) (x : X) (l : List Node) (st : List X) → InCount (length ns) i → drop i ns ≡ l → TopReached i (x ∷ st)
       → (nth ns i .tag ≤ 8 → Q (suc i) l (onto (nth ns i) x st)) → Q i (nth ns i ∷ l) (x ∷ st))
     where
-      from : (l : List Node) (i : ℕ) (st : List X) → InCount (suc (length ns)) i → drop (i - 1) ns ≡ l → Stands i st → Q i l st
+      from : (l : List Node) (i : ℕ) (st : List X) → InCount (suc (length ns)) i → drop (i - 1) ns ≡ l → TopReached i st → Q i l st
       from [] i st b e s = over i st (omega (arith, length-drop (i - 1) ns, ap length e)) s
       from (n ∷ l) i [] b e s = none i n l (b .0, omega (arith, length-drop (i - 1) ns, ap length e)) s
       from (n ∷ l) i (x ∷ st) b e (s, h) =

@@ -16,7 +16,7 @@ use Rattle.reading_exact.specs.Lists.{All}
 use Rattle.reading_exact.specs.Tree.{Tree, end, fork, step, switch, stepNode, switchNode, past, write, flatten, binders, height}
 use Rattle.reading_exact.proofs.TreeEnds.{past-more, following-write}
 use Rattle.reading_exact.proofs.NodeSorts.{ends, forks, nodeOf}
-use Rattle.reading_exact.proofs.Standing.{rootsOf, Stands, roots-stand}
+use Rattle.reading_exact.proofs.Standing.{rootsOf, DueTrees, roots-stand}
 use Rattle.reading_exact.proofs.TreeNodes.{step-fits, step-onward, switch-fits, switch-onward}
 
 -- a written tree is passed
@@ -41,7 +41,7 @@ written i (switch w q t) ns d st r l =
     ∙ ap (shapeFrom (suc i) (write (suc i) t ns)) (switch-onward w q d st)
     ∙ written (suc i) t ns (Below (boundOf d)) st refl l
 
-all-written : (i : ℕ) (st : List Due) (ts : List Tree) → Stands i st ts → shapeFrom i (flatten i ts) st ≡ fine
+all-written : (i : ℕ) (st : List Due) (ts : List Tree) → DueTrees i st ts → shapeFrom i (flatten i ts) st ≡ fine
 unfolding shapeFrom flatten
 all-written i [] [] h = refl
 all-written i [] (t ∷ ts) h = absurd h

@@ -21,16 +21,16 @@ use Rattle.reading_exact.specs.Order.{First}
 use Rattle.reading_exact.specs.Refusals.{nth, ReachedWith, Misshapen, not-due, bad-tag, unused-f1, unused-f2, second, past-last, left-over, ninth, readingOrder}
 use Rattle.reading_exact.proofs.FirstLaws.{FirstFrom, first-on, first-here}
 use Rattle.reading_exact.proofs.FollowedEnds.{endsFrom}
-use Rattle.reading_exact.proofs.ReachedStack.{none-reached, Stands, along}
+use Rattle.reading_exact.proofs.ReachedStack.{none-reached, TopReached, along}
 use Rattle.reading_exact.proofs.DueStack.{dues}
 use Rattle.reading_exact.proofs.NodesObjected.{fits-none, unfit-some}
 
 module _ (ns : List Node) (roots : List ℕ) where
   -- a place is a node that is there, or the number after the last
-  abbrev Placed : ℕ → Type 0
-  Placed p = InCount (length ns) p ⊎ ((b : ℕ) × ReachedWith ns (length roots) p b × (p ≡ suc (length ns)))
+  abbrev NodePlaced : ℕ → Type 0
+  NodePlaced p = InCount (length ns) p ⊎ ((b : ℕ) × ReachedWith ns (length roots) p b × (p ≡ suc (length ns)))
 
-  placed : (p : ℕ) → Misshapen ns roots p → Placed p
+  placed : (p : ℕ) → Misshapen ns roots p → NodePlaced p
   placed p (not-due k q b c ne) = inl c
   placed p (bad-tag c t) = inl c
   placed p (unused-f1 c t ne) = inl c
@@ -40,7 +40,7 @@ module _ (ns : List Node) (roots : List ℕ) where
   placed p (left-over b c) = inl c
   placed p (ninth b r x c t) = inl c
 
-  numbered : (p : ℕ) → Placed p → 1 ≤ p
+  numbered : (p : ℕ) → NodePlaced p → 1 ≤ p
   numbered p (inl c) = c .0
   numbered p (inr (b, r, e)) = omega arith
 
@@ -60,7 +60,7 @@ module _ (ns : List Node) (roots : List ℕ) where
   Answers i l st = FirstFrom readingOrder BadShape i (shapeFrom i l st)
 
   abbrev Standing : ℕ → List Due → Type 0
-  Standing = Stands (dues roots) ns
+  Standing = TopReached (dues roots) ns
 
   refuse : (i : ℕ) → Misshapen ns roots i → FirstFrom readingOrder BadShape i (refused 8 i)
   refuse i m = first-here readingOrder BadShape 8 i (refl, m) (λ n q (e, _). sym e) (λ n (e, _). omega arith)
@@ -69,7 +69,7 @@ module _ (ns : List Node) (roots : List ℕ) where
   unfolding shapeFrom
   over i [] e (s, h) low = inl (refl, λ n q (z, m). past q (low n q (z, m)) (placed q m))
     where
-      past : (q : ℕ) → i ≤ q → Placed q → ⊥
+      past : (q : ℕ) → i ≤ q → NodePlaced q → ⊥
       past q l (inl c) = omega arith
       past q l (inr (b, r, _)) = none-reached (dues roots) ns (omega arith) l s r
   over i (d ∷ st) e (s, h) low = refuse i (past-last (boundOf d) (h .0) e) low

@@ -17,12 +17,12 @@ use Rattle.reading_exact.specs.Lists.{All}
 use Rattle.reading_exact.specs.Tree.{Step, Switch, Tree, end, fork, step, switch, stepNode, switchNode, past, write, flatten, binders, height}
 use Rattle.reading_exact.proofs.TreeEnds.{past-more, following-write}
 use Rattle.reading_exact.proofs.NodeSorts.{Sort, ends, forks, steps, switches, nodeOf, sortOf, words-sort}
-use Rattle.reading_exact.proofs.Standing.{rootsOf, Stands, stands-roots}
+use Rattle.reading_exact.proofs.Standing.{rootsOf, DueTrees, stands-roots}
 use Rattle.reading_exact.proofs.TreeNodes.{step-room, step-onward, switch-onward}
 
 -- nodes that are trees that are due
 abbrev TreesDue : ℕ → List Node → List Due → Type 0
-TreesDue i ns st = (ts : List Tree) × (ns ≡ flatten i ts) × Stands i st ts
+TreesDue i ns st = (ts : List Tree) × (ns ≡ flatten i ts) × DueTrees i st ts
 
 -- a node that fits, before trees that are due
 due-end : (i : ℕ) (d : Due) (ns : List Node) (st : List Due) → rootFits i d ≡ true → TreesDue (suc i) ns st → TreesDue i (nodeOf 0 ends ∷ ns) (d ∷ st)
@@ -34,7 +34,7 @@ due-fork : (i k : ℕ) (d : Due) (ns : List Node) (st : List Due) → rootFits i
 unfolding flatten write past height
 due-fork i k d ns st r s h = go (h .0) (h .1) (h .2)
   where
-    go : (ts : List Tree) → ns ≡ flatten (suc i) ts → Stands (suc i) (Below (boundOf d) ∷ Below (boundOf d) ∷ st) ts → TreesDue i (nodeOf k forks ∷ ns) (d ∷ st)
+    go : (ts : List Tree) → ns ≡ flatten (suc i) ts → DueTrees (suc i) (Below (boundOf d) ∷ Below (boundOf d) ∷ st) ts → TreesDue i (nodeOf k forks ∷ ns) (d ∷ st)
     go [] e q = absurd q
     go (a ∷ []) e q = absurd (q .2)
     go (a ∷ b ∷ ts) e q =
@@ -48,7 +48,7 @@ due-step : (i : ℕ) (o : Step) (d : Due) (ns : List Node) (st : List Due) → r
 unfolding flatten write past height
 due-step i o d ns st r m h = go (h .0) (h .1) (h .2)
   where
-    go : (ts : List Tree) → ns ≡ flatten (suc i) ts → Stands (suc i) (Below (boundOf d + binders o) ∷ st) ts → TreesDue i (stepNode o ∷ ns) (d ∷ st)
+    go : (ts : List Tree) → ns ≡ flatten (suc i) ts → DueTrees (suc i) (Below (boundOf d + binders o) ∷ st) ts → TreesDue i (stepNode o ∷ ns) (d ∷ st)
     go [] e q = absurd q
     go (t ∷ ts) e q = (step o t ∷ ts, ap (stepNode o ∷_) e, (r, step-room o d (height t) m (q .1), q .2))
 
@@ -57,7 +57,7 @@ due-switch : (i : ℕ) (w : Switch) (x : ℕ) (d : Due) (ns : List Node) (st : L
 unfolding flatten write past height
 due-switch i w x d ns st r h = go (h .0) (h .1) (h .2)
   where
-    go : (ts : List Tree) → ns ≡ flatten (suc i) ts → Stands (suc i) (Below (boundOf d) ∷ st) ts → TreesDue i (switchNode w x ∷ ns) (d ∷ st)
+    go : (ts : List Tree) → ns ≡ flatten (suc i) ts → DueTrees (suc i) (Below (boundOf d) ∷ st) ts → TreesDue i (switchNode w x ∷ ns) (d ∷ st)
     go [] e q = absurd q
     go (t ∷ ts) e q = (switch w x t ∷ ts, ap (switchNode w x ∷_) e, (r, q .1, q .2))
 

@@ -27,18 +27,18 @@ rootsOf at [] = []
 rootsOf at (t ∷ ts) = at ∷ rootsOf (past at t) ts
 
 -- trees that stand one after the other are those that are due
-abbrev pub Stands : ℕ → List Due → List Tree → Type 0
-Stands i [] [] = Unit {0}
-Stands i [] (t ∷ ts) = ⊥
-Stands i (d ∷ st) [] = ⊥
-Stands i (d ∷ st) (t ∷ ts) = (rootFits i d ≡ true) × (height t ≤ 8 - boundOf d) × Stands (past i t) st ts
+abbrev pub DueTrees : ℕ → List Due → List Tree → Type 0
+DueTrees i [] [] = Unit {0}
+DueTrees i [] (t ∷ ts) = ⊥
+DueTrees i (d ∷ st) [] = ⊥
+DueTrees i (d ∷ st) (t ∷ ts) = (rootFits i d ≡ true) × (height t ≤ 8 - boundOf d) × DueTrees (past i t) st ts
 
-pub roots-stand : (i : ℕ) (ts : List Tree) → All (λ t. height t ≤ 8) ts → Stands i (map Root (rootsOf i ts)) ts
+pub roots-stand : (i : ℕ) (ts : List Tree) → All (λ t. height t ≤ 8) ts → DueTrees i (map Root (rootsOf i ts)) ts
 unfolding rootsOf
 roots-stand i [] h = tt
 roots-stand i (t ∷ ts) h = (eq-eqb i i refl, omega arith, roots-stand (past i t) ts (h .1))
 
-pub stands-roots : (i : ℕ) (roots : List ℕ) (ts : List Tree) → Stands i (map Root roots) ts → (roots ≡ rootsOf i ts) × All (λ t. height t ≤ 8) ts
+pub stands-roots : (i : ℕ) (roots : List ℕ) (ts : List Tree) → DueTrees i (map Root roots) ts → (roots ≡ rootsOf i ts) × All (λ t. height t ≤ 8) ts
 unfolding rootsOf
 stands-roots i [] [] h = (refl, tt)
 stands-roots i [] (t ∷ ts) h = absurd h

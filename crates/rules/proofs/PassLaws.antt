@@ -14,7 +14,7 @@ use Rattle.format.specs.Contents.{Contents, item, noNode}
 use Rattle.format.specs.Answers.{fine, refused, orElse}
 use Rattle.format.specs.declared.Verdict.{Verdict}
 use Rattle.format.specs.declared.Node.{Node}
-use Rattle.format.proofs.AnswerLaws.{Quiet}
+use Rattle.format.proofs.AnswerLaws.{NoRefusal}
 use Rattle.format.proofs.ContentsLaws.{from-node, none-past}
 use Rattle.rules.specs.Schema.{Schema, schemaOf}
 use Rattle.rules.specs.Names.{kindOf}
@@ -42,14 +42,14 @@ noted-quiet v n i h = go (eqb (v .number) 0) (eqb n 0) refl refl
 
 -- an answer of a rule that refuses nothing is fine
 pub by-quiet : (rule : Context → Node → ℕ) (D : Schema) (i : ℕ) (ns : List Node) (st : List Context)
-    → Quiet (firstBy rule D i ns st) → firstBy rule D i ns st ≡ fine
+    → NoRefusal (firstBy rule D i ns st) → firstBy rule D i ns st ≡ fine
 unfolding firstBy
 by-quiet rule D i [] st q = refl
 by-quiet rule D i (n ∷ ns) [] q = refl
 by-quiet rule D i (n ∷ ns) (c ∷ st) q = go (eqb (rule c n) 0) refl q (by-quiet rule D (suc i) ns (waitingAfter D c n st))
   where
-    go : (b : Bool) → eqb (rule c n) 0 ≡ b → Quiet (cond b (firstBy rule D (suc i) ns (waitingAfter D c n st)) (refused (rule c n) i))
-        → (Quiet (firstBy rule D (suc i) ns (waitingAfter D c n st)) → firstBy rule D (suc i) ns (waitingAfter D c n st) ≡ fine)
+    go : (b : Bool) → eqb (rule c n) 0 ≡ b → NoRefusal (cond b (firstBy rule D (suc i) ns (waitingAfter D c n st)) (refused (rule c n) i))
+        → (NoRefusal (firstBy rule D (suc i) ns (waitingAfter D c n st)) → firstBy rule D (suc i) ns (waitingAfter D c n st) ≡ fine)
         → cond b (firstBy rule D (suc i) ns (waitingAfter D c n st)) (refused (rule c n) i) ≡ fine
     go true e q rec = rec q
     go false e q rec = absurd (eqb-false (rule c n) 0 e q)

@@ -297,14 +297,14 @@ module _ (D : Schema) (t : List ℕ) (p : Point) (n : Node) (users : D .users �
       go2 false e = go3 (eqb-false (n .tag) 2 e) (eqb (n .tag) 3) refl
 
 -- the same for names alone
-pub record Told (D : Schema) (t : List ℕ) (u b : ℕ) (n : Node) (s : NameStep) : Type 0 where
+pub record NamesJudged (D : Schema) (t : List ℕ) (u b : ℕ) (n : Node) (s : NameStep) : Type 0 where
   pub wrong : s .wrong ≡ wrong D (contextOf t (barePoint D u b)) n
   pub child : s .wrong ≡ 0 → unmasked (contextOf (set t (512 + b) (s .binding)) (barePoint D u (s .bound))) ≡ unmasked (childOf D (contextOf t (barePoint D u b)) n)
   pub least : s .wrong ≡ 0 → b ≤ s .bound
   pub most : s .wrong ≡ 0 → s .bound ≤ b + 1
   pub held : s .wrong ≡ 0 → Held (set t (512 + b) (s .binding)) (s .bound)
 
-pub told : (D : Schema) (t : List ℕ) (u b : ℕ) (n : Node) → Right D t (barePoint D u b) n (stepOf D t (barePoint D u b) n) → Told D t u b n (namingOf D t u b n)
+pub told : (D : Schema) (t : List ℕ) (u b : ℕ) (n : Node) → Right D t (barePoint D u b) n (stepOf D t (barePoint D u b) n) → NamesJudged D t u b n (namingOf D t u b n)
 told D t u b n r =
     let s : Step = stepOf D t (barePoint D u b) n in
     let q : List ℕ = set t (512 + b) (s .binding) in

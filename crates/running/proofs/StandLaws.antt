@@ -12,7 +12,7 @@ use Rattle.format.specs.Header.{headOf}
 use Rattle.format.specs.declared.Verdict.{Verdict}
 use Rattle.format.specs.declared.HeadAnswer.the-variants.{Refused}
 use Rattle.format.proofs.HeadLaws.{head-number}
-use Rattle.reading.proofs.LongLaws.{Stands, stands-judged}
+use Rattle.reading.proofs.LongLaws.{StandsFor, stands-judged}
 use Rattle.checking.proofs.CheckLaws.{names-refused}
 use Rattle.running.specs.Run.{listed, unready, running, runOver}
 
@@ -33,8 +33,8 @@ module _ (f : List ℕ) (n : ℕ) (e : headOf f ≡ Refused n) where
   unfolding runOver
   over-refused ws out = rw (loud (listed (length ws) && leb 1800 (length out)))
 
-pub stands-run : (ws : List ℕ) (room : ℕ) (kept input : List ℕ) → Stands kept input → running kept ws room ≡ running input ws room
+pub stands-run : (ws : List ℕ) (room : ℕ) (kept input : List ℕ) → StandsFor kept input → running kept ws room ≡ running input ws room
 stands-run ws room = stands-judged (refusal ws room) (λ (f : List ℕ). running f ws room) (λ (f : List ℕ) (n : ℕ) (e : headOf f ≡ Refused n). run-refused f n e ws room)
 
-pub stands-over : (ws out kept input : List ℕ) → Stands kept input → runOver kept ws out ≡ runOver input ws out
+pub stands-over : (ws out kept input : List ℕ) → StandsFor kept input → runOver kept ws out ≡ runOver input ws out
 stands-over ws out = stands-judged (λ (n : ℕ). out) (λ (f : List ℕ). runOver f ws out) (λ (f : List ℕ) (n : ℕ) (e : headOf f ≡ Refused n). over-refused f n e ws out)

@@ -27,8 +27,8 @@ use Rattle.running_exact.specs.Conditions.{
   choiceOrder,
   FirstRefusal,
 }
-use Rattle.running_exact.proofs.ChoiceTold.{Told, choice-told}
-use Rattle.running_exact.proofs.ChoiceRuled.{steps-choice, condition-halts}
+use Rattle.running_exact.proofs.ChoiceSteps.{StepOrRefusal, choice-step-or-refusal}
+use Rattle.running_exact.proofs.StepsChosen.{steps-choice, condition-halts}
 
 -- the refusals that a choice may get
 abbrev pub Number : ℕ → Type 0
@@ -69,10 +69,10 @@ module _ (C : Clinic) (s : State) where
   never-both i p n s′ a b = subst Halting (sym a ∙ b) tt
 
   pub choice-steps : (i p : ℕ) (s′ : State) → choice C s i p ≡ goes s′ → Steps C s i p s′
-  choice-steps i p s′ e = subst (Told C s i p) e (choice-told C s i p)
+  choice-steps i p s′ e = subst (StepOrRefusal C s i p) e (choice-step-or-refusal C s i p)
 
   pub halts-condition : (i p n : ℕ) → choice C s i p ≡ halts n → Condition C s i p n
-  halts-condition i p n e = subst (Told C s i p) e (choice-told C s i p)
+  halts-condition i p n e = subst (StepOrRefusal C s i p) e (choice-step-or-refusal C s i p)
 
   -- A choice is done with a result exactly where it is a step to that result.
   pub agree : (i p : ℕ) (s′ : State) → (choice C s i p ≡ goes s′) ↔ Steps C s i p s′

@@ -24,7 +24,7 @@ use Rattle.reading_exact.proofs.AllLaws.{all-map, all-get}
 use Rattle.running_exact.specs.Keeps.{Formed}
 use Rattle.running_exact.proofs.ThreadLists.{all-set, all-snoc, all-removed}
 use Rattle.running_exact.proofs.ThreadSteps.{Lawful, Steady, Good, fits-more}
-use Rattle.running_exact.proofs.OutcomesTold.{MayCome, Told, refused-told, either}
+use Rattle.running_exact.proofs.OutcomeClaims.{MayCome, Claimed, refused-told, either}
 use Rattle.running_exact.proofs.LoneSteps.{lone-told}
 use Rattle.running_exact.proofs.MeetingSteps.{GoodPartner, sending-told}
 
@@ -44,13 +44,13 @@ module _ (C : Clinic) (At : ℕ → Context → Type 0) (L : Lawful C At) (K : �
   abbrev Fit : List Made → Thread → Type 0
   Fit = Good (C .schema) At K
 
-  alone-told : (k : ℕ) (made : List Made) (p : Partner) (o : Outcome) → Told C At K R k made o → Told C At K R k made (aloneOnly p o)
+  alone-told : (k : ℕ) (made : List Made) (p : Partner) (o : Outcome) → Claimed C At K R k made o → Claimed C At K R k made (aloneOnly p o)
   unfolding aloneOnly
   alone-told k made Alone o h = h
   alone-told k made Missing o h = refused-told C At K R k made 18 (M .no-thread)
   alone-told k made (With r) o h = refused-told C At K R k made 18 (M .no-thread)
 
-  acting-told : (k : ℕ) (made : List Made) (t : Thread) → Fit made t → (p : Partner) → GoodPartner (C .schema) At K made p → Told C At K R k made (acting C k made t p)
+  acting-told : (k : ℕ) (made : List Made) (t : Thread) → Fit made t → (p : Partner) → GoodPartner (C .schema) At K made p → Claimed C At K R k made (acting C k made t p)
   unfolding acting
   acting-told k made t (c, a, F, e) p h =
       either C At K R k made (inCount (C .nodes) (t .node)) _ _
@@ -74,8 +74,8 @@ module _ (C : Clinic) (At : ℕ → Context → Type 0) (L : Lawful C At) (K : �
   fit-more made m t (c, a, F, e) = (c, a, fits-more (C .schema) At K made t c F (L .apart) m, e)
 
   -- the state after an outcome
-  done-keeps : (s : State) → Invariant C At K s → (i p : ℕ) → 1 ≤ i → (o : Outcome) → Told C At K R (length (s .threads)) (s .made) o → Keeps C At K R (done s i p o)
-  unfolding Told done
+  done-keeps : (s : State) → Invariant C At K s → (i p : ℕ) → 1 ≤ i → (o : Outcome) → Claimed C At K R (length (s .threads)) (s .made) o → Keeps C At K R (done s i p o)
+  unfolding Claimed done
   done-keeps s I i p l (Refused n) h = h
   done-keeps s I i p l (Moves t) h = changed-kept s I i t h
   done-keeps s I i p l (Adds q) (g, h, z) =

@@ -1,6 +1,6 @@
 -- one choice: function and relation
-pub mod ChoiceTold
-pub mod ChoiceRuled
+pub mod ChoiceSteps
+pub mod StepsChosen
 pub mod Agree
 -- lists of choices
 pub mod RunChain
@@ -16,7 +16,7 @@ pub mod HeldValues
 pub mod ThreadLists
 pub mod ThreadSteps
 -- a choice keeps what holds in every state of a run
-pub mod OutcomesTold
+pub mod OutcomeClaims
 pub mod LoneSteps
 pub mod MeetingSteps
 pub mod ChoiceKeeps

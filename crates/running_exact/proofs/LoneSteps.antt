@@ -24,7 +24,7 @@ use Rattle.running_exact.specs.Keeps.{Fits}
 use Rattle.running_exact.proofs.HeldValues.{value-made}
 use Rattle.running_exact.proofs.NodeSteps.{new-names, child-same, child-new, child-on, child-off, on-barred, off-barred}
 use Rattle.running_exact.proofs.ThreadSteps.{Lawful, Steady, moved-good, onward-good, masked-good, bound-good, fits-more}
-use Rattle.running_exact.proofs.OutcomesTold.{MayCome, Told, refused-told, moves-told, adds-told, makes-told, ends-told, either}
+use Rattle.running_exact.proofs.OutcomeClaims.{MayCome, Claimed, refused-told, moves-told, adds-told, makes-told, ends-told, either}
 
 -- an active set with a role of the user more is within the user's roles
 with-within : (m all x : ℕ) → Within m all → has all x ≡ true → Within (with m x) all
@@ -43,7 +43,7 @@ module _ (C : Clinic) (At : ℕ → Context → Type 0) (L : Lawful C At) (K : �
   n = C .node (t .node)
 
   abbrev T : Outcome → Type 0
-  T = Told C At K R k made
+  T = Claimed C At K R k made
 
   -- the child's context, by the tag
   child-at : (x : ℕ) → n .tag ≡ x → 2 ≤ x → x ≤ 8 → (d : Context) → childOf D c n ≡ d → At (suc (t .node)) d

@@ -28,7 +28,7 @@ use Rattle.running_exact.specs.Keeps.{HasValue, Fits}
 use Rattle.running_exact.proofs.HeldValues.{operand-value}
 use Rattle.running_exact.proofs.NodeSteps.{receive-names, send-names, child-same, child-receive, receive-barred, send-barred}
 use Rattle.running_exact.proofs.ThreadSteps.{Lawful, Steady, Good, onward-good, bound-good, kinds-agree}
-use Rattle.running_exact.proofs.OutcomesTold.{MayCome, Told, refused-told, meets-told, either}
+use Rattle.running_exact.proofs.OutcomeClaims.{MayCome, Claimed, refused-told, meets-told, either}
 
 -- a partner that is a thread fits its node's context
 abbrev pub GoodPartner : Schema → (ℕ → Context → Type 0) → (ℕ → ℕ → Type 0) → List Made → Partner → Type 0
@@ -41,7 +41,7 @@ module _ (C : Clinic) (At : ℕ → Context → Type 0) (L : Lawful C At) (K : �
   D = C .schema
 
   abbrev T : Outcome → Type 0
-  T = Told C At K R k made
+  T = Claimed C At K R k made
 
   -- the sender t in the context c, the receiver r in the context d
   module _ (t r : Thread) (c d : Context) (a : At (t .node) c) (b : At (r .node) d) (F : Fits D made c t) (G : Fits D made d r) (e : K (t .mask) (c .mask))

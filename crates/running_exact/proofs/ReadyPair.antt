@@ -21,7 +21,7 @@ use Rattle.steps.specs.Choice.{Clinic, State, halts, goes, threadAt, partnerAt,
 use Rattle.running.specs.Run.{isMeeting, readyPair}
 use Rattle.reading_exact.specs.File.{InCount}
 use Rattle.running_exact.specs.Steps.{StandsAt, Steps, on, off, fork, repeat, new, compare, end, meet}
-use Rattle.running_exact.proofs.ChoiceRuled.{at-send, counted-partner}
+use Rattle.running_exact.proofs.StepsChosen.{at-send, counted-partner}
 use Rattle.running_exact.proofs.Agree.{choice-steps, never-both}
 use Rattle.running_exact.proofs.ReadyFound.{meets, ReadyIs, no-pair, a-pair, ready-is}
 

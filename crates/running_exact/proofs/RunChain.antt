@@ -8,7 +8,7 @@ use lib.ListN.{length, getD, take}
 use Rattle.steps.specs.Choice.{Clinic, State, Chosen, halts, goes, choice}
 use Rattle.choices.specs.Choices.{Ran, follow, run}
 use Rattle.running_exact.specs.Steps.{Chain}
-use Rattle.running_exact.proofs.ChoiceRuled.{steps-choice}
+use Rattle.running_exact.proofs.StepsChosen.{steps-choice}
 use Rattle.running_exact.proofs.Agree.{choice-steps, refused-positive}
 
 two-more : (k : ℕ) → 2 * suc k ≡ suc (suc (2 * k))

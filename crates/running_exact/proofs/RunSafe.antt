@@ -32,7 +32,7 @@ use Rattle.running_exact.specs.Keeps.{Reaches, Kept}
 use Rattle.running_exact.proofs.HeldValues.{held-free}
 use Rattle.running_exact.proofs.FileNodes.{StandsIn}
 use Rattle.running_exact.proofs.ThreadSteps.{Steady}
-use Rattle.running_exact.proofs.OutcomesTold.{MayCome}
+use Rattle.running_exact.proofs.OutcomeClaims.{MayCome}
 use Rattle.running_exact.proofs.ChoiceKeeps.{Keeps, choice-keeps}
 use Rattle.running_exact.proofs.FileLawful.{of-kept, to-kept, lawful, lawful-roles}
 use Rattle.running_exact.proofs.StartKept.{start-fits}

@@ -5,7 +5,7 @@ ghost use Prim.Native.Nat.{_+_, _/_, _≤_, _<_};
 ghost use Rattle.states.specs.Kept.{cellOf, wordOf, wordBy};
 
 // A row in one number, and what is kept for the way from the left.
-pub struct Kept {
+pub struct Row {
     pub cell: u32,
     pub word: u32,
 }
@@ -30,7 +30,7 @@ fn word_by(best: u32, also: u32) -> u32
 }
 
 // From the rows of the two trees that follow the node.
-pub fn keep(tag: u16, roles: u16, one: u32, two: u32) -> Kept
+pub fn keep(tag: u16, roles: u16, one: u32, two: u32) -> Row
     requires { ⌜ one / 131072 + two / 131072 ≤ 1024 ⌝ }
     ensures { λ r. ⌜ (r .cell ≡ cellOf tag roles one two) × (r .word ≡ wordOf tag roles one two) ⌝ }
 {
@@ -42,7 +42,7 @@ pub fn keep(tag: u16, roles: u16, one: u32, two: u32) -> Kept
     let best = either(both == 0, either(some == 0, mask, some), both);
     let also = either(both == 0, mask, some);
     let most = a / 131072 + b / 131072 + either(both == 0, either(some == 0, 2, 1), 0);
-    Kept {
+    Row {
         cell: 2 * (best / 2) + 131072 * (most - either(most == 0, 0, 1)),
         word: word_by(best, also),
     }

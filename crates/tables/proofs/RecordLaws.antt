@@ -14,7 +14,7 @@ use Rattle.format.specs.Sections.{part}
 use Rattle.format.specs.declared.Head.{Head}
 use Rattle.format.specs.declared.Section.{Section}
 use Rattle.format.specs.declared.Section.the-variants.{Users, Roles, Kinds, Channels, Sessions, Nodes}
-use Rattle.format.proofs.AnswerLaws.{Quiet, first-quiet, both-quiet}
+use Rattle.format.proofs.AnswerLaws.{NoRefusal, first-quiet, both-quiet}
 use Rattle.format.proofs.ContentsLaws.{in-count, item-past, users-held, roles-held, kinds-held, channels-held, sessions-held, nodes-held}
 use Rattle.tables.specs.Records.{countIn, recordFits, refusalOf, sectionAnswer, recordsAnswer}
 
@@ -27,7 +27,7 @@ counted f h Sessions = sessions-held f h
 counted f h Nodes = nodes-held f h
 
 -- where none is refused, all of them fit
-all-fit : (fits : ℕ → Bool) (refusal : ℕ → Verdict) → ((n : ℕ) → 1 ≤ refusal n .number) → (i k : ℕ) → Quiet (firstOf fits refusal i k) → (n : ℕ) → i ≤ n → n < i + k → fits n ≡ true
+all-fit : (fits : ℕ → Bool) (refusal : ℕ → Verdict) → ((n : ℕ) → 1 ≤ refusal n .number) → (i k : ℕ) → NoRefusal (firstOf fits refusal i k) → (n : ℕ) → i ≤ n → n < i + k → fits n ≡ true
 all-fit fits refusal some i zero q n low high = let no : ⊥ = omega arith in absurd no
 all-fit fits refusal some i (suc k) q n low high =
     let both = first-quiet fits refusal some i k .0 q in
@@ -56,25 +56,25 @@ module _ (h : Head) (C : Contents) where
   some Sessions n = omega arith
   some Nodes n = omega arith
 
-  fitting : (s : Section) → Quiet (sectionAnswer h C s) → (n : ℕ) → 1 ≤ n → n ≤ countIn s C → recordFits C s n ≡ true
+  fitting : (s : Section) → NoRefusal (sectionAnswer h C s) → (n : ℕ) → 1 ≤ n → n ≤ countIn s C → recordFits C s n ≡ true
   unfolding sectionAnswer
   fitting s q n low high = all-fit (recordFits C s) (refusalOf h s) (some s) 1 (countIn s C) q n low (omega arith)
 
-  sections-quiet : Quiet (recordsAnswer h C) → Quiet (sectionAnswer h C Channels) × Quiet (sectionAnswer h C Sessions)
+  sections-quiet : NoRefusal (recordsAnswer h C) → NoRefusal (sectionAnswer h C Channels) × NoRefusal (sectionAnswer h C Sessions)
   unfolding recordsAnswer
   sections-quiet q =
-      let after-users = both-quiet Quiet (sectionAnswer h C Users) _ (λ z. z) .0 q .1 in
-      let after-roles = both-quiet Quiet (sectionAnswer h C Roles) _ (λ z. z) .0 after-users .1 in
-      let after-kinds = both-quiet Quiet (sectionAnswer h C Kinds) _ (λ z. z) .0 after-roles .1 in
-      both-quiet Quiet (sectionAnswer h C Channels) (sectionAnswer h C Sessions) (λ z. z) .0 after-kinds
+      let after-users = both-quiet NoRefusal (sectionAnswer h C Users) _ (λ z. z) .0 q .1 in
+      let after-roles = both-quiet NoRefusal (sectionAnswer h C Roles) _ (λ z. z) .0 after-users .1 in
+      let after-kinds = both-quiet NoRefusal (sectionAnswer h C Kinds) _ (λ z. z) .0 after-roles .1 in
+      both-quiet NoRefusal (sectionAnswer h C Channels) (sectionAnswer h C Sessions) (λ z. z) .0 after-kinds
 
-  pub owners-are-users : Quiet (recordsAnswer h C) → (n : ℕ) → item noChannel (C .channels) n .owner ≤ length (C .users)
+  pub owners-are-users : NoRefusal (recordsAnswer h C) → (n : ℕ) → item noChannel (C .channels) n .owner ≤ length (C .users)
   unfolding recordFits
   owners-are-users q =
       any-item noChannel (C .channels) (λ c. c .owner ≤ length (C .users)) (omega arith) (λ n low high.
       in-count (length (C .users)) _ (and-eq-true-iff _ _ .0 (fitting Channels (sections-quiet q .0) n low high) .0) .1)
 
-  pub seated-are-users : Quiet (recordsAnswer h C) → (n : ℕ) → item noSession (C .sessions) n .user ≤ length (C .users)
+  pub seated-are-users : NoRefusal (recordsAnswer h C) → (n : ℕ) → item noSession (C .sessions) n .user ≤ length (C .users)
   unfolding recordFits
   seated-are-users q =
       any-item noSession (C .sessions) (λ s. s .user ≤ length (C .users)) (omega arith) (λ n low high.

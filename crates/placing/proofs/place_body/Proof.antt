@@ -8,7 +8,7 @@ use Rattle.format.specs.Header.{lengthFor}
 use Rattle.format.specs.Contents.{contentsAt}
 use Rattle.format.specs.Writing.{encoded}
 use Rattle.format.specs.declared.Verdict.{Verdict}
-use Rattle.format.proofs.AnswerLaws.{Quiet}
+use Rattle.format.proofs.AnswerLaws.{NoRefusal}
 use Rattle.format.proofs.ContentsLaws.{nodes-held}
 use Rattle.checking.proofs.CheckLaws.{entered-fine}
 use Rattle.states.specs.States.{packed}
@@ -35,7 +35,7 @@ abbrev answer : ℕ → ℕ → Placed
 answer l o = record { number = 0; place = 0; length = l; «on_steps» = o }
 
 -- what is known where nothing is refused
-quiet-at : (c : tie.Else1) → Quiet (placeable (contentsAt (c .before .before .before .before .before .before .before .before .before .before .before .args .file .now) (c .before .before .before .before .before .before .before .before .before .before .before .args .head)))
+quiet-at : (c : tie.Else1) → NoRefusal (placeable (contentsAt (c .before .before .before .before .before .before .before .before .before .before .before .args .file .now) (c .before .before .before .before .before .before .before .before .before .before .before .args .head)))
 quiet-at c = sym (ap (λ (x : Decision). x .verdict .number) (c .before .before .before .before .before .decide .ensures .0)) ∙ c .if1 .left
 
 sums-at : (c : tie.Else1) → c .before .before .before .before .before .decide .result .sums ≡ summed (turnsFor (contentsAt (c .before .before .before .before .before .before .before .before .before .before .before .args .file .now) (c .before .before .before .before .before .before .before .before .before .before .before .args .head)))
@@ -68,7 +68,7 @@ returns c =
     let a = c .before .before .before .before .before .before .before .before .before .before .before .before .args in
     let C = contentsAt (a .file .now) (a .head) in
     let e : c .before .before .before .before .before .before .decide .result .verdict ≡ placeable C = ap (λ (d : Decision). d .verdict) (c .before .before .before .before .before .before .decide .ensures .0) in
-    let loud : Quiet (placeable C) → ⊥ = λ q. c .before .if1 .taken (ap (λ (x : Verdict). x .number) e ∙ q) in
+    let loud : NoRefusal (placeable C) → ⊥ = λ q. c .before .if1 .taken (ap (λ (x : Verdict). x .number) e ∙ q) in
     let p = placing-refused (a .file .now) (length (a .out .now)) (placeable C) (c .before .before .before .before .before .before .before .before .before .before .before .before .pre .3) (judged (a .file .now) (a .head) (c .before .before .before .before .before .before .before .before .before .before .before .before .pre .0)) loud in (
       c .no-place .ensures ∙ ap (λ (x : Verdict). noPlace (x .number) (x .place)) e ∙ sym p,
       sym (over-kept (a .file .now) (a .out .now) (placeable C .number) (placeable C .place) loud p),
@@ -117,7 +117,7 @@ returns-2 c =
     let ts : List Turn = turnsFor C in
     let s = c .before .before .before .before .before .before .before .before .before .before .before .before .before .decide .last .1 .1 .1 .1 .0 in
     let sums = sums-at (c .before .before .before .before .before .before .before .before) in
-    let out : Quiet (judging (a .file .now)) = ap (λ (x : Verdict). x .number) (judged (a .file .now) (a .head) e) ∙ quiet-at (c .before .before .before .before .before .before .before .before) in
+    let out : NoRefusal (judging (a .file .now)) = ap (λ (x : Verdict). x .number) (judged (a .file .now) (a .head) e) ∙ quiet-at (c .before .before .before .before .before .before .before .before) in
     let size : c .narrow .result ≡ lengthFor (a .head .at .nodes) (sizesOf ts) =
     c .narrow .ensures ∙ c .before .length-for .ensures .0 ∙ ap (λ (x : Sums). lengthFor (a .head .at .nodes) (x .nodes)) sums in
     let placed = ap (λ l. placedContents C l s) (turns-at (c .before .before .before .before .before .before .before .before))

@@ -3,7 +3,7 @@ use mathlib.Core.Path.{_≡_, sym, ap, subst, _∙_}
 use mathlib.Core.List.{List}
 use Rattle.format.specs.Contents.{contentsAt}
 use Rattle.format.specs.declared.Verdict.{Verdict}
-use Rattle.format.proofs.AnswerLaws.{Quiet}
+use Rattle.format.proofs.AnswerLaws.{NoRefusal}
 use Rattle.states.specs.States.{Label, turnsOf}
 use Rattle.placing.specs.Placing.{turnsFor, placeable, settling, decided, noSums, Settled}
 use Rattle.placing.specs.declared.Decision.{Decision}
@@ -27,11 +27,11 @@ returns : tie.Need-returns
 returns c =
     let a = c .before .before .before .before .before .before .before .before .args in
     let C = contentsAt (a .file .now) (a .head) in
-    let loud : Quiet (of-bare C) → ⊥ = λ q. c .before .if1 .taken (ap (λ (x : Verdict). x .number) (c .before .before .before .bare .ensures) ∙ q) in
+    let loud : NoRefusal (of-bare C) → ⊥ = λ q. c .before .if1 .taken (ap (λ (x : Verdict). x .number) (c .before .before .before .bare .ensures) ∙ q) in
     let e = bare-loud C loud in (
       c .refused .ensures
           ∙ ap (λ (x : Verdict). record { verdict = x; sums = noSums }) (c .before .before .before .bare .ensures ∙ sym e)
-          ∙ sym (decided-loud (placeable C) (turnsFor C) (λ q. loud (subst Quiet e q))),
+          ∙ sym (decided-loud (placeable C) (turnsFor C) (λ q. loud (subst NoRefusal e q))),
       λ z. absurd (c .before .if1 .taken (sym (ap (λ (d : Decision). d .verdict .number) (c .refused .ensures)) ∙ z)),
     )
 
@@ -50,7 +50,7 @@ returns-2 c =
     let C = contentsAt (a .file .now) (a .head) in
     let s = c .before .before .before .before .settle in
     let kept = c .before .before .before .before .before .before .before .before .before .before .before .before .before .before .pre .1 in
-    let quiet : Quiet (of-bare C) = sym (ap (λ (x : Verdict). x .number) (c .before .before .before .before .before .before .before .before .before .bare .ensures)) ∙ c .before .before .before .before .before .before .before .if1 .left in
+    let quiet : NoRefusal (of-bare C) = sym (ap (λ (x : Verdict). x .number) (c .before .before .before .before .before .before .before .before .before .bare .ensures)) ∙ c .before .before .before .before .before .before .before .if1 .left in
     let t : List ℕ = s .last .1 .1 .1 .0 in
     let u : List ℕ = s .last .1 .1 .1 .1 .0 in (
       subst (λ (l : List Label). s .result ≡ decided (settling l) (turnsOf l)) kept (s .ensures .0) ∙ ap (λ v. decided v (turnsFor C)) (sym (bare-quiet C quiet)),

@@ -7,7 +7,7 @@ use lib.Seq.{sets}
 use Rattle.format.specs.Contents.{contentsAt}
 use Rattle.format.specs.Answers.{fine, refused}
 use Rattle.format.specs.declared.Verdict.{Verdict}
-use Rattle.format.proofs.AnswerLaws.{Quiet}
+use Rattle.format.proofs.AnswerLaws.{NoRefusal}
 use Rattle.format.proofs.ContentsLaws.{nodes-held}
 use Rattle.states.specs.States.{Label, labelled, turnsOf}
 use Rattle.groups.specs.Groups.{startsFrom, turnsIn}
@@ -40,11 +40,11 @@ returns c =
     let a = c .before .before .before .before .before .before .before .before .args in
     let ls : List Label = labelled (contentsAt (a .file .now) (a .head) .nodes) (drop 1 (a .roles .now)) in
     let e = c .before .before .before .unserved .ensures in
-    let loud : Quiet (unservedFrom 1 ls) → ⊥ = λ q. c .before .if1 .taken (ap (λ (x : Verdict). x .number) e ∙ q) in
+    let loud : NoRefusal (unservedFrom 1 ls) → ⊥ = λ q. c .before .if1 .taken (ap (λ (x : Verdict). x .number) e ∙ q) in
     let s : settling ls ≡ unservedFrom 1 ls = unserved-loud ls loud in (
       c .refused .ensures
           ∙ ap (λ (x : Verdict). record { verdict = x; sums = noSums }) (e ∙ sym s)
-          ∙ sym (decided-loud (settling ls) (turnsOf ls) (λ q. loud (subst Quiet s q))),
+          ∙ sym (decided-loud (settling ls) (turnsOf ls) (λ q. loud (subst NoRefusal s q))),
       λ z. absurd (c .before .if1 .taken (sym (ap (λ (d : Decision). d .verdict .number) (c .refused .ensures)) ∙ z)),
     )
 
@@ -53,7 +53,7 @@ turns-requires c κs =
     let a = c .before .before .before .before .before .before .before .before .args in
     let pre = c .before .before .before .before .before .before .before .before .pre in
     let ls : List Label = labelled (contentsAt (a .file .now) (a .head) .nodes) (drop 1 (a .roles .now)) in
-    let quiet : Quiet (unservedFrom 1 ls) = sym (ap (λ (x : Verdict). x .number) (c .before .before .before .unserved .ensures)) ∙ c .before .if1 .left in
+    let quiet : NoRefusal (unservedFrom 1 ls) = sym (ap (λ (x : Verdict). x .number) (c .before .before .before .unserved .ensures)) ∙ c .before .if1 .left in
     (pre .0, pre .1, pre .2, all-served 1 ls quiet)
 
 starts-requires : tie.Need-starts-requires
@@ -72,7 +72,7 @@ returns-2 : tie.Need-returns-2
 returns-2 c =
     let a = c .before .before .before .before .before .before .before .before .before .before .before .before .before .before .before .before .before .before .before .args in
     let ls : List Label = labelled (contentsAt (a .file .now) (a .head) .nodes) (drop 1 (a .roles .now)) in
-    let quiet : Quiet (unservedFrom 1 ls) = sym (ap (λ (x : Verdict). x .number) (c .before .before .before .before .before .before .before .before .before .before .before .before .before .before .unserved .ensures)) ∙ c .before .before .before .before .before .before .before .before .before .before .before .before .if1 .left in
+    let quiet : NoRefusal (unservedFrom 1 ls) = sym (ap (λ (x : Verdict). x .number) (c .before .before .before .before .before .before .before .before .before .before .before .before .before .before .unserved .ensures)) ∙ c .before .before .before .before .before .before .before .before .before .before .before .before .if1 .left in
     let pre = c .before .before .before .before .before .before .before .before .before .before .before .before .before .before .before .before .before .before .before .pre in
     let held = nodes-held (a .file .now) (a .head) in
     let t : List ℕ = c .before .before .before .before .before .before .before .before .before .before .turns .last .1 .1 .1 .0 in
@@ -80,7 +80,7 @@ returns-2 c =
     ap (turnsIn t) (sym held) ∙ turns-written (contentsAt (a .file .now) (a .head) .nodes) (a .roles .now) (a .turns .now) t (omega (arith, held, pre .0 .nodes, pre .1)) (omega (arith, held, pre .0 .nodes, pre .2)) (c .before .before .before .before .before .before .before .before .before .before .turns .ensures) in
     let sums : c .before .before .before .before .before .starts .result ≡ summed (turnsOf ls) = c .before .before .before .before .before .starts .ensures .0 ∙ ap summed written in
     let s : settling ls ≡ refused 16 0 = too-large ls quiet (omega (arith, c .before .if2 .taken, ap (λ (x : Sums). x .nodes) sums)) in
-    let loud : Quiet (settling ls) → ⊥ = λ q. let no-way : ⊥ = omega (arith, sym (ap (λ (x : Verdict). x .number) s) ∙ q) in no-way in (
+    let loud : NoRefusal (settling ls) → ⊥ = λ q. let no-way : ⊥ = omega (arith, sym (ap (λ (x : Verdict). x .number) s) ∙ q) in no-way in (
       c .refused2 .ensures
           ∙ ap (λ (x : Verdict). record { verdict = x; sums = noSums }) (sym s)
           ∙ sym (decided-loud (settling ls) (turnsOf ls) loud),
@@ -97,7 +97,7 @@ returns-3 : tie.Need-returns-3
 returns-3 c =
     let a = c .before .before .before .before .before .before .before .before .before .before .before .before .before .before .before .before .before .before .args in
     let ls : List Label = labelled (contentsAt (a .file .now) (a .head) .nodes) (drop 1 (a .roles .now)) in
-    let quiet : Quiet (unservedFrom 1 ls) = sym (ap (λ (x : Verdict). x .number) (c .before .before .before .before .before .before .before .before .before .before .before .before .before .unserved .ensures)) ∙ c .before .before .before .before .before .before .before .before .before .before .before .if1 .left in
+    let quiet : NoRefusal (unservedFrom 1 ls) = sym (ap (λ (x : Verdict). x .number) (c .before .before .before .before .before .before .before .before .before .before .before .before .before .unserved .ensures)) ∙ c .before .before .before .before .before .before .before .before .before .before .before .if1 .left in
     let pre = c .before .before .before .before .before .before .before .before .before .before .before .before .before .before .before .before .before .before .pre in
     let held = nodes-held (a .file .now) (a .head) in
     let t : List ℕ = c .before .before .before .before .before .before .before .before .before .turns .last .1 .1 .1 .0 in

@@ -15,7 +15,7 @@ use Rattle.rules.specs.Rules.{Context, waitingAfter}
 use Rattle.rules.specs.Checking.{openings}
 use Rattle.rules.specs.Kept.{NameTable, contextOf, Waits, barePoint, unmasked, unpaired, queued, Ownable}
 use Rattle.rules.proofs.NameLaws.{Held, held-less, named-kept}
-use Rattle.rules.proofs.StepLaws.{Told, told, step-right}
+use Rattle.rules.proofs.StepLaws.{NamesJudged, told, step-right}
 use Rattle.format.proofs.StackLaws.{read-none, read-top, read-push}
 use Rattle.rules.proofs.StackLaws.{waits-push, waits-more, contexts-kept, contexts-bare}
 use Rattle.rules.proofs.PassLaws.{Names, names-begin, names-on, after-step, names-refused, names-tree, names-fork, names-out, names-end}
@@ -43,7 +43,7 @@ abbrev μ-loop : tie.MeasureT-loop
 μ-loop file head names₀ stack₀ fine depth₀ top user₀ bound₀ nodes i₀ names stack depth user bound i = nodes + 1 - i
 
 -- what the step tells of the node
-told-at : (c : tie.After-naming-at Inv-loop μ-loop) → Told (schemaOf (contentsAt (c .before .before .before .before .before .before .before .before .before .before .before .before .before .before .before .before .before .before .before .before .before .args .file .now) (c .before .before .before .before .before .before .before .before .before .before .before .before .before .before .before .before .before .before .before .before .before .args .head))) (c .before .before .before .before .before .loop .names) (c .before .before .before .before .before .loop .user) (c .before .before .before .before .before .loop .bound) (c .before .before .before .node .result) (c .naming-at .result)
+told-at : (c : tie.After-naming-at Inv-loop μ-loop) → NamesJudged (schemaOf (contentsAt (c .before .before .before .before .before .before .before .before .before .before .before .before .before .before .before .before .before .before .before .before .before .args .file .now) (c .before .before .before .before .before .before .before .before .before .before .before .before .before .before .before .before .before .before .before .before .before .args .head))) (c .before .before .before .before .before .loop .names) (c .before .before .before .before .before .loop .user) (c .before .before .before .before .before .loop .bound) (c .before .before .before .node .result) (c .naming-at .result)
 told-at c =
     let a = c .before .before .before .before .before .before .before .before .before .before .before .before .before .before .before .before .before .before .before .before .before .args in
     let pre = c .before .before .before .before .before .before .before .before .before .before .before .before .before .before .before .before .before .before .before .before .before .pre in
@@ -54,7 +54,7 @@ told-at c =
     let channels = channels-held (a .file .now) (a .head) in
     let named = subst (λ k. NameTable D k (D .channels) (l .names)) (sym users) (subst (λ k. NameTable D (a .head .count .users) k (l .names)) (sym channels) (l .inv .7)) in
     let long : 512 + l .bound < length (l .names) = omega (arith, l .inv .3, l .inv .5, c .before .before .before .before .loop-test .taken, c .before .before .before .before .before .before .before .before .before .before .before .before .before .before .before .before .name-all .ensures .0, pre .2) in
-    subst (λ (s : NameStep). Told D (l .names) (l .user) (l .bound) n s) (sym (c .naming-at .ensures .0))
+    subst (λ (s : NameStep). NamesJudged D (l .names) (l .user) (l .bound) n s) (sym (c .naming-at .ensures .0))
     (told D (l .names) (l .user) (l .bound) n
     (step-right D (l .names) (barePoint D (l .user) (l .bound)) n (omega (arith, users, pre .0 .users)) (omega (arith, channels, pre .0 .channels)) named long (l .inv .8) refl (c .before .before .match .rest .0 .1) (c .before .before .match .rest .1) (omega arith) (c .naming-at .ensures .1)))
 

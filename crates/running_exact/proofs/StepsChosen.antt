@@ -41,7 +41,7 @@ use Rattle.running_exact.specs.Conditions.{
   channels-full,
   choiceOrder,
 }
-use Rattle.running_exact.proofs.ChoiceTold.{lone-or-none, loneAt, sendAt}
+use Rattle.running_exact.proofs.ChoiceSteps.{lone-or-none, loneAt, sendAt}
 
 lone-other : (t k : ℕ) → (k ≡ 5) ⊎ (k ≡ 6) → Lone t → t ≡ k → ⊥
 lone-other t k (inl five) (inl l) e = omega (arith, five, l, e)

@@ -27,45 +27,45 @@ module _ (C : Clinic) (At : ℕ → Context → Type 0) (K : ℕ → ℕ → Typ
   Fine = Good (C .schema) At K
 
   -- of so many threads, with these channels made
-  unfoldable pub Told : Outcome → Type 0
-  Told (Refused n) = R n
-  Told (Moves t) = Fine made t
-  Told (Adds q) = Fine made (q .first) × Fine made (q .second) × (k < 64)
-  Told (Makes q) = Fine (made ++ (q .made ∷ [])) (q .thread) × Formed (C .schema) (q .made) × (length made < 64)
-  Told Ends = Unit {0}
-  Told (Meets q) = Fine made (q .first) × Fine made (q .second)
+  unfoldable pub Claimed : Outcome → Type 0
+  Claimed (Refused n) = R n
+  Claimed (Moves t) = Fine made t
+  Claimed (Adds q) = Fine made (q .first) × Fine made (q .second) × (k < 64)
+  Claimed (Makes q) = Fine (made ++ (q .made ∷ [])) (q .thread) × Formed (C .schema) (q .made) × (length made < 64)
+  Claimed Ends = Unit {0}
+  Claimed (Meets q) = Fine made (q .first) × Fine made (q .second)
 
   -- a refusal that may come
-  pub refused-told : (n : ℕ) → R n → Told (Refused n)
-  unfolding Told
+  pub refused-told : (n : ℕ) → R n → Claimed (Refused n)
+  unfolding Claimed
   refused-told n r = r
 
   -- a thread that goes on
-  pub moves-told : (t : Thread) → Fine made t → Told (Moves t)
-  unfolding Told
+  pub moves-told : (t : Thread) → Fine made t → Claimed (Moves t)
+  unfolding Claimed
   moves-told t g = g
 
   -- one that goes on, and a new last one
-  pub adds-told : (q : Pair) → Fine made (q .first) → Fine made (q .second) → k < 64 → Told (Adds q)
-  unfolding Told
+  pub adds-told : (q : Pair) → Fine made (q .first) → Fine made (q .second) → k < 64 → Claimed (Adds q)
+  unfolding Claimed
   adds-told q g h l = (g, h, l)
 
   -- one that goes on with a made channel
-  pub makes-told : (q : Making) → Fine (made ++ (q .made ∷ [])) (q .thread) → Formed (C .schema) (q .made) → length made < 64 → Told (Makes q)
-  unfolding Told
+  pub makes-told : (q : Making) → Fine (made ++ (q .made ∷ [])) (q .thread) → Formed (C .schema) (q .made) → length made < 64 → Claimed (Makes q)
+  unfolding Claimed
   makes-told q g h l = (g, h, l)
 
   -- one that is removed
-  pub ends-told : Told Ends
-  unfolding Told
+  pub ends-told : Claimed Ends
+  unfolding Claimed
   ends-told = tt
 
   -- sender and receiver
-  pub meets-told : (q : Pair) → Fine made (q .first) → Fine made (q .second) → Told (Meets q)
-  unfolding Told
+  pub meets-told : (q : Pair) → Fine made (q .first) → Fine made (q .second) → Claimed (Meets q)
+  unfolding Claimed
   meets-told q g h = (g, h)
 
   -- along a test
-  pub either : (b : Bool) (x y : Outcome) → (b ≡ true → Told x) → (b ≡ false → Told y) → Told (cond b x y)
+  pub either : (b : Bool) (x y : Outcome) → (b ≡ true → Claimed x) → (b ≡ false → Claimed y) → Claimed (cond b x y)
   either true x y f g = f refl
   either false x y f g = g refl

@@ -63,9 +63,9 @@ lone-or-none t five six = low (leb t 4) refl
 
 module _ (C : Clinic) (s : State) where
   -- what an outcome says of a choice
-  abbrev pub Told : ℕ → ℕ → Chosen → Type 0
-  Told i p (halts n) = Condition C s i p n
-  Told i p (goes s′) = Steps C s i p s′
+  abbrev pub StepOrRefusal : ℕ → ℕ → Chosen → Type 0
+  StepOrRefusal i p (halts n) = Condition C s i p n
+  StepOrRefusal i p (goes s′) = Steps C s i p s′
 
   -- a lone step of thread i at the node n, and a send of it
   abbrev pub loneAt : ℕ → Node → Outcome
@@ -75,7 +75,7 @@ module _ (C : Clinic) (s : State) where
   sendAt i n q = sending C (s .made) (threadAt s i) n q
 
   abbrev Comes : ℕ → ℕ → Outcome → Type 0
-  Comes i p o = Told i p (done s i p o)
+  Comes i p o = StepOrRefusal i p (done s i p o)
 
   branch : (i p : ℕ) (b : Bool) (o o′ : Outcome) → (b ≡ true → Comes i p o) → (b ≡ false → Comes i p o′) → Comes i p (cond b o o′)
   branch i p true o o′ f g = f refl
@@ -218,11 +218,11 @@ module _ (C : Clinic) (s : State) where
       (λ e. no-thread (λ m at t. not-counted (C .nodes) j e (at .1)))
 
   -- a choice is a step, or its refusal's condition holds
-  pub choice-told : (i p : ℕ) → Told i p (choice C s i p)
+  pub choice-step-or-refusal : (i p : ℕ) → StepOrRefusal i p (choice C s i p)
   unfolding choice
-  choice-told i p = go (inCount (length (s .threads)) i) refl
+  choice-step-or-refusal i p = go (inCount (length (s .threads)) i) refl
     where
       go : (b : Bool) → inCount (length (s .threads)) i ≡ b
-          → Told i p (cond b (done s i p (acting C (length (s .threads)) (s .made) (threadAt s i) (partnerAt s p))) (halts 18))
+          → StepOrRefusal i p (cond b (done s i p (acting C (length (s .threads)) (s .made) (threadAt s i) (partnerAt s p))) (halts 18))
       go true e = acting-told i p (inCount-iff (length (s .threads)) i .0 e)
       go false e = no-thread (λ m at t. not-counted (length (s .threads)) i e (at .0))
