@@ -34,7 +34,8 @@ extern "C" {
 #define PILZDAMO_ROOM 6874
 /* The least bytes of the output of pilzdamo_run: those of the largest state. */
 #define PILZDAMO_RUN_ROOM 1800
-/* The records that are lent to pilzdamo_choose, no more and no less. */
+/* The records that are lent to pilzdamo_start and pilzdamo_choose, no more and no
+ * less. */
 #define PILZDAMO_RECORDS 64
 /* The words that are lent beside them, no more and no less. */
 #define PILZDAMO_BESIDE 130
@@ -105,6 +106,21 @@ pilzdamo_verdict pilzdamo_run(const uint8_t *file, size_t file_len,
  */
 pilzdamo_ready_pair pilzdamo_ready(const uint8_t *file, size_t file_len,
                                    const uint16_t *choices, size_t words);
+
+/*
+ * Makes a list of threads that is lent start as the file does: PILZDAMO_RECORDS
+ * records, and PILZDAMO_BESIDE words beside them. Each session has a thread, in
+ * order, in the first records: the session's user, its root, its starting mask and
+ * eight zeros. The first word beside them is the number of sessions, the second 0.
+ * The records and words past these stay. Whatever was there before will do.
+ *
+ * Refusals 1 to 10; 18 at place 0 for another number of records or words. Where one
+ * is answered nothing is written. What a start leaves may be lent to
+ * pilzdamo_choose.
+ */
+pilzdamo_verdict pilzdamo_start(const uint8_t *file, size_t file_len,
+                                pilzdamo_thread *threads, size_t records,
+                                uint16_t *beside, size_t words);
 
 /*
  * Carries out one choice in a list of threads that is lent: PILZDAMO_RECORDS

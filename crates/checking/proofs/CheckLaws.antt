@@ -25,13 +25,14 @@ use Rattle.reading.specs.declared.Opened.the-variants.{Fine, Refused}
 use Rattle.reading.proofs.LongLaws.{StandsFor, stands-judged}
 use Rattle.reading.proofs.ReadingLaws.{refused-by-head, by-body, head-given, refusal-given, opened-fine, opened-refused}
 use Rattle.rules.specs.Schema.{schemaOf}
-use Rattle.rules.specs.Checking.{openings, namesAnswer, rolesAnswer, judgement}
+use Rattle.rules.specs.Checking.{reachedIn, namesAnswer, rolesAnswer, judgement}
 use Rattle.rules.specs.Candidates.{candidatesIn}
+use Rattle.rules.specs.Scopes.{scopesIn}
 use Rattle.rules.specs.Rules.{wrong}
 use Rattle.rules.specs.Kept.{Owned}
 use Rattle.rules.proofs.PassLaws.{by-quiet}
 use Rattle.rules.specs.declared.Judged.{Judged}
-use Rattle.checking.specs.Check.{readingNames, checking, entered, examined, surveyed}
+use Rattle.checking.specs.Check.{readingNames, checking, entered, scoped, examined, surveyed}
 
 -- three answers in order
 in-order : (v n r : Verdict) → orElse v (orElse n r) ≡ orElse (orElse v n) r
@@ -74,7 +75,7 @@ module _ (f : List ℕ) where
   unfolding namesAnswer
   names-fine q =
       let (before, last) = names-parts q in
-      names-then before ∙ by-quiet (wrong (schemaOf (contentsOf f))) (schemaOf (contentsOf f)) 1 (contentsOf f .nodes) (openings (contentsOf f)) last
+      names-then before ∙ by-quiet (wrong (schemaOf (contentsOf f))) 1 (reachedIn (contentsOf f)) last
 
   pub names-headed : NoRefusal (readingNames f) → Headed f
   names-headed q = by-body f (names-parts q .0) .0
@@ -100,6 +101,10 @@ module _ (f : List ℕ) where
     pub examined-early : record { names = Refused w; roles = fine } ≡ examined f
     examined-early = rw (ne-eqb (readingNames f .number) 0 (early .0), ← entered-early)
 
+    pub scoped-early : (old : List ℕ) → old ≡ scoped f old
+    unfolding scoped
+    scoped-early old = rw (ne-eqb (reading f .number) 0 (opened-refused f w e .0))
+
     pub surveyed-early : (old : List ℕ) → old ≡ surveyed f old
     unfolding surveyed
     surveyed-early old = rw (ne-eqb (reading f .number) 0 (opened-refused f w e .0))
@@ -120,6 +125,10 @@ module _ (f : List ℕ) where
 
     pub examined-late : (j : Judged) → j ≡ judgement (contentsAt f h) → record { names = withHead h (j .names); roles = j .roles } ≡ examined f
     examined-late j q = rw (q, ← entered-late, ← same, names-late)
+
+    pub scoped-late : (old : List ℕ) → sets old 1 (scopesIn (contentsAt f h)) ≡ scoped f old
+    unfolding scoped
+    scoped-late old = rw (eq-eqb (reading f .number) 0 quiet, ← same)
 
     pub surveyed-late : (old : List ℕ) → sets old 1 (candidatesIn (contentsAt f h)) ≡ surveyed f old
     unfolding surveyed

@@ -12,6 +12,7 @@ use Rattle.reading.specs.Reading.{reading, withHead}
 use Rattle.reading.specs.declared.Opened.{Opened}
 use Rattle.rules.specs.Checking.{namesAnswer, rolesAnswer}
 use Rattle.rules.specs.Candidates.{candidatesIn}
+use Rattle.rules.specs.Scopes.{scopesIn}
 use Rattle.checking.specs.declared.Examined.{Examined}
 
 -- 1 to 10
@@ -26,7 +27,11 @@ checking f = orElse (reading f) (orElse (namesAnswer (contentsOf f)) (rolesAnswe
 unfoldable pub entered : List ℕ → Opened
 entered f = withHead (headAt f) (readingNames f)
 
--- the same, with 11 to 13 where nothing of 1 to 10 is refused
+-- the table of what each node is reached with after that: unchanged where 1 to 8 refuse
+unfoldable pub scoped : List ℕ → List ℕ → List ℕ
+scoped f old = cond (eqb (reading f .number) 0) (sets old 1 (scopesIn (contentsOf f))) old
+
+-- the way in, with 11 to 13 where nothing of 1 to 10 is refused
 abbrev pub examined : List ℕ → Examined
 examined f = record { names = entered f; roles = cond (eqb (readingNames f .number) 0) (rolesAnswer (contentsOf f)) fine }
 

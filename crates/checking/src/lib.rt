@@ -7,7 +7,7 @@ use rules::judge::judge;
 use rules::naming::judge_names;
 ghost use mathlib.Core.Path.{_≡_};
 ghost use lib.ListN.{length};
-ghost use Rattle.checking.specs.Check.{readingNames, checking, entered, examined, surveyed};
+ghost use Rattle.checking.specs.Check.{readingNames, checking, entered, scoped, examined, surveyed};
 
 // The file's head or the first of 1 to 10, and where these refuse nothing the first of 11 to 13.
 pub struct Examined {
@@ -15,15 +15,24 @@ pub struct Examined {
     pub roles: Verdict,
 }
 
-// The file's head, or the first of the refusals 1 to 10.
-pub fn enter(file: &[u8]) -> Opened
-    ensures { λ r. ⌜ r ≡ entered (now (file .entry)) ⌝ }
+// The file's head, or the first of the refusals 1 to 10; and what each node is reached with, where 1 to 8 refuse nothing, in the table from index 1
+// on, as far as there is room and 9 and 10 refuse nothing.
+pub fn enter_scoped(file: &[u8], scopes: &mut [u64]) -> Opened
+    ensures { λ r. ⌜ (r ≡ entered (now (file .entry))) × (now (scopes .exit) ≡ scoped (now (file .entry)) (now (scopes .entry))) ⌝ }
 {
     let answer = open(file);
     match answer {
         Opened::Refused(first) => Opened::Refused(first),
-        Opened::Fine(head) => with_head(head, judge_names(file, head)),
+        Opened::Fine(head) => with_head(head, judge_names(file, head, scopes)),
     }
+}
+
+// The same, with a table that has no room.
+pub fn enter(file: &[u8]) -> Opened
+    ensures { λ r. ⌜ r ≡ entered (now (file .entry)) ⌝ }
+{
+    let mut scopes = [0u64; 1];
+    enter_scoped(file, &mut scopes)
 }
 
 // The first of the refusals 1 to 10.

@@ -11,7 +11,7 @@ use Rattle.format.specs.declared.Verdict.{Verdict}
 use Rattle.format.specs.declared.Node.{Node}
 use Rattle.rules.specs.Schema.{Schema}
 use Rattle.rules.specs.Rules.{Context, childOf, waitingAfter}
-use Rattle.rules.specs.Checking.{firstBy}
+use Rattle.rules.specs.Checking.{reached, firstBy}
 use Rattle.reading_exact.specs.Lists.{All}
 use Rattle.reading_exact.specs.Tree.{Step, repeat, new, compare, receive, send, Switch, on, off, Tree, end, fork, step, switch, words, stepNode, switchNode, past, write, flatten}
 use Rattle.reading_exact.specs.File.{Routine}
@@ -42,18 +42,18 @@ module _ (D : Schema) (rule : Context → Node → ℕ) where
 
   -- a node is passed where the rule holds at it
   pub passed-iff : (i : ℕ) (n : Node) (ns : List Node) (c : Context) (st : List Context)
-      → (firstBy rule D i (n ∷ ns) (c ∷ st) ≡ fine) ↔ ((rule c n ≡ 0) × (firstBy rule D (suc i) ns (waitingAfter D c n st) ≡ fine))
-  unfolding firstBy
+      → (firstBy rule i (reached D (n ∷ ns) (c ∷ st)) ≡ fine) ↔ ((rule c n ≡ 0) × (firstBy rule (suc i) (reached D ns (waitingAfter D c n st)) ≡ fine))
+  unfolding reached firstBy
   passed-iff i n ns c st = (to (eqb (rule c n) 0) refl, λ h. rw (eq-eqb (rule c n) 0 (h .0)) (h .1))
     where
-      to : (b : Bool) → eqb (rule c n) 0 ≡ b → cond b (firstBy rule D (suc i) ns (waitingAfter D c n st)) (refused (rule c n) i) ≡ fine
-          → (rule c n ≡ 0) × (firstBy rule D (suc i) ns (waitingAfter D c n st) ≡ fine)
+      to : (b : Bool) → eqb (rule c n) 0 ≡ b → cond b (firstBy rule (suc i) (reached D ns (waitingAfter D c n st))) (refused (rule c n) i) ≡ fine
+          → (rule c n ≡ 0) × (firstBy rule (suc i) (reached D ns (waitingAfter D c n st)) ≡ fine)
       to true e h = (eqb-true (rule c n) 0 e, h)
       to false e h = absurd (eqb-false (rule c n) 0 e (ap (λ (v : Verdict). v .number) h))
 
   module _ (ends : (c : Context) → rule c (words 0 0 0) ≡ 0) (forks : (c : Context) (j : ℕ) → rule c (words 1 j 0) ≡ 0) where
     pub clear-iff : (i : ℕ) (t : Tree) (ns : List Node) (c : Context) (st : List Context)
-        → (firstBy rule D i (write i t ns) (c ∷ st) ≡ fine) ↔ (Clear c t × (firstBy rule D (past i t) ns st ≡ fine))
+        → (firstBy rule i (reached D (write i t ns) (c ∷ st)) ≡ fine) ↔ (Clear c t × (firstBy rule (past i t) (reached D ns st) ≡ fine))
     unfolding write past Clear
     clear-iff i end ns c st =
         let one = passed-iff i (words 0 0 0) ns c st in
@@ -70,7 +70,7 @@ module _ (D : Schema) (rule : Context → Node → ℕ) where
         let n : Node = stepNode s in
         let one = passed-iff i n (write (suc i) t ns) c st in
         let more = clear-iff (suc i) t ns (childOf D c n) st in
-        let same = ap (λ (l : List Context). firstBy rule D (suc i) (write (suc i) t ns) l) (step-after D c s st) in (
+        let same = ap (λ (l : List Context). firstBy rule (suc i) (reached D (write (suc i) t ns) l)) (step-after D c s st) in (
           λ h. let (p, q) = more .0 (sym same ∙ one .0 h .1) in ((one .0 h .0, p), q),
           λ ((z, p), q). one .1 (z, same ∙ more .1 (p, q)),
         )
@@ -78,15 +78,15 @@ module _ (D : Schema) (rule : Context → Node → ℕ) where
         let n : Node = switchNode w r in
         let one = passed-iff i n (write (suc i) t ns) c st in
         let more = clear-iff (suc i) t ns (childOf D c n) st in
-        let same = ap (λ (l : List Context). firstBy rule D (suc i) (write (suc i) t ns) l) (switch-after D c w r st) in (
+        let same = ap (λ (l : List Context). firstBy rule (suc i) (reached D (write (suc i) t ns) l)) (switch-after D c w r st) in (
           λ h. let (p, q) = more .0 (sym same ∙ one .0 h .1) in ((one .0 h .0, p), q),
           λ ((z, p), q). one .1 (z, same ∙ more .1 (p, q)),
         )
 
     -- tree after tree
     pub all-clear : (i : ℕ) (ss : List Routine)
-        → (firstBy rule D i (flatten i (map (λ (s : Routine). s .tree) ss)) (map opening ss) ≡ fine) ↔ All (λ s. Clear (opening s) (s .tree)) ss
-    unfolding flatten firstBy
+        → (firstBy rule i (reached D (flatten i (map (λ (s : Routine). s .tree) ss)) (map opening ss)) ≡ fine) ↔ All (λ s. Clear (opening s) (s .tree)) ss
+    unfolding flatten reached firstBy
     all-clear i [] = (λ h. tt, λ h. refl)
     all-clear i (s ∷ ss) =
         let ts : List Tree = map (λ (s : Routine). s .tree) ss in

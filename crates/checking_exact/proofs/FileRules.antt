@@ -8,7 +8,7 @@ use Rattle.format.specs.Answers.{fine}
 use Rattle.format.specs.declared.Node.{Node}
 use Rattle.rules.specs.Schema.{Schema}
 use Rattle.rules.specs.Rules.{Context, namesFit, kindsFit, wrong, barred}
-use Rattle.rules.specs.Checking.{firstBy, openingsFrom, openings, namesAnswer, rolesAnswer}
+use Rattle.rules.specs.Checking.{reached, openingsFrom, openings, reachedIn, firstBy, namesAnswer, rolesAnswer}
 use Rattle.reading_exact.specs.Lists.{All}
 use Rattle.reading_exact.specs.Tree.{past, words}
 use Rattle.reading_exact.specs.File.{Routine, File, WellFormed, nodesOf, rooted, contentsFor}
@@ -40,9 +40,9 @@ module _ (F : File) (W : WellFormed F) where
   Passes rule s = Clear D rule (opening s) (s .tree)
 
   rule-iff : (rule : Context → Node → ℕ) → ((c : Context) → rule c (words 0 0 0) ≡ 0) → ((c : Context) (j : ℕ) → rule c (words 1 j 0) ≡ 0)
-      → (firstBy rule D 1 (nodesOf F) (openings (contentsFor F)) ≡ fine) ↔ All (Passes rule) (F .sessions)
+      → (firstBy rule 1 (reachedIn (contentsFor F)) ≡ fine) ↔ All (Passes rule) (F .sessions)
   rule-iff rule ends forks =
-      let read = ap (firstBy rule D 1 (nodesOf F)) (openings-for F) in
+      let read = ap (λ (st : List Context). firstBy rule 1 (reached D (nodesOf F) st)) (openings-for F) in
       let (to, from) = all-clear D rule ends forks 1 (F .sessions) in
       (λ h. to (sym read ∙ h), λ h. read ∙ from h)
 

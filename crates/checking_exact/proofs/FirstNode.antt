@@ -12,7 +12,7 @@ use Rattle.format.specs.Answers.{fine, refused}
 use Rattle.format.specs.declared.Node.{Node}
 use Rattle.rules.specs.Schema.{Schema}
 use Rattle.rules.specs.Rules.{Context, waitingAfter}
-use Rattle.rules.specs.Checking.{firstBy}
+use Rattle.rules.specs.Checking.{reached, firstBy}
 use Rattle.reading_exact.specs.File.{InCount}
 use Rattle.reading_exact.specs.Order.{Order, First}
 use Rattle.reading_exact.specs.Refusals.{nth}
@@ -32,11 +32,11 @@ module _ (D : Schema) (ns : List Node) (os : List Context) (rule : Context → N
 
   module _ (o : Order) (low : (i : ℕ) → InCount (length ns) i → nth ns i .tag ≤ 8) (staged : (n p m q : ℕ) → Refuses n p → Refuses m q → o .stage n ≡ o .stage m) where
     abbrev Answers : ℕ → List Node → List Context → Type 0
-    Answers i l st = FirstFrom o Refuses i (firstBy rule D i l st)
+    Answers i l st = FirstFrom o Refuses i (firstBy rule i (reached D l st))
 
     pass : (i : ℕ) (c : Context) (l : List Node) (st : List Context) → InCount (length ns) i → drop i ns ≡ l → Waiting (contexts D os) ns i (c ∷ st)
         → (nth ns i .tag ≤ 8 → Answers (suc i) l (waitingAfter D c (nth ns i) st)) → Answers i (nth ns i ∷ l) (c ∷ st)
-    unfolding firstBy
+    unfolding reached firstBy
     pass i c l st m left (s, h) rest = go (eqb v 0) refl
       where
         v : ℕ
@@ -46,20 +46,20 @@ module _ (D : Schema) (ns : List Node) (os : List Context) (rule : Context → N
         same : (k : ℕ) → Refuses k i → v ≡ k
         same k (d, r, w, _) = ap (λ (x : Context). rule x (nth ns i)) (reached-single (contexts D os) ns (h .0) (r .0)) ∙ w
 
-        go : (b : Bool) → eqb v 0 ≡ b → FirstFrom o Refuses i (cond b (firstBy rule D (suc i) l (waitingAfter D c (nth ns i) st)) (refused v i))
+        go : (b : Bool) → eqb v 0 ≡ b → FirstFrom o Refuses i (cond b (firstBy rule (suc i) (reached D l (waitingAfter D c (nth ns i) st))) (refused v i))
         go true f = first-on o Refuses i _ (λ k b. b .3 (sym (same k b) ∙ eqb-true v 0 f)) (rest (low i m))
         go false f =
             let found : Refuses v i = (c, (h .0, m), refl, eqb-false v 0 f) in
             first-here o Refuses v i found (λ k q b. staged v i k q found b) (λ k b. omega (arith, ap (o .turn) (same k b)))
 
-    pub first-by : First o Refuses (firstBy rule D 1 ns os)
-    unfolding firstBy
+    pub first-by : First o Refuses (firstBy rule 1 (reached D ns os))
+    unfolding reached firstBy
     first-by =
         along (contexts D os) ns Answers (λ i st e s n. inl (refl, λ k q b. omega (arith, n k q b, b .1 .1)))
         (λ i x l m s n. inl (refl, λ k q b. none-reached (contexts D os) ns (m .0) (n k q b) (s .0) (b .1 .0))) pass (λ n q b. b .1 .1 .0)
 
   -- where none is refused the rule holds at every node
-  pub all-held : ((i : ℕ) → InCount (length ns) i → nth ns i .tag ≤ 8) → firstBy rule D 1 ns os ≡ fine
+  pub all-held : ((i : ℕ) → InCount (length ns) i → nth ns i .tag ≤ 8) → firstBy rule 1 (reached D ns os) ≡ fine
       → (p : ℕ) (c : Context) → ReachedAt D ns os p c → rule c (nth ns p) ≡ 0
   all-held low e p c s = go (eqb (rule c (nth ns p)) 0) refl
     where
@@ -69,5 +69,5 @@ module _ (D : Schema) (ns : List Node) (os : List Context) (rule : Context → N
       go : (b : Bool) → eqb (rule c (nth ns p)) 0 ≡ b → rule c (nth ns p) ≡ 0
       go true z = eqb-true (rule c (nth ns p)) 0 z
       go false z =
-          absurd (first-zero flat Refuses (firstBy rule D 1 ns os) (λ n q b. omega (arith, b .3)) (first-by flat low (λ n p m q a b. refl)) (number-of e) .1
+          absurd (first-zero flat Refuses (firstBy rule 1 (reached D ns os)) (λ n q b. omega (arith, b .3)) (first-by flat low (λ n p m q a b. refl)) (number-of e) .1
           (rule c (nth ns p)) p (c, s, refl, eqb-false (rule c (nth ns p)) 0 z))

@@ -22,12 +22,13 @@ use Rattle.steps.specs.declared.Acted.{Acted}
 use Rattle.steps.specs.declared.Answer.{Answer}
 use Rattle.steps.specs.declared.Answer.the-variants as answers
 use Rattle.steps.specs.Threads.{value, noThread}
-use Rattle.steps.specs.Choice.{Clinic, isAllowed, meeting, sending, lone, aloneOnly, acting, State, Chosen, halts, goes, threadAt, partnerAt, done, choice}
-use Rattle.steps.specs.Kept.{threadIn, threadsIn, madeIn}
+use Rattle.steps.specs.Choice.{Clinic, isAllowed, meeting, sending, lone, aloneOnly, acting, State, Chosen, halts, goes, threadAt, partnerAt, done, outcome, choice}
+use Rattle.steps.specs.Records.{threadIn, threadsIn}
+use Rattle.steps.specs.Beside.{madeIn}
 use Rattle.steps.specs.Acted.{partnerOf, actedOf, outcomeBy, outcomeOf}
 use Rattle.choices.specs.Stored.{HasRoom}
-use Rattle.choices.proofs.TableLaws.{thread-get}
-use Rattle.choices.proofs.StateLaws.{made-length}
+use Rattle.steps.proofs.TableLaws.{thread-get}
+use Rattle.steps.proofs.ActLaws.{outcome-acted, length-made}
 
 abbrev Fair : ℕ → ℕ → ℕ → Outcome → Type 0
 Fair n m p (Refused k) = k ≡ 0 → ⊥
@@ -101,15 +102,6 @@ fair-placed n m p (answers.Makes q) t u h = h
 fair-placed n m p answers.Ends t u h = tt
 fair-placed n m p answers.Meets t u h = h
 
--- nothing is lost where an outcome is handed back as an answer with two threads
-back : (o : Outcome) → outcomeOf (actedOf o) ≡ o
-back (Refused k) = refl
-back (Moves u) = refl
-back (Adds q) = refl
-back (Makes q) = refl
-back Ends = refl
-back (Meets q) = refl
-
 -- a choice that is refused has a number
 abbrev pub Halts : Chosen → Type 0
 Halts (halts n) = n ≡ 0 → ⊥
@@ -125,11 +117,11 @@ done-told n m s i p Ends h = tt
 done-told n m s i p (Meets q) h = tt
 
 pub choice-told : (C : Clinic) (s : State) (i p : ℕ) → Halts (choice C s i p)
-unfolding choice
-choice-told C s i p = go (inCount (length (s .threads)) i)
+unfolding choice outcome
+choice-told C s i p = done-told (length (s .threads)) (length (s .made)) s i p (outcome C s i p) (go (inCount (length (s .threads)) i))
   where
-    go : (b : Bool) → Halts (cond b (done s i p (acting C (length (s .threads)) (s .made) (threadAt s i) (partnerAt s p))) (halts 18))
-    go true = done-told (length (s .threads)) (length (s .made)) s i p _ (acting-fair (length (s .threads)) p C (s .made) (threadAt s i) (threadAt s p))
+    go : (b : Bool) → Fair (length (s .threads)) (length (s .made)) p (cond b (acting C (length (s .threads)) (s .made) (threadAt s i) (partnerAt s p)) (Refused 18))
+    go true = acting-fair (length (s .threads)) p C (s .made) (threadAt s i) (threadAt s p)
     go false = some 17
 
 -- the thread looked at for the partner is a thread; it is the partner where the choice names one
@@ -155,8 +147,8 @@ module _ (C : Clinic) (b : List ℕ) (p : ℕ) (own other : Thread) (it : Acted)
   acted-placed =
       let made : List Made = madeIn b 2 (getD b 1 0) in
       let o : Outcome = acting C (getD b 0 0) made own (partnerOf (getD b 0 0) p other) in
-      let fair : Fair (getD b 0 0) (getD b 1 0) p o = subst (λ (k : ℕ). Fair (getD b 0 0) k p o) (made-length b 2 (getD b 1 0)) (acting-fair (getD b 0 0) p C made own other) in
-      fair-placed (getD b 0 0) (getD b 1 0) p (it .answer) (it .first) (it .second) (subst (Fair (getD b 0 0) (getD b 1 0) p) (sym (ap outcomeOf acted ∙ back o)) fair)
+      let fair : Fair (getD b 0 0) (getD b 1 0) p o = subst (λ (k : ℕ). Fair (getD b 0 0) k p o) (length-made b 2 (getD b 1 0)) (acting-fair (getD b 0 0) p C made own other) in
+      fair-placed (getD b 0 0) (getD b 1 0) p (it .answer) (it .first) (it .second) (subst (Fair (getD b 0 0) (getD b 1 0) p) (sym (ap outcomeOf acted ∙ outcome-acted o)) fair)
 
   module _ (ts : List Thread) (long : length ts ≡ getD b 0 0) where
     abbrev s : State
@@ -168,22 +160,22 @@ module _ (C : Clinic) (b : List ℕ) (p : ℕ) (own other : Thread) (it : Acted)
     partner-same e false false e1 e2 = refl
     partner-same e false true e1 e2 = ap With (e ∙ (rw (lt-ltb 0 p (positive p (eqb-false p 0 e1)), e2)))
 
-    pub choice-by : (i q at to : ℕ) → inCount (getD b 0 0) i ≡ true → q ≡ cond (inCount (getD b 0 0) p) p i → at ≡ i - 1 → own ≡ getD ts at noThread
-        → to ≡ q - 1 → other ≡ getD ts to noThread → done s i p (outcomeOf it) ≡ choice C s i p
-    unfolding choice
-    choice-by i q at to inside e a mine there theirs =
+    pub outcome-by : (i q at to : ℕ) → inCount (getD b 0 0) i ≡ true → q ≡ cond (inCount (getD b 0 0) p) p i → at ≡ i - 1 → own ≡ getD ts at noThread
+        → to ≡ q - 1 → other ≡ getD ts to noThread → outcomeOf it ≡ outcome C s i p
+    unfolding outcome
+    outcome-by i q at to inside e a mine there theirs =
         let n : ℕ = getD b 0 0 in
         let read : own ≡ threadAt s i = mine ∙ ap (λ (k : ℕ). getD ts k noThread) a in
         let other-read : other ≡ cond (inCount n p) (threadAt s p) own = partner-read ts n i p q at to own other e a mine there theirs in
         let partner : partnerOf n p other ≡ partnerOf n p (threadAt s p) = partner-same other-read (eqb p 0) (leb p n) refl refl in
         let o : outcomeOf it ≡ acting C n (s .made) (threadAt s i) (partnerOf n p (threadAt s p)) =
-        ap outcomeOf acted ∙ back _ ∙ ap₂ (acting C n (s .made)) read partner in
+        ap outcomeOf acted ∙ outcome-acted _ ∙ ap₂ (acting C n (s .made)) read partner in
         let whole : inCount (length ts) i ≡ true = ap (λ (k : ℕ). inCount k i) long ∙ inside in
-        ap (done s i p) (o ∙ ap (λ (k : ℕ). acting C k (s .made) (threadAt s i) (partnerOf k p (threadAt s p))) (sym long)) ∙ sym (rw whole)
+        o ∙ ap (λ (k : ℕ). acting C k (s .made) (threadAt s i) (partnerOf k p (threadAt s p))) (sym long) ∙ sym (rw whole)
 
-pub choice-none : (C : Clinic) (s : State) (n i p : ℕ) → length (s .threads) ≡ n → inCount n i ≡ false → choice C s i p ≡ halts 18
-unfolding choice
-choice-none C s n i p long outside = let whole : inCount (length (s .threads)) i ≡ false = ap (λ (k : ℕ). inCount k i) long ∙ outside in rw whole
+pub outcome-none : (C : Clinic) (s : State) (n i p : ℕ) → length (s .threads) ≡ n → inCount n i ≡ false → outcome C s i p ≡ Refused 18
+unfolding outcome
+outcome-none C s n i p long outside = let whole : inCount (length (s .threads)) i ≡ false = ap (λ (k : ℕ). inCount k i) long ∙ outside in rw whole
 
 -- a thread of the words of a table is one of the threads in it
 pub thread-read : (w : List ℕ) (n at : ℕ) (t : Thread) → at < n → t ≡ threadIn w (11 * at) → t ≡ getD (threadsIn w 0 n) at noThread

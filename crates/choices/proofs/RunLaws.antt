@@ -1,6 +1,6 @@
 -- A run: its start in the tables, and what is left of it after some choices.
-use Prim.Native.Nat.{ℕ, suc, _+_, _*_, _-_, _/_, _≤_, _<_}
-use mathlib.Core.Path.{_≡_, sym, ap, ap₂, _∙_}
+use Prim.Native.Nat.{ℕ, zero, suc, _+_, _*_, _/_, _≤_, _<_}
+use mathlib.Core.Path.{_≡_, refl, sym, ap, ap₂, subst, _∙_}
 use mathlib.Core.List.{List, [], _∷_, _++_, append-assoc, append-nil}
 use native.Mathlib.Omega.{arith}
 use lib.ListN.{length, getD, set, drop, length-set, length-drop}
@@ -9,13 +9,19 @@ use Rattle.format.specs.Contents.{Contents, item, noSession}
 use Rattle.format.specs.declared.Session.{Session}
 use Rattle.format.proofs.ContentsLaws.{next-item, none-past}
 use Rattle.steps.specs.declared.Thread.{Thread}
-use Rattle.steps.specs.Threads.{zeros}
-use Rattle.steps.specs.Choice.{Clinic, State, Chosen, halts, goes, choice}
+use Rattle.steps.specs.Threads.{zeros, noThread}
+use Rattle.steps.specs.declared.Outcome.{Outcome}
+use Rattle.steps.specs.declared.Outcome.the-variants.{Refused, Moves, Adds, Makes, Ends, Meets}
+use Rattle.steps.specs.declared.Answer.{Answer}
+use Rattle.steps.specs.declared.Answer.the-variants as answers
+use Rattle.steps.specs.Acted.{actedOf}
+use Rattle.steps.specs.Choice.{Clinic, State, Chosen, goes, done, outcome, choice}
 use Rattle.choices.specs.Choices.{threadsFrom, start, Ran, follow, run}
-use Rattle.steps.specs.Kept.{threadsIn, madeIn, stateIn, Sized, Carried}
-use Rattle.choices.specs.Stored.{stored, Gone}
+use Rattle.steps.specs.Records.{threadsIn}
+use Rattle.steps.specs.Beside.{madeIn, startWords}
+use Rattle.steps.specs.Kept.{stateIn, Sized, stateAfter}
+use Rattle.steps.specs.Records.{stored}
 use Rattle.choices.proofs.StateLaws.{threads-add}
-use Rattle.choices.proofs.ChoiceLaws.{Halts, choice-told}
 
 -- a run of which some choices are done already
 abbrev pub after : ℕ → Ran → Ran
@@ -31,37 +37,77 @@ left-begin C s ws =
     ap (λ (k : ℕ). record { count = k; refusal = run C s ws .refusal; state = run C s ws .state }) z
 
 -- the next choice of the list
-next : (ws : List ℕ) (k : ℕ) → k < length ws / 2 → drop (2 * k) ws ≡ getD ws (2 * k) 0 ∷ getD ws (2 * k + 1) 0 ∷ drop (2 * (k + 1)) ws
+pub next : (ws : List ℕ) (k : ℕ) → k < length ws / 2 → drop (2 * k) ws ≡ getD ws (2 * k) 0 ∷ getD ws (2 * k + 1) 0 ∷ drop (2 * (k + 1)) ws
 next ws k lt =
     let one : suc (2 * k) ≡ 2 * k + 1 = omega arith in
     let two : suc (2 * k + 1) ≡ 2 * (k + 1) = omega arith in
     drop-cons ws (2 * k) 0 (omega (arith, lt))
     ∙ ap (λ (l : List ℕ). getD ws (2 * k) 0 ∷ l) (ap (λ (j : ℕ). drop j ws) one ∙ drop-cons ws (2 * k + 1) 0 (omega (arith, lt)) ∙ ap (λ (j : ℕ). getD ws (2 * k + 1) 0 ∷ drop j ws) two)
 
-module _ (C : Clinic) (s : State) (ws : List ℕ) (k : ℕ) (now now′ : State) (r : ℕ) (lt : k < length ws / 2)
-    (left : Left C s ws k now) (carried : Carried (choice C now (getD ws (2 * k) 0) (getD ws (2 * k + 1) 0)) r now now′) where
-  here : run C s ws ≡ after k (follow now (choice C now (getD ws (2 * k) 0) (getD ws (2 * k + 1) 0)) (λ x. run C x (drop (2 * (k + 1)) ws)))
-  unfolding run
-  here = left ∙ ap (λ (l : List ℕ). after k (run C now l)) (next ws k lt)
+-- an answer that is a refusal, and one that is none
+abbrev pub Refuses : Answer → Type 0
+Refuses (answers.Refused n) = Unit {0}
+Refuses answers.Moves = ⊥
+Refuses answers.Adds = ⊥
+Refuses (answers.Makes m) = ⊥
+Refuses answers.Ends = ⊥
+Refuses answers.Meets = ⊥
 
-  pub left-halts : (r ≡ 0 → ⊥) → run C s ws ≡ record { count = k; refusal = r; state = now′ }
-  left-halts some = go (choice C now (getD ws (2 * k) 0) (getD ws (2 * k + 1) 0)) carried here
-    where
-      go : (x : Chosen) → Carried x r now now′ → run C s ws ≡ after k (follow now x (λ y. run C y (drop (2 * (k + 1)) ws))) → run C s ws ≡ record { count = k; refusal = r; state = now′ }
-      go (halts n) (e, q) h =
-          let z : k + 0 ≡ k = omega arith in
-          h ∙ (λ j. record { count = z j; refusal = sym e j; state = sym q j })
-      go (goes y) (e, q) h = absurd (some e)
+abbrev refusalOf : Answer → ℕ
+refusalOf (answers.Refused n) = n
+refusalOf answers.Moves = 0
+refusalOf answers.Adds = 0
+refusalOf (answers.Makes m) = 0
+refusalOf answers.Ends = 0
+refusalOf answers.Meets = 0
 
-  pub left-goes : r ≡ 0 → Left C s ws (k + 1) now′
-  left-goes none = go (choice C now (getD ws (2 * k) 0) (getD ws (2 * k + 1) 0)) (choice-told C now (getD ws (2 * k) 0) (getD ws (2 * k + 1) 0)) carried here
+pub refused-by : (o : Outcome) (n : ℕ) → answers.Refused n ≡ actedOf o .answer → o ≡ Refused n
+refused-by (Refused k) n e = ap Refused (sym (ap refusalOf e))
+refused-by (Moves t) n e = absurd (subst Refuses e tt)
+refused-by (Adds q) n e = absurd (subst Refuses e tt)
+refused-by (Makes q) n e = absurd (subst Refuses e tt)
+refused-by Ends n e = absurd (subst Refuses e tt)
+refused-by (Meets q) n e = absurd (subst Refuses e tt)
+
+module _ (C : Clinic) (s : State) (ws : List ℕ) (k : ℕ) (now now′ : State) (lt : k < length ws / 2) (left : Left C s ws k now)
+    (o : Outcome) (is : o ≡ outcome C now (getD ws (2 * k) 0) (getD ws (2 * k + 1) 0))
+    (kept : now′ ≡ stateAfter now (done now (getD ws (2 * k) 0) (getD ws (2 * k + 1) 0) o)) where
+  abbrev chosen : Outcome → Chosen
+  chosen x = done now (getD ws (2 * k) 0) (getD ws (2 * k + 1) 0) x
+
+  here : run C s ws ≡ after k (follow now (chosen o) (λ x. run C x (drop (2 * (k + 1)) ws)))
+  unfolding run choice
+  here =
+      left ∙ ap (λ (l : List ℕ). after k (run C now l)) (next ws k lt)
+      ∙ ap (λ (x : Outcome). after k (follow now (chosen x) (λ y. run C y (drop (2 * (k + 1)) ws)))) (sym is)
+
+  pub left-halts : (n : ℕ) → answers.Refused n ≡ actedOf o .answer → run C s ws ≡ record { count = k; refusal = n; state = now′ }
+  unfolding done
+  left-halts n e =
+      let f : o ≡ Refused n = refused-by o n e in
+      let z : k + 0 ≡ k = omega arith in
+      let stays : now′ ≡ now = kept ∙ ap (λ (x : Outcome). stateAfter now (chosen x)) f in
+      here ∙ ap (λ (x : Outcome). after k (follow now (chosen x) (λ y. run C y (drop (2 * (k + 1)) ws)))) f
+      ∙ (λ j. record { count = z j; refusal = n; state = sym stays j })
+
+  pub left-goes : (Refuses (actedOf o .answer) → ⊥) → Left C s ws (k + 1) now′
+  unfolding done
+  left-goes none = go o none kept here
     where
-      go : (x : Chosen) → Halts x → Carried x r now now′ → run C s ws ≡ after k (follow now x (λ y. run C y (drop (2 * (k + 1)) ws))) → Left C s ws (k + 1) now′
-      go (halts n) told (e, q) h = absurd (told (sym e ∙ none))
-      go (goes y) told (e, q) h =
+      on : (y : State) → now′ ≡ y → run C s ws ≡ after k (follow now (goes y) (λ x. run C x (drop (2 * (k + 1)) ws))) → Left C s ws (k + 1) now′
+      on y q h =
           let R : Ran = run C y (drop (2 * (k + 1)) ws) in
           let z : k + suc (R .count) ≡ k + 1 + R .count = omega arith in
           h ∙ ap (λ (n : ℕ). record { count = n; refusal = R .refusal; state = R .state }) z ∙ ap (λ (x : State). after (k + 1) (run C x (drop (2 * (k + 1)) ws))) (sym q)
+
+      go : (x : Outcome) → (Refuses (actedOf x .answer) → ⊥) → now′ ≡ stateAfter now (chosen x)
+          → run C s ws ≡ after k (follow now (chosen x) (λ y. run C y (drop (2 * (k + 1)) ws))) → Left C s ws (k + 1) now′
+      go (Refused n) f q h = absurd (f tt)
+      go (Moves t) f q h = on _ q h
+      go (Adds t) f q h = on _ q h
+      go (Makes t) f q h = on _ q h
+      go Ends f q h = on _ q h
+      go (Meets t) f q h = on _ q h
 
 -- at the end no choice is left
 pub left-ends : (C : Clinic) (s : State) (ws : List ℕ) (k : ℕ) (now : State) → k ≡ length ws / 2 → Left C s ws k now → run C s ws ≡ record { count = k; refusal = 0; state = now }
@@ -72,14 +118,6 @@ left-ends C s ws k now e left = left ∙ go (drop (2 * k) ws) (omega (arith, e, 
     go [] h = let z : k + 0 ≡ k = omega arith in ap (λ (n : ℕ). record { count = n; refusal = 0; state = now }) z
     go (x ∷ []) h = let z : k + 0 ≡ k = omega arith in ap (λ (n : ℕ). record { count = n; refusal = 0; state = now }) z
     go (x ∷ y ∷ l) h = let none : ⊥ = omega (arith, h) in absurd none
-
--- so many choices done, then a refusal or the end, are the answer
-pub gone : (R : Ran) (k : ℕ) (w b : List ℕ) (c r : ℕ) → R ≡ record { count = k; refusal = r; state = stateIn w b } → c ≡ k → Sized w b → Gone R (record { count = c; refusal = r }) w b
-gone R k w b c r e q z = (
-  ap₂ (λ (x y : ℕ). record { count = x; refusal = y }) (q ∙ ap (λ (x : Ran). x .count) (sym e)) (ap (λ (x : Ran). x .refusal) (sym e)),
-  ap (λ (x : Ran). x .state) (sym e),
-  z,
-)
 
 -- the start: the threads of the first sessions stand in the table, and those of the others follow
 abbrev pub Opened : List Session → List ℕ → ℕ → Type 0
@@ -97,12 +135,20 @@ open-more ss w v i t fits lt is put have =
     ∙ ap (λ (l : List Session). threadsIn w 0 i ++ threadsFrom l) (sym (next-item noSession ss i lt))
     ∙ have
 
+-- the thread of a session's number, and no thread for no session
+pub opened-item : (ss : List Session) (k : ℕ) → let s = item noSession ss k in record { user = s .user; node = s .root; mask = s .mask; vars = zeros } ≡ item noThread (threadsFrom ss) k
+unfolding item threadsFrom
+opened-item ss zero = refl
+opened-item [] (suc k) = refl
+opened-item (s ∷ ss) (suc zero) = refl
+opened-item (s ∷ ss) (suc (suc k)) = opened-item ss (suc k)
+
 -- the counts are written beside
 pub open-state : (C : Contents) (w b : List ℕ) (n : ℕ) → length w ≡ 704 → length b ≡ 130 → n ≤ 32 → length (C .sessions) ≡ n → Opened (C .sessions) w n
-    → (stateIn w (set (set b 0 n) 1 0) ≡ start C) × Sized w (set (set b 0 n) 1 0)
+    → (stateIn w (startWords b n) ≡ start C) × Sized w (startWords b n)
 unfolding madeIn threadsFrom
 open-state C w b n words long few e have =
-    let d : List ℕ = set (set b 0 n) 1 0 in
+    let d : List ℕ = startWords b n in
     let count : getD d 0 0 ≡ n = getD-set-other (set b 0 n) 1 0 0 0 (λ q. omega (arith, q)) ∙ getD-set-same b 0 n 0 (omega (arith, long)) in
     let none : getD d 1 0 ≡ 0 = getD-set-same (set b 0 n) 1 0 0 (omega (arith, long, length-set b 0 n)) in
     let all : threadsIn w 0 n ≡ threadsFrom (C .sessions) = sym (append-nil (threadsIn w 0 n)) ∙ ap (λ (l : List Session). threadsIn w 0 n ++ threadsFrom l) (sym (none-past (C .sessions) n (omega (arith, e)))) ∙ have in (

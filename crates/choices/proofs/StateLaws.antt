@@ -12,9 +12,11 @@ use Rattle.steps.specs.declared.Thread.{Thread}
 use Rattle.steps.specs.declared.Made.{Made}
 use Rattle.steps.specs.Threads.{noThread}
 use Rattle.steps.specs.Choice.{State, changed, removed}
-use Rattle.steps.specs.Kept.{threadIn, threadsIn, madeAt, madeIn, stateIn, Sized}
-use Rattle.choices.specs.Stored.{stored}
-use Rattle.choices.proofs.TableLaws.{down, down-below, down-above, thread-same, stored-same, stored-other, stored-length, threads-length, thread-get, threads-same, threads-split}
+use Rattle.steps.specs.Records.{threadIn, threadsIn}
+use Rattle.steps.specs.Beside.{madeAt, madeIn}
+use Rattle.steps.specs.Kept.{stateIn, Sized}
+use Rattle.steps.specs.Records.{stored}
+use Rattle.steps.proofs.TableLaws.{down, down-below, down-above, thread-same, stored-same, stored-other, stored-length, threads-length, thread-get, threads-same, threads-split}
 
 -- a thread stored in place of another
 threads-put : (w : List ℕ) (n i : ℕ) (t : Thread) → i < n → 11 * n ≤ length w → length (t .vars) ≡ 8 → threadsIn (stored w (11 * i) t) 0 n ≡ set (threadsIn w 0 n) i t
@@ -96,11 +98,6 @@ made-more b p zero = let e : p ≡ p + 2 * 0 = omega arith in ap (λ (x : ℕ). 
 made-more b p (suc k) =
     let e : p + 2 + 2 * k ≡ p + 2 * suc k = omega arith in
     ap (λ (ms : List Made). madeAt b p ∷ ms) (made-more b (p + 2) k ∙ ap (λ (x : ℕ). madeIn b (p + 2) k ++ (madeAt b x ∷ [])) e)
-
-pub made-length : (b : List ℕ) (p k : ℕ) → length (madeIn b p k) ≡ k
-unfolding madeIn
-made-length b p zero = refl
-made-length b p (suc k) = ap suc (made-length b (p + 2) k)
 
 -- a made channel more, beside the threads
 abbrev pub minting : List ℕ → ℕ → Made → List ℕ

@@ -1,20 +1,17 @@
 -- How a choice is stored in the tables.
-use Prim.Native.Nat.{ℕ, _+_, _≤_, _<_}
+use Prim.Native.Nat.{ℕ, _≤_, _<_}
 use mathlib.Core.Path.{_≡_}
-use mathlib.Core.List.{List}
-use lib.ListN.{getD, set}
-use Rattle.steps.specs.declared.Thread.{Thread}
+use mathlib.Core.List.{List, [], _∷_}
 use Rattle.choices.specs.declared.Counted.{Counted}
+use Rattle.choices.specs.declared.Went.{Went}
 use Rattle.steps.specs.declared.Answer.{Answer}
 use Rattle.steps.specs.declared.Answer.the-variants as answers
 use Rattle.choices.specs.Choices.{Ran}
-use Rattle.steps.specs.Kept.{stateIn, Sized}
-
--- a thread as eleven words from p on
-abbrev pub stored : List ℕ → ℕ → Thread → List ℕ
-stored w p t =
-    set (set (set (set (set (set (set (set (set (set (set w p (t .user)) (p + 1) (t .node)) (p + 2) (t .mask)) (p + 3) (getD (t .vars) 0 0)) (p + 4) (getD (t .vars) 1 0))
-    (p + 5) (getD (t .vars) 2 0)) (p + 6) (getD (t .vars) 3 0)) (p + 7) (getD (t .vars) 4 0)) (p + 8) (getD (t .vars) 5 0)) (p + 9) (getD (t .vars) 6 0)) (p + 10) (getD (t .vars) 7 0)
+use Rattle.steps.specs.declared.Outcome.{Outcome}
+use Rattle.steps.specs.Acted.{actedOf}
+use Rattle.steps.specs.Beside.{besideBy}
+use Rattle.steps.specs.Choice.{Clinic, State, Chosen, halts, goes, done, outcome}
+use Rattle.steps.specs.Kept.{stateIn, Sized, stateAfter}
 
 -- there is room for what an answer adds to so many threads and made channels, and the partner that it moves is a thread
 abbrev pub HasRoom : ℕ → ℕ → ℕ → Answer → Type 0
@@ -25,6 +22,38 @@ HasRoom threads made p (answers.Makes m) = made < 64
 HasRoom threads made p answers.Ends = Unit {0}
 HasRoom threads made p answers.Meets = (0 < p) × (p ≤ threads)
 
+-- a choice of thread i with partner p, carried out in the tables: what it comes to is answered, and what it leaves stands in them
+abbrev pub Chose : Outcome → ℕ → ℕ → Answer → List ℕ → List ℕ → List ℕ → List ℕ → Type 0
+Chose o i p r w b w′ b′ =
+    (r ≡ actedOf o .answer) × (stateIn w′ b′ ≡ stateAfter (stateIn w b) (done (stateIn w b) i p o)) × (b′ ≡ besideBy b o) × Sized w′ b′
+
 -- a run gone through: what it answers, and the state that it leaves in the tables
 abbrev pub Gone : Ran → Counted → List ℕ → List ℕ → Type 0
 Gone R r w b = (r ≡ record { count = R .count; refusal = R .refusal }) × (stateIn w b ≡ R .state) × Sized w b
+
+-- the words beside the threads after a list of choices, and the answer of the last that was tried; before the first a refusal 0
+pub record Tried : Type 0 where
+  pub beside : List ℕ
+  pub last : Answer
+
+abbrev pub untried : List ℕ → Tried
+untried b = record { beside = b; last = answers.Refused 0 }
+
+abbrev pub triedBy : List ℕ → Outcome → Tried
+triedBy b o = record { beside = besideBy b o; last = actedOf o .answer }
+
+abbrev pub onFrom : Chosen → Tried → (State → Tried) → Tried
+onFrom (halts n) t go = t
+onFrom (goes s′) t go = go s′
+
+unfoldable pub tried : Clinic → State → Tried → List ℕ → Tried
+tried C s t [] = t
+tried C s t (i ∷ []) = t
+tried C s t (i ∷ p ∷ ws) =
+    let o : Outcome = outcome C s i p in
+    onFrom (done s i p o) (triedBy (t .beside) o) (λ s′. tried C s′ (triedBy (t .beside) o) ws)
+
+-- a run gone through with the answer of its last choice, and what it leaves beside the threads
+abbrev pub Through : Ran → Tried → Went → List ℕ → List ℕ → Type 0
+Through R T r w b =
+    (r ≡ record { count = R .count; refusal = R .refusal; last = T .last }) × (stateIn w b ≡ R .state) × (b ≡ T .beside) × Sized w b

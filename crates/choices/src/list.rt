@@ -1,12 +1,9 @@
 // A list of choices, each carried out in the tables that keep the state.
 use super::Counted;
+use super::Went;
 use super::state::add_thread;
-use super::state::put_made;
-use super::state::put_thread;
 use super::state::remove_thread;
-use super::state::thread_at;
 use format::Head;
-use format::Session;
 use format::sections::in_count;
 use format::sections::session;
 use format::words::narrow;
@@ -16,28 +13,33 @@ use steps::Acted;
 use steps::Answer;
 use steps::Thread;
 use steps::act::act;
+use steps::beside::add_made;
+use steps::beside::start_words;
+use steps::beside::thread_count;
+use steps::records::put_thread;
+use steps::records::thread_at;
 ghost use mathlib.Core.Path.{_≡_};
 ghost use mathlib.Core.Bool.{cond};
-ghost use Prim.Native.Nat.{_+_, _*_, _-_, _≤_, _<_};
-ghost use lib.ListN.{length, getD, replicate};
+ghost use Prim.Native.Nat.{_≤_, _<_};
+ghost use lib.ListN.{length, replicate};
 ghost use Rattle.format.specs.Header.{Laid};
-ghost use Rattle.format.specs.Contents.{inCount, contentsAt};
+ghost use Rattle.format.specs.Contents.{inCount, item, contentsAt};
 ghost use Rattle.rules.specs.Schema.{schemaOf};
 ghost use Rattle.rules.specs.Kept.{Granting};
 ghost use Rattle.rules.specs.declared.Way.the-variants.{Sends, Receives};
-ghost use Rattle.steps.specs.Choice.{clinicOf, done, choice};
-ghost use Rattle.steps.specs.Threads.{zeros};
+ghost use Rattle.steps.specs.Choice.{clinicOf, outcome};
+ghost use Rattle.steps.specs.Threads.{noThread};
 ghost use Rattle.choices.specs.Choices.{start, run};
-ghost use Rattle.steps.specs.Kept.{threadIn, stateIn, Sized, Carried, besideWords};
+ghost use Rattle.steps.specs.Kept.{stateIn, Sized};
 ghost use Rattle.steps.specs.Acted.{outcomeOf};
-ghost use Rattle.choices.specs.Stored.{HasRoom, Gone};
+ghost use Rattle.choices.specs.Stored.{HasRoom, Chose, untried, tried, Gone, Through};
+ghost use Rattle.steps.specs.Records.{tableWords};
+ghost use Rattle.steps.specs.Beside.{threadCount, madeCount, besideWords};
 
 // What a choice of thread i with partner p comes to is stored in place. A refused one stores nothing.
-fn store(threads: &mut [u16], beside: &mut [u16], i: u16, p: u16, it: Acted) -> u16
-    requires { ⌜ Sized (now threads) (now beside) × (0 < i) × (i ≤ getD (now beside) 0 0) × HasRoom (getD (now beside) 0 0) (getD (now beside) 1 0) p (it .answer) ⌝ }
-    ensures { λ r. ⌜ Carried (done (stateIn (now (threads .entry)) (now (beside .entry))) i p (outcomeOf it)) r
-        (stateIn (now (threads .entry)) (now (beside .entry))) (stateIn (now (threads .exit)) (now (beside .exit)))
-        × Sized (now (threads .exit)) (now (beside .exit)) ⌝ }
+fn store(threads: &mut [u16], beside: &mut [u16], i: u16, p: u16, it: Acted) -> Answer
+    requires { ⌜ Sized (now threads) (now beside) × (0 < i) × (i ≤ threadCount (now beside)) × HasRoom (threadCount (now beside)) (madeCount (now beside)) p (it .answer) ⌝ }
+    ensures { λ r. ⌜ Chose (outcomeOf it) i p r (now (threads .entry)) (now (beside .entry)) (now (threads .exit)) (now (beside .exit)) ⌝ }
 {
     let at = wide(i - 1);
     let answer = it.answer;
@@ -45,36 +47,36 @@ fn store(threads: &mut [u16], beside: &mut [u16], i: u16, p: u16, it: Acted) -> 
     let second = it.second;
     match answer {
         Answer::Refused(n) => {
-            return n;
+            return Answer::Refused(n);
         }
         Answer::Moves => {
             put_thread(threads, at, first);
-            return 0;
+            return Answer::Moves;
         }
         Answer::Adds => {
             put_thread(threads, at, first);
             add_thread(threads, beside, second);
-            return 0;
+            return Answer::Adds;
         }
         Answer::Makes(made) => {
             put_thread(threads, at, first);
-            put_made(beside, made);
-            return 0;
+            add_made(beside, made);
+            return Answer::Makes(made);
         }
         Answer::Ends => {
             remove_thread(threads, beside, i);
-            return 0;
+            return Answer::Ends;
         }
         Answer::Meets => {
             put_thread(threads, at, first);
             put_thread(threads, wide(p - 1), second);
-            return 0;
+            return Answer::Meets;
         }
     }
 }
 
 // The thread to look at for the partner: the one that a choice names; where it names none, the thread itself.
-fn looked_at(count: u16, i: u16, p: u16) -> u16
+pub fn looked_at(count: u16, i: u16, p: u16) -> u16
     ensures { λ r. ⌜ r ≡ cond (inCount count p) p i ⌝ }
 {
     if in_count(count, p) {
@@ -83,7 +85,7 @@ fn looked_at(count: u16, i: u16, p: u16) -> u16
     i
 }
 
-// One choice, carried out in the tables: the refusal, 0 where the step is done.
+// One choice, carried out in the tables: the one way to a step. A function with one caller is compiled into it: `act` has this one, and this the loop.
 fn choose(
     file: &[u8],
     head: Head,
@@ -93,15 +95,14 @@ fn choose(
     beside: &mut [u16],
     i: u16,
     p: u16,
-) -> u16
+) -> Answer
     requires { ⌜ Laid (now file) head × Granting (schemaOf (contentsAt (now file) head)) Sends (now sends) × Granting (schemaOf (contentsAt (now file) head)) Receives (now receives) × Sized (now threads) (now beside) ⌝ }
-    ensures { λ r. ⌜ Carried (choice (clinicOf (contentsAt (now (file .entry)) head)) (stateIn (now (threads .entry)) (now (beside .entry))) i p) r
-        (stateIn (now (threads .entry)) (now (beside .entry))) (stateIn (now (threads .exit)) (now (beside .exit)))
-        × Sized (now (threads .exit)) (now (beside .exit)) ⌝ }
+    ensures { λ r. ⌜ Chose (outcome (clinicOf (contentsAt (now (file .entry)) head)) (stateIn (now (threads .entry)) (now (beside .entry))) i p) i p r
+        (now (threads .entry)) (now (beside .entry)) (now (threads .exit)) (now (beside .exit)) ⌝ }
 {
-    let count = beside[0];
+    let count = thread_count(beside);
     if !in_count(count, i) {
-        return 18;
+        return Answer::Refused(18);
     }
     let own = thread_at(threads, wide(i - 1));
     let q = looked_at(count, i, p);
@@ -119,35 +120,45 @@ pub fn go_through(
     choices: &[u16],
     threads: &mut [u16],
     beside: &mut [u16],
-) -> Counted
+) -> Went
     requires { ⌜ Laid (now file) head × Granting (schemaOf (contentsAt (now file) head)) Sends (now sends) × Granting (schemaOf (contentsAt (now file) head)) Receives (now receives)
         × (length (now choices) ≤ 131070) × Sized (now threads) (now beside) ⌝ }
-    ensures { λ r. ⌜ Gone (run (clinicOf (contentsAt (now (file .entry)) head)) (stateIn (now (threads .entry)) (now (beside .entry))) (now (choices .entry))) r (now (threads .exit)) (now (beside .exit)) ⌝ }
+    ensures { λ r. ⌜ Through (run (clinicOf (contentsAt (now (file .entry)) head)) (stateIn (now (threads .entry)) (now (beside .entry))) (now (choices .entry)))
+        (tried (clinicOf (contentsAt (now (file .entry)) head)) (stateIn (now (threads .entry)) (now (beside .entry))) (untried (now (beside .entry))) (now (choices .entry))) r (now (threads .exit)) (now (beside .exit)) ⌝ }
 {
     let n = choices.len() / 2;
+    let mut last = Answer::Refused(0);
     let mut k: usize = 0;
     while k < n {
         let i = choices[2 * k];
         let p = choices[2 * k + 1];
-        let refusal = choose(file, head, sends, receives, threads, beside, i, p);
-        if refusal != 0 {
-            return Counted {
-                count: narrow(k),
-                refusal,
-            };
+        let answer = choose(file, head, sends, receives, threads, beside, i, p);
+        match answer {
+            Answer::Refused(refusal) => {
+                return Went {
+                    count: narrow(k),
+                    refusal,
+                    last: answer,
+                };
+            }
+            _ => {}
         }
+        last = answer;
         k += 1;
     }
-    Counted {
+    Went {
         count: narrow(k),
         refusal: 0,
+        last,
     }
 }
 
-// A session's thread at the start: at its root, with the session's mask and nothing bound.
-fn opened(it: Session) -> Thread
-    ensures { λ r. ⌜ r ≡ record { user = it .user; node = it .root; mask = it .mask; vars = zeros } ⌝ }
+// A session's thread at the start: at its root, with the session's mask and nothing bound; no thread for no session.
+pub fn opening(file: &[u8], head: Head, k: u16) -> Thread
+    requires { ⌜ Laid (now file) head ⌝ }
+    ensures { λ r. ⌜ r ≡ item noThread (start (contentsAt (now (file .entry)) head) .threads) k ⌝ }
 {
+    let it = session(file, head, k);
     Thread {
         user: it.user,
         node: it.root,
@@ -158,19 +169,17 @@ fn opened(it: Session) -> Thread
 
 // One thread for each session, in order, and no channel made.
 fn open_threads(file: &[u8], head: Head, threads: &mut [u16], beside: &mut [u16])
-    requires { ⌜ Laid (now file) head × (length (now threads) ≡ 704) × (length (now beside) ≡ besideWords) ⌝ }
+    requires { ⌜ Laid (now file) head × (length (now threads) ≡ tableWords) × (length (now beside) ≡ besideWords) ⌝ }
     ensures { λ r. ⌜ (stateIn (now (threads .exit)) (now (beside .exit)) ≡ start (contentsAt (now (file .entry)) head)) × Sized (now (threads .exit)) (now (beside .exit)) ⌝ }
 {
     let sessions = head.count.sessions;
     let n = wide(sessions);
     let mut i: usize = 0;
     while i < n {
-        let it = session(file, head, narrow(i + 1));
-        put_thread(threads, i, opened(it));
+        put_thread(threads, i, opening(file, head, narrow(i + 1)));
         i += 1;
     }
-    beside[0] = sessions;
-    beside[1] = 0;
+    start_words(beside, sessions);
 }
 
 // The run of a file through a list of choices, which leaves the grants in the two tables. What the state's tables held before is of no account.
@@ -184,13 +193,17 @@ pub fn run_by(
     beside: &mut [u16],
 ) -> Counted
     requires { ⌜ Laid (now file) head × (length (now sends) ≡ 33) × (length (now receives) ≡ 33) × (now sends ≡ replicate (length (now sends)) 0) × (now receives ≡ replicate (length (now receives)) 0)
-        × (length (now choices) ≤ 131070) × (length (now threads) ≡ 704) × (length (now beside) ≡ besideWords) ⌝ }
+        × (length (now choices) ≤ 131070) × (length (now threads) ≡ tableWords) × (length (now beside) ≡ besideWords) ⌝ }
     ensures { λ r. ⌜ Gone (run (clinicOf (contentsAt (now (file .entry)) head)) (start (contentsAt (now (file .entry)) head)) (now (choices .entry))) r (now (threads .exit)) (now (beside .exit))
         × Granting (schemaOf (contentsAt (now (file .entry)) head)) Sends (now (sends .exit)) × Granting (schemaOf (contentsAt (now (file .entry)) head)) Receives (now (receives .exit)) ⌝ }
 {
     fill_grants(file, head, sends, receives);
     open_threads(file, head, threads, beside);
-    go_through(file, head, sends, receives, choices, threads, beside)
+    let went = go_through(file, head, sends, receives, choices, threads, beside);
+    Counted {
+        count: went.count,
+        refusal: went.refusal,
+    }
 }
 
 // The same for a caller that has no use for the grants.
@@ -201,7 +214,7 @@ pub fn run_list(
     threads: &mut [u16],
     beside: &mut [u16],
 ) -> Counted
-    requires { ⌜ Laid (now file) head × (length (now choices) ≤ 131070) × (length (now threads) ≡ 704) × (length (now beside) ≡ besideWords) ⌝ }
+    requires { ⌜ Laid (now file) head × (length (now choices) ≤ 131070) × (length (now threads) ≡ tableWords) × (length (now beside) ≡ besideWords) ⌝ }
     ensures { λ r. ⌜ Gone (run (clinicOf (contentsAt (now (file .entry)) head)) (start (contentsAt (now (file .entry)) head)) (now (choices .entry))) r (now (threads .exit)) (now (beside .exit)) ⌝ }
 {
     let mut sends = [0u16; 33];

@@ -1,10 +1,13 @@
 pub mod SameContents
 pub mod Promises
--- walks by hand: calls of covered functions, calls that lend a list again, the records of a list
+-- walks by hand: calls of covered functions, calls that lend a list again, the records of a list, a local array
 pub mod Again
 pub mod PlainCalls
 pub mod ByValue
 pub mod ListCalls
+pub mod Calls
 pub mod RecordWalks
-pub mod StoringLaws
-pub mod ChooseLaws
+pub mod Lends
+pub mod LocalArray
+pub mod WalkLaws
+pub mod StartLaws

@@ -1,7 +1,8 @@
 -- What the engine promises, each promise under a sentence of the paper (01) or of the demands; nothing else stands here.
 -- What a caller gets is in the contracts of the exported functions (src/lib.rt): of any bytes handed over `pilzdamo_read` answers `readingNames`, the refusals 1 to 10,
 -- `pilzdamo_check` `checking`, the refusals 1 to 13, `pilzdamo_place` `placing`, with `placedOver` in the output, `pilzdamo_run`
--- `running`, with `runOver` in the output, `pilzdamo_ready` `ready`, and `pilzdamo_choose` `choosing`, with `recordsOver` in the lent list and `besideOver` beside it.
+-- `running`, with `runOver` in the output, `pilzdamo_ready` `ready`, `pilzdamo_start` `starting`, with `recordsStarted` in the lent list and
+-- `besideStarted` beside it, and `pilzdamo_choose` `choosing`, with `recordsOver` and `besideOver`.
 use Prim.Native.Nat.{ℕ, _+_, _*_, _%_, _≤_, _<_}
 use mathlib.Core.Path.{_≡_, refl}
 use mathlib.Core.Logic.{_↔_, _≢_, _⊎_}
@@ -39,6 +40,7 @@ use Rattle.running_exact.specs.Steps.{StandsAt, Steps, Chain}
 use Rattle.running_exact.specs.Conditions.{Condition, FirstRefusal}
 use Rattle.running_exact.specs.Keeps.{Reaches, Kept}
 use Rattle.lending.specs.Lent.{stateOf, lending, choosing, recordsOver, besideOver}
+use Rattle.lending.specs.Starting.{starting, recordsStarted, besideStarted}
 use Rattle.lending_exact.specs.Lendable.{Lendable, Eight, Lends, inTurn}
 use Rattle.reading.proofs.LongLaws.{StandsFor}
 use Rattle.checking.proofs.CheckLaws.{stands-check}
@@ -56,6 +58,8 @@ use Rattle.running_exact.proofs.RunSafe.{run-kept, next-free, run-safe, placed-
 use Rattle.lending_exact.proofs.LendableLaws.{eighteen-zero, ten-first, past-ten-one}
 use Rattle.lending_exact.proofs.LentRuns.{kept-lendable, lent-next, whole-run, lent-again}
 use Rattle.lending_exact.proofs.Unchanged.{refused-unchanged, past-kept}
+use Rattle.lending_exact.proofs.LentStarts.{start-lends, start-lendable, start-records-past, start-words-past, refused-start}
+use Rattle.lending_exact.proofs.StartAnswers.{start-ten, start-eighteen, start-fine}
 use Rattle.engine.specs.Alike.{Alike}
 use Rattle.engine.proofs.SameContents.{alike}
 use Rattle.reading_exact.proofs.Exact.{sound, complete, single}
@@ -253,6 +257,28 @@ pub run-in-turn : (f : List ℕ) → readingNames f ≡ fine → (ws : List ℕ)
     → Lends (inTurn f l b ws .records) (inTurn f l b ws .beside) (ranOf f ws .state)
     × (inTurn f l b ws .answer ≡ cond (eqb (ranOf f ws .refusal) 0) fine (refused (ranOf f ws .refusal) 1))
 run-in-turn = whole-run
+
+-- A desk begins with any 64 records and 130 words: the file is judged by 1 to 10 first, then another number of records or of words is 18 at place 0, and nothing else is refused.
+pub start-file-first : (f : List ℕ) (records words n q : ℕ) → 1 ≤ n → n ≤ 10 → (starting f records words ≡ refused n q) ↔ (readingNames f ≡ refused n q)
+start-file-first = start-ten
+
+pub start-sizes : (f : List ℕ) (records words : ℕ) → (starting f records words ≡ refused 18 0) ↔ ((readingNames f ≡ fine) × ((records ≢ 64) ⊎ (words ≢ 130)))
+start-sizes = start-eighteen
+
+pub start-otherwise : (f : List ℕ) (records words : ℕ) → (starting f records words ≡ fine) ↔ ((readingNames f ≡ fine) × (records ≡ 64) × (words ≡ 130))
+start-otherwise = start-fine
+
+-- The list and the words beside it then hold the state that a run begins with, which may be lent; records past the sessions and words past the two counts keep what they held; and where it is refused, all stays.
+pub start-is-the-runs : (f : List ℕ) (l : List Thread) (b : List ℕ) → starting f (length l) (length b) .number ≡ 0
+    → Lends (recordsStarted f l b) (besideStarted f l b) (start (contentsOf f)) × (lending f (recordsStarted f l b) (besideStarted f l b) ≡ fine)
+start-is-the-runs f l b quiet = (start-lends f l b quiet, start-lendable f l b quiet)
+
+pub start-keeps-the-rest : (f : List ℕ) (l : List Thread) (b : List ℕ) → starting f (length l) (length b) .number ≡ 0
+    → ((k : ℕ) (t : Thread) → length (contentsOf f .sessions) ≤ k → getD (recordsStarted f l b) k t ≡ getD l k t) × ((k : ℕ) → 2 ≤ k → getD (besideStarted f l b) k 0 ≡ getD b k 0)
+start-keeps-the-rest f l b quiet = (start-records-past f l b quiet, start-words-past f l b quiet)
+
+pub start-refused-leaves-all : (f : List ℕ) (l : List Thread) (b : List ℕ) → starting f (length l) (length b) .number ≢ 0 → (recordsStarted f l b ≡ l) × (besideStarted f l b ≡ b)
+start-refused-leaves-all = refused-start
 
 -- A list that passes the judging passes it again after a choice that is done in it.
 pub lent-after : (f : List ℕ) (l : List Thread) → All Eight l → (b : List ℕ) → lending f l b ≡ fine → (i p : ℕ) → choosing f l b i p ≡ fine

@@ -1,6 +1,6 @@
 -- What the walks over a lent list of records share: its types and their machine values, what is known of them, how the list is opened and closed again,
 -- locals, and a loop that counts.
-use mathlib.Core.Path.{_≡_, sym, ap, subst, _∙_}
+use mathlib.Core.Path.{_≡_, sym, ap, subst}
 use Prim.Native.Nat.{ℕ, _-_, _*_, _<_, _≤_, _^_}
 use native.Mathlib.Omega.{arith}
 use mathlib.Core.List.{List, [], _∷_}
@@ -25,22 +25,14 @@ use denote.Slice.{sliceTy, sliceVal, MutSlice, heres, Room, at-slice, codedHoley
 use denote.Lend.{Held}
 use denote.Index.{row, opens-slice, closes-slice}
 use denote.Laws.{Is}
-use denote.Steps.{only}
 use denote.Struct.Laws as LL
 use Rattle.steps.specs.declared.Thread.{Thread}
-use Rattle.steps.proofs.ThreadLaws.{unmapped}
 use Rattle.steps.proofs.Thread as T
 use Rattle.steps.proofs.Thread.Laws as T′
-use Rattle.lending.specs.declared.Records.{Records}
-use Rattle.lending.proofs.Records as S
-use Rattle.lending.proofs.Records.Laws as S′
 
--- a record, the value of 64 of them, the reference to the list, and a number of it
+-- a record, the reference to the list, and a number of it
 abbrev pub R : RattleType
 R = T.the-row
-
-abbrev pub RS : RattleType
-RS = S.the-row
 
 abbrev pub slice : Ty
 slice = sliceTy (tyRef (named 0) mut (pointee (R .written)))
@@ -48,12 +40,9 @@ slice = sliceTy (tyRef (named 0) mut (pointee (R .written)))
 abbrev pub word : Ty
 word = tyInt w64
 
--- the machine values
+-- its machine value
 abbrev pub thread-val : Thread → Val
 thread-val = LL.val T.the-type T′.the-laws
-
-abbrev pub records-val : Records → Val
-records-val = LL.val S.the-type S′.the-laws
 
 abbrev pub list-at : GName → ℕ → ℕ → List Thread → RefT (List Thread)
 list-at γ b o l = record { ptr = (b, o); name = γ; now = l }
@@ -75,24 +64,10 @@ second (call f a d) = skip
 pub scaled : {i l : ℕ} → Room R l → i < l → i * 22 < 2 ^ 64
 scaled room within = omega (arith, room .1)
 
--- a value of records that is another: its machine value and relation are those of the other
-pub records-are : {r : Records} {v : Val} (all : Records) → Is RS r (v ∷ []) → r ≡ all → v ≡ records-val all
-records-are {r} all is same = ap only (LL.tells S.the-type S′.the-laws r _ is) ∙ ap records-val same
-
-pub records-is : {r : Records} {v : Val} (all : Records) → Is RS r (v ∷ []) → r ≡ all → Is RS all (records-val all ∷ [])
-records-is {r} all is same = subst (λ (s : Records). Is RS s (records-val s ∷ [])) same (subst (λ (us : List Val). Is RS r us) (LL.tells S.the-type S′.the-laws r _ is) is)
-
--- and how many records it has
-pub sixty-four : (all : Records) {v : Val} → Is RS all (v ∷ []) → length (all .threads) ≡ 64
-sixty-four all is = unmapped _ (all .threads) 64 (LL.owed S.the-type S′.the-laws all _ is .0 .1 .0 .1)
-
 -- a value is of its type
 module _ {M : Type 1} (𝓤 : URA M) (H : Heap 𝓤) (A : Atoms 𝓤) (W : Given 𝓤 H A) where
   pub thread-typed : (t : Thread) {v : Val} → Is R t (v ∷ []) → Holds (hasTy T′.mir v) × WT v
   thread-typed t is = LL.lawful T.the-type T′.the-laws 𝓤 H A W .typed t _ is .0
-
-  pub records-typed : (all : Records) {v : Val} → Is RS all (v ∷ []) → Holds (hasTy S′.mir v) × WT v
-  records-typed all is = LL.lawful S.the-type S′.the-laws 𝓤 H A W .typed all _ is .0
 
 -- the borrow of a list while it is open, but for its records
 abbrev pub opened : Lft → Share → GName → ℕ → ℕ → List Thread → Fml

@@ -9,10 +9,11 @@ use Rattle.checking.specs.Check.{readingNames, checking}
 use Rattle.placing.specs.Placing.{judging, placing, placedBytes, placedOver}
 use Rattle.running.specs.Run.{running, runOver, ready}
 use Rattle.lending.specs.Lent.{lending, choosing, recordsOver, besideOver}
+use Rattle.lending.specs.Starting.{starting, recordsStarted, besideStarted}
 use Rattle.engine.specs.Alike.{Alike}
 
 pub alike : (f g : List ℕ) → reading f ≡ reading g → headAt f .at .nodes ≡ headAt g .at .nodes → contentsOf f ≡ contentsOf g → Alike f g
-unfolding readingNames checking judging placing placedBytes placedOver running runOver ready lending choosing recordsOver besideOver
+unfolding readingNames checking judging placing placedBytes placedOver running runOver ready lending choosing recordsOver besideOver starting recordsStarted besideStarted
 alike f g r n c = record {
   read = rw (r, c);
   check = rw (r, c);
@@ -24,4 +25,7 @@ alike f g r n c = record {
   choose = λ l b i p. rw (r, c);
   records = λ l b i p. rw (r, c);
   beside = λ l b i p. rw (r, c);
+  start = λ records words. rw (r, c);
+  started = λ l b. rw (r, c);
+  counts = λ l b. rw (r, c);
 }

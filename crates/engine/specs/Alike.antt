@@ -7,6 +7,7 @@ use Rattle.placing.specs.Placing.{placing, placedOver}
 use Rattle.steps.specs.declared.Thread.{Thread}
 use Rattle.running.specs.Run.{running, runOver, ready}
 use Rattle.lending.specs.Lent.{choosing, recordsOver, besideOver}
+use Rattle.lending.specs.Starting.{starting, recordsStarted, besideStarted}
 
 pub record Alike (f g : List ℕ) : Type 0 where
   pub read : readingNames f ≡ readingNames g
@@ -19,3 +20,6 @@ pub record Alike (f g : List ℕ) : Type 0 where
   pub choose : (l : List Thread) (b : List ℕ) (i p : ℕ) → choosing f l b i p ≡ choosing g l b i p
   pub records : (l : List Thread) (b : List ℕ) (i p : ℕ) → recordsOver f l b i p ≡ recordsOver g l b i p
   pub beside : (l : List Thread) (b : List ℕ) (i p : ℕ) → besideOver f l b i p ≡ besideOver g l b i p
+  pub start : (records words : ℕ) → starting f records words ≡ starting g records words
+  pub started : (l : List Thread) (b : List ℕ) → recordsStarted f l b ≡ recordsStarted g l b
+  pub counts : (l : List Thread) (b : List ℕ) → besideStarted f l b ≡ besideStarted g l b

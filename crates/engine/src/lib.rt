@@ -1,15 +1,20 @@
 // The engine's public face: one function for each thing that a caller asks, exported for C and Rust. A lent slice of bytes is a
 // pointer and a length there.
-mod records;
+mod choosing;
+mod starting;
+mod walk;
 
+use choosing::choose_by;
 use format::Verdict;
-use lending::counted;
-use lending::decide;
-use lending::verdict_of;
+use lending::admit;
+use lending::head_of;
+use lending::is_refused;
+use lending::refusal_of;
+use lending::starting::begin;
+use lending::starting::sessions_of;
 use placing::Placed;
-use records::read_in;
-use records::store;
 use running::Ready;
+use starting::start_records;
 use steps::Thread;
 ghost use mathlib.Core.Path.{_≡_};
 ghost use lib.ListN.{length};
@@ -17,6 +22,7 @@ ghost use Rattle.checking.specs.Check.{readingNames, checking};
 ghost use Rattle.placing.specs.Placing.{placing, placedOver};
 ghost use Rattle.running.specs.Run.{running, runOver, ready};
 ghost use Rattle.lending.specs.Lent.{choosing, recordsOver, besideOver};
+ghost use Rattle.lending.specs.Starting.{starting, recordsStarted, besideStarted};
 
 // Reads a clinic file, of any bytes and any length: the first of the refusals 1 to 10, or 0 and 0 where there is none.
 #[no_mangle]
@@ -76,10 +82,31 @@ pub extern "C" fn pilzdamo_choose(
         × (now (threads .exit) ≡ recordsOver (now (file .entry)) (now (threads .entry)) (now (beside .entry)) thread partner)
         × (now (beside .exit) ≡ besideOver (now (file .entry)) (now (threads .entry)) (now (beside .entry)) thread partner) ⌝ }
 {
-    let records = threads.len();
-    let n = counted(records, &*beside);
-    let all = read_in(&mut *threads, n);
-    let it = decide(file, records, all, &mut *beside, thread, partner);
-    store(&mut *threads, it);
-    verdict_of(it)
+    let mut table = [0u64; 1025];
+    let it = admit(file, threads.len(), &*beside, &mut table);
+    if is_refused(it) {
+        return refusal_of(it);
+    }
+    choose_by(
+        &mut *threads,
+        file,
+        head_of(it),
+        &table,
+        &mut *beside,
+        thread,
+        partner,
+    )
+}
+
+// The lent list and the words beside it as the file starts. The first of 1 to 10; 18 at place 0 for another number of records or of words; or 0 and 0,
+// and then one record for each session and the two counts are stored. Every other record and word stays.
+#[no_mangle]
+pub extern "C" fn pilzdamo_start(file: &[u8], threads: &mut [Thread], beside: &mut [u16]) -> Verdict
+    ensures { λ r. ⌜ (r ≡ starting (now (file .entry)) (length (now (threads .entry))) (length (now (beside .entry))))
+        × (now (threads .exit) ≡ recordsStarted (now (file .entry)) (now (threads .entry)) (now (beside .entry)))
+        × (now (beside .exit) ≡ besideStarted (now (file .entry)) (now (threads .entry)) (now (beside .entry))) ⌝ }
+{
+    let it = begin(file, threads.len(), &mut *beside);
+    start_records(&mut *threads, file, head_of(it), sessions_of(it));
+    refusal_of(it)
 }

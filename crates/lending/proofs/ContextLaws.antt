@@ -4,13 +4,13 @@ use mathlib.Core.Path.{_≡_, refl, sym, ap, _∙_, subst}
 use mathlib.Core.List.{List, [], _∷_}
 use native.Mathlib.Omega.{arith}
 use lib.ListN.{length, getD}
-use Rattle.format.specs.Contents.{Contents, contentsOf}
+use Rattle.format.specs.Contents.{Contents, noNode, contentsOf}
 use Rattle.format.specs.Answers.{fine}
 use Rattle.format.specs.declared.Node.{Node}
 use Rattle.checking.specs.Check.{readingNames}
 use Rattle.rules.specs.Schema.{Schema, schemaOf}
 use Rattle.rules.specs.Rules.{Context, waitingAfter}
-use Rattle.rules.specs.Checking.{openings}
+use Rattle.rules.specs.Checking.{reached, openings, reachedIn}
 use Rattle.reading_exact.specs.File.{InCount}
 use Rattle.reading_exact.specs.Refusals.{nth, Begins, left-over, misshapen}
 use Rattle.reading_exact.proofs.Standing.{rootsIn}
@@ -18,7 +18,7 @@ use Rattle.reading_exact.proofs.ReachedStack.{reached-single, along}
 use Rattle.checking_exact.specs.Faults.{nowhere, InContext}
 use Rattle.checking_exact.proofs.ContextStack.{contexts}
 use Rattle.running_exact.proofs.FileNodes.{openings-length, roots-length, refusable-none, tag-low, StandsIn}
-use Rattle.lending.specs.Lent.{contextsFrom, contextAt}
+use Rattle.lending.specs.Lent.{contextAt}
 
 module _ (f : List ℕ) (clean : readingNames f ≡ fine) where
   abbrev C : Contents
@@ -45,27 +45,27 @@ module _ (f : List ℕ) (clean : readingNames f ≡ fine) where
       paired : length os ≡ length (rootsIn (C .sessions))
       paired = openings-length (C .sessions) ∙ sym (roots-length (C .sessions))
 
-  -- each node has a context
-  pub contexts-length : length (contextsFrom D ns os) ≡ length ns
-  unfolding contextsFrom
-  contexts-length = along-nodes (λ i l st. length (contextsFrom D l st) ≡ length l) (λ i st. refl) (λ i c l st h r. ap suc r)
+  -- each node is reached
+  pub reached-length : length (reachedIn C) ≡ length ns
+  unfolding reached
+  reached-length = along-nodes (λ i l st. length (reached D l st) ≡ length l) (λ i st. refl) (λ i c l st h r. ap suc r)
 
-  -- in which it is reached
+  -- in its context
   pub contexts-at : (j : ℕ) → InCount (length ns) j → InContext D ns os j (contextAt C j)
-  unfolding contextsFrom
+  unfolding reached
   contexts-at j n =
       let e : 1 + (j - 1) ≡ j = omega arith in
       subst (λ (k : ℕ). InContext D ns os k (contextAt C j)) e
-      (along-nodes (λ i l st. (k : ℕ) → k < length l → InContext D ns os (i + k) (getD (contextsFrom D l st) k nowhere)) (λ i st k l. absurd (omega arith)) pass (j - 1)
+      (along-nodes (λ i l st. (k : ℕ) → k < length l → InContext D ns os (i + k) (getD (reached D l st) k (nowhere, noNode) .0)) (λ i st k l. absurd (omega arith)) pass (j - 1)
       (omega arith))
     where
       pass : (i : ℕ) (c : Context) (l : List Node) (st : List Context) → StandsIn (contentsOf f) i c
-          → ((k : ℕ) → k < length l → InContext D ns os (suc i + k) (getD (contextsFrom D l (waitingAfter D c (nth ns i) st)) k nowhere))
-          → (k : ℕ) → k < length (nth ns i ∷ l) → InContext D ns os (i + k) (getD (contextsFrom D (nth ns i ∷ l) (c ∷ st)) k nowhere)
+          → ((k : ℕ) → k < length l → InContext D ns os (suc i + k) (getD (reached D l (waitingAfter D c (nth ns i) st)) k (nowhere, noNode) .0))
+          → (k : ℕ) → k < length (nth ns i ∷ l) → InContext D ns os (i + k) (getD (reached D (nth ns i ∷ l) (c ∷ st)) k (nowhere, noNode) .0)
       pass i c l st h r zero q = let e : i ≡ i + 0 = omega arith in subst (λ (m : ℕ). InContext D ns os m c) e (h .1)
       pass i c l st h r (suc k) q =
           let e : suc i + k ≡ i + suc k = omega arith in
-          subst (λ (m : ℕ). InContext D ns os m (getD (contextsFrom D l (waitingAfter D c (nth ns i) st)) k nowhere)) e (r k (omega arith))
+          subst (λ (m : ℕ). InContext D ns os m (getD (reached D l (waitingAfter D c (nth ns i) st)) k (nowhere, noNode) .0)) e (r k (omega arith))
 
   -- and in no other
   pub one-context : (j : ℕ) (c : Context) → InCount (length ns) j → InContext D ns os j c → contextAt C j ≡ c

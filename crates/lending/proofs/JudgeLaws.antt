@@ -1,33 +1,29 @@
 -- What is lent, judged item by item as the code goes.
-use Prim.Native.Nat.{ℕ, zero, suc, _+_, _*_, _≤_, _<_}
-use mathlib.Core.Path.{_≡_, sym, ap, subst, _∙_}
+use Prim.Native.Nat.{ℕ, _+_, _*_, _≤_, _<_}
+use mathlib.Core.Path.{_≡_, sym, ap, _∙_}
 use mathlib.Core.Bool.{Bool, true, false, _&&_}
 use mathlib.Core.List.{List, []}
 use native.Mathlib.Omega.{arith}
 use native.Mathlib.Numerals.{add-one}
 use lib.Dec.{eqb, leb, ltb}
 use lib.ListN.{length, getD, take, drop, drop-of-length-le}
-use lib.Seq.{sets, drop-cons, length-sets, length-take-le, getD-take}
+use lib.Seq.{drop-cons, length-take-le, getD-take}
 use borrow.Author.Tests.{eq-eqb, ne-eqb, lt-ltb, le-ltb, le-leb, lt-leb}
 use Rattle.masks.specs.Mask.{within}
-use Rattle.format.specs.Contents.{Contents, inCount, contentsAt}
-use Rattle.format.specs.Answers.{fine}
-use Rattle.format.specs.Header.{headAt}
-use Rattle.format.specs.declared.Head.{Head}
+use Rattle.format.specs.Contents.{Contents, inCount}
 use Rattle.rules.specs.Schema.{Schema, schemaOf}
 use Rattle.rules.specs.Names.{unbound}
 use Rattle.rules.specs.Rules.{Context}
-use Rattle.checking.specs.Check.{readingNames}
+use Rattle.rules.specs.Scopes.{userIn, boundIn, kindAt, scopeOf}
 use Rattle.steps.specs.declared.Thread.{Thread}
 use Rattle.steps.specs.declared.Made.{Made}
 use Rattle.steps.specs.Threads.{noMade}
-use Rattle.steps.specs.Kept.{madeIn, madeAt}
+use Rattle.steps.specs.Beside.{madeIn, madeAt}
 use Rattle.steps.specs.Choice.{kindHeld}
-use Rattle.steps.proofs.ActLaws.{length-made}
+use Rattle.steps.proofs.ActLaws.{length-made, made-get}
 use Rattle.lending.specs.Lent.{contextAt, isValue, varsFit, threadFits, madeFits, every}
-use Rattle.lending.specs.Scopes.{userIn, boundIn, kindAt, scopeOf, scopesIn, Narrow, Scoped}
+use Rattle.lending.specs.Scopes.{Narrow, Scoped}
 use Rattle.lending.proofs.ScopeLaws.{user-in, bound-in, kind-at}
-use Rattle.lending.proofs.ScopeJoin.{scoped}
 
 -- a test of all elements, from one of them on, and with none left
 every-step : {A : Type 0} (test : A → Bool) (l : List A) (k : ℕ) (d : A) → k < length l → every test (drop k l) ≡ (test (getD l k d) && every test (drop (k + 1) l))
@@ -47,35 +43,30 @@ first-step test l n k d b r h le e f =
 pub first-done : {A : Type 0} (test : A → Bool) (l : List A) (n k : ℕ) → n ≤ k → n ≤ length l → every test (drop k (take n l)) ≡ true
 first-done test l n k h le = every-done test (take n l) k (omega (arith, length-take-le n l le))
 
--- the made channels in the words beside a list
-made-at : (b : List ℕ) (p n i : ℕ) → i < n → getD (madeIn b p n) i noMade ≡ madeAt b (2 * i + p)
-unfolding madeIn
-made-at b p zero i h = absurd (omega arith)
-made-at b p (suc n) zero h = let e : p ≡ 2 * 0 + p = omega arith in ap (madeAt b) e
-made-at b p (suc n) (suc i) h = let e : 2 * i + (p + 2) ≡ 2 * suc i + p = omega arith in made-at b (p + 2) n i (omega arith) ∙ ap (madeAt b) e
-
--- one of them by its two words, owner and kind, and no more of them
+-- the made channels in the words beside a list: one of them, and no more of them
 module _ (D : Schema) (b : List ℕ) (n k u q : ℕ) (users : D .users ≡ u) (kinds : D .kinds ≡ q) where
   abbrev made-from : ℕ → Bool
   made-from i = every (madeFits D) (drop i (madeIn b 2 n))
 
-  made-step : k < n → made-from k ≡ ((inCount u (getD b (2 * k + 2) 0) && inCount q (getD b (2 * k + 3) 0)) && made-from (k + 1))
-  unfolding madeFits
-  made-step h =
-      let e : 2 * k + 2 + 1 ≡ 2 * k + 3 = omega arith in
-      every-step (madeFits D) (madeIn b 2 n) k noMade (omega (arith, length-made b 2 n)) ∙ rw (made-at b 2 n k h, e, users, kinds)
-
-  pub made-owner : k < n → inCount u (getD b (2 * k + 2) 0) ≡ false → made-from k ≡ false
-  made-owner h e = made-step h ∙ rw e
-
-  pub made-kind : k < n → inCount u (getD b (2 * k + 2) 0) ≡ true → inCount q (getD b (2 * k + 3) 0) ≡ false → made-from k ≡ false
-  made-kind h e g = made-step h ∙ rw (e, g)
-
-  pub made-fits : k < n → inCount u (getD b (2 * k + 2) 0) ≡ true → inCount q (getD b (2 * k + 3) 0) ≡ true → made-from k ≡ made-from (k + 1)
-  made-fits h e g = made-step h ∙ rw (e, g)
-
   pub made-done : n ≤ k → made-from k ≡ true
   made-done h = every-done (madeFits D) (madeIn b 2 n) k (omega (arith, length-made b 2 n))
+
+  module _ (it : Made) (read : it ≡ madeAt b (2 * k + 2)) (h : k < n) where
+    made-step : made-from k ≡ ((inCount u (it .owner) && inCount q (it .kind)) && made-from (k + 1))
+    unfolding madeFits
+    made-step =
+        every-step (madeFits D) (madeIn b 2 n) k noMade (omega (arith, h, length-made b 2 n))
+        ∙ ap (λ (m : Made). madeFits D m && made-from (k + 1)) (made-get b 2 n k h ∙ sym read)
+        ∙ rw (users, kinds)
+
+    pub made-owner : inCount u (it .owner) ≡ false → made-from k ≡ false
+    made-owner e = made-step ∙ rw e
+
+    pub made-kind : inCount u (it .owner) ≡ true → inCount q (it .kind) ≡ false → made-from k ≡ false
+    made-kind e g = made-step ∙ rw (e, g)
+
+    pub made-fits : inCount u (it .owner) ≡ true → inCount q (it .kind) ≡ true → made-from k ≡ made-from (k + 1)
+    made-fits e g = made-step ∙ rw (e, g)
 
 -- what may be a value: a user, a channel of the file, a made channel
 module _ (D : Schema) (made : List Made) (v u c : ℕ) (users : D .users ≡ u) (channels : D .channels ≡ c) where
@@ -152,10 +143,3 @@ module _ (C : Contents) (made : List Made) (t : Thread) (table : List ℕ) (j : 
   unfolding threadFits
   thread-vars r e m v =
       rw (node, eq-eqb (t .user) (contextAt C (t .node) .user) (e ∙ user), m) (v (contextAt C (t .node)) (kept .0) (kept .1))
-
--- a table that was filled
-pub filled-scoped : (f : List ℕ) (h : Head) (t l : List ℕ) → h ≡ headAt f → readingNames f ≡ fine → length t ≡ 1025 → l ≡ sets t 1 (scopesIn (contentsAt f h))
-    → (length l ≡ 1025) × Scoped (contentsAt f h) l
-filled-scoped f h t l e clean long its =
-    let all : Scoped (contentsAt f h) (sets t 1 (scopesIn (contentsAt f h))) = subst (λ (x : Head). Scoped (contentsAt f x) (sets t 1 (scopesIn (contentsAt f x)))) (sym e) (scoped f clean t long) in
-    (ap length its ∙ length-sets t 1 (scopesIn (contentsAt f h)) ∙ long, subst (Scoped (contentsAt f h)) (sym its) all)

@@ -3,14 +3,12 @@ pub mod SizeLaws
 pub mod ContextLaws
 pub mod NarrowLaws
 pub mod ScopeLaws
-pub mod ScopeJoin
--- the pass over the nodes, and judging
-pub mod FillLaws
+pub mod ScopeTable
+-- judging
 pub mod JudgeLaws
--- a choice as records to be stored, and the whole
-pub mod RecordLaws
-pub mod BesideLaws
-pub mod DecisionLaws
-pub mod LendingLaws
-
--- what may be lent, and choices in it
+-- a list let through, the step by value, what the walk stores, and the start
+pub mod AdmitLaws
+pub mod StepLaws
+pub mod StoredLaws
+pub mod WalkLaws
+pub mod StartingLaws

@@ -35,7 +35,7 @@ use Rattle.lending.specs.Scopes.{Narrow}
 use Rattle.lending.proofs.ContextLaws.{contexts-at}
 
 -- a node's only child has one variable more after new and receive, and else at most another active set
-pub by-child : (D : Schema) (c : Context) (n : Node) (P : Context → Type 0) → (n .tag ≡ 3 → P (bind c (n .f1) true))
+by-child : (D : Schema) (c : Context) (n : Node) (P : Context → Type 0) → (n .tag ≡ 3 → P (bind c (n .f1) true))
     → (n .tag ≡ 5 → P (bind c (D .carries (kindOf D (c .vars) (n .f1))) false)) → (n .tag ≢ 3 → n .tag ≢ 5 → (m : ℕ) → P (activate c m)) → P (childOf D c n)
 unfolding childOf
 by-child D c n P new receive other = go (eqb (n .tag) 3) refl (eqb (n .tag) 5) refl (eqb (n .tag) 7) refl (eqb (n .tag) 8) refl
@@ -113,7 +113,7 @@ module _ (f : List ℕ) (clean : readingNames f ≡ fine) where
   counted-context (second-child n t r h) = counted-context r
 
   -- counts are at most 32
-  pub narrow-in : {i : ℕ} {c : Context} → InContext D ns os i c → Narrow c
+  narrow-in : {i : ℕ} {c : Context} → InContext D ns os i c → Narrow c
   narrow-in {i} {c} h =
       let (u, l, k) = counted-context h in
       record {

@@ -7,29 +7,23 @@ use lib.ListN.{length, getD, take}
 use lib.Seq.{sets}
 use Rattle.masks.specs.Mask.{within}
 use Rattle.format.specs.Answers.{fine, refused, orElse}
-use Rattle.format.specs.Contents.{Contents, inCount, contentsOf}
+use Rattle.format.specs.Contents.{Contents, noNode, inCount, contentsOf}
 use Rattle.format.specs.declared.Verdict.{Verdict}
-use Rattle.format.specs.declared.Node.{Node}
 use Rattle.rules.specs.Schema.{Schema, schemaOf}
 use Rattle.rules.specs.Names.{Bound, isUser, isChannel}
-use Rattle.rules.specs.Rules.{Context, waitingAfter}
-use Rattle.rules.specs.Checking.{openings}
+use Rattle.rules.specs.Rules.{Context}
+use Rattle.rules.specs.Checking.{reachedIn}
 use Rattle.checking.specs.Check.{readingNames}
 use Rattle.steps.specs.declared.Thread.{Thread}
 use Rattle.steps.specs.declared.Made.{Made}
 use Rattle.steps.specs.Choice.{clinicOf, kindHeld, State, Chosen, halts, goes, choice}
-use Rattle.steps.specs.Kept.{madeIn, besideWords}
 use Rattle.running.specs.Run.{madeWords}
 use Rattle.checking_exact.specs.Faults.{nowhere}
+use Rattle.steps.specs.Beside.{threadCount, madeCount, madeOf, besideWords}
 
--- the contexts of the nodes, in order
-unfoldable pub contextsFrom : Schema → List Node → List Context → List Context
-contextsFrom D [] st = []
-contextsFrom D (n ∷ ns) [] = []
-contextsFrom D (n ∷ ns) (c ∷ st) = c ∷ contextsFrom D ns (waitingAfter D c n st)
-
+-- the context in which a node is reached
 abbrev pub contextAt : Contents → ℕ → Context
-contextAt C j = getD (contextsFrom (schemaOf C) (C .nodes) (openings C)) (j - 1) nowhere
+contextAt C j = getD (reachedIn C) (j - 1) (nowhere, noNode) .0
 
 -- a value names a user, a channel or a lent made channel
 unfoldable pub isValue : Schema → List Made → ℕ → Bool
@@ -59,11 +53,11 @@ every test (x ∷ xs) = test x && every test xs
 
 -- the state that is lent: records past the count are no part of it, nor are made channels past their number
 abbrev pub stateOf : List Thread → List ℕ → State
-stateOf l b = record { threads = take (getD b 0 0) l; made = madeIn b 2 (getD b 1 0) }
+stateOf l b = record { threads = take (threadCount b) l; made = madeOf b }
 
 -- 130 words beside 64 records, and no count above 64
 abbrev pub sizesFit : ℕ → List ℕ → Bool
-sizesFit records b = eqb (length b) besideWords && ((eqb records 64 && leb (getD b 0 0) 64) && leb (getD b 1 0) 64)
+sizesFit records b = eqb (length b) besideWords && ((eqb records 64 && leb (threadCount b) 64) && leb (madeCount b) 64)
 
 -- what may be lent with a file that 1 to 10 let through
 unfoldable pub mayBeLent : Contents → List Thread → List ℕ → Bool

@@ -1,45 +1,45 @@
 // What is lent, judged: made channels, and for each counted thread its node, its user, its mask and its variables.
-use super::Records;
-use super::scopes::bound_in;
-use super::scopes::fill_scopes;
-use super::scopes::kind_at;
 use format::Head;
 use format::sections::in_count;
 use format::sections::user_roles;
 use format::words::wide;
 use masks::roles_within;
+use rules::scopes::bound_in;
+use rules::scopes::kind_at;
 use steps::Thread;
 use steps::act::kind_held;
+use steps::beside::made_at;
+use steps::beside::made_count;
 ghost use mathlib.Core.Path.{_≡_};
 ghost use mathlib.Core.Bool.{_&&_};
 ghost use mathlib.Core.List.{List};
 ghost use Prim.Native.Nat.{ℕ, _≤_};
 ghost use lib.Dec.{eqb};
-ghost use lib.ListN.{length, getD, take};
-ghost use Rattle.format.specs.Answers.{fine};
-ghost use Rattle.format.specs.Header.{Laid, headAt};
+ghost use lib.ListN.{length};
+ghost use Rattle.format.specs.Header.{Laid};
 ghost use Rattle.format.specs.Contents.{contentsAt};
 ghost use Rattle.rules.specs.Schema.{schemaOf};
-ghost use Rattle.checking.specs.Check.{readingNames};
 ghost use Rattle.rules.specs.Rules.{Context};
+ghost use Rattle.rules.specs.Scopes.{scopeOf};
 ghost use Rattle.steps.specs.declared.Made.{Made};
-ghost use Rattle.steps.specs.Kept.{madeIn, besideWords};
 ghost use Rattle.steps.specs.Choice.{kindHeld};
-ghost use Rattle.lending.specs.Lent.{contextAt, isValue, varsFit, threadFits, madeFits, every};
-ghost use Rattle.lending.specs.Scopes.{Scoped, scopeOf, Narrow};
+ghost use Rattle.lending.specs.Lent.{isValue, varsFit, threadFits, madeFits, every};
+ghost use Rattle.lending.specs.Scopes.{Scoped, Narrow};
+ghost use Rattle.steps.specs.Beside.{madeCount, madeOf, besideWords};
 
 // The made channels' owners and kinds are in count.
-fn made_fit(head: Head, beside: &[u16]) -> bool
-    requires { ⌜ (length (now beside) ≡ besideWords) × (getD (now beside) 1 0 ≤ 64) ⌝ }
-    ensures { λ r. ⌜ ((bytes : List ℕ) → r ≡ every (madeFits (schemaOf (contentsAt bytes head))) (madeIn (now (beside .entry)) 2 (getD (now (beside .entry)) 1 0))) ⌝ }
+pub fn made_fit(head: Head, beside: &[u16]) -> bool
+    requires { ⌜ (length (now beside) ≡ besideWords) × (madeCount (now beside) ≤ 64) ⌝ }
+    ensures { λ r. ⌜ ((bytes : List ℕ) → r ≡ every (madeFits (schemaOf (contentsAt bytes head))) (madeOf (now (beside .entry)))) ⌝ }
 {
-    let n = wide(beside[1]);
+    let n = wide(made_count(beside));
     let mut k: usize = 0;
     while k < n {
-        if !in_count(head.count.users, beside[2 * k + 2]) {
+        let it = made_at(beside, k);
+        if !in_count(head.count.users, it.owner) {
             return false;
         }
-        if !in_count(head.count.kinds, beside[2 * k + 3]) {
+        if !in_count(head.count.kinds, it.kind) {
             return false;
         }
         k += 1;
@@ -66,11 +66,11 @@ fn is_value(head: Head, made: u16, v: u16) -> bool
 
 // A value of a kind.
 fn value_fits(file: &[u8], head: Head, beside: &[u16], kind: u16, v: u16) -> bool
-    requires { ⌜ Laid (now file) head × (length (now beside) ≡ besideWords) × (getD (now beside) 1 0 ≤ 64) ⌝ }
-    ensures { λ r. ⌜ r ≡ (isValue (schemaOf (contentsAt (now (file .entry)) head)) (madeIn (now (beside .entry)) 2 (getD (now (beside .entry)) 1 0)) v
-        && eqb (kindHeld (schemaOf (contentsAt (now (file .entry)) head)) (madeIn (now (beside .entry)) 2 (getD (now (beside .entry)) 1 0)) v) kind) ⌝ }
+    requires { ⌜ Laid (now file) head × (length (now beside) ≡ besideWords) × (madeCount (now beside) ≤ 64) ⌝ }
+    ensures { λ r. ⌜ r ≡ (isValue (schemaOf (contentsAt (now (file .entry)) head)) (madeOf (now (beside .entry))) v
+        && eqb (kindHeld (schemaOf (contentsAt (now (file .entry)) head)) (madeOf (now (beside .entry))) v) kind) ⌝ }
 {
-    if !is_value(head, beside[1], v) {
+    if !is_value(head, made_count(beside), v) {
         return false;
     }
     kind_held(file, head, beside, v) == kind
@@ -78,9 +78,9 @@ fn value_fits(file: &[u8], head: Head, beside: &[u16], kind: u16, v: u16) -> boo
 
 // The variables of a thread at a node.
 fn vars_fit(file: &[u8], head: Head, beside: &[u16], w: u64, vars: [u16; 8]) -> bool
-    requires { ⌜ Laid (now file) head × (length (now beside) ≡ besideWords) × (getD (now beside) 1 0 ≤ 64) ⌝ }
+    requires { ⌜ Laid (now file) head × (length (now beside) ≡ besideWords) × (madeCount (now beside) ≤ 64) ⌝ }
     ensures { λ r. ⌜ ((c : Context) → w ≡ scopeOf c → Narrow c
-        → r ≡ varsFit (schemaOf (contentsAt (now (file .entry)) head)) (madeIn (now (beside .entry)) 2 (getD (now (beside .entry)) 1 0)) (c .vars) vars) ⌝ }
+        → r ≡ varsFit (schemaOf (contentsAt (now (file .entry)) head)) (madeOf (now (beside .entry))) (c .vars) vars) ⌝ }
 {
     let bound = bound_in(w);
     let mut k: usize = 0;
@@ -101,9 +101,9 @@ fn vars_fit(file: &[u8], head: Head, beside: &[u16], w: u64, vars: [u16; 8]) -> 
 }
 
 // A counted thread.
-fn thread_fits(file: &[u8], head: Head, table: &[u64], beside: &[u16], t: Thread) -> bool
-    requires { ⌜ Laid (now file) head × (length (now table) ≡ 1025) × Scoped (contentsAt (now file) head) (now table) × (length (now beside) ≡ besideWords) × (getD (now beside) 1 0 ≤ 64) ⌝ }
-    ensures { λ r. ⌜ r ≡ threadFits (contentsAt (now (file .entry)) head) (madeIn (now (beside .entry)) 2 (getD (now (beside .entry)) 1 0)) t ⌝ }
+pub fn thread_fits(file: &[u8], head: Head, table: &[u64], beside: &[u16], t: Thread) -> bool
+    requires { ⌜ Laid (now file) head × (length (now table) ≡ 1025) × Scoped (contentsAt (now file) head) (now table) × (length (now beside) ≡ besideWords) × (madeCount (now beside) ≤ 64) ⌝ }
+    ensures { λ r. ⌜ r ≡ threadFits (contentsAt (now (file .entry)) head) (madeOf (now (beside .entry))) t ⌝ }
 {
     if !in_count(head.count.nodes, t.node) {
         return false;
@@ -117,46 +117,4 @@ fn thread_fits(file: &[u8], head: Head, table: &[u64], beside: &[u16], t: Thread
     }
     let vars = t.vars;
     vars_fit(file, head, beside, w, vars)
-}
-
-// All counted threads.
-fn threads_fit(file: &[u8], head: Head, table: &[u64], all: Records, beside: &[u16]) -> bool
-    requires { ⌜ Laid (now file) head × (length (now table) ≡ 1025) × Scoped (contentsAt (now file) head) (now table) × (length (now beside) ≡ besideWords)
-        × (getD (now beside) 0 0 ≤ 64) × (getD (now beside) 1 0 ≤ 64) ⌝ }
-    ensures { λ r. ⌜ r ≡ every (threadFits (contentsAt (now (file .entry)) head) (madeIn (now (beside .entry)) 2 (getD (now (beside .entry)) 1 0))) (take (getD (now (beside .entry)) 0 0) (all .threads)) ⌝ }
-{
-    let n = wide(beside[0]);
-    let mut k: usize = 0;
-    while k < n {
-        let t = all.threads[k];
-        if !thread_fits(file, head, table, beside, t) {
-            return false;
-        }
-        k += 1;
-    }
-    true
-}
-
-// The same, with a table lent to work in.
-fn judge_by(file: &[u8], head: Head, table: &mut [u64], all: Records, beside: &[u16]) -> bool
-    requires { ⌜ Laid (now file) head × (head ≡ headAt (now file)) × (readingNames (now file) ≡ fine) × (length (now table) ≡ 1025)
-        × (length (now beside) ≡ besideWords) × (getD (now beside) 0 0 ≤ 64) × (getD (now beside) 1 0 ≤ 64) ⌝ }
-    ensures { λ r. ⌜ r ≡ every (threadFits (contentsAt (now (file .entry)) head) (madeIn (now (beside .entry)) 2 (getD (now (beside .entry)) 1 0))) (take (getD (now (beside .entry)) 0 0) (all .threads)) ⌝ }
-{
-    fill_scopes(file, head, table);
-    threads_fit(file, head, table, all, beside)
-}
-
-// Whether what is lent may be, where its sizes are right: one pass over the file and one over the threads.
-pub fn is_lendable(file: &[u8], head: Head, all: Records, beside: &[u16]) -> bool
-    requires { ⌜ Laid (now file) head × (head ≡ headAt (now file)) × (readingNames (now file) ≡ fine)
-        × (length (now beside) ≡ besideWords) × (getD (now beside) 0 0 ≤ 64) × (getD (now beside) 1 0 ≤ 64) ⌝ }
-    ensures { λ r. ⌜ r ≡ (every (madeFits (schemaOf (contentsAt (now (file .entry)) head))) (madeIn (now (beside .entry)) 2 (getD (now (beside .entry)) 1 0))
-        && every (threadFits (contentsAt (now (file .entry)) head) (madeIn (now (beside .entry)) 2 (getD (now (beside .entry)) 1 0))) (take (getD (now (beside .entry)) 0 0) (all .threads))) ⌝ }
-{
-    if !made_fit(head, beside) {
-        return false;
-    }
-    let mut table = [0u64; 1025];
-    judge_by(file, head, &mut table, all, beside)
 }

@@ -1,159 +1,155 @@
-// The live desk's own list of threads: judging what is lent, and one choice in it. The list is a slice of records, and what is here takes and gives
-// back its records by value.
-mod choosing;
-mod judging;
-mod scopes;
+// The live desk's own list of threads: what lets a list through, the judging of its records, one choice in it and its start. The list is a slice of
+// records; what is here takes and gives back its records by value.
+pub mod judging;
+pub mod starting;
+pub mod stepping;
+pub mod storing;
 
-use checking::enter;
-use choosing::choose_in;
-use choosing::refusing;
+use checking::enter_scoped;
+use format::Head;
+use format::Six;
 use format::Verdict;
+use format::sections::in_count;
 use format::words::wide;
-use judging::is_lendable;
+use judging::made_fit;
 use reading::Opened;
-use steps::BESIDE;
-use steps::Thread;
+use steps::Acted;
+use steps::Answer;
+use steps::beside::BESIDE;
+use steps::beside::made_count;
+use steps::beside::thread_count;
 ghost use mathlib.Core.Path.{_≡_};
-ghost use Prim.Native.Nat.{_≤_, _<_};
-ghost use mathlib.Core.List.{List};
-ghost use lib.ListN.{length, getD, set, take, replicate};
-ghost use Rattle.steps.specs.Threads.{noThread};
-ghost use Rattle.lending.specs.Lent.{sizesFit, choosing, besideOver, recordsOver};
-ghost use Rattle.lending.specs.Scopes.{counted, storedBy, Stores};
-
-// The records of a lent list.
-pub struct Records {
-    pub threads: [Thread; 64],
-}
-
-// What a choice in a lent list comes to: the answer, and the records to be stored, from `from` up to `to` and from `also` up to `end`.
-pub struct Decided {
-    pub verdict: Verdict,
-    pub records: Records,
-    pub from: usize,
-    pub to: usize,
-    pub also: usize,
-    pub end: usize,
-}
-
-// No thread in any record.
-pub fn no_records() -> Records
-    ensures { λ r. ⌜ r .threads ≡ replicate 64 noThread ⌝ }
-{
-    Records {
-        threads: [Thread {
-            user: 0,
-            node: 0,
-            mask: 0,
-            vars: [0; 8],
-        }; 64],
-    }
-}
-
-// With another thread at an index.
-pub fn with_record(all: Records, i: usize, t: Thread) -> Records
-    requires { ⌜ i < 64 ⌝ }
-    ensures { λ r. ⌜ r ≡ record { threads = set (all .threads) i t } ⌝ }
-{
-    let mut next = all;
-    next.threads[i] = t;
-    next
-}
-
-pub fn record_at(all: Records, i: usize) -> Thread
-    requires { ⌜ i < 64 ⌝ }
-    ensures { λ r. ⌜ r ≡ getD (all .threads) i noThread ⌝ }
-{
-    all.threads[i]
-}
-
-// The parts of a decision.
-pub fn verdict_of(it: Decided) -> Verdict
-    ensures { λ r. ⌜ r ≡ it .verdict ⌝ }
-{
-    it.verdict
-}
-
-pub fn records_of(it: Decided) -> Records
-    ensures { λ r. ⌜ r ≡ it .records ⌝ }
-{
-    it.records
-}
-
-pub fn from_of(it: Decided) -> usize
-    ensures { λ r. ⌜ r ≡ it .from ⌝ }
-{
-    it.from
-}
-
-pub fn to_of(it: Decided) -> usize
-    ensures { λ r. ⌜ r ≡ it .to ⌝ }
-{
-    it.to
-}
-
-pub fn also_of(it: Decided) -> usize
-    ensures { λ r. ⌜ r ≡ it .also ⌝ }
-{
-    it.also
-}
-
-pub fn end_of(it: Decided) -> usize
-    ensures { λ r. ⌜ r ≡ it .end ⌝ }
-{
-    it.end
-}
+ghost use lib.ListN.{length};
+ghost use Rattle.format.specs.Answers.{refused};
+ghost use Rattle.format.specs.declared.Head.{Head};
+ghost use Rattle.reading.specs.declared.Opened.the-variants as opened;
+ghost use Rattle.lending.specs.Lent.{sizesFit};
+ghost use Rattle.lending.specs.Walk.{admitted, Admits, isRefused, refusalOf, placeOf, answerOf};
 
 // The sizes are right: so many records, the words beside them, counts of at most 64.
 fn sizes_fit(records: usize, beside: &[u16]) -> bool
     ensures { λ r. ⌜ r ≡ sizesFit records (now (beside .entry)) ⌝ }
 {
-    if beside.len() != BESIDE {
-        return false;
-    }
-    (records == 64) & (beside[0] <= 64) & (beside[1] <= 64)
+    let words = beside.len() == BESIDE;
+    words & ((records == 64) & (thread_count(beside) <= 64) & (made_count(beside) <= 64))
 }
 
-// How many records are looked at: those of the counted threads.
-pub fn counted(records: usize, beside: &[u16]) -> usize
-    ensures { λ r. ⌜ (r ≡ counted records (now (beside .entry))) × (r ≤ records) × (r ≤ 64) ⌝ }
+// What is lent may not be.
+pub fn unlendable() -> Verdict
+    ensures { λ r. ⌜ r ≡ refused 18 0 ⌝ }
 {
-    if sizes_fit(records, beside) {
-        return wide(beside[0]);
+    Verdict {
+        number: 18,
+        place: 0,
+    }
+}
+
+// A file and a list of so many records with the words beside it, before the records are judged: the file's head, and in the table what each node is
+// reached with; or the first of 1 to 10, and then 18 at place 0 for wrong sizes and made channels.
+pub fn admit(file: &[u8], records: usize, beside: &[u16], table: &mut [u64]) -> Opened
+    requires { ⌜ length (now table) ≡ 1025 ⌝ }
+    ensures { λ r. ⌜ (r ≡ admitted (now (file .entry)) records (now (beside .entry))) × (length (now (table .exit)) ≡ 1025)
+        × Admits (now (file .entry)) records (now (beside .entry)) (now (table .exit)) r ⌝ }
+{
+    let answer = enter_scoped(file, table);
+    match answer {
+        Opened::Refused(first) => Opened::Refused(first),
+        Opened::Fine(head) => {
+            if !sizes_fit(records, beside) {
+                return Opened::Refused(unlendable());
+            }
+            if !made_fit(head, beside) {
+                return Opened::Refused(unlendable());
+            }
+            Opened::Fine(head)
+        }
+    }
+}
+
+pub fn is_refused(it: Opened) -> bool
+    ensures { λ r. ⌜ r ≡ isRefused it ⌝ }
+{
+    match it {
+        Opened::Refused(_) => true,
+        Opened::Fine(_) => false,
+    }
+}
+
+// What is refused, 0 and 0 where nothing is.
+pub fn refusal_of(it: Opened) -> Verdict
+    ensures { λ r. ⌜ r ≡ refusalOf it ⌝ }
+{
+    match it {
+        Opened::Refused(first) => first,
+        Opened::Fine(_) => Verdict {
+            number: 0,
+            place: 0,
+        },
+    }
+}
+
+fn no_six() -> Six {
+    Six {
+        users: 0,
+        roles: 0,
+        kinds: 0,
+        channels: 0,
+        sessions: 0,
+        nodes: 0,
+    }
+}
+
+// The head, where there is one.
+pub fn head_of(it: Opened) -> Head
+    ensures { λ r. ⌜ ((h : Head) → it ≡ opened.Fine h → r ≡ h) ⌝ }
+{
+    match it {
+        Opened::Refused(_) => Head {
+            version: 0,
+            count: no_six(),
+            at: no_six(),
+        },
+        Opened::Fine(head) => head,
+    }
+}
+
+// Where the record of a thread stands; the first for no thread.
+pub fn place_of(count: u16, i: u16) -> usize
+    ensures { λ r. ⌜ r ≡ placeOf count i ⌝ }
+{
+    if in_count(count, i) {
+        return wide(i - 1);
     }
     0
 }
 
-// A choice in a list of so many records, of which the counted ones stand first in `all`. The words beside the list are changed in place.
-pub fn decide(
-    file: &[u8],
-    records: usize,
-    all: Records,
-    beside: &mut [u16],
-    thread: u16,
-    partner: u16,
-) -> Decided
-    ensures { λ r. ⌜ Stores records r
-        × ((l : List Thread) → length l ≡ records → take (counted records (now (beside .entry))) l ≡ take (counted records (now (beside .entry))) (all .threads)
-        → (r .verdict ≡ choosing (now (file .entry)) l (now (beside .entry)) thread partner)
-        × (now (beside .exit) ≡ besideOver (now (file .entry)) l (now (beside .entry)) thread partner)
-        × (storedBy l r ≡ recordsOver (now (file .entry)) l (now (beside .entry)) thread partner)) ⌝ }
+// The answer of a choice, which has place 1.
+pub fn answer_of(it: Acted) -> Verdict
+    ensures { λ r. ⌜ r ≡ answerOf (it .answer) ⌝ }
 {
-    let answer = enter(file);
+    let done = Verdict {
+        number: 0,
+        place: 0,
+    };
+    let answer = it.answer;
     match answer {
-        Opened::Refused(first) => refusing(first, all),
-        Opened::Fine(head) => {
-            let unlendable = Verdict {
-                number: 18,
-                place: 0,
-            };
-            if !sizes_fit(records, beside) {
-                return refusing(unlendable, all);
-            }
-            if !is_lendable(file, head, all, beside) {
-                return refusing(unlendable, all);
-            }
-            choose_in(file, head, all, beside, thread, partner)
+        Answer::Refused(number) => {
+            return Verdict { number, place: 1 };
+        }
+        Answer::Moves => {
+            return done;
+        }
+        Answer::Adds => {
+            return done;
+        }
+        Answer::Makes(_) => {
+            return done;
+        }
+        Answer::Ends => {
+            return done;
+        }
+        Answer::Meets => {
+            return done;
         }
     }
 }

@@ -17,14 +17,14 @@ use Rattle.reading.specs.Reading.{reading}
 use Rattle.rules.specs.Schema.{permits, permittingTo}
 use Rattle.rules.specs.Names.{named, kindOf, mine}
 use Rattle.rules.specs.Rules.{namesFit, kindsFit, able, wrong, childOf}
-use Rattle.rules.specs.Checking.{firstBy, openingsFrom, namesAnswer}
+use Rattle.rules.specs.Checking.{reached, openingsFrom, firstBy, namesAnswer}
 use Rattle.checking.specs.Check.{readingNames}
 use Rattle.steps.specs.declared.Thread.{Thread}
 use Rattle.steps.specs.Threads.{value, firstFree}
-use Rattle.steps.specs.Choice.{kindHeld, meeting, sending, lone, aloneOnly, acting, done, choice}
-use Rattle.steps.specs.Kept.{madeIn}
+use Rattle.steps.specs.Choice.{kindHeld, meeting, sending, lone, aloneOnly, acting, done, outcome, choice}
+use Rattle.steps.specs.Beside.{madeIn}
 use Rattle.running.specs.Run.{madeWords}
-use Rattle.lending.specs.Lent.{contextsFrom, isValue, varsFit, threadFits, madeFits, every, mayBeLent, lending, choosing, recordsOver, besideOver}
+use Rattle.lending.specs.Lent.{isValue, varsFit, threadFits, madeFits, every, mayBeLent, lending, choosing, recordsOver, besideOver}
 
 -- a choice in what is lent: the answer, and what is left
 pub record Case : Type 0 where
@@ -105,5 +105,5 @@ cases =
     ∷ []
 
 pub lent-cases : All Shown cases
-unfolding has with namesOnly within bytesOf firstOf from2 from3 from4 from5 headOf tabled item contentsAt recordFits sectionAnswer recordsAnswer following nodeFits shapeFrom roots shapeAnswer reading permits permittingTo named kindOf mine namesFit kindsFit able wrong childOf firstBy openingsFrom namesAnswer readingNames value firstFree kindHeld meeting sending lone aloneOnly acting done choice madeIn madeWords contextsFrom isValue varsFit threadFits madeFits every mayBeLent lending choosing recordsOver besideOver
+unfolding has with namesOnly within bytesOf firstOf from2 from3 from4 from5 headOf tabled item contentsAt recordFits sectionAnswer recordsAnswer following nodeFits shapeFrom roots shapeAnswer reading permits permittingTo named kindOf mine namesFit kindsFit able wrong childOf reached openingsFrom firstBy namesAnswer readingNames value firstFree kindHeld meeting sending lone aloneOnly acting done outcome choice madeIn madeWords isValue varsFit threadFits madeFits every mayBeLent lending choosing recordsOver besideOver
 lent-cases = ((refl, refl, refl), ((refl, refl, refl), ((refl, refl, refl), ((refl, refl, refl), ((refl, refl, refl), ((refl, refl, refl), ((refl, refl, refl), ((refl, refl, refl), ((refl, refl, refl), ((refl, refl, refl), ((refl, refl, refl), ((refl, refl, refl), ((refl, refl, refl), ((refl, refl, refl), ((refl, refl, refl), ((refl, refl, refl), ((refl, refl, refl), tt)))))))))))))))))

@@ -1,5 +1,5 @@
 -- A list that holds a state of a run may be lent, and a choice in it gives the run's next state; what may be lent may be lent again after a choice.
-use Prim.Native.Nat.{ℕ, suc, _+_, _*_, _%_, _≤_}
+use Prim.Native.Nat.{ℕ, suc, _+_, _%_, _≤_}
 use mathlib.Core.Path.{_≡_, refl, sym, ap, ap₂, _∙_, subst}
 use mathlib.Core.Bool.{false, cond}
 use mathlib.Core.List.{List, [], _∷_, _++_}
@@ -19,10 +19,10 @@ use Rattle.reading_exact.proofs.AllLaws.{all-map}
 use Rattle.steps.specs.declared.Thread.{Thread}
 use Rattle.steps.specs.declared.Made.{Made}
 use Rattle.steps.specs.Choice.{Clinic, clinicOf, State, Chosen, halts, goes, choice}
-use Rattle.steps.specs.Kept.{madeIn}
+use Rattle.steps.specs.Beside.{madeIn}
 use Rattle.choices.specs.Choices.{start, Ran, follow, run, ranOf}
 use Rattle.running.specs.Run.{madeWords}
-use Rattle.choices.proofs.StateLaws.{made-length}
+use Rattle.steps.proofs.ActLaws.{length-made}
 use Rattle.running_exact.specs.Keeps.{Fits, Reaches, Formed, Kept}
 use Rattle.running_exact.proofs.Agree.{refused-positive}
 use Rattle.running_exact.proofs.FileNodes.{StandsIn}
@@ -53,7 +53,7 @@ made-back (m ∷ ms) b p rest e =
 
 module _ (l : List Thread) (b : List ℕ) (records : length l ≡ 64) (words : length b ≡ 130) (s : State) (few : length (s .threads) ≤ 64) (made : length (s .made) ≤ 64) where
   -- a list in which a state is stored holds it
-  stored-lends : Lends (recordsAfter l (goes s)) (besideAfter b (goes s)) s
+  pub stored-lends : Lends (recordsAfter l (goes s)) (besideAfter b (goes s)) s
   stored-lends =
       let ts : List Thread = s .threads in
       let ws : List ℕ = length ts ∷ length (s .made) ∷ madeWords (s .made) in
@@ -106,7 +106,7 @@ module _ (f : List ℕ) where
         (stateOf l b .threads) (L .threads);
     made = L .made;
     few-threads = omega (arith, length-take (getD b 0 0) l, L .few-threads);
-    few-made = omega (arith, made-length b 2 (getD b 1 0), L .few-made);
+    few-made = omega (arith, length-made b 2 (getD b 1 0), L .few-made);
   }
 
   module _ (clean : readingNames f ≡ fine) where

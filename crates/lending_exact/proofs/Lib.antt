@@ -1,5 +1,7 @@
 pub mod LentAnswers
 pub mod LendableLaws
 pub mod LentRuns
+pub mod LentStarts
+pub mod StartAnswers
 pub mod Unchanged
 pub mod LentCases

@@ -5,7 +5,6 @@ use mathlib.Core.Bool.{cond}
 use mathlib.Core.List.{List, [], _∷_}
 use lib.Dec.{eqb}
 use lib.ListN.{length, getD}
-use Rattle.steps.specs.Kept.{besideWords}
 use Rattle.format.specs.Answers.{fine}
 use Rattle.format.specs.Contents.{Contents}
 use Rattle.format.specs.declared.Verdict.{Verdict}
@@ -16,6 +15,7 @@ use Rattle.steps.specs.Choice.{State}
 use Rattle.reading_exact.specs.Lists.{All}
 use Rattle.running_exact.specs.Keeps.{Fits, Reaches, Formed}
 use Rattle.lending.specs.Lent.{stateOf, choosing, recordsOver, besideOver}
+use Rattle.steps.specs.Beside.{threadCount, madeCount, besideWords}
 
 -- 64 records, the thread count and the made channels beside them: no count above 64, each made channel's owner and kind in count, and each counted
 -- thread at a node in count, with the user of the node's session, a mask within that user's roles, and each variable of the kind that rule 1 gives it
@@ -23,8 +23,8 @@ use Rattle.lending.specs.Lent.{stateOf, choosing, recordsOver, besideOver}
 pub record Lendable (C : Contents) (l : List Thread) (b : List ℕ) : Type 0 where
   pub records : length l ≡ 64
   pub words : length b ≡ besideWords
-  pub few-threads : getD b 0 0 ≤ 64
-  pub few-made : getD b 1 0 ≤ 64
+  pub few-threads : threadCount b ≤ 64
+  pub few-made : madeCount b ≤ 64
   pub made : All (Formed (schemaOf C)) (stateOf l b .made)
   pub threads : All (λ (t : Thread). (c : Context) × Reaches C t c × Fits (schemaOf C) (stateOf l b .made) c t) (stateOf l b .threads)
 
@@ -36,8 +36,8 @@ Eight t = length (t .vars) ≡ 8
 pub record Lends (l : List Thread) (b : List ℕ) (s : State) : Type 0 where
   pub records : length l ≡ 64
   pub words : length b ≡ besideWords
-  pub threads : getD b 0 0 ≡ length (s .threads)
-  pub made : getD b 1 0 ≡ length (s .made)
+  pub threads : threadCount b ≡ length (s .threads)
+  pub made : madeCount b ≡ length (s .made)
   pub state : stateOf l b ≡ s
 
 -- choices in a lent list one after the other, up to the first that is refused: the records and words that are left, and the last answer

@@ -7,7 +7,8 @@ use Rattle.format.specs.declared.Node.{Node}
 use Rattle.rules.specs.Schema.{Schema}
 use Rattle.rules.specs.Names.{Bound}
 use Rattle.rules.specs.Rules.{Context, namesFit, kindsFit, wrong, childOf, waitingAfter}
-use Rattle.rules.specs.Candidates.{candidates, candidatesFrom, candidatesIn}
+use Rattle.rules.specs.Checking.{reached, rightly}
+use Rattle.rules.specs.Candidates.{candidates, candidatesIn}
 use Rattle.states.specs.States.{Label, labelled}
 use Rattle.reading_exact.specs.Lists.{All}
 use Rattle.reading_exact.proofs.AllLaws.{all-map}
@@ -27,11 +28,11 @@ use Rattle.placing_exact.proofs.StateRules.{at, child-step}
 module _ (D : Schema) where
   -- the labels of nodes in their contexts
   abbrev read : List Node → List Context → List Label
-  read ns st = labelled ns (candidatesFrom D ns st)
+  read ns st = labelled ns (map (λ (r : Context × Node). candidates D (r .0) (r .1)) (rightly D (reached D ns st)))
 
   one-label : (n : Node) (ns : List Node) (c : Context) (st : List Context) → wrong D c n ≡ 0
       → read (n ∷ ns) (c ∷ st) ≡ record { tag = n .tag; roles = candidates D c n } ∷ read ns (waitingAfter D c n st)
-  unfolding labelled candidatesFrom
+  unfolding labelled reached rightly
   one-label n ns c st e = rw (eq-eqb (wrong D c n) 0 e)
 
   module _ (u m : ℕ) where

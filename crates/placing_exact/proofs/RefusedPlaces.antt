@@ -8,7 +8,7 @@ use native.Mathlib.Omega.{arith}
 use lib.Dec.{eqb, ltb}
 use lib.ListN.{length, getD}
 use borrow.Author.Tests.{eqb-true, eqb-false, eq-eqb, ne-eqb, ltb-true, ltb-false, le-ltb}
-use Rattle.format.specs.Contents.{Contents, item, noNode, contentsOf}
+use Rattle.format.specs.Contents.{Contents, noNode, contentsOf}
 use Rattle.format.specs.Answers.{fine, refused}
 use Rattle.format.specs.declared.Verdict.{Verdict}
 use Rattle.format.specs.declared.Node.{Node}
@@ -68,9 +68,6 @@ module _ (f : List ℕ) where
   abbrev High : ℕ → ℕ → Type 0
   High = Unfit (lowTag C) 14 (λ n. n) 1 (length ns)
 
-  tag-read : (i : ℕ) → 1 ≤ i → item noNode ns i .tag ≡ nth ns i .tag
-  tag-read i l = ap (λ (n : Node). n .tag) (item-get noNode ns i l)
-
   high-switch : readingNames f ≡ fine → (n p : ℕ) → High n p → IsSwitch ns p
   high-switch r n p (a, x, l, k, t, b) = subst (IsSwitch ns) (sym b) (c, one (nth ns x .tag) (tags-low r x c) high)
     where
@@ -78,7 +75,7 @@ module _ (f : List ℕ) where
       c = (l, omega arith)
 
       high : 7 ≤ nth ns x .tag
-      high = omega (arith, tag-read x l, ltb-false (item noNode ns x .tag) 7 t)
+      high = ltb-false (nth ns x .tag) 7 t
 
       one : (t : ℕ) → t ≤ 8 → 7 ≤ t → (t ≡ 7) ⊎ (t ≡ 8)
       one t l k = go (eqb t 7) refl
@@ -88,11 +85,11 @@ module _ (f : List ℕ) where
           go false e = inr (omega (arith, eqb-false t 7 e))
 
   switch-high : (p : ℕ) → IsSwitch ns p → High 14 p
-  switch-high p (c, t) = (refl, p, c .0, omega arith, le-ltb _ 7 (least (nth ns p .tag) (item noNode ns p .tag) (tag-read p (c .0)) t), refl)
+  switch-high p (c, t) = (refl, p, c .0, omega arith, le-ltb _ 7 (least (nth ns p .tag) t), refl)
     where
-      least : (x y : ℕ) → y ≡ x → (x ≡ 7) ⊎ (x ≡ 8) → 7 ≤ y
-      least x y e (inl a) = omega arith
-      least x y e (inr a) = omega arith
+      least : (x : ℕ) → (x ≡ 7) ⊎ (x ≡ 8) → 7 ≤ x
+      least x (inl a) = omega arith
+      least x (inr a) = omega arith
 
   -- on or off
   pub switches-lowest : readingNames f ≡ fine → (p : ℕ) → (switchesAnswer (contentsOf f) ≡ refused 14 p) ↔ Lowest (IsSwitch (contentsOf f .nodes)) p
@@ -142,14 +139,22 @@ first-lacking i (n ∷ ns) (r ∷ rs) p e = go (needs (n .tag) && eqb r 0) refl 
         lower k low zero l (a, b, c) = true≢false (sym (and-eq-true-iff (needs (n .tag)) (eqb r 0) .1 (b, eq-eqb r 0 c)) ∙ t)
         lower k low (suc j) l (a, b, c) = low j (omega arith) (omega arith, b, c)
 
+-- the same by its number from 1 on
+lacks-iff : (C : Contents) (p : ℕ) → 1 ≤ p → Lacks (C .nodes) (candidatesIn C) (p - 1) ↔ Unserved C p
+lacks-iff C p l =
+    (λ (a, b, c). ((l, omega arith), one-of _ 5 6 .0 (ap needs tag ∙ b), c), λ (i, t, r). (omega (arith, i .1), ap needs (sym tag) ∙ one-of _ 5 6 .1 t, r))
+  where
+    tag : nth (C .nodes) p .tag ≡ getD (C .nodes) (p - 1) noNode .tag
+    tag = ap (λ (n : Node). n .tag) (item-get noNode (C .nodes) p l)
+
 -- a send or receive without a role
 pub unserved-lowest : (C : Contents) (p : ℕ) → unservedFrom 1 (labelsIn C) ≡ refused 15 p → Lowest (Unserved C) p
 unserved-lowest C p e =
     let (k, z, (a, b, c), low) = first-lacking 1 (C .nodes) (candidatesIn C) p e in
     let at : k ≡ p - 1 = omega arith in
     let there : Lacks (C .nodes) (candidatesIn C) (p - 1) = subst (Lacks (C .nodes) (candidatesIn C)) at (a, b, c) in (
-      ((omega arith, omega (arith, there .0)), one-of _ 5 6 .0 (there .1), there .2),
-      λ q (i, t, r). least k q z (i .0) (λ l. low (q - 1) l (omega arith, one-of _ 5 6 .1 t, r)),
+      lacks-iff C p (omega arith) .0 there,
+      λ q s. least k q z (s .0 .0) (λ l. low (q - 1) l (lacks-iff C q (s .0 .0) .1 s)),
     )
   where
     least : (k q : ℕ) → p ≡ 1 + k → 1 ≤ q → (q - 1 < k → ⊥) → p ≤ q
@@ -178,7 +183,7 @@ pub lowest-unserved : (C : Contents) (p : ℕ) → length (C .nodes) ≤ length 
 lowest-unserved C p long ((i, t, r), low) = go (unserved-answers 1 (labelsIn C))
   where
     go : (unservedFrom 1 (labelsIn C) ≡ fine) ⊎ ((q : ℕ) × (unservedFrom 1 (labelsIn C) ≡ refused 15 q)) → unservedFrom 1 (labelsIn C) ≡ refused 15 p
-    go (inl e) = absurd (fine-clear 1 (C .nodes) (candidatesIn C) e (p - 1) (omega arith) (omega arith, one-of _ 5 6 .1 t, r))
+    go (inl e) = absurd (fine-clear 1 (C .nodes) (candidatesIn C) e (p - 1) (omega arith) (lacks-iff C p (i .0) .1 (i, t, r)))
     go (inr (q, e)) =
         let (s, least) = unserved-lowest C q e in
         let same : q ≡ p = omega (arith, low q s, least p (i, t, r)) in

@@ -13,8 +13,8 @@ use Rattle.reading.specs.Reading.{reading}
 use Rattle.rules.specs.Schema.{permits, permittingTo}
 use Rattle.rules.specs.Names.{named, kindOf, mine}
 use Rattle.rules.specs.Rules.{namesFit, kindsFit, able, wrong, barred, childOf}
-use Rattle.rules.specs.Checking.{firstBy, openingsFrom, namesAnswer, rolesAnswer}
-use Rattle.rules.specs.Candidates.{candidates, candidatesFrom, candidatesIn}
+use Rattle.rules.specs.Checking.{reached, openingsFrom, firstBy, rightly, namesAnswer, rolesAnswer}
+use Rattle.rules.specs.Candidates.{candidates, candidatesIn}
 use Rattle.checking.specs.Check.{readingNames, checking}
 use Rattle.optimum.specs.Optimum.{scan, gate}
 use Rattle.states.specs.States.{suits, up, rowOf, taken, rows, turnsFrom, turnsOf, labelled}
@@ -24,5 +24,5 @@ use Rattle.reading_exact.specs.Lists.{All}
 use Rattle.placing_exact.specs.Cases.{Shown, cases}
 
 pub starred : All Shown cases
-unfolding has with without namesOnly within bytesOf firstOf from2 from3 from4 from5 headOf tabled item contentsAt roleWords channelWords sessionWords nodeWords tableWords fileWords encoded recordFits sectionAnswer recordsAnswer following nodeFits shapeFrom roots shapeAnswer reading permits permittingTo named kindOf mine namesFit kindsFit able wrong barred childOf firstBy openingsFrom namesAnswer rolesAnswer candidates candidatesFrom candidatesIn readingNames checking scan gate suits up rowOf taken rows turnsFrom turnsOf labelled before sizesOf onsOf startsFrom groupsFrom sessionsFrom masksAnswer switchesAnswer unservedFrom placeable judging placing placedBytes
+unfolding has with without namesOnly within bytesOf firstOf from2 from3 from4 from5 headOf tabled item contentsAt roleWords channelWords sessionWords nodeWords tableWords fileWords encoded recordFits sectionAnswer recordsAnswer following nodeFits shapeFrom roots shapeAnswer reading permits permittingTo named kindOf mine namesFit kindsFit able wrong barred childOf reached openingsFrom firstBy rightly namesAnswer rolesAnswer candidates candidatesIn readingNames checking scan gate suits up rowOf taken rows turnsFrom turnsOf labelled before sizesOf onsOf startsFrom groupsFrom sessionsFrom masksAnswer switchesAnswer unservedFrom placeable judging placing placedBytes
 starred = ((refl, refl), (refl, (refl, ((refl, refl), ((refl, refl), (refl, (refl, (refl, ((refl, refl), (refl, (refl, (refl, (refl, tt)))))))))))))

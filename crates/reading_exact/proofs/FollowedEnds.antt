@@ -11,7 +11,9 @@ use lib.Dec.{eqb, leb}
 use borrow.Author.Tests.{eqb-true, eqb-false, leb-true, ne-eqb, le-leb}
 use Rattle.format.specs.Stacks.{top, rest}
 use Rattle.trees.specs.Ends.{grown, following}
+use Rattle.format.specs.Contents.{noNode}
 use Rattle.format.specs.declared.Node.{Node}
+use Rattle.format.proofs.ContentsLaws.{from-item}
 use Rattle.reading_exact.specs.File.{InCount}
 use Rattle.reading_exact.specs.Refusals.{nth, OneChild, Follows, at-end, at-step, at-fork}
 
@@ -31,7 +33,7 @@ from-get z xs (suc j) c = let e : suc j - 1 ≡ j = omega arith in rw e (drop-co
 
 module _ (ns : List Node) where
   pub at-node : (i : ℕ) → InCount (length ns) i → drop (i - 1) ns ≡ nth ns i ∷ drop i ns
-  at-node = from-get _ ns
+  at-node i c = from-item noNode ns i (c .0) (c .1)
 
   -- where the trees from node i on end
   unfoldable pub endsFrom : ℕ → List ℕ

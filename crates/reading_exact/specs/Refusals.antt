@@ -9,7 +9,7 @@ use Rattle.masks.specs.Mask.{has}
 use Rattle.format.specs.Words.{wordAt}
 use Rattle.format.specs.Header.{sixAt, headAt, headBytes, lengthFor, Counted, BackToBack}
 use Rattle.format.specs.Sections.{placeOf}
-use Rattle.format.specs.Contents.{Contents, item, noRole, noChannel, noSession, contentsOf}
+use Rattle.format.specs.Contents.{Contents, item, noRole, noChannel, noSession, noNode, contentsOf}
 use Rattle.trees.specs.Shape.{boundBelow}
 use Rattle.format.specs.declared.Head.{Head}
 use Rattle.format.specs.declared.Session.{Session}
@@ -35,7 +35,7 @@ pub data Unassigned (C : Contents) (p : ℕ) : Type 0 where
 
 -- the node of a number in a list numbered from 1
 abbrev pub nth : List Node → ℕ → Node
-nth ns i = getD ns (i - 1) (record { tag = 0; f1 = 0; f2 = 0 })
+nth ns i = item noNode ns i
 
 -- a tag with one child
 abbrev pub OneChild : ℕ → Type 0

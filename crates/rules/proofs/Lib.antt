@@ -2,4 +2,6 @@ pub mod GrantLaws
 pub mod NameLaws
 pub mod StepLaws
 pub mod StackLaws
+pub mod ScopeLaws
 pub mod PassLaws
+pub mod ScopePass

@@ -19,8 +19,8 @@ use Rattle.format.proofs.ContentsLaws.{from-node, none-past}
 use Rattle.rules.specs.Schema.{Schema, schemaOf}
 use Rattle.rules.specs.Names.{kindOf}
 use Rattle.rules.specs.Rules.{Context, namesFit, kindsFit, wrong, barred, bind, activate, childOf, waitingAfter}
-use Rattle.rules.specs.Checking.{firstBy, openings, namesAnswer, rolesAnswer, judgement}
-use Rattle.rules.specs.Candidates.{candidates, candidatesFrom, candidatesIn}
+use Rattle.rules.specs.Checking.{reached, openings, firstBy, rightly, namesAnswer, rolesAnswer, judgement}
+use Rattle.rules.specs.Candidates.{candidates, candidatesIn}
 use Rattle.rules.specs.Kept.{answerAt, unmasked}
 
 -- the first refusal is kept
@@ -41,18 +41,26 @@ noted-quiet v n i h = go (eqb (v .number) 0) (eqb n 0) refl refl
     go false q e g = h
 
 -- an answer of a rule that refuses nothing is fine
-pub by-quiet : (rule : Context → Node → ℕ) (D : Schema) (i : ℕ) (ns : List Node) (st : List Context)
-    → NoRefusal (firstBy rule D i ns st) → firstBy rule D i ns st ≡ fine
+pub by-quiet : (rule : Context → Node → ℕ) (i : ℕ) (rs : List (Context × Node)) → NoRefusal (firstBy rule i rs) → firstBy rule i rs ≡ fine
 unfolding firstBy
-by-quiet rule D i [] st q = refl
-by-quiet rule D i (n ∷ ns) [] q = refl
-by-quiet rule D i (n ∷ ns) (c ∷ st) q = go (eqb (rule c n) 0) refl q (by-quiet rule D (suc i) ns (waitingAfter D c n st))
+by-quiet rule i [] q = refl
+by-quiet rule i (r ∷ rs) q = go (eqb (rule (r .0) (r .1)) 0) refl q (by-quiet rule (suc i) rs)
   where
-    go : (b : Bool) → eqb (rule c n) 0 ≡ b → NoRefusal (cond b (firstBy rule D (suc i) ns (waitingAfter D c n st)) (refused (rule c n) i))
-        → (NoRefusal (firstBy rule D (suc i) ns (waitingAfter D c n st)) → firstBy rule D (suc i) ns (waitingAfter D c n st) ≡ fine)
-        → cond b (firstBy rule D (suc i) ns (waitingAfter D c n st)) (refused (rule c n) i) ≡ fine
+    go : (b : Bool) → eqb (rule (r .0) (r .1)) 0 ≡ b → NoRefusal (cond b (firstBy rule (suc i) rs) (refused (rule (r .0) (r .1)) i))
+        → (NoRefusal (firstBy rule (suc i) rs) → firstBy rule (suc i) rs ≡ fine) → cond b (firstBy rule (suc i) rs) (refused (rule (r .0) (r .1)) i) ≡ fine
     go true e q rec = rec q
-    go false e q rec = absurd (eqb-false (rule c n) 0 e q)
+    go false e q rec = absurd (eqb-false (rule (r .0) (r .1)) 0 e q)
+
+-- where names and kinds are right at all of them, all are kept
+pub all-right : (D : Schema) (i : ℕ) (rs : List (Context × Node)) → NoRefusal (firstBy (wrong D) i rs) → rightly D rs ≡ rs
+unfolding firstBy rightly
+all-right D i [] q = refl
+all-right D i (r ∷ rs) q = go (eqb (wrong D (r .0) (r .1)) 0) refl q (all-right D (suc i) rs)
+  where
+    go : (b : Bool) → eqb (wrong D (r .0) (r .1)) 0 ≡ b → NoRefusal (cond b (firstBy (wrong D) (suc i) rs) (refused (wrong D (r .0) (r .1)) i))
+        → (NoRefusal (firstBy (wrong D) (suc i) rs) → rightly D rs ≡ rs) → cond b (r ∷ rightly D rs) [] ≡ r ∷ rs
+    go true e q rec = ap (r ∷_) (rec q)
+    go false e q rec = absurd (eqb-false (wrong D (r .0) (r .1)) 0 e q)
 
 -- the contexts that wait after a node with one child
 pub after-step : (D : Schema) (c : Context) (n : Node) (st : List Context) {d : Context} {us : List Context} → (n .tag ≡ 0 → ⊥) → (n .tag ≡ 1 → ⊥) → d ≡ childOf D c n → us ≡ st → d ∷ us ≡ waitingAfter D c n st
@@ -80,7 +88,7 @@ module _ (D : Schema) where
       go false false false true = refl
       go false false false false = refl
 
-  bare-after : (c : Context) (n : Node) (st : List Context) → map unmasked (waitingAfter D (unmasked c) n (map unmasked st)) ≡ map unmasked (waitingAfter D c n st)
+  pub bare-after : (c : Context) (n : Node) (st : List Context) → map unmasked (waitingAfter D (unmasked c) n (map unmasked st)) ≡ map unmasked (waitingAfter D c n st)
   bare-after c n st = go (eqb (n .tag) 0) (eqb (n .tag) 1)
     where
       go : (p q : Bool) → map unmasked (cond p (map unmasked st) (cond q (unmasked c ∷ unmasked c ∷ map unmasked st) (childOf D (unmasked c) n ∷ map unmasked st)))
@@ -89,58 +97,75 @@ module _ (D : Schema) where
       go false true = ap (λ (us : List Context). unmasked c ∷ unmasked c ∷ us) (bare-twice st)
       go false false = ap₂ _∷_ (bare-child c n) (bare-twice st)
 
-  bare-first : (i : ℕ) (ns : List Node) (st : List Context) → firstBy (wrong D) D i ns (map unmasked st) ≡ firstBy (wrong D) D i ns st
-  unfolding firstBy wrong
+  bare-first : (i : ℕ) (ns : List Node) (st : List Context) → firstBy (wrong D) i (reached D ns (map unmasked st)) ≡ firstBy (wrong D) i (reached D ns st)
+  unfolding firstBy reached wrong
   bare-first i [] st = refl
   bare-first i (n ∷ ns) [] = refl
   bare-first i (n ∷ ns) (c ∷ st) =
       ap (λ (v : Verdict). cond (eqb (wrong D c n) 0) v (refused (wrong D c n) i))
-      (sym (bare-first (suc i) ns (waitingAfter D (unmasked c) n (map unmasked st))) ∙ ap (firstBy (wrong D) D (suc i) ns) (bare-after c n st) ∙ bare-first (suc i) ns (waitingAfter D c n st))
+      (sym (bare-first (suc i) ns (waitingAfter D (unmasked c) n (map unmasked st))) ∙ ap (λ (us : List Context). firstBy (wrong D) (suc i) (reached D ns us)) (bare-after c n st)
+      ∙ bare-first (suc i) ns (waitingAfter D c n st))
 
-  pub masks-aside : (i : ℕ) (ns : List Node) (st us : List Context) → map unmasked st ≡ map unmasked us → firstBy (wrong D) D i ns st ≡ firstBy (wrong D) D i ns us
-  masks-aside i ns st us e = sym (bare-first i ns st) ∙ ap (firstBy (wrong D) D i ns) e ∙ bare-first i ns us
+  pub masks-aside : (i : ℕ) (ns : List Node) (st us : List Context) → map unmasked st ≡ map unmasked us
+      → firstBy (wrong D) i (reached D ns st) ≡ firstBy (wrong D) i (reached D ns us)
+  masks-aside i ns st us e = sym (bare-first i ns st) ∙ ap (λ (vs : List Context). firstBy (wrong D) i (reached D ns vs)) e ∙ bare-first i ns us
+
+-- none is reached where no context waits
+pub reached-none : (D : Schema) (ns : List Node) → reached D ns [] ≡ []
+unfolding reached
+reached-none D [] = refl
+reached-none D (n ∷ ns) = refl
 
 module _ (C : Contents) where
-  -- the first that a rule refuses from the node i on, and the candidates from there on
+  -- the nodes from i on, each with its context, where the contexts st wait
+  abbrev pub due : ℕ → List Context → List (Context × Node)
+  due i st = reached (schemaOf C) (drop (i - 1) (C .nodes)) st
+
+  -- the first that a rule refuses from the node i on, and what is told of each from there on
   abbrev pub from : (Context → Node → ℕ) → ℕ → List Context → Verdict
-  from rule i st = firstBy rule (schemaOf C) i (drop (i - 1) (C .nodes)) st
+  from rule i st = firstBy rule i (due i st)
+
+  abbrev pub tells : (Context → Node → ℕ) → ℕ → List Context → List ℕ
+  tells g i st = map (λ (r : Context × Node). g (r .0) (r .1)) (rightly (schemaOf C) (due i st))
 
   abbrev roles-from : ℕ → List Context → List ℕ
-  roles-from i st = candidatesFrom (schemaOf C) (drop (i - 1) (C .nodes)) st
+  roles-from i st = tells (candidates (schemaOf C)) i st
+
+  due-at : (i : ℕ) (c : Context) (st : List Context) (n : Node) → 1 ≤ i → i ≤ length (C .nodes) → n ≡ item noNode (C .nodes) i
+      → due i (c ∷ st) ≡ (c, n) ∷ due (i + 1) (waitingAfter (schemaOf C) c n st)
+  unfolding reached
+  due-at i c st n pos le e = rw (from-node (C .nodes) i n pos le e)
+
+  pub none-left : (i : ℕ) (st : List Context) → length (C .nodes) < i → due i st ≡ []
+  unfolding reached
+  none-left i st past = rw (none-past (C .nodes) (i - 1) (omega arith))
+
+  pub none-waits : (i : ℕ) → due i [] ≡ []
+  none-waits i = reached-none (schemaOf C) (drop (i - 1) (C .nodes))
 
   turn : (rule : Context → Node → ℕ) (i : ℕ) (c : Context) (st : List Context) (n : Node) → 1 ≤ i → i ≤ length (C .nodes) → n ≡ item noNode (C .nodes) i
       → from rule i (c ∷ st) ≡ cond (eqb (rule c n) 0) (from rule (i + 1) (waitingAfter (schemaOf C) c n st)) (refused (rule c n) i)
   unfolding firstBy
-  turn rule i c st n pos le e = rw (from-node (C .nodes) i n pos le e, add-one i)
+  turn rule i c st n pos le e = rw (due-at i c st n pos le e, add-one i)
 
-  turn-roles : (i : ℕ) (c : Context) (st : List Context) (n : Node) → 1 ≤ i → i ≤ length (C .nodes) → n ≡ item noNode (C .nodes) i
-      → roles-from i (c ∷ st) ≡ cond (eqb (wrong (schemaOf C) c n) 0) (candidates (schemaOf C) c n ∷ roles-from (i + 1) (waitingAfter (schemaOf C) c n st)) []
-  unfolding candidatesFrom
-  turn-roles i c st n pos le e = rw (from-node (C .nodes) i n pos le e)
+  pub tells-at : (g : Context → Node → ℕ) (i : ℕ) (c : Context) (st : List Context) (n : Node) → 1 ≤ i → i ≤ length (C .nodes) → n ≡ item noNode (C .nodes) i → wrong (schemaOf C) c n ≡ 0
+      → tells g i (c ∷ st) ≡ g c n ∷ tells g (i + 1) (waitingAfter (schemaOf C) c n st)
+  unfolding rightly
+  tells-at g i c st n pos le e good = rw (due-at i c st n pos le e, eq-eqb (wrong (schemaOf C) c n) 0 good)
 
-  none-waits : (rule : Context → Node → ℕ) (i : ℕ) → from rule i [] ≡ fine
+  pub tells-none : (g : Context → Node → ℕ) (i : ℕ) (c : Context) (st : List Context) (n : Node) → 1 ≤ i → i ≤ length (C .nodes) → n ≡ item noNode (C .nodes) i → (wrong (schemaOf C) c n ≡ 0 → ⊥)
+      → tells g i (c ∷ st) ≡ []
+  unfolding rightly
+  tells-none g i c st n pos le e bad = rw (due-at i c st n pos le e, ne-eqb (wrong (schemaOf C) c n) 0 bad)
+
+  -- where none is left none is refused, and none has candidates
+  none-refused : (rule : Context → Node → ℕ) (i : ℕ) (st : List Context) → due i st ≡ [] → from rule i st ≡ fine
   unfolding firstBy
-  none-waits rule i = go (drop (i - 1) (C .nodes))
-    where
-      go : (ns : List Node) → firstBy rule (schemaOf C) i ns [] ≡ fine
-      go [] = refl
-      go (n ∷ ns) = refl
+  none-refused rule i st e = rw e
 
-  none-given : (i : ℕ) → roles-from i [] ≡ []
-  unfolding candidatesFrom
-  none-given i = go (drop (i - 1) (C .nodes))
-    where
-      go : (ns : List Node) → candidatesFrom (schemaOf C) ns [] ≡ []
-      go [] = refl
-      go (n ∷ ns) = refl
-
-  none-left : (rule : Context → Node → ℕ) (i : ℕ) (st : List Context) → length (C .nodes) < i → from rule i st ≡ fine
-  unfolding firstBy
-  none-left rule i st past = rw (none-past (C .nodes) (i - 1) (omega arith))
-
-  none-more : (i : ℕ) (st : List Context) → length (C .nodes) < i → roles-from i st ≡ []
-  unfolding candidatesFrom
-  none-more i st past = rw (none-past (C .nodes) (i - 1) (omega arith))
+  pub none-told : (g : Context → Node → ℕ) (i : ℕ) (st : List Context) → due i st ≡ [] → tells g i st ≡ []
+  unfolding rightly
+  none-told g i st e = rw e
 
   -- the first of 9 and 10 from the node i on is that of all
   abbrev pub Names : ℕ → List Context → Type 0
@@ -160,22 +185,12 @@ module _ (C : Contents) where
       → b ≡ wrong (schemaOf C) c n → (b ≡ 0 → ⊥) → Names i (c ∷ st) → refused b i ≡ namesAnswer C
   names-refused i c st b n pos le its e bad left = rw (turn (wrong (schemaOf C)) i c st n pos le its, sym e, ne-eqb b 0 bad) at left
 
-  -- an end and a fork
-  pub names-tree : (i : ℕ) (c : Context) (st : List Context) (n : Node) → 1 ≤ i → i ≤ length (C .nodes) → n ≡ item noNode (C .nodes) i → n .tag ≡ 0 → Names i (c ∷ st) → Names (i + 1) st
-  unfolding wrong namesFit kindsFit
-  names-tree i c st n pos le its t left = names-on i c st st n pos le its (rw t) (rw t) left
-
-  pub names-fork : (i : ℕ) (c : Context) (st : List Context) (n : Node) → 1 ≤ i → i ≤ length (C .nodes) → n ≡ item noNode (C .nodes) i → n .tag ≡ 1
-      → Names i (c ∷ st) → Names (i + 1) (c ∷ c ∷ st)
-  unfolding wrong namesFit kindsFit
-  names-fork i c st n pos le its t left = names-on i c st (c ∷ c ∷ st) n pos le its (rw t) (rw t) left
-
   -- none is refused where no context waits, and past the last node
   pub names-out : (i : ℕ) → Names i [] → fine ≡ namesAnswer C
-  names-out i left = sym (none-waits (wrong (schemaOf C)) i) ∙ left
+  names-out i left = sym (none-refused (wrong (schemaOf C)) i [] (none-waits i)) ∙ left
 
   pub names-end : (i : ℕ) (st : List Context) → length (C .nodes) < i → Names i st → fine ≡ namesAnswer C
-  names-end i st past left = sym (none-left (wrong (schemaOf C)) i st past) ∙ left
+  names-end i st past left = sym (none-refused (wrong (schemaOf C)) i st (none-left i st past)) ∙ left
 
 module _ (C : Contents) (out : List ℕ) where
   -- the contexts st wait at the node i; v is the first of 11 to 13 before it, and l the table of candidates so far
@@ -198,7 +213,7 @@ module _ (C : Contents) (out : List ℕ) where
       let roles : orElse v (cond (eqb b 0) (from C (barred D) (i + 1) (waitingAfter D c n st)) (refused b i)) ≡ rolesAnswer C =
       rw (turn C (barred D) i c st n pos le its, sym bar) at (left .roles) in
       let shape : roles-from C i (c ∷ st) ≡ candidates D c n ∷ roles-from C (i + 1) (waitingAfter D c n st) =
-      turn-roles C i c st n pos le its ∙ rw (eq-eqb (wrong D c n) 0 good) in
+      tells-at C (candidates D) i c st n pos le its good in
       let given : sets l i (candidates D c n ∷ roles-from C (i + 1) (waitingAfter D c n st)) ≡ sets out 1 (candidatesIn C) = ap (sets l i) (sym shape) ∙ left .given in
       record {
         known = noted-quiet v b i (left .known);
@@ -217,25 +232,24 @@ module _ (C : Contents) (out : List ℕ) where
   refuses i c st v l b n pos le its e bad left =
       let D : Schema = schemaOf C in
       let names = names-refused C i c st b n pos le its e bad (left .names) in
-      let none : roles-from C i (c ∷ st) ≡ [] = turn-roles C i c st n pos le its ∙ rw (sym e, ne-eqb b 0 bad) in
+      let none : roles-from C i (c ∷ st) ≡ [] = tells-none C (candidates D) i c st n pos le its (λ z. bad (e ∙ z)) in
       (rw (sym names, ne-eqb b 0 bad), ap (sets l i) (sym none) ∙ left .given)
 
   quiet : (v : Verdict) → fine ≡ namesAnswer C → v ≡ rolesAnswer C → record { names = fine; roles = v } ≡ judgement C
   quiet v a b = rw (sym a, sym b)
 
-  pub runs-out : (i : ℕ) (v : Verdict) (l : List ℕ) → Left i [] v l → Over fine v l
-  runs-out i v l left =
+  over : (i : ℕ) (st : List Context) (v : Verdict) (l : List ℕ) → due C i st ≡ [] → Left i st v l → Over fine v l
+  over i st v l none left =
       let D : Schema = schemaOf C in (
-        quiet v (names-out C i (left .names)) (sym (left .known) ∙ ap (orElse v) (sym (none-waits C (barred D) i)) ∙ left .roles),
-        ap (sets l i) (sym (none-given C i)) ∙ left .given,
+        quiet v (sym (none-refused C (wrong D) i st none) ∙ left .names) (sym (left .known) ∙ ap (orElse v) (sym (none-refused C (barred D) i st none)) ∙ left .roles),
+        ap (sets l i) (sym (none-told C (candidates D) i st none)) ∙ left .given,
       )
 
+  pub runs-out : (i : ℕ) (v : Verdict) (l : List ℕ) → Left i [] v l → Over fine v l
+  runs-out i v l left = over i [] v l (none-waits C i) left
+
   pub ends : (i : ℕ) (st : List Context) (v : Verdict) (l : List ℕ) → length (C .nodes) < i → Left i st v l → Over fine v l
-  ends i st v l past left =
-      let D : Schema = schemaOf C in (
-        quiet v (names-end C i st past (left .names)) (sym (left .known) ∙ ap (orElse v) (sym (none-left C (barred D) i st past)) ∙ left .roles),
-        ap (sets l i) (sym (none-more C i st past)) ∙ left .given,
-      )
+  ends i st v l past left = over i st v l (none-left C i st past) left
 
   -- an end and a fork
   pub ends-tree : (i : ℕ) (c : Context) (st : List Context) (v : Verdict) (l : List ℕ) (r : ℕ) (n : Node) → 1 ≤ i → i ≤ length (C .nodes) → n ≡ item noNode (C .nodes) i

@@ -182,7 +182,7 @@ unpaired D w = barePoint D (kindIn w) (ownerIn w)
 abbrev pub queued : Schema → List ℕ → ℕ → List Point
 queued D a d = map (unpaired D) (stacked 0 a d)
 
--- what 6 and 7 leave: the same of each channel's owner and each session's user
+-- as 6 and 7 leave it: 2 more than each channel's owner, and than each session's user, is still a word
 abbrev pub Owned : Contents → Type 0
 Owned C = ((c : ℕ) → item noChannel (C .channels) c .owner < 65534) × ((s : ℕ) → item noSession (C .sessions) s .user < 65534)
 

@@ -1,8 +1,10 @@
-// The rules of the check: grants, operands, the rules at one node, the pass over the nodes that finds 9 to 13, and a shorter one for 9 and 10.
+// The rules of the check: grants, operands, the rules at one node, the pass over the nodes that finds 9 to 13, and a shorter one for 9 and 10,
+// which also tells what each node is reached with.
 pub mod grants;
 pub mod judge;
 pub mod names;
 pub mod naming;
+pub mod scopes;
 mod steps;
 
 use format::Verdict;

@@ -4,6 +4,8 @@ use super::names::kind_of;
 use super::names::look_up;
 use super::names::name_all;
 use super::names::owner_of;
+use super::scopes::keep;
+use super::scopes::scope_after;
 use super::steps::graded;
 use format::Head;
 use format::Node;
@@ -19,10 +21,13 @@ ghost use mathlib.Core.Path.{_≡_};
 ghost use mathlib.Core.List.{[], map};
 ghost use Prim.Native.Nat.{_+_, _≤_, _<_};
 ghost use lib.ListN.{length, replicate};
+ghost use lib.Seq.{sets};
 ghost use Rattle.format.specs.Header.{Laid};
 ghost use Rattle.format.specs.Contents.{contentsAt};
+ghost use Rattle.format.specs.Stacks.{stacked};
 ghost use Rattle.rules.specs.Schema.{schemaOf};
 ghost use Rattle.rules.specs.Checking.{openings, namesAnswer};
+ghost use Rattle.rules.specs.Scopes.{scopeOf, scopesIn};
 ghost use Rattle.rules.specs.Kept.{kindIn, entry, look, contextOf, Waits, unmasked, queued, Ownable, Owned, namingOf};
 
 fn staying(wrong: u16, bound: u16) -> NameStep
@@ -89,35 +94,44 @@ fn naming_at(file: &[u8], head: Head, names: &[u32], user: u16, bound: u16, it: 
     }
 }
 
-// The sessions' users on the stack, session 1's on top, with nothing bound; how many they are.
-fn open_users(file: &[u8], head: Head, stack: &mut [u32]) -> usize
-    requires { ⌜ Laid (now file) head × Owned (contentsAt (now file) head) × (head .count .sessions ≤ length (now stack)) ⌝ }
+// The sessions' users on the stack, session 1's on top, with nothing bound, and beside it each as one number; how many they are.
+fn open_users(file: &[u8], head: Head, stack: &mut [u32], waits: &mut [u64]) -> usize
+    requires { ⌜ Laid (now file) head × Owned (contentsAt (now file) head) × (head .count .sessions ≤ length (now stack)) × (head .count .sessions ≤ length (now waits)) ⌝ }
     ensures { λ r. ⌜ (r ≡ head .count .sessions) × Waits Ownable 0 (queued (schemaOf (contentsAt (now (file .entry)) head)) (now (stack .exit)) r)
-        × (map (contextOf []) (queued (schemaOf (contentsAt (now (file .entry)) head)) (now (stack .exit)) r) ≡ map unmasked (openings (contentsAt (now (file .entry)) head))) ⌝ }
+        × (map (contextOf []) (queued (schemaOf (contentsAt (now (file .entry)) head)) (now (stack .exit)) r) ≡ map unmasked (openings (contentsAt (now (file .entry)) head)))
+        × (stacked 0 (now (waits .exit)) r ≡ map scopeOf (map unmasked (openings (contentsAt (now (file .entry)) head)))) ⌝ }
 {
     let sessions = wide(head.count.sessions);
     let mut depth: usize = 0;
     while depth < sessions {
         let it = session(file, head, narrow(sessions - depth));
         stack[depth] = paired(it.user, 0);
+        waits[depth] = (it.user % 64) as u64;
         depth += 1;
     }
     depth
 }
 
-// The nodes in order. The stack has the users of the trees that wait, with the variables bound above them; it has room for the sessions and for as
-// many forks as there are nodes, and the table of names for as many variables.
-fn walk_names(file: &[u8], head: Head, names: &mut [u32], stack: &mut [u32]) -> Verdict
+// The nodes in order. The stack has the users of the trees that wait, with the variables bound above them, and the one beside it what these are as
+// one number; both have room for the sessions and for as many forks as there are nodes, and the table of names for as many variables.
+fn walk_names(
+    file: &[u8],
+    head: Head,
+    names: &mut [u32],
+    stack: &mut [u32],
+    waits: &mut [u64],
+    scopes: &mut [u64],
+) -> Verdict
     requires { ⌜ Laid (now file) head × Owned (contentsAt (now file) head) × (512 + head .count .nodes < length (now names)) × (now names ≡ replicate (length (now names)) 0)
-        × (head .count .sessions + head .count .nodes ≤ length (now stack)) ⌝ }
-    ensures { λ r. ⌜ r ≡ namesAnswer (contentsAt (now (file .entry)) head) ⌝ }
+        × (head .count .sessions + head .count .nodes ≤ length (now stack)) × (head .count .sessions + head .count .nodes ≤ length (now waits)) ⌝ }
+    ensures { λ r. ⌜ (r ≡ namesAnswer (contentsAt (now (file .entry)) head)) × (now (scopes .exit) ≡ sets (now (scopes .entry)) 1 (scopesIn (contentsAt (now (file .entry)) head))) ⌝ }
 {
     let fine = Verdict {
         number: 0,
         place: 0,
     };
     name_all(file, head, names);
-    let mut depth = open_users(file, head, stack);
+    let mut depth = open_users(file, head, stack, waits);
     if depth == 0 {
         return fine;
     }
@@ -125,6 +139,7 @@ fn walk_names(file: &[u8], head: Head, names: &mut [u32], stack: &mut [u32]) -> 
     let top = stack[depth];
     let mut user = kind_of(top);
     let mut bound = owner_of(top);
+    let mut here = waits[depth];
     let nodes = head.count.nodes;
     let mut i: u16 = 1;
     while i <= nodes {
@@ -134,6 +149,7 @@ fn walk_names(file: &[u8], head: Head, names: &mut [u32], stack: &mut [u32]) -> 
         i += 1;
         match tag {
             0 => {
+                keep(scopes, wide(at), here);
                 if depth == 0 {
                     return fine;
                 }
@@ -141,9 +157,12 @@ fn walk_names(file: &[u8], head: Head, names: &mut [u32], stack: &mut [u32]) -> 
                 let next = stack[depth];
                 user = kind_of(next);
                 bound = owner_of(next);
+                here = waits[depth];
             }
             1 => {
+                keep(scopes, wide(at), here);
                 stack[depth] = paired(user, bound);
+                waits[depth] = here;
                 depth += 1;
             }
             _ => {
@@ -154,7 +173,9 @@ fn walk_names(file: &[u8], head: Head, names: &mut [u32], stack: &mut [u32]) -> 
                         place: at,
                     };
                 }
+                keep(scopes, wide(at), here);
                 names[512 + wide(bound)] = step.binding;
+                here = scope_after(here, bound, step, wide(at) < scopes.len());
                 bound = step.bound;
             }
         }
@@ -162,17 +183,20 @@ fn walk_names(file: &[u8], head: Head, names: &mut [u32], stack: &mut [u32]) -> 
     fine
 }
 
-// 9 and 10, at the lowest node. Most files are short, and need shorter tables.
-pub fn judge_names(file: &[u8], head: Head) -> Verdict
+// 9 and 10, at the lowest node; what each node before it is reached with is stored from index 1 on, as far as there is room. Most files are short,
+// and need shorter tables.
+pub fn judge_names(file: &[u8], head: Head, scopes: &mut [u64]) -> Verdict
     requires { ⌜ Laid (now file) head × Owned (contentsAt (now file) head) ⌝ }
-    ensures { λ r. ⌜ r ≡ namesAnswer (contentsAt (now (file .entry)) head) ⌝ }
+    ensures { λ r. ⌜ (r ≡ namesAnswer (contentsAt (now (file .entry)) head)) × (now (scopes .exit) ≡ sets (now (scopes .entry)) 1 (scopesIn (contentsAt (now (file .entry)) head))) ⌝ }
 {
     if head.count.nodes <= 64 {
         let mut names = [0u32; 577];
         let mut stack = [0u32; 97];
-        return walk_names(file, head, &mut names, &mut stack);
+        let mut waits = [0u64; 97];
+        return walk_names(file, head, &mut names, &mut stack, &mut waits, scopes);
     }
     let mut names = [0u32; 1537];
     let mut stack = [0u32; 1057];
-    walk_names(file, head, &mut names, &mut stack)
+    let mut waits = [0u64; 1057];
+    walk_names(file, head, &mut names, &mut stack, &mut waits, scopes)
 }

@@ -1,197 +1,162 @@
--- The ready pair, as two loops over the threads find it.
-use Prim.Native.Nat.{ℕ, suc, _+_, _*_, _-_, _≤_, _<_}
-use mathlib.Core.Path.{_≡_, refl, sym, ap, _∙_}
-use mathlib.Core.Bool.{Bool, true, false, cond, _&&_}
+-- The ready pair, as two loops over the words of the threads find it.
+use Prim.Native.Nat.{ℕ, zero, suc, _+_, _*_, _-_, _≤_, _<_}
+use mathlib.Core.Path.{_≡_, refl, sym, ap, ap₂, _∙_}
+use mathlib.Core.Bool.{Bool, true, false, cond, not, _&&_}
 use mathlib.Core.List.{List, [], _∷_}
 use native.Mathlib.Omega.{arith}
 use native.Mathlib.Numerals.{add-one}
 use lib.Dec.{eqb, eqb·suc-zero}
 use lib.ListN.{length, getD}
-use borrow.Author.Tests.{eq-eqb, ne-eqb}
-use Rattle.format.specs.Contents.{inCount}
-use Rattle.format.specs.declared.Node.{Node}
-use Rattle.rules.specs.declared.Way.the-variants.{Sends, Receives}
+use borrow.Author.Tests.{eqb-true, eqb-false, eq-eqb, ne-eqb}
 use Rattle.steps.specs.declared.Thread.{Thread}
-use Rattle.steps.specs.declared.Made.{Made}
-use Rattle.running.specs.declared.Two.{Two}
-use Rattle.steps.specs.declared.Outcome.the-variants.{Refused, Meets}
 use Rattle.steps.specs.declared.Partner.the-variants.{With}
-use Rattle.steps.specs.Threads.{value, onward, bound}
-use Rattle.steps.specs.Choice.{Clinic, State, isAllowed, meeting, sending, lone, aloneOnly, acting}
+use Rattle.steps.specs.Choice.{Clinic, acting}
+use Rattle.steps.specs.Records.{threadIn, threadsIn}
+use Rattle.steps.specs.Beside.{threadCount, madeOf}
+use Rattle.steps.specs.Kept.{stateIn}
+use Rattle.running.specs.declared.Two.{Two}
 use Rattle.running.specs.Run.{isMeeting, receiverFrom, pairFrom, readyPair}
-use Rattle.steps.specs.Kept.{threadIn, threadsIn, madeIn, stateIn}
-use Rattle.running.proofs.PutLaws.{threads-length}
+use Rattle.running.specs.Ways.{outOf, inOf, alike, OfEach, standsIn}
+use Rattle.steps.proofs.TableLaws.{threads-length}
+use Rattle.running.proofs.WayLaws.{ways-meet, stands-not}
 
 -- a pair by its two numbers
 pub two : (q : ℕ × ℕ) (s r : ℕ) → q ≡ (s, r) → _≡_ {A = Two} (record { sender = s; receiver = r }) (record { sender = q .0; receiver = q .1 })
 two q s r e = ap (λ (x : ℕ × ℕ). record { sender = x .0; receiver = x .1 }) (sym e)
 
--- a thread that is at no send meets none
-abbrev pub atSend : Clinic → Thread → Bool
-atSend C t = inCount (C .nodes) (t .node) && eqb (C .node (t .node) .tag) 6
+-- none of the first n receives on what is sent on
+abbrev pub NoneAlike : List ℕ → ℕ → ℕ → Type 0
+NoneAlike ins n over = (k : ℕ) → k < n → alike over (getD ins k 0) ≡ false
 
-meets-none : (C : Clinic) (n : ℕ) (made : List Made) (t r : Thread) → atSend C t ≡ false → isMeeting (acting C n made t (With r)) ≡ false
-unfolding acting aloneOnly
-meets-none C n made t r = go (inCount (C .nodes) (t .node)) (eqb (C .node (t .node) .tag) 6) (eqb (C .node (t .node) .tag) 5)
+-- a turn of a loop over them
+pub none-more : (ins : List ℕ) (j over : ℕ) → (getD ins j 0 ≡ over → ⊥) → NoneAlike ins j over → NoneAlike ins (j + 1) over
+none-more ins j over d none k h = go (eqb k j) refl
   where
-    go : (x y z : Bool) → x && y ≡ false → isMeeting (cond x (cond y (sending C made t (C .node (t .node)) (With r)) (cond z (Refused 18) (aloneOnly (With r) (lone C n (length made) t (C .node (t .node)))))) (Refused 18)) ≡ false
-    go false y z e = refl
-    go true false true e = refl
-    go true false false e = refl
-    go true true z e = let none : _≡_ {A = ℕ} 0 1 = cc in absurd (omega arith)
+    never : (b : Bool) → (b && false) ≡ false
+    never true = refl
+    never false = refl
 
--- a send meets no thread that is at no receive
-meets-no-receive : (C : Clinic) (n : ℕ) (made : List Made) (t r : Thread) → inCount (C .nodes) (r .node) && eqb (C .node (r .node) .tag) 5 ≡ false
-    → isMeeting (acting C n made t (With r)) ≡ false
-unfolding acting aloneOnly sending
-meets-no-receive C n made t r e = rw e (go (inCount (C .nodes) (t .node)) (eqb (C .node (t .node) .tag) 6) (eqb (C .node (t .node) .tag) 5))
+    go : (b : Bool) → eqb k j ≡ b → alike over (getD ins k 0) ≡ false
+    go true e = let s : k ≡ j = eqb-true k j e in rw (s, ne-eqb over (getD ins j 0) (λ q. d (sym q))) (never (not (eqb over 0)))
+    go false e = none k (omega (arith, eqb-false k j e))
+
+pub passed-more : (outs ins : List ℕ) (i n : ℕ) → NoneAlike ins n (getD outs i 0) → ((k : ℕ) → k < i → NoneAlike ins n (getD outs k 0))
+    → (k : ℕ) → k < i + 1 → NoneAlike ins n (getD outs k 0)
+passed-more outs ins i n none before k h = go (eqb k i) refl
   where
-    go : (x y z : Bool) → isMeeting (cond x (cond y (Refused 18) (cond z (Refused 18) (Refused 18))) (Refused 18)) ≡ false
-    go false y z = refl
-    go true true z = refl
-    go true false true = refl
-    go true false false = refl
+    go : (b : Bool) → eqb k i ≡ b → NoneAlike ins n (getD outs k 0)
+    go true e = let s : k ≡ i = eqb-true k i e in rw s none
+    go false e = before k (omega (arith, eqb-false k i e))
 
--- two threads, as code looks at their nodes
-module _ (C : Clinic) (n : ℕ) (made : List Made) (t r : Thread) where
-  pub met-out : inCount (C .nodes) (r .node) ≡ false → false ≡ isMeeting (acting C n made t (With r))
-  met-out w = sym (meets-no-receive C n made t r (rw w))
+pub are-alike : (over at : ℕ) → (over ≡ 0 → ⊥) → at ≡ over → alike over at ≡ true
+are-alike over at some e = rw (ne-eqb over 0 some, eq-eqb over at (sym e))
 
-  pub met-elsewhere : (m : Node) → m ≡ C .node (r .node) → inCount (C .nodes) (r .node) ≡ true → (m .tag ≡ 5 → ⊥) → false ≡ isMeeting (acting C n made t (With r))
-  met-elsewhere m k w d = sym (meets-no-receive C n made t r (rw (w, ← k, ne-eqb (m .tag) 5 d)))
-
-  pub met-from-out : inCount (C .nodes) (t .node) ≡ false → false ≡ isMeeting (acting C n made t (With r))
-  met-from-out w = sym (meets-none C n made t r (rw w))
-
-  pub met-from-elsewhere : (q : Node) → q ≡ C .node (t .node) → inCount (C .nodes) (t .node) ≡ true → (q .tag ≡ 6 → ⊥) → false ≡ isMeeting (acting C n made t (With r))
-  met-from-elsewhere q k w d = sym (meets-none C n made t r (rw (w, ← k, ne-eqb (q .tag) 6 d)))
-
-  pub met : (q m : Node) → q ≡ C .node (t .node) → m ≡ C .node (r .node) → inCount (C .nodes) (t .node) ≡ true → q .tag ≡ 6
-      → inCount (C .nodes) (r .node) ≡ true → m .tag ≡ 5 → (b : Bool) → b ≡ isMeeting (meeting C made t q r m) → b ≡ isMeeting (acting C n made t (With r))
-  unfolding acting sending
-  met q m k l w e v f b h = rw (← k, ← l, w, eq-eqb (q .tag) 6 e, v, eq-eqb (m .tag) 5 f) h
-
--- a send with a receive, as code tests them
-module _ (C : Clinic) (made : List Made) (t : Thread) (n : Node) (r : Thread) (m : Node) where
-  pub agrees-apart : (value t (n .f1) ≡ value r (m .f1) → ⊥) → false ≡ isMeeting (meeting C made t n r m)
-  unfolding meeting
-  agrees-apart d = rw (ne-eqb (value t (n .f1)) (value r (m .f1)) d) (go (isAllowed C made t Sends (n .f1) && isAllowed C made r Receives (m .f1)))
-    where
-      go : (b : Bool) → false ≡ isMeeting (cond b (Refused 19) (Refused 13))
-      go true = refl
-      go false = refl
-
-  pub agrees-same : (x y : Bool) → value t (n .f1) ≡ value r (m .f1) → isAllowed C made t Sends (n .f1) ≡ x → isAllowed C made r Receives (m .f1) ≡ y
-      → x && y ≡ isMeeting (meeting C made t n r m)
-  unfolding meeting
-  agrees-same x y e f g = rw (f, g, eq-eqb (value t (n .f1)) (value r (m .f1)) e) (go (x && y))
-    where
-      go : (b : Bool) → b ≡ isMeeting (cond b (Meets (record { first = onward t; second = bound r (value t (n .f2)) })) (Refused 13))
-      go true = refl
-      go false = refl
-
-no-receiver : (C : Clinic) (s : State) (t : Thread) (j : ℕ) (ts : List Thread) → atSend C t ≡ false → receiverFrom C s t j ts ≡ 0
-unfolding receiverFrom
-no-receiver C s t j [] e = refl
-no-receiver C s t j (r ∷ ts) e = rw (meets-none C (length (s .threads)) (s .made) t r e) (no-receiver C s t (suc j) ts e)
-
--- how many threads are left out, as code tests it
-pub out-past : (n at tag count : ℕ) → inCount n at ≡ false → count ≡ cond (inCount n at && eqb tag 6) 0 count
-out-past n at tag count e = rw e
-
-pub out-other : (n at tag count : ℕ) → (tag ≡ 6 → ⊥) → count ≡ cond (inCount n at && eqb tag 6) 0 count
-out-other n at tag count h = rw (ne-eqb tag 6 h) (go (inCount n at))
+-- how many need not be tried
+pub left-begin : (ins : List ℕ) (over n j : ℕ) → n ≤ length ins → j ≡ cond (not (eqb over 0) && standsIn over ins) 0 n
+    → (j ≤ n) × (j < n → over ≡ 0 → ⊥) × NoneAlike ins j over
+left-begin ins over n j long e = go (eqb over 0) (standsIn over ins) refl refl
   where
-    go : (x : Bool) → count ≡ cond (x && false) 0 count
-    go true = refl
-    go false = refl
+    go : (x y : Bool) → eqb over 0 ≡ x → standsIn over ins ≡ y → (j ≤ n) × (j < n → over ≡ 0 → ⊥) × NoneAlike ins j over
+    go true y p q = let z : j ≡ n = rw p at e in (omega (arith, z), λ h. absurd (omega (arith, z)), λ k h. rw p)
+    go false true p q = let z : j ≡ 0 = rw (p, q) at e in (omega (arith, z), λ h. eqb-false over 0 p, λ k h. absurd (omega (arith, z)))
+    go false false p q =
+        let z : j ≡ n = rw (p, q) at e in
+        let apart : (k : ℕ) → k < j → over ≡ getD ins k 0 → ⊥ = λ k h s. eqb-false (getD ins k 0) over (stands-not ins over k q (omega (arith, z))) (sym s) in
+        (omega (arith, z), λ h. absurd (omega (arith, z)), λ k h. rw (p, ne-eqb over (getD ins k 0) (apart k h)))
 
-pub out-none : (n at tag count : ℕ) → inCount n at ≡ true → tag ≡ 6 → 0 ≡ cond (inCount n at && eqb tag 6) 0 count
-out-none n at tag count w e = rw (w, eq-eqb tag 6 e)
+pub left-none : (over n : ℕ) (b : Bool) → over ≡ 0 → n ≡ cond (not (eqb over 0) && b) 0 n
+left-none over n b e = rw (eq-eqb over 0 e)
+
+pub left-by : (over n : ℕ) (x b : Bool) → (over ≡ 0 → ⊥) → b ≡ x → cond x 0 n ≡ cond (not (eqb over 0) && b) 0 n
+left-by over n x b d e = rw (ne-eqb over 0 d, e)
 
 module _ (C : Clinic) (w b : List ℕ) where
+  abbrev n : ℕ
+  n = threadCount b
+
+  abbrev thread : ℕ → Thread
+  thread i = threadIn w (11 * i)
+
   -- the threads after i
   abbrev after : ℕ → List Thread
-  after i = threadsIn w (11 * i) (getD b 0 0 - i)
+  after i = threadsIn w (11 * i) (n - i)
 
-  abbrev pub meetsWith : Thread → Thread → Bool
-  meetsWith t r = isMeeting (acting C (getD b 0 0) (madeIn b 2 (getD b 1 0)) t (With r))
+  abbrev meetsWith : Thread → Thread → Bool
+  meetsWith t r = isMeeting (acting C n (madeOf b) t (With r))
 
-  all-after : after 0 ≡ threadsIn w 0 (getD b 0 0)
-  all-after = let z : getD b 0 0 - 0 ≡ getD b 0 0 = omega arith in rw z
+  all-after : after 0 ≡ threadsIn w 0 n
+  all-after = let z : n - 0 ≡ n = omega arith in rw z
 
-  some-after : (i : ℕ) → i < getD b 0 0 → after i ≡ threadIn w (11 * i) ∷ after (i + 1)
+  some-after : (i : ℕ) → i < n → after i ≡ thread i ∷ after (i + 1)
   unfolding threadsIn
   some-after i h =
-      let c : getD b 0 0 - i ≡ suc (getD b 0 0 - (i + 1)) = omega arith in
+      let c : n - i ≡ suc (n - (i + 1)) = omega arith in
       let z : 11 * i + 11 ≡ 11 * (i + 1) = omega arith in
       rw (c, z)
 
-  none-after : (i : ℕ) → getD b 0 0 ≤ i → after i ≡ []
+  none-after : (i : ℕ) → n ≤ i → after i ≡ []
   unfolding threadsIn
-  none-after i h = let z : getD b 0 0 - i ≡ 0 = omega arith in rw z
+  none-after i h = let z : n - i ≡ 0 = omega arith in rw z
 
-  pub receivers-begin : (t : Thread) (n j : ℕ) → C .nodes ≡ n → j ≡ cond (inCount n (t .node) && eqb (C .node (t .node) .tag) 6) 0 (getD b 0 0)
-      → (j ≤ getD b 0 0) × (receiverFrom C (stateIn w b) t (j + 1) (after j) ≡ receiverFrom C (stateIn w b) t 1 (threadsIn w 0 (getD b 0 0)))
-  unfolding receiverFrom
-  receivers-begin t n j held e = go (atSend C t) refl
-    where
-      go : (x : Bool) → atSend C t ≡ x → (j ≤ getD b 0 0) × (receiverFrom C (stateIn w b) t (j + 1) (after j) ≡ receiverFrom C (stateIn w b) t 1 (threadsIn w 0 (getD b 0 0)))
-      go true q = let z : j ≡ 0 = rw (← held, q) at e in (omega (arith, z), rw (z, all-after))
-      go false q =
-          let z : j ≡ getD b 0 0 = rw (← held, q) at e in
-          (omega (arith, z), rw (none-after j (omega (arith, z)), no-receiver C (stateIn w b) t 1 (threadsIn w 0 (getD b 0 0)) q))
-
-  -- a turn of the loop over the receivers, and its end
-  pub receiver-missed : (t r : Thread) (j k p : ℕ) (met : Bool) → j < getD b 0 0 → k ≡ j → r ≡ threadIn w (11 * k) → met ≡ meetsWith t r → met ≡ false
-      → receiverFrom C (stateIn w b) t (j + 1) (after j) ≡ p → receiverFrom C (stateIn w b) t (j + 1 + 1) (after (j + 1)) ≡ p
-  unfolding receiverFrom
-  receiver-missed t r j k p met h ek er em q inv =
-      let off : meetsWith t (threadIn w (11 * j)) ≡ false = ap (λ (x : ℕ). meetsWith t (threadIn w (11 * x))) (sym ek) ∙ ap (meetsWith t) (sym er) ∙ sym em ∙ q in
-      let step : receiverFrom C (stateIn w b) t (j + 1) (after j) ≡ receiverFrom C (stateIn w b) t (j + 1 + 1) (after (j + 1)) =
-      rw (some-after j h, threads-length w 0 (getD b 0 0), off, add-one (j + 1)) in
-      sym step ∙ inv
-
-  pub receiver-found : (t r : Thread) (j k p : ℕ) (met : Bool) → j < getD b 0 0 → k ≡ j → r ≡ threadIn w (11 * k) → met ≡ meetsWith t r → met ≡ true
-      → receiverFrom C (stateIn w b) t (j + 1) (after j) ≡ p → p ≡ j + 1
-  unfolding receiverFrom
-  receiver-found t r j k p met h ek er em q inv =
-      let on : meetsWith t (threadIn w (11 * j)) ≡ true = ap (λ (x : ℕ). meetsWith t (threadIn w (11 * x))) (sym ek) ∙ ap (meetsWith t) (sym er) ∙ sym em ∙ q in
-      let step : receiverFrom C (stateIn w b) t (j + 1) (after j) ≡ j + 1 = rw (some-after j h, threads-length w 0 (getD b 0 0), on) in
-      sym inv ∙ step
-
-  pub receivers-end : (t : Thread) (j p : ℕ) → getD b 0 0 ≤ j → receiverFrom C (stateIn w b) t (j + 1) (after j) ≡ p → p ≡ 0
-  unfolding receiverFrom
-  receivers-end t j p h inv =
-      let none : receiverFrom C (stateIn w b) t (j + 1) (after j) ≡ 0 = rw (none-after j h) in
-      sym inv ∙ none
-
-  -- the same for the loop over the senders
-  pub senders-begin : pairFrom C (stateIn w b) (0 + 1) (after 0) ≡ readyPair C (stateIn w b)
-  unfolding readyPair
-  senders-begin = rw all-after
-
+  -- the receivers before j are passed over, and j is taken or none is left
   abbrev receiverOf : Thread → ℕ
-  receiverOf t = receiverFrom C (stateIn w b) t 1 (threadsIn w 0 (getD b 0 0))
+  receiverOf t = receiverFrom C (stateIn w b) t 1 (threadsIn w 0 n)
 
-  pub sender-passed : (t : Thread) (i k : ℕ) (q : ℕ × ℕ) → i < getD b 0 0 → k ≡ i → t ≡ threadIn w (11 * k) → receiverOf t ≡ 0
-      → pairFrom C (stateIn w b) (i + 1) (after i) ≡ q → pairFrom C (stateIn w b) (i + 1 + 1) (after (i + 1)) ≡ q
-  unfolding pairFrom
-  sender-passed t i k q h ek et m inv =
-      let none : receiverOf (threadIn w (11 * i)) ≡ 0 = ap (λ (x : ℕ). receiverOf (threadIn w (11 * x))) (sym ek) ∙ ap receiverOf (sym et) ∙ m in
-      let step : pairFrom C (stateIn w b) (i + 1) (after i) ≡ pairFrom C (stateIn w b) (i + 1 + 1) (after (i + 1)) = rw (some-after i h, none, add-one (i + 1)) in
-      sym step ∙ inv
+  receivers-passed : (t : Thread) (j : ℕ) → j ≤ n → ((k : ℕ) → k < j → meetsWith t (thread k) ≡ false) → receiverFrom C (stateIn w b) t (j + 1) (after j) ≡ receiverOf t
+  unfolding receiverFrom
+  receivers-passed t zero h off = ap (receiverFrom C (stateIn w b) t 1) all-after
+  receivers-passed t (suc j) h off =
+      let step : receiverFrom C (stateIn w b) t (j + 1) (after j) ≡ receiverFrom C (stateIn w b) t (j + 1 + 1) (after (j + 1)) =
+      rw (some-after j (omega arith), threads-length w 0 n, off j (omega arith), add-one (j + 1)) in
+      ap (λ (k : ℕ). receiverFrom C (stateIn w b) t (k + 1) (after k)) (sym (add-one j)) ∙ sym step ∙ receivers-passed t j (omega arith) (λ k l. off k (omega arith))
 
-  pub sender-found : (t : Thread) (i k j : ℕ) (q : ℕ × ℕ) → i < getD b 0 0 → k ≡ i → t ≡ threadIn w (11 * k) → receiverOf t ≡ j + 1
-      → pairFrom C (stateIn w b) (i + 1) (after i) ≡ q → q ≡ (i + 1, j + 1)
+  receiver-taken : (t : Thread) (j : ℕ) → j < n → ((k : ℕ) → k < j → meetsWith t (thread k) ≡ false) → meetsWith t (thread j) ≡ true → receiverOf t ≡ j + 1
+  unfolding receiverFrom
+  receiver-taken t j h off on =
+      let step : receiverFrom C (stateIn w b) t (j + 1) (after j) ≡ j + 1 = rw (some-after j h, threads-length w 0 n, on) in
+      sym (receivers-passed t j (omega arith) off) ∙ step
+
+  receiver-none : (t : Thread) → ((k : ℕ) → k < n → meetsWith t (thread k) ≡ false) → receiverOf t ≡ 0
+  unfolding receiverFrom
+  receiver-none t off =
+      let step : receiverFrom C (stateIn w b) t (n + 1) (after n) ≡ 0 = rw (none-after n (omega arith)) in
+      sym (receivers-passed t n (omega arith) off) ∙ step
+
+  -- the same of the senders
+  senders-passed : (i : ℕ) → i ≤ n → ((k : ℕ) → k < i → receiverOf (thread k) ≡ 0) → pairFrom C (stateIn w b) (i + 1) (after i) ≡ readyPair C (stateIn w b)
+  unfolding pairFrom readyPair
+  senders-passed zero h off = ap (pairFrom C (stateIn w b) 1) all-after
+  senders-passed (suc i) h off =
+      let step : pairFrom C (stateIn w b) (i + 1) (after i) ≡ pairFrom C (stateIn w b) (i + 1 + 1) (after (i + 1)) =
+      rw (some-after i (omega arith), off i (omega arith), add-one (i + 1)) in
+      ap (λ (k : ℕ). pairFrom C (stateIn w b) (k + 1) (after k)) (sym (add-one i)) ∙ sym step ∙ senders-passed i (omega arith) (λ k l. off k (omega arith))
+
+  sender-taken : (i j : ℕ) → i < n → ((k : ℕ) → k < i → receiverOf (thread k) ≡ 0) → receiverOf (thread i) ≡ j + 1 → readyPair C (stateIn w b) ≡ (i + 1, j + 1)
   unfolding pairFrom
-  sender-found t i k j q h ek et m inv =
-      let some : receiverOf (threadIn w (11 * i)) ≡ suc j = ap (λ (x : ℕ). receiverOf (threadIn w (11 * x))) (sym ek) ∙ ap receiverOf (sym et) ∙ m ∙ add-one j in
+  sender-taken i j h off on =
+      let some : receiverOf (thread i) ≡ suc j = on ∙ add-one j in
       let step : pairFrom C (stateIn w b) (i + 1) (after i) ≡ (i + 1, j + 1) = rw (some-after i h, some, eqb·suc-zero j, add-one j) in
-      sym inv ∙ step
+      sym (senders-passed i (omega arith) off) ∙ step
 
-  pub senders-end : (i : ℕ) (q : ℕ × ℕ) → getD b 0 0 ≤ i → pairFrom C (stateIn w b) (i + 1) (after i) ≡ q → q ≡ (0, 0)
+  sender-none : ((k : ℕ) → k < n → receiverOf (thread k) ≡ 0) → readyPair C (stateIn w b) ≡ (0, 0)
   unfolding pairFrom
-  senders-end i q h inv =
-      let none : pairFrom C (stateIn w b) (i + 1) (after i) ≡ (0, 0) = rw (none-after i h) in
-      sym inv ∙ none
+  sender-none off =
+      let step : pairFrom C (stateIn w b) (n + 1) (after n) ≡ (0, 0) = rw (none-after n (omega arith)) in
+      sym (senders-passed n (omega arith) off) ∙ step
+
+  -- by the words of what each may send on, and receive on
+  module _ (outs ins : List ℕ) (sends : OfEach (outOf C (madeOf b)) w n outs) (receives : OfEach (inOf C (madeOf b)) w n ins) where
+    meets-alike : (i j : ℕ) (x : Bool) → i < n → j < n → alike (getD outs i 0) (getD ins j 0) ≡ x → meetsWith (thread i) (thread j) ≡ x
+    meets-alike i j x h l e = ways-meet C n (madeOf b) (thread i) (thread j) ∙ ap₂ alike (sym (sends i h)) (sym (receives j l)) ∙ e
+
+    no-receiver : (i : ℕ) → i < n → NoneAlike ins n (getD outs i 0) → receiverOf (thread i) ≡ 0
+    no-receiver i h none = receiver-none (thread i) (λ k l. meets-alike i k false h l (none k l))
+
+    pub no-pair : ((k : ℕ) → k < n → NoneAlike ins n (getD outs k 0)) → readyPair C (stateIn w b) ≡ (0, 0)
+    no-pair none = sender-none (λ k h. no-receiver k h (none k h))
+
+    pub first-pair : (i j : ℕ) → i < n → j < n → ((k : ℕ) → k < i → NoneAlike ins n (getD outs k 0)) → NoneAlike ins j (getD outs i 0)
+        → alike (getD outs i 0) (getD ins j 0) ≡ true → readyPair C (stateIn w b) ≡ (i + 1, j + 1)
+    first-pair i j h l none before on =
+        sender-taken i j h (λ k b. no-receiver k (omega arith) (none k b))
+        (receiver-taken (thread i) j l (λ k b. meets-alike i k false h (omega arith) (before k b)) (meets-alike i j true h l on))

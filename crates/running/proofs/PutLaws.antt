@@ -1,6 +1,6 @@
 -- Runs of stores of words, and the words of made channels and of threads as a loop puts them.
-use Prim.Native.Nat.{ℕ, zero, suc, _+_, _*_, _-_, _≤_, _<_}
-use mathlib.Core.Path.{_≡_, refl, sym, ap, _∙_}
+use Prim.Native.Nat.{ℕ, suc, _+_, _*_, _-_, _≤_, _<_}
+use mathlib.Core.Path.{_≡_, refl, ap, _∙_}
 use mathlib.Core.List.{List, [], _∷_, _++_}
 use native.Mathlib.Omega.{arith}
 use lib.ListN.{length, getD, length-append}
@@ -10,19 +10,12 @@ use Rattle.format.specs.Words.{bytesOf}
 use Rattle.format.proofs.PutRuns.{puts-then, puts-turn, puts-end}
 use Rattle.steps.specs.declared.Thread.{Thread}
 use Rattle.steps.specs.declared.Made.{Made}
+use Rattle.steps.proofs.TableLaws.{eight, threads-length}
+use Rattle.steps.proofs.ActLaws.{length-made}
 use Rattle.running.specs.Run.{madeWords, threadWords, ranWords}
-use Rattle.steps.specs.Kept.{threadIn, threadsIn, madeIn, stateIn}
-
--- how many there are
-pub threads-length : (w : List ℕ) (p k : ℕ) → length (threadsIn w p k) ≡ k
-unfolding threadsIn
-threads-length w p zero = refl
-threads-length w p (suc k) = ap suc (threads-length w (p + 11) k)
-
-pub made-length : (b : List ℕ) (p k : ℕ) → length (madeIn b p k) ≡ k
-unfolding madeIn
-made-length b p zero = refl
-made-length b p (suc k) = ap suc (made-length b (p + 2) k)
+use Rattle.steps.specs.Records.{threadIn, threadsIn}
+use Rattle.steps.specs.Beside.{madeAt, madeIn}
+use Rattle.steps.specs.Kept.{stateIn}
 
 -- two words a made channel
 pub made-words-length : (ms : List Made) → length (madeWords ms) ≡ 2 * length ms
@@ -32,25 +25,22 @@ made-words-length (m ∷ ms) = let later : length (madeWords ms) ≡ 2 * length 
 
 -- a made channel more
 abbrev madeAfter : List ℕ → ℕ → ℕ → List ℕ
-madeAfter b n i = madeWords (madeIn b (2 + 2 * i) (n - i))
+madeAfter b n i = madeWords (madeIn b (2 * i + 2) (n - i))
 
-made-more : (b : List ℕ) (n i : ℕ) → i < n → madeAfter b n i ≡ (getD b (2 + 2 * i) 0 ∷ getD b (2 + 2 * i + 1) 0 ∷ []) ++ madeAfter b n (i + 1)
+made-more : (b : List ℕ) (n i : ℕ) (m : Made) → i < n → m ≡ madeAt b (2 * i + 2) → madeAfter b n i ≡ (m .owner ∷ m .kind ∷ []) ++ madeAfter b n (i + 1)
 unfolding madeWords madeIn
-made-more b n i h =
+made-more b n i m h e =
     let c : n - i ≡ suc (n - (i + 1)) = omega arith in
-    let z : 2 + 2 * i + 2 ≡ 2 + 2 * (i + 1) = omega arith in
-    rw (c, z)
+    let z : 2 * i + 2 + 2 ≡ 2 * (i + 1) + 2 = omega arith in
+    rw (c, z, e)
 
 pub made-begin : (b out : List ℕ) (n : ℕ) → sets out (2 * (4 + 2 * 0)) (bytesOf (madeAfter b n 0)) ≡ sets out 8 (bytesOf (madeWords (madeIn b 2 n)))
 made-begin b out n = let c : n - 0 ≡ n = omega arith in rw c
 
-pub made-turn : (b l m whole : List ℕ) (n i : ℕ) → i < n → m ≡ sets l (2 * (2 + 2 * i + 2)) (bytesOf (getD b (2 + 2 * i) 0 ∷ getD b (2 + 2 * i + 1) 0 ∷ []))
-    → sets l (2 * (4 + 2 * i)) (bytesOf (madeAfter b n i)) ≡ whole → sets m (2 * (4 + 2 * (i + 1))) (bytesOf (madeAfter b n (i + 1))) ≡ whole
-made-turn b l m whole n i h e inv =
-    let ws : List ℕ = getD b (2 + 2 * i) 0 ∷ getD b (2 + 2 * i + 1) 0 ∷ [] in
-    let z : 2 + 2 * i + 2 ≡ 4 + 2 * i = omega arith in
-    puts-turn l m whole (4 + 2 * i) (4 + 2 * (i + 1)) ws (madeAfter b n (i + 1)) (madeAfter b n i) (e ∙ ap (λ (k : ℕ). sets l (2 * k) (bytesOf ws)) z) (omega arith)
-    (made-more b n i h) inv
+pub made-turn : (b l q whole : List ℕ) (n i : ℕ) (m : Made) → i < n → m ≡ madeAt b (2 * i + 2) → q ≡ sets l (2 * (4 + 2 * i)) (bytesOf (m .owner ∷ m .kind ∷ []))
+    → sets l (2 * (4 + 2 * i)) (bytesOf (madeAfter b n i)) ≡ whole → sets q (2 * (4 + 2 * (i + 1))) (bytesOf (madeAfter b n (i + 1))) ≡ whole
+made-turn b l q whole n i m h em e inv =
+    puts-turn l q whole (4 + 2 * i) (4 + 2 * (i + 1)) (m .owner ∷ m .kind ∷ []) (madeAfter b n (i + 1)) (madeAfter b n i) e (omega arith) (made-more b n i m h em) inv
 
 pub made-end : (b l whole : List ℕ) (n i p : ℕ) → n ≤ i → sets l p (bytesOf (madeAfter b n i)) ≡ whole → l ≡ whole
 unfolding madeWords madeIn
@@ -82,19 +72,6 @@ unfolding threadWords threadsIn
 threads-end w l whole n i p h inv = let z : n - i ≡ 0 = omega arith in puts-end l whole (threadsAfter w n i) p (rw z) inv
 
 -- one thread: four words, then its eight variables
-eight : (l : List ℕ) → length l ≡ 8
-    → l ≡ getD l 0 0 ∷ getD l 1 0 ∷ getD l 2 0 ∷ getD l 3 0 ∷ getD l 4 0 ∷ getD l 5 0 ∷ getD l 6 0 ∷ getD l 7 0 ∷ []
-eight [] e = let none : ⊥ = omega arith in absurd none
-eight (a ∷ []) e = let none : ⊥ = omega arith in absurd none
-eight (a ∷ b ∷ []) e = let none : ⊥ = omega arith in absurd none
-eight (a ∷ b ∷ c ∷ []) e = let none : ⊥ = omega arith in absurd none
-eight (a ∷ b ∷ c ∷ d ∷ []) e = let none : ⊥ = omega arith in absurd none
-eight (a ∷ b ∷ c ∷ d ∷ f ∷ []) e = let none : ⊥ = omega arith in absurd none
-eight (a ∷ b ∷ c ∷ d ∷ f ∷ g ∷ []) e = let none : ⊥ = omega arith in absurd none
-eight (a ∷ b ∷ c ∷ d ∷ f ∷ g ∷ h ∷ []) e = let none : ⊥ = omega arith in absurd none
-eight (a ∷ b ∷ c ∷ d ∷ f ∷ g ∷ h ∷ i ∷ []) e = refl
-eight (a ∷ b ∷ c ∷ d ∷ f ∷ g ∷ h ∷ i ∷ j ∷ l) e = let none : ⊥ = omega arith in absurd none
-
 pub thread-put : (t : Thread) (l m n q : List ℕ) (at roles : ℕ) → length (t .vars) ≡ 8 → roles ≡ held 16 (t .mask)
     → m ≡ sets l (2 * at) (bytesOf (t .user ∷ t .node ∷ t .mask ∷ roles ∷ []))
     → n ≡ sets m (2 * (at + 4)) (bytesOf (getD (t .vars) 0 0 ∷ getD (t .vars) 1 0 ∷ getD (t .vars) 2 0 ∷ getD (t .vars) 3 0 ∷ []))
@@ -109,21 +86,21 @@ thread-put t l m n q at roles long er em en eq =
     let first : n ≡ sets l (2 * at) (bytesOf (one ++ two)) = puts-then l m n at (at + 4) one two em refl en in
     let all : q ≡ sets l (2 * at) (bytesOf (one ++ two ++ three)) = puts-then l n q at (at + 8) (one ++ two) three first refl eq in
     let same : one ++ two ++ three ≡ t .user ∷ t .node ∷ t .mask ∷ held 16 (t .mask) ∷ t .vars ++ [] =
-    rw er (ap (λ (x : List ℕ). t .user ∷ t .node ∷ t .mask ∷ held 16 (t .mask) ∷ x ++ []) (sym (eight v long))) in
+    rw er (ap (λ (x : List ℕ). t .user ∷ t .node ∷ t .mask ∷ held 16 (t .mask) ∷ x ++ []) (eight v long)) in
     all ∙ ap (λ (x : List ℕ). sets l (2 * at) (bytesOf x)) same
 
 -- the whole state
 pub state-put : (w b l l1 l2 l3 : List ℕ) (count refusal made threads : ℕ) → made ≡ getD b 1 0 → threads ≡ getD b 0 0
-    → l1 ≡ sets l 0 (bytesOf (count ∷ refusal ∷ getD b 0 0 ∷ getD b 1 0 ∷ []))
+    → l1 ≡ sets l 0 (bytesOf (count ∷ refusal ∷ threads ∷ made ∷ []))
     → l2 ≡ sets l1 8 (bytesOf (madeWords (madeIn b 2 made))) → l3 ≡ sets l2 (2 * (4 + 2 * made)) (bytesOf (threadWords (threadsIn w 0 threads)))
     → l3 ≡ sets l 0 (bytesOf (ranWords (record { count = count; refusal = refusal; state = stateIn w b })))
 unfolding ranWords
 state-put w b l l1 l2 l3 count refusal made threads em et e1 e2 e3 =
-    let one : List ℕ = count ∷ refusal ∷ getD b 0 0 ∷ getD b 1 0 ∷ [] in
+    let one : List ℕ = count ∷ refusal ∷ threads ∷ made ∷ [] in
     let two : List ℕ = madeWords (madeIn b 2 made) in
     let three : List ℕ = threadWords (threadsIn w 0 threads) in
-    let size : length two ≡ 2 * made = made-words-length (madeIn b 2 made) ∙ ap (λ (k : ℕ). 2 * k) (made-length b 2 made) in
+    let size : length two ≡ 2 * made = made-words-length (madeIn b 2 made) ∙ ap (λ (k : ℕ). 2 * k) (length-made b 2 made) in
     let joined : length (one ++ two) ≡ 4 + length two = length-append one two in
     let first : l2 ≡ sets l 0 (bytesOf (one ++ two)) = puts-then l l1 l2 0 4 one two e1 refl e2 in
     let all : l3 ≡ sets l 0 (bytesOf (one ++ two ++ three)) = puts-then l l2 l3 0 (4 + 2 * made) (one ++ two) three first (omega (arith, size, joined)) e3 in
-    all ∙ rw (threads-length w 0 (getD b 0 0), made-length b 2 (getD b 1 0), em, et)
+    all ∙ rw (threads-length w 0 (getD b 0 0), length-made b 2 (getD b 1 0), em, et)

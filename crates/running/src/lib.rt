@@ -11,7 +11,8 @@ use format::Verdict;
 use out::put_state;
 use pairs::ready_pair;
 use reading::Opened;
-use steps::BESIDE;
+use steps::beside::BESIDE;
+use steps::records::TABLE;
 ghost use mathlib.Core.Path.{_≡_};
 ghost use mathlib.Core.Bool.{cond};
 ghost use Prim.Native.Nat.{_+_, _≤_, _<_};
@@ -71,7 +72,7 @@ fn run_into(file: &[u8], head: Head, choices: &[u16], out: &mut [u8]) -> Verdict
     ensures { λ r. ⌜ (r ≡ stopped (run (clinicOf (contentsAt (now (file .entry)) head)) (start (contentsAt (now (file .entry)) head)) (now (choices .entry))))
         × (now (out .exit) ≡ sets (now (out .entry)) 0 (bytesOf (ranWords (run (clinicOf (contentsAt (now (file .entry)) head)) (start (contentsAt (now (file .entry)) head)) (now (choices .entry)))))) ⌝ }
 {
-    let mut threads = [0u16; 704];
+    let mut threads = [0u16; TABLE];
     let mut beside = [0u16; BESIDE];
     let counted = run_list(file, head, choices, &mut threads, &mut beside);
     put_state(&threads, &beside, counted, out);
@@ -116,7 +117,7 @@ fn ready_in(file: &[u8], head: Head, choices: &[u16]) -> Ready
 {
     let mut sends = [0u16; 33];
     let mut receives = [0u16; 33];
-    let mut threads = [0u16; 704];
+    let mut threads = [0u16; TABLE];
     let mut beside = [0u16; BESIDE];
     let counted = run_by(
         file,

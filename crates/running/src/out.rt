@@ -1,10 +1,13 @@
 // The output of a run: choices done, the refusal, and the state.
 use choices::Counted;
-use choices::state::thread_at;
 use format::words::put_word;
 use format::words::wide;
 use masks::role_count;
 use steps::Thread;
+use steps::beside::made_at;
+use steps::beside::made_count;
+use steps::beside::thread_count;
+use steps::records::thread_at;
 ghost use mathlib.Core.Path.{_≡_};
 ghost use mathlib.Core.List.{[], _∷_};
 ghost use Prim.Native.Nat.{_+_, _*_, _≤_};
@@ -12,7 +15,9 @@ ghost use lib.ListN.{length};
 ghost use lib.Seq.{sets};
 ghost use Rattle.format.specs.Words.{bytesOf};
 ghost use Rattle.running.specs.Run.{madeWords, threadWords, ranWords};
-ghost use Rattle.steps.specs.Kept.{threadsIn, madeIn, stateIn, Sized, besideWords};
+ghost use Rattle.steps.specs.Kept.{stateIn, Sized};
+ghost use Rattle.steps.specs.Records.{threadsIn, tableWords};
+ghost use Rattle.steps.specs.Beside.{madeTo, besideWords};
 
 // Two words: a made channel's owner and kind.
 fn put_two(out: &mut [u8], at: usize, first: u16, second: u16)
@@ -46,19 +51,19 @@ fn put_thread(out: &mut [u8], at: usize, it: Thread)
 // The made channels, after the first four words.
 fn put_made(beside: &[u16], made: usize, out: &mut [u8])
     requires { ⌜ (made ≤ 64) × (length (now beside) ≡ besideWords) × (1800 ≤ length (now out)) ⌝ }
-    ensures { λ r. ⌜ now (out .exit) ≡ sets (now (out .entry)) 8 (bytesOf (madeWords (madeIn (now (beside .entry)) 2 made))) ⌝ }
+    ensures { λ r. ⌜ now (out .exit) ≡ sets (now (out .entry)) 8 (bytesOf (madeWords (madeTo (now (beside .entry)) made))) ⌝ }
 {
     let mut i: usize = 0;
     while i < made {
-        let at = 2 + 2 * i;
-        put_two(out, at + 2, beside[at], beside[at + 1]);
+        let it = made_at(beside, i);
+        put_two(out, 4 + 2 * i, it.owner, it.kind);
         i += 1;
     }
 }
 
 // The threads, from a place on.
 fn put_threads(threads: &[u16], count: usize, out: &mut [u8], base: usize)
-    requires { ⌜ (count ≤ 64) × (length (now threads) ≡ 704) × (2 * (base + 12 * count) ≤ length (now out)) ⌝ }
+    requires { ⌜ (count ≤ 64) × (length (now threads) ≡ tableWords) × (2 * (base + 12 * count) ≤ length (now out)) ⌝ }
     ensures { λ r. ⌜ now (out .exit) ≡ sets (now (out .entry)) (2 * base) (bytesOf (threadWords (threadsIn (now (threads .entry)) 0 count))) ⌝ }
 {
     let mut i: usize = 0;
@@ -77,8 +82,9 @@ pub fn put_state(threads: &[u16], beside: &[u16], counted: Counted, out: &mut [u
       state = stateIn (now (threads .entry)) (now (beside .entry));
     }))) ⌝ }
 {
-    let made = wide(beside[1]);
-    put_four(out, 0, counted.count, counted.refusal, beside[0], beside[1]);
-    put_made(beside, made, out);
-    put_threads(threads, wide(beside[0]), out, 4 + 2 * made);
+    let count = thread_count(beside);
+    let made = made_count(beside);
+    put_four(out, 0, counted.count, counted.refusal, count, made);
+    put_made(beside, wide(made), out);
+    put_threads(threads, wide(count), out, 4 + 2 * wide(made));
 }

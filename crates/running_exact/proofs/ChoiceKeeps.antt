@@ -17,7 +17,7 @@ use Rattle.steps.specs.declared.Partner.the-variants.{Alone, With, Missing}
 use Rattle.steps.specs.declared.Outcome.{Outcome}
 use Rattle.steps.specs.declared.Outcome.the-variants.{Refused, Moves, Adds, Makes, Ends, Meets}
 use Rattle.steps.specs.Threads.{noThread}
-use Rattle.steps.specs.Choice.{Clinic, lone, aloneOnly, acting, State, Chosen, halts, goes, threadAt, partnerAt, changed, done, choice}
+use Rattle.steps.specs.Choice.{Clinic, lone, aloneOnly, acting, State, Chosen, halts, goes, threadAt, partnerAt, changed, done, outcome, choice}
 use Rattle.reading_exact.specs.Lists.{All}
 use Rattle.reading_exact.specs.File.{InCount}
 use Rattle.reading_exact.proofs.AllLaws.{all-map, all-get}
@@ -122,13 +122,13 @@ module _ (C : Clinic) (At : ℕ → Context → Type 0) (L : Lawful C At) (K : �
 
   -- any choice
   pub choice-keeps : (s : State) → Invariant C At K s → (i p : ℕ) → Keeps C At K R (choice C s i p)
-  unfolding choice
+  unfolding choice outcome done
   choice-keeps s I i p = go (inCount (length (s .threads)) i) refl
     where
       o : Outcome
       o = acting C (length (s .threads)) (s .made) (threadAt s i) (partnerAt s p)
 
-      go : (b : Bool) → inCount (length (s .threads)) i ≡ b → Keeps C At K R (cond b (done s i p o) (halts 18))
+      go : (b : Bool) → inCount (length (s .threads)) i ≡ b → Keeps C At K R (done s i p (cond b o (Refused 18)))
       go true e =
           let n = inCount-iff (length (s .threads)) i .0 e in
           done-keeps s I i p (n .0) o (acting-told (length (s .threads)) (s .made) (threadAt s i) (thread-fits s I i n) (partnerAt s p) (partner-fits s I p))

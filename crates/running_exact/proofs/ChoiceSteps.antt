@@ -19,8 +19,9 @@ use Rattle.steps.specs.declared.Thread.{Thread}
 use Rattle.steps.specs.declared.Partner.{Partner}
 use Rattle.steps.specs.declared.Partner.the-variants.{Alone, With, Missing}
 use Rattle.steps.specs.declared.Outcome.{Outcome}
+use Rattle.steps.specs.declared.Outcome.the-variants.{Refused}
 use Rattle.steps.specs.Threads.{value}
-use Rattle.steps.specs.Choice.{Clinic, State, Chosen, halts, goes, threadAt, partnerAt, kindHeld, isAllowed, meeting, sending, lone, aloneOnly, acting, done, choice}
+use Rattle.steps.specs.Choice.{Clinic, State, Chosen, halts, goes, threadAt, partnerAt, kindHeld, isAllowed, meeting, sending, lone, aloneOnly, acting, done, outcome, choice}
 use Rattle.reading_exact.specs.File.{InCount}
 use Rattle.checking_exact.proofs.NameFaults.{fails-iff}
 use Rattle.checking_exact.proofs.PermittedRoles.{able-iff}
@@ -219,10 +220,10 @@ module _ (C : Clinic) (s : State) where
 
   -- a choice is a step, or its refusal's condition holds
   pub choice-step-or-refusal : (i p : ℕ) → StepOrRefusal i p (choice C s i p)
-  unfolding choice
+  unfolding choice outcome done
   choice-step-or-refusal i p = go (inCount (length (s .threads)) i) refl
     where
       go : (b : Bool) → inCount (length (s .threads)) i ≡ b
-          → StepOrRefusal i p (cond b (done s i p (acting C (length (s .threads)) (s .made) (threadAt s i) (partnerAt s p))) (halts 18))
+          → StepOrRefusal i p (done s i p (cond b (acting C (length (s .threads)) (s .made) (threadAt s i) (partnerAt s p)) (Refused 18)))
       go true e = acting-told i p (inCount-iff (length (s .threads)) i .0 e)
       go false e = no-thread (λ m at t. not-counted (length (s .threads)) i e (at .0))

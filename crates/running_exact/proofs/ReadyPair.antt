@@ -17,7 +17,7 @@ use Rattle.steps.specs.declared.Partner.the-variants.{Alone, With, Missing}
 use Rattle.steps.specs.declared.Outcome.{Outcome}
 use Rattle.steps.specs.declared.Outcome.the-variants.{Refused, Moves, Adds, Makes, Ends, Meets}
 use Rattle.steps.specs.Threads.{value, onward, bound}
-use Rattle.steps.specs.Choice.{Clinic, State, halts, goes, threadAt, partnerAt, isAllowed, meeting, sending, acting, done, choice}
+use Rattle.steps.specs.Choice.{Clinic, State, halts, goes, threadAt, partnerAt, isAllowed, meeting, sending, acting, done, outcome, choice}
 use Rattle.running.specs.Run.{isMeeting, readyPair}
 use Rattle.reading_exact.specs.File.{InCount}
 use Rattle.running_exact.specs.Steps.{StandsAt, Steps, on, off, fork, repeat, new, compare, end, meet}
@@ -60,7 +60,7 @@ module _ (C : Clinic) (s : State) where
 
   -- two threads that can meet: the choice is done
   choice-goes : (i p : ℕ) → Counted i → Counted p → meets C s (threadAt s i) (threadAt s p) ≡ true → (s′ : State) × (choice C s i p ≡ goes s′)
-  unfolding choice
+  unfolding choice outcome
   choice-goes i p c d h =
       let (s′, e) = meets-goes i p (acting C (length (s .threads)) (s .made) (threadAt s i) (With (threadAt s p))) h in
       let a : choice C s i p ≡ done s i p (acting C (length (s .threads)) (s .made) (threadAt s i) (partnerAt s p)) = rw (inCount-iff (length (s .threads)) i .1 c) in

@@ -30,11 +30,11 @@ use Rattle.checking_exact.proofs.CheckFirst.{check-fine}
 use Rattle.placing_exact.proofs.PlacingExact.{placed-well}
 use Rattle.running_exact.specs.Keeps.{Reaches, Kept}
 use Rattle.running_exact.proofs.HeldValues.{held-free}
-use Rattle.running_exact.proofs.FileNodes.{StandsIn}
+use Rattle.running_exact.proofs.FileNodes.{StandsIn, roles-clear}
 use Rattle.running_exact.proofs.ThreadSteps.{Steady}
 use Rattle.running_exact.proofs.OutcomeClaims.{MayCome}
 use Rattle.running_exact.proofs.ChoiceKeeps.{Keeps, choice-keeps}
-use Rattle.running_exact.proofs.FileLawful.{of-kept, to-kept, lawful, lawful-roles}
+use Rattle.running_exact.proofs.FileLawful.{of-kept, to-kept, lawful}
 use Rattle.running_exact.proofs.StartKept.{start-fits}
 
 -- not stopped for a role
@@ -120,7 +120,7 @@ module _ (f : List ℕ) where
         where
           none : (j : ℕ) (c : Context) → StandsIn C j c → (m : ℕ) → m ≡ c .mask → barred (schemaOf C) (activate c m) (clinicOf C .node j) ≡ 0
           none j c a m h =
-              subst (λ (x : ℕ). barred (schemaOf C) (activate c x) (clinicOf C .node j) ≡ 0) (sym h) (lawful-roles f (passes-names f passes) passes j c a)
+              subst (λ (x : ℕ). barred (schemaOf C) (activate c x) (clinicOf C .node j) ≡ 0) (sym h) (roles-clear f (passes-names f passes) passes j c a)
 
   -- the start is a state of a run
   pub start-kept : readingNames f ≡ fine → Kept C (start C)

@@ -32,7 +32,7 @@ use Rattle.running_exact.proofs.FileNodes.{opening, refusable-none, lai
 abbrev seated : Session → Thread
 seated s = record { user = s .user; node = s .root; mask = s .mask; vars = zeros }
 
-threads-length : (ss : List Session) → length (threadsFrom ss) ≡ length ss
+pub threads-length : (ss : List Session) → length (threadsFrom ss) ≡ length ss
 unfolding threadsFrom
 threads-length [] = refl
 threads-length (s ∷ ss) = ap suc (threads-length ss)

@@ -19,7 +19,7 @@ use Rattle.steps.specs.declared.Partner.the-variants.{Alone, With, Missing}
 use Rattle.steps.specs.declared.Outcome.{Outcome}
 use Rattle.steps.specs.declared.Outcome.the-variants.{Refused, Meets}
 use Rattle.steps.specs.Threads.{value, onward, bound}
-use Rattle.steps.specs.Choice.{Clinic, State, halts, goes, threadAt, partnerAt, kindHeld, isAllowed, meeting, sending, lone, aloneOnly, acting, done, choice}
+use Rattle.steps.specs.Choice.{Clinic, State, halts, goes, threadAt, partnerAt, kindHeld, isAllowed, meeting, sending, lone, aloneOnly, acting, done, outcome, choice}
 use Rattle.reading_exact.specs.File.{InCount}
 use Rattle.checking_exact.proofs.NameFaults.{fails-iff}
 use Rattle.checking_exact.proofs.PermittedRoles.{able-iff}
@@ -59,7 +59,7 @@ module _ (C : Clinic) (s : State) where
       (cond (eqb (n .tag) 5) (Refused 18) (aloneOnly (partnerAt s p) (loneAt C s i n)))
 
   pub at-node : (i p : ℕ) (n : Node) → StandsAt C s i n → choice C s i p ≡ done s i p (reached i p n)
-  unfolding choice acting
+  unfolding choice outcome acting
   at-node i p n st =
       subst (λ (x : Node). choice C s i p ≡ done s i p (reached i p x)) (st .2)
       (rw (inCount-iff (length (s .threads)) i .1 (st .0), inCount-iff (C .nodes) (threadAt s i .node) .1 (st .1)))
@@ -193,7 +193,7 @@ module _ (C : Clinic) (s : State) where
 
   -- no such thread, or one that stands at no node
   threadless : (i p : ℕ) → ((n : Node) → StandsAt C s i n → Lone (n .tag) ⊎ ((n .tag ≡ 5) ⊎ (n .tag ≡ 6)) → ⊥) → choice C s i p ≡ halts 18
-  unfolding choice acting done
+  unfolding choice outcome acting done
   threadless i p h = go (inCount (length (s .threads)) i) refl
     where
       tagged : (n : Node) → StandsAt C s i n → Lone (n .tag) ⊎ (9 ≤ n .tag) → choice C s i p ≡ halts 18

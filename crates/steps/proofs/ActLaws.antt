@@ -25,8 +25,8 @@ use Rattle.steps.specs.declared.Answer.{Answer}
 use Rattle.steps.specs.declared.Acted.{Acted}
 use Rattle.steps.specs.declared.Thread.{Thread}
 use Rattle.steps.specs.Threads.{noThread, noMade, value, movedTo, onward, masked, bound}
-use Rattle.steps.specs.Choice.{Clinic, kindHeld, isAllowed, meeting, sending, lone, aloneOnly, acting}
-use Rattle.steps.specs.Kept.{madeIn}
+use Rattle.steps.specs.Choice.{Clinic, kindHeld, isAllowed, meeting, sending, lone, aloneOnly, acting, State, halts, threadAt, partnerAt, done, outcome, choice}
+use Rattle.steps.specs.Beside.{madeAt, madeIn}
 use Rattle.steps.specs.Acted.{partnerOf, actedOf, outcomeOf}
 
 -- what code hands back gives the outcome
@@ -56,13 +56,13 @@ unfolding madeIn
 length-made b p zero = refl
 length-made b p (suc k) = ap suc (length-made b (p + 2) k)
 
-pub kind-made : (b : List ℕ) (p k i : ℕ) → i < k → getD (madeIn b p k) i noMade .kind ≡ getD b (2 * i + (p + 1)) 0
+pub made-get : (b : List ℕ) (p k i : ℕ) → i < k → getD (madeIn b p k) i noMade ≡ madeAt b (2 * i + p)
 unfolding madeIn
-kind-made b p zero i h = absurd (omega arith)
-kind-made b p (suc k) zero h = let e : p + 1 ≡ 2 * 0 + (p + 1) = omega arith in ap (λ (j : ℕ). getD b j 0) e
-kind-made b p (suc k) (suc i) h =
-    let e : 2 * i + (p + 2 + 1) ≡ 2 * suc i + (p + 1) = omega arith in
-    kind-made b (p + 2) k i (omega arith) ∙ ap (λ (j : ℕ). getD b j 0) e
+made-get b p zero i h = absurd (omega arith)
+made-get b p (suc k) zero h = let e : p ≡ 2 * 0 + p = omega arith in ap (madeAt b) e
+made-get b p (suc k) (suc i) h =
+    let e : 2 * i + (p + 2) ≡ 2 * suc i + p = omega arith in
+    made-get b (p + 2) k i (omega arith) ∙ ap (madeAt b) e
 
 -- the kind of a value: plain, of a channel of the file, of a made channel, of none
 module _ (D : Schema) (b : List ℕ) (n v : ℕ) where
@@ -74,9 +74,9 @@ module _ (D : Schema) (b : List ℕ) (n v : ℕ) where
   unfolding kindHeld
   kind-channel h l = rw (le-ltb v 257 h, lt-ltb v 385 l)
 
-  pub kind-of-made : (i : ℕ) → 385 ≤ v → i ≡ v - 385 → i < n → getD b (2 * i + 3) 0 ≡ kindHeld D (madeIn b 2 n) v
+  pub kind-of-made : (i : ℕ) (m : Made) → 385 ≤ v → i ≡ v - 385 → i < n → m ≡ madeAt b (2 * i + 2) → m .kind ≡ kindHeld D (madeIn b 2 n) v
   unfolding kindHeld
-  kind-of-made i h e l = rw (le-ltb v 257 (omega arith), le-ltb v 385 h, ← e) (sym (kind-made b 2 n i l))
+  kind-of-made i m h e l f = rw (le-ltb v 257 (omega arith), le-ltb v 385 h, ← e) (ap (λ (x : Made). x .kind) (f ∙ sym (made-get b 2 n i l)))
 
   pub kind-of-none : (i : ℕ) → 385 ≤ v → i ≡ v - 385 → n ≤ i → 0 ≡ kindHeld D (madeIn b 2 n) v
   unfolding kindHeld
@@ -222,3 +222,16 @@ module _ (C : Clinic) (threads : ℕ) (made : List Made) (t : Thread) (p : ℕ) 
       → acting C threads made t (partnerOf threads p r) ≡ lone C threads m t n
   unfolding aloneOnly
   acting-lone n m k l w a b e = alone n k w a b ∙ rw (eq-eqb p 0 e, l)
+
+-- a choice, where there is such a thread and where there is none
+pub choice-acting : (C : Clinic) (s : State) (i p : ℕ)
+    → choice C s i p ≡ cond (inCount (length (s .threads)) i) (done s i p (acting C (length (s .threads)) (s .made) (threadAt s i) (partnerAt s p))) (halts 18)
+unfolding choice outcome done
+choice-acting C s i p = go (inCount (length (s .threads)) i)
+  where
+    o : Outcome
+    o = acting C (length (s .threads)) (s .made) (threadAt s i) (partnerAt s p)
+
+    go : (b : Bool) → done s i p (cond b o (Refused 18)) ≡ cond b (done s i p o) (halts 18)
+    go true = refl
+    go false = refl

@@ -1,2 +1,3 @@
 pub mod ThreadLaws
+pub mod TableLaws
 pub mod ActLaws

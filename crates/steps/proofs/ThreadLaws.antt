@@ -1,15 +1,15 @@
 -- The variable that a binder takes, found from the left; what a thread's operand stands for.
 use Prim.Native.Nat.{ℕ, zero, suc, _+_, _-_, _≤_, _<_}
-use mathlib.Core.Path.{_≡_, refl, sym, ap, _∙_}
-use mathlib.Core.Bool.{cond}
+use mathlib.Core.Path.{_≡_, refl, sym, ap, ap₂, subst, _∙_}
+use mathlib.Core.Bool.{Bool, true, false, cond, not, _&&_}
 use mathlib.Core.List.{List, [], _∷_, map}
 use native.Mathlib.Omega.{arith}
 use lib.Dec.{eqb, ltb}
 use lib.ListN.{length, length-map, getD, set, drop, List·getD-eq-default, drop-of-length-le}
-use lib.Seq.{drop-cons, set-out}
-use borrow.Author.Tests.{eq-eqb, ne-eqb, lt-ltb, le-ltb}
+use lib.Seq.{drop-cons, set-out, set-getD}
+use borrow.Author.Tests.{eqb-true, eqb-false, eq-eqb, ne-eqb, lt-ltb, le-ltb}
 use Rattle.steps.specs.declared.Thread.{Thread}
-use Rattle.steps.specs.Threads.{value, firstFree, bound}
+use Rattle.steps.specs.Threads.{value, firstFree}
 
 -- where none of the first k is free, the first free one is sought from k on
 abbrev pub Sought : List ℕ → ℕ → Type 0
@@ -35,22 +35,6 @@ pub free-none : (l : List ℕ) (k : ℕ) → length l ≤ k → Sought l k → k
 unfolding firstFree
 free-none l k h s = let f : firstFree (drop k l) ≡ 0 = rw (drop-of-length-le l h) in omega (arith, s, f)
 
--- a number that is none of eight in a row
-past-one : (b x : ℕ) → b ≤ x → (x ≡ b → ⊥) → b + 1 ≤ x
-past-one b x h d = omega (arith, d)
-
-pub past-eight : (b x : ℕ) → b ≤ x → (x ≡ b → ⊥) → (x ≡ b + 1 → ⊥) → (x ≡ b + 2 → ⊥) → (x ≡ b + 3 → ⊥) → (x ≡ b + 4 → ⊥) → (x ≡ b + 5 → ⊥)
-    → (x ≡ b + 6 → ⊥) → (x ≡ b + 7 → ⊥) → b + 8 ≤ x
-past-eight b x h d0 d1 d2 d3 d4 d5 d6 d7 =
-    let e1 : b + 1 ≤ x = past-one b x h d0 in
-    let e2 : b + 2 ≤ x = omega (arith, past-one (b + 1) x e1 d1) in
-    let e3 : b + 3 ≤ x = omega (arith, past-one (b + 2) x e2 d2) in
-    let e4 : b + 4 ≤ x = omega (arith, past-one (b + 3) x e3 d3) in
-    let e5 : b + 5 ≤ x = omega (arith, past-one (b + 4) x e4 d4) in
-    let e6 : b + 6 ≤ x = omega (arith, past-one (b + 5) x e5 d5) in
-    let e7 : b + 7 ≤ x = omega (arith, past-one (b + 6) x e6 d6) in
-    omega (arith, past-one (b + 7) x e7 d7)
-
 -- an operand for itself, a variable's value, and none
 pub value-itself : (t : Thread) (x : ℕ) → x < 512 → x ≡ value t x
 unfolding value
@@ -65,15 +49,37 @@ value-none t x h l =
     let d : x ≡ 512 + (x - 512) = omega arith in
     sym (List·getD-eq-default (t .vars) 0 {n = x - 512} (omega arith)) ∙ value-variable t x (x - 512) d
 
--- a binder at the variable of a number, and where none is free
-abbrev pub holding : Thread → List ℕ → Thread
-holding t l = record { user = t .user; node = t .node + 1; mask = t .mask; vars = l }
+-- a binder that passes over the variables: k of them are done, and none was free where it is still open
+abbrev pub Passed : List ℕ → ℕ → ℕ → Bool → List ℕ → Type 0
+Passed l v k true m = (m ≡ l) × Sought l k
+Passed l v k false m = m ≡ set l (firstFree l) v
 
-pub bound-at : (t : Thread) (v k i : ℕ) → k ≡ firstFree (t .vars) → k ≡ i → holding t (set (t .vars) i v) ≡ bound t v
-bound-at t v k i e f = ap (λ (j : ℕ). holding t (set (t .vars) j v)) (sym f ∙ e)
+-- the next variable, with what is stored in it
+pub pass-more : (l : List ℕ) (v k : ℕ) (o free : Bool) (m : List ℕ) (x : ℕ) → k < length l → free ≡ o && eqb (getD m k 0) 0 → x ≡ cond free v (getD m k 0)
+    → Passed l v k o m → Passed l v (k + 1) (o && not free) (set m k x)
+pass-more l v k false free m x h e q p =
+    let stays : x ≡ getD m k 0 = q ∙ ap (λ (b : Bool). cond b v (getD m k 0)) e in
+    ap (set m k) stays ∙ set-getD m k 0 ∙ p
+pass-more l v k true free m x h e q (same, sought) = go (eqb (getD m k 0) 0) refl
+  where
+    go : (b : Bool) → eqb (getD m k 0) 0 ≡ b → Passed l v (k + 1) (true && not free) (set m k x)
+    go true z =
+        let here : k ≡ firstFree l = free-here l k h sought (ap (λ (y : List ℕ). getD y k 0) (sym same) ∙ eqb-true (getD m k 0) 0 z) in
+        let taken : free ≡ true = e ∙ z in
+        let given : x ≡ v = q ∙ ap (λ (b : Bool). cond b v (getD m k 0)) taken in
+        subst (λ (b : Bool). Passed l v (k + 1) (true && not b) (set m k x)) (sym taken)
+        (ap (set m k) given ∙ ap₂ (λ (y : List ℕ) (j : ℕ). set y j v) same here)
+    go false z =
+        let some : getD l k 0 ≡ 0 → ⊥ = λ w. eqb-false (getD m k 0) 0 z (ap (λ (y : List ℕ). getD y k 0) same ∙ w) in
+        let left : free ≡ false = e ∙ z in
+        let stays : x ≡ getD m k 0 = q ∙ ap (λ (b : Bool). cond b v (getD m k 0)) left in
+        subst (λ (b : Bool). Passed l v (k + 1) (true && not b) (set m k x)) (sym left)
+        (ap (set m k) stays ∙ set-getD m k 0 ∙ same, free-later l k h sought some)
 
-pub bound-full : (t : Thread) (v k : ℕ) → k ≡ firstFree (t .vars) → length (t .vars) ≤ k → holding t (t .vars) ≡ bound t v
-bound-full t v k e h = ap (holding t) (sym (set-out (t .vars) k v h)) ∙ bound-at t v k k e refl
+-- past the last one
+pub passed-all : (l : List ℕ) (v k : ℕ) (o : Bool) (m : List ℕ) → length l ≤ k → Passed l v k o m → m ≡ set l (firstFree l) v
+passed-all l v k false m h p = p
+passed-all l v k true m h (same, sought) = same ∙ sym (set-out l k v h) ∙ ap (λ (j : ℕ). set l j v) (free-none l k h sought)
 
 -- what owning an array tells is of the list of its elements' parts
 pub unmapped : {A B : Type 0} (f : A → B) (l : List A) (n : ℕ) → length (map f l) ≡ n → length l ≡ n

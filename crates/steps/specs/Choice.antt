@@ -112,7 +112,10 @@ done s i p (Makes q) = goes (withMade s i (q .thread) (q .made))
 done s i p Ends = goes (removed s i)
 done s i p (Meets q) = goes (changed (changed s i (q .first)) p (q .second))
 
--- 18 where there is no such thread
+-- what a choice of thread i with partner p comes to in a state; 18 where there is no such thread
+unfoldable pub outcome : Clinic → State → ℕ → ℕ → Outcome
+outcome C s i p =
+    cond (inCount (length (s .threads)) i) (acting C (length (s .threads)) (s .made) (threadAt s i) (partnerAt s p)) (Refused 18)
+
 unfoldable pub choice : Clinic → State → ℕ → ℕ → Chosen
-choice C s i p =
-    cond (inCount (length (s .threads)) i) (done s i p (acting C (length (s .threads)) (s .made) (threadAt s i) (partnerAt s p))) (halts 18)
+choice C s i p = done s i p (outcome C s i p)

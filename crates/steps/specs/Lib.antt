@@ -1,4 +1,6 @@
 pub mod Threads
 pub mod Choice
+pub mod Records
+pub mod Beside
 pub mod Kept
 pub mod Acted

@@ -3,6 +3,9 @@ use super::Acted;
 use super::Answer;
 use super::Made;
 use super::Thread;
+use super::beside::made_at;
+use super::beside::made_count;
+use super::beside::thread_count;
 use format::Head;
 use format::Node;
 use format::sections::channel;
@@ -28,13 +31,13 @@ ghost use Rattle.rules.specs.declared.Way.the-variants.{Sends, Receives};
 ghost use Rattle.steps.specs.declared.Outcome.the-variants.{Refused, Moves, Adds, Makes};
 ghost use Rattle.steps.specs.Threads.{noThread, masked, bound};
 ghost use Rattle.steps.specs.Choice.{clinicOf, kindHeld, meeting, sending, lone, acting};
-ghost use Rattle.steps.specs.Kept.{madeIn, besideWords};
 ghost use Rattle.steps.specs.Acted.{partnerOf, actedOf};
+ghost use Rattle.steps.specs.Beside.{threadCount, madeCount, madeOf, besideWords};
 
 // The kind of a value, 0 for a plain one.
 pub fn kind_held(file: &[u8], head: Head, beside: &[u16], v: u16) -> u16
-    requires { ⌜ Laid (now file) head × (length (now beside) ≡ besideWords) × (getD (now beside) 1 0 ≤ 64) ⌝ }
-    ensures { λ r. ⌜ r ≡ kindHeld (schemaOf (contentsAt (now (file .entry)) head)) (madeIn (now (beside .entry)) 2 (getD (now (beside .entry)) 1 0)) v ⌝ }
+    requires { ⌜ Laid (now file) head × (length (now beside) ≡ besideWords) × (madeCount (now beside) ≤ 64) ⌝ }
+    ensures { λ r. ⌜ r ≡ kindHeld (schemaOf (contentsAt (now (file .entry)) head)) (madeOf (now (beside .entry))) v ⌝ }
 {
     if v < 257 {
         return 0;
@@ -44,8 +47,9 @@ pub fn kind_held(file: &[u8], head: Head, beside: &[u16], v: u16) -> u16
         return it.kind.0;
     }
     let i = wide(v - 385);
-    if i < wide(beside[1]) {
-        return beside[2 * i + 3];
+    if i < wide(made_count(beside)) {
+        let it = made_at(beside, i);
+        return it.kind;
     }
     0
 }
@@ -168,8 +172,8 @@ fn meets(
     other: Thread,
     theirs: Node,
 ) -> Acted
-    requires { ⌜ Laid (now file) head × (own .node < 65535) × (other .node < 65535) × Granting (schemaOf (contentsAt (now file) head)) Sends (now sends) × Granting (schemaOf (contentsAt (now file) head)) Receives (now receives) × (length (now beside) ≡ besideWords) × (getD (now beside) 1 0 ≤ 64) ⌝ }
-    ensures { λ r. ⌜ r ≡ actedOf (meeting (clinicOf (contentsAt (now (file .entry)) head)) (madeIn (now (beside .entry)) 2 (getD (now (beside .entry)) 1 0)) own it other theirs) ⌝ }
+    requires { ⌜ Laid (now file) head × (own .node < 65535) × (other .node < 65535) × Granting (schemaOf (contentsAt (now file) head)) Sends (now sends) × Granting (schemaOf (contentsAt (now file) head)) Receives (now receives) × (length (now beside) ≡ besideWords) × (madeCount (now beside) ≤ 64) ⌝ }
+    ensures { λ r. ⌜ r ≡ actedOf (meeting (clinicOf (contentsAt (now (file .entry)) head)) (madeOf (now (beside .entry))) own it other theirs) ⌝ }
 {
     let over = own.value(it.f1);
     let kind = kind_held(file, head, beside, over);
@@ -205,13 +209,13 @@ fn send(
     partner: u16,
     other: Thread,
 ) -> Acted
-    requires { ⌜ Laid (now file) head × (own .node < 65535) × Granting (schemaOf (contentsAt (now file) head)) Sends (now sends) × Granting (schemaOf (contentsAt (now file) head)) Receives (now receives) × (length (now beside) ≡ besideWords) × (getD (now beside) 1 0 ≤ 64) ⌝ }
-    ensures { λ r. ⌜ r ≡ actedOf (sending (clinicOf (contentsAt (now (file .entry)) head)) (madeIn (now (beside .entry)) 2 (getD (now (beside .entry)) 1 0)) own it (partnerOf (getD (now (beside .entry)) 0 0) partner other)) ⌝ }
+    requires { ⌜ Laid (now file) head × (own .node < 65535) × Granting (schemaOf (contentsAt (now file) head)) Sends (now sends) × Granting (schemaOf (contentsAt (now file) head)) Receives (now receives) × (length (now beside) ≡ besideWords) × (madeCount (now beside) ≤ 64) ⌝ }
+    ensures { λ r. ⌜ r ≡ actedOf (sending (clinicOf (contentsAt (now (file .entry)) head)) (madeOf (now (beside .entry))) own it (partnerOf (threadCount (now (beside .entry))) partner other)) ⌝ }
 {
     if partner == 0 {
         return refused(18);
     }
-    if beside[0] < partner {
+    if thread_count(beside) < partner {
         return refused(18);
     }
     if !in_count(head.count.nodes, other.node) {
@@ -237,8 +241,8 @@ pub fn act(
     partner: u16,
     other: Thread,
 ) -> Acted
-    requires { ⌜ Laid (now file) head × Granting (schemaOf (contentsAt (now file) head)) Sends (now sends) × Granting (schemaOf (contentsAt (now file) head)) Receives (now receives) × (length (now beside) ≡ besideWords) × (getD (now beside) 1 0 ≤ 64) ⌝ }
-    ensures { λ r. ⌜ r ≡ actedOf (acting (clinicOf (contentsAt (now (file .entry)) head)) (getD (now (beside .entry)) 0 0) (madeIn (now (beside .entry)) 2 (getD (now (beside .entry)) 1 0)) own (partnerOf (getD (now (beside .entry)) 0 0) partner other)) ⌝ }
+    requires { ⌜ Laid (now file) head × Granting (schemaOf (contentsAt (now file) head)) Sends (now sends) × Granting (schemaOf (contentsAt (now file) head)) Receives (now receives) × (length (now beside) ≡ besideWords) × (madeCount (now beside) ≤ 64) ⌝ }
+    ensures { λ r. ⌜ r ≡ actedOf (acting (clinicOf (contentsAt (now (file .entry)) head)) (threadCount (now (beside .entry))) (madeOf (now (beside .entry))) own (partnerOf (threadCount (now (beside .entry))) partner other)) ⌝ }
 {
     if !in_count(head.count.nodes, own.node) {
         return refused(18);
@@ -253,5 +257,12 @@ pub fn act(
     if partner != 0 {
         return refused(18);
     }
-    step(file, head, beside[0], beside[1], own, it)
+    step(
+        file,
+        head,
+        thread_count(beside),
+        made_count(beside),
+        own,
+        it,
+    )
 }

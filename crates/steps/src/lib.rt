@@ -1,9 +1,8 @@
 // Threads, and one choice by value on what it touches.
 pub mod act;
+pub mod beside;
+pub mod records;
 mod threads;
-
-// The words beside a list of threads: how many threads, how many made channels, and owner and kind of 64 made channels.
-pub const BESIDE: usize = 130;
 
 // A thread: its user, its node, its active mask, and the values of its eight variables, 0 where nothing is bound.
 #[repr(C)]

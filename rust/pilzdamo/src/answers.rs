@@ -18,7 +18,7 @@ use std::fmt;
 /// | 15 | the node |
 /// | 16 | 0: the placed file would have over 1,024 nodes |
 /// | 17 | 0: an output that is too short, or a list of choices that can't be one |
-/// | 18 to 20 | the choice; 18 at 0 for a lent list that is none of the file's |
+/// | 18 to 20 | the choice; 18 at 0 for a lent list that is none of the file's, or of another length |
 ///
 /// In [`choose`](crate::choose) the choice has number 1.
 ///

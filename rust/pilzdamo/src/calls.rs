@@ -9,10 +9,10 @@ pub const ROOM: usize = 6_874;
 /// The bytes that [`run`] wants of its output: those of the largest state.
 pub const RUN_ROOM: usize = 1_800;
 
-/// The records of the list that is lent to [`choose`].
+/// The records of the list that is lent to [`start`] and [`choose`].
 pub const RECORDS: usize = 64;
 
-/// The words that are lent to [`choose`] beside the list.
+/// The words that are lent to [`start`] and [`choose`] beside the list.
 pub const BESIDE: usize = 130;
 
 /// Judges a clinic file by refusals 1 to 10.
@@ -179,6 +179,46 @@ pub fn ready(file: &[u8], choices: &[u16]) -> Ready {
     raw::ready(file, choices)
 }
 
+/// Makes a list of threads that is lent start as the file does, so that [`choose`]
+/// can go on from there. [`Desk::start`](crate::Desk::start) has a list of its own.
+///
+/// `threads` must have [`RECORDS`] records, and `beside` [`BESIDE`] words. They may
+/// hold anything. Each session has a thread, in order, in the first records: the
+/// session's user, root and starting mask, and no variable bound. The first word of
+/// `beside` becomes the number of these threads, and the second 0, as no channel is
+/// made yet. The records and words past these stay as they were.
+///
+/// Refusals 1 to 10 come first, and then 18 at place 0 for another number of records
+/// or words. Any bytes will do, of any length. Where the answer is a refusal nothing
+/// is written.
+///
+/// ```
+/// # let words = [
+/// #     1, 2, 2, 1, 1, 2, 4, 13, 15, 23, 24, 26, 32, 1, 2, 1, 0, 0, 0, 0, 0, 1, 0, 0, 2, 1,
+/// #     1, 1, 1, 2, 2, 3, 6, 257, 1, 0, 0, 0, 5, 257, 0, 0, 0, 0u16,
+/// # ];
+/// # let file: Vec<u8> = words.into_iter().flat_map(u16::to_le_bytes).collect();
+/// use pilzdamo::{start, Thread, BESIDE, RECORDS};
+///
+/// // The file of `run`'s example, and lists that hold something else.
+/// let old = Thread { user: 9, node: 9, mask: 9, vars: [9; 8] };
+/// let (mut threads, mut beside) = ([old; RECORDS], [9; BESIDE]);
+/// assert!(start(&file, &mut threads, &mut beside).is_clean());
+///
+/// // A thread for each of the two sessions, and no made channel.
+/// assert_eq!(threads[0], Thread { user: 1, node: 1, mask: 1, vars: [0; 8] });
+/// assert_eq!(threads[1], Thread { user: 2, node: 3, mask: 2, vars: [0; 8] });
+/// assert_eq!((threads[2], beside[..3].to_vec()), (old, vec![2, 0, 9]));
+///
+/// // A list that is too short.
+/// let verdict = start(&file, &mut threads[1..], &mut beside);
+/// assert_eq!(verdict.to_string(), "refused 18 0");
+/// ```
+#[inline]
+pub fn start(file: &[u8], threads: &mut [Thread], beside: &mut [u16]) -> Verdict {
+    raw::start(file, threads, beside)
+}
+
 /// Carries out one choice in a list of threads that is lent: thread `thread`
 /// steps, alone if `partner` is 0. From a state of a [`run`] it gives the run's
 /// next state. A [`Desk`](crate::Desk) keeps such a list.
@@ -186,7 +226,7 @@ pub fn ready(file: &[u8], choices: &[u16]) -> Ready {
 /// `threads` must have [`RECORDS`] records, and `beside` [`BESIDE`] words: the
 /// number of threads, which are the first records, that of the made channels, and
 /// the owner and kind of each made channel. What stands past these numbers may be
-/// anything.
+/// anything. [`start`] makes such a list.
 ///
 /// Refusals 1 to 10 come first, then 18 at place 0 for anything wrong with what
 /// is lent, and then the refusal of the choice itself, at place 1. Any bytes and
@@ -200,14 +240,11 @@ pub fn ready(file: &[u8], choices: &[u16]) -> Ready {
 /// #     1, 1, 1, 2, 2, 3, 6, 257, 1, 0, 0, 0, 5, 257, 0, 0, 0, 0u16,
 /// # ];
 /// # let file: Vec<u8> = words.into_iter().flat_map(u16::to_le_bytes).collect();
-/// use pilzdamo::{choose, Thread, BESIDE, RECORDS};
+/// use pilzdamo::{choose, start, Thread, BESIDE, RECORDS};
 ///
 /// // The file of `run`'s example, with a thread at the start of each session.
-/// let mut threads = [Thread::default(); RECORDS];
-/// threads[0] = Thread { user: 1, node: 1, mask: 1, ..Thread::default() };
-/// threads[1] = Thread { user: 2, node: 3, mask: 2, ..Thread::default() };
-/// let mut beside = [0; BESIDE];
-/// beside[0] = 2;
+/// let (mut threads, mut beside) = ([Thread::default(); RECORDS], [0; BESIDE]);
+/// assert!(start(&file, &mut threads, &mut beside).is_clean());
 ///
 /// // Thread 1 sends to thread 2.
 /// assert!(choose(&file, &mut threads, &mut beside, 1, 2).is_clean());

@@ -1,6 +1,7 @@
 //! A live desk: a list of threads that goes on choice by choice.
 
-use crate::{choose, run, Channel, State, Thread, Verdict, BESIDE, RECORDS, RUN_ROOM};
+use crate::{choose, run, start, Channel, State, Thread, Verdict};
+use crate::{BESIDE, RECORDS, RUN_ROOM};
 use std::fmt;
 
 /// The list of threads of a run, and its made channels beside it, which go on
@@ -8,7 +9,8 @@ use std::fmt;
 ///
 /// It begins with what the engine writes, and only the engine changes it: so it is
 /// always a state of a run of its file, as long as each call gets that same file. A
-/// caller that has another place for the list lends it to [`choose`] itself.
+/// caller that has another place for the list lends it to [`start`] and [`choose`]
+/// itself.
 ///
 /// ```
 /// use pilzdamo::Desk;
@@ -58,7 +60,9 @@ impl Desk {
     /// # Ok::<(), Box<dyn std::error::Error>>(())
     /// ```
     pub fn start(file: &[u8]) -> Result<Desk, Verdict> {
-        Desk::after(file, &[])
+        let mut desk = Desk::empty();
+        start(file, &mut desk.threads, &mut desk.beside).result()?;
+        Ok(desk)
     }
 
     /// What a list of choices leads to, such as a desk's record of those that it
@@ -87,12 +91,16 @@ impl Desk {
         Ok(Desk::of(&state))
     }
 
-    /// Lays a state out as it is lent.
-    fn of(state: &State) -> Desk {
-        let mut desk = Desk {
+    fn empty() -> Desk {
+        Desk {
             threads: [Thread::default(); RECORDS],
             beside: [0; BESIDE],
-        };
+        }
+    }
+
+    /// Lays a state out as it is lent.
+    fn of(state: &State) -> Desk {
+        let mut desk = Desk::empty();
         desk.threads[..state.threads.len()].copy_from_slice(&state.threads);
         desk.beside[0] = state.threads.len() as u16;
         desk.beside[1] = state.made.len() as u16;

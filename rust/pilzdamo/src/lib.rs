@@ -13,7 +13,7 @@
 //! | put the roles into a file that has none | [`place`], [`placed`] |
 //! | carry out a list of choices | [`run`], and [`State`] for what it wrote |
 //! | find the two threads that can meet | [`ready`] |
-//! | go on choice by choice | [`Desk`]; [`choose`] in a list of one's own |
+//! | go on choice by choice | [`Desk`]; [`start`] and [`choose`] in a list of one's own |
 //!
 //! The examples below read files of the project's folder `examples`, and are run as
 //! tests.
@@ -153,8 +153,8 @@
 //! The engine's functions are: what they answer, every byte that they write, and
 //! that they ask nothing of their caller but memory that is there. This crate adds
 //! plain Rust: each slice is handed over with its own length, [`State`] names the
-//! words that a run wrote, and a [`Desk`] begins with the engine's own state of an
-//! empty list. The only unsafe code is in those calls; users need none.
+//! words that a run wrote, and a [`Desk`] begins with what the engine started or
+//! wrote. The only unsafe code is in those calls; users need none.
 //!
 //! For C there is the header `pilzdamo.h` beside this crate's `Cargo.toml`.
 
@@ -168,7 +168,7 @@ mod raw;
 mod state;
 
 pub use answers::{Placed, Ready, Verdict};
-pub use calls::{check, choose, place, placed, read, ready, run};
+pub use calls::{check, choose, place, placed, read, ready, run, start};
 pub use calls::{BESIDE, RECORDS, ROOM, RUN_ROOM};
 pub use desk::Desk;
 pub use state::{Channel, State, Thread};

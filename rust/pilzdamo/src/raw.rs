@@ -20,6 +20,14 @@ extern "C" {
         out_len: usize,
     ) -> Verdict;
     fn pilzdamo_ready(file: *const u8, len: usize, choices: *const u16, words: usize) -> Ready;
+    fn pilzdamo_start(
+        file: *const u8,
+        len: usize,
+        threads: *mut Thread,
+        records: usize,
+        beside: *mut u16,
+        words: usize,
+    ) -> Verdict;
     fn pilzdamo_choose(
         file: *const u8,
         len: usize,
@@ -88,6 +96,25 @@ pub fn ready(file: &[u8], choices: &[u16]) -> Ready {
 }
 
 #[inline]
+pub fn start(file: &[u8], threads: &mut [Thread], beside: &mut [u16]) -> Verdict {
+    // SAFETY: the engine only reads the `len` bytes from `file` on, and only
+    // reads and writes the `records` records from `threads` on and the `words`
+    // words from `beside` on, during the call. The slices vouch for them, and that
+    // no two of the three have a byte in common. A record has no padding, and any
+    // words in it make a thread.
+    unsafe {
+        pilzdamo_start(
+            file.as_ptr(),
+            file.len(),
+            threads.as_mut_ptr(),
+            threads.len(),
+            beside.as_mut_ptr(),
+            beside.len(),
+        )
+    }
+}
+
+#[inline]
 pub fn choose(
     file: &[u8],
     threads: &mut [Thread],
@@ -95,11 +122,7 @@ pub fn choose(
     thread: u16,
     partner: u16,
 ) -> Verdict {
-    // SAFETY: the engine only reads the `len` bytes from `file` on, and only
-    // reads and writes the `records` records from `threads` on and the `words`
-    // words from `beside` on, during the call. The slices vouch for them, and that
-    // no two of the three have a byte in common. A record has no padding, and any
-    // words in it make a thread.
+    // SAFETY: as in `start`.
     unsafe {
         pilzdamo_choose(
             file.as_ptr(),

@@ -1,7 +1,8 @@
 //! The state of a run in records.
 
 /// A thread: where it stands, which roles it holds and what it knows. It is also
-/// a record of the list that is lent to [`choose`](crate::choose).
+/// a record of the list that is lent to [`start`](crate::start) and
+/// [`choose`](crate::choose).
 #[repr(C)]
 #[derive(Clone, Copy, Debug, Default, PartialEq, Eq, Hash)]
 pub struct Thread {

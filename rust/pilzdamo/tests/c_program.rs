@@ -25,7 +25,16 @@ thread 4: user 3, node 23, mask 4, roles 1, first variable 4
 thread 5: user 3, node 28, mask 4, roles 1, first variable 4
 thread 6: user 3, node 32, mask 4, roles 1, first variable 0
 ready after 4 choices: refusal 0 0, 3 sends to 4
+start in too little: refused 18 0
 start: clean
+started: 6 threads, 0 made channels
+thread 1: user 1, node 1, mask 0, first and last variable 0 0
+thread 2: user 2, node 8, mask 0, first and last variable 0 0
+thread 3: user 3, node 15, mask 0, first and last variable 0 0
+thread 4: user 3, node 19, mask 0, first and last variable 0 0
+thread 5: user 3, node 25, mask 0, first and last variable 0 0
+thread 6: user 3, node 31, mask 0, first and last variable 0 0
+behind them: abab abab
 chosen: 6 threads, nodes 4 and 11, first variables 4 and 4
 choose no thread: refused 18 1
 lend too little: refused 18 0

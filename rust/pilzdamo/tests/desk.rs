@@ -1,6 +1,6 @@
 //! A desk that goes on choice by choice is in the states of the run.
 
-use pilzdamo::{Channel, Desk, State, Thread, RUN_ROOM};
+use pilzdamo::{Channel, Desk, State, Thread, Verdict, BESIDE, RECORDS, RUN_ROOM};
 use std::fs;
 
 fn example(name: &str) -> Vec<u8> {
@@ -93,6 +93,60 @@ fn made_channels() {
     assert_eq!(desk.made().len(), 2);
 }
 
+/// What stood in a list before it starts.
+const OLD: Thread = Thread {
+    user: 7,
+    node: 65_535,
+    mask: 3,
+    vars: [385; 8],
+};
+
+/// The answer to a start in lists of these lengths, and what it leaves.
+fn start(file: &[u8], records: usize, words: usize) -> (Verdict, Vec<Thread>, Vec<u16>) {
+    let (mut threads, mut beside) = (vec![OLD; records], vec![9; words]);
+    let verdict = pilzdamo::start(file, &mut threads, &mut beside);
+    (verdict, threads, beside)
+}
+
+#[test]
+fn a_list_of_ones_own_starts_as_a_run_does() {
+    for name in [
+        "booking.clinic",
+        "transfer.clinic",
+        "spring/cut.clinic",
+        "refused/11-on.clinic",
+    ] {
+        let file = example(name);
+        let (verdict, threads, beside) = start(&file, RECORDS, BESIDE);
+        assert!(verdict.is_clean(), "{name}");
+        let due = state(&file, &[]).threads;
+        let (started, past) = threads.split_at(due.len());
+        assert_eq!(started, due, "{name}");
+        assert!(past.iter().all(|thread| *thread == OLD), "{name}");
+        assert_eq!(beside[..2], [due.len() as u16, 0], "{name}");
+        assert!(beside[2..].iter().all(|word| *word == 9), "{name}");
+    }
+}
+
+#[test]
+fn a_refused_start_writes_nothing() {
+    let file = example("transfer.clinic");
+    let kinds = example("refused/10-kinds.clinic");
+    for (file, records, words, due) in [
+        (&file, RECORDS - 1, BESIDE, "refused 18 0"),
+        (&file, RECORDS + 1, BESIDE, "refused 18 0"),
+        (&file, RECORDS, BESIDE - 1, "refused 18 0"),
+        (&file, RECORDS, BESIDE + 1, "refused 18 0"),
+        (&file, 0, 0, "refused 18 0"),
+        (&kinds, RECORDS, BESIDE, "refused 10 2"),
+        (&kinds, 0, 0, "refused 10 2"),
+    ] {
+        let (verdict, threads, beside) = start(file, records, words);
+        assert_eq!(verdict.to_string(), due, "{records} records, {words} words");
+        assert_eq!((threads, beside), (vec![OLD; records], vec![9; words]));
+    }
+}
+
 /// 17 and 1 to 10 come before there is a desk.
 #[test]
 fn no_desk() {
@@ -104,6 +158,11 @@ fn no_desk() {
     assert_eq!(refused(&file, &choices("refused/17-odd.choices")), (17, 0));
     assert_eq!(refused(&example("refused/08-tree.clinic"), &[]), (8, 1));
     assert_eq!(refused(&[], &[]), (1, 0));
+    for name in ["refused/08-tree.clinic", "refused/10-kinds.clinic"] {
+        let file = example(name);
+        let refusal = Desk::start(&file).expect_err("no desk");
+        assert_eq!(refusal, pilzdamo::read(&file), "{name}");
+    }
 }
 
 #[test]

@@ -7,7 +7,8 @@ mod reading;
 mod running;
 
 pub use placing::{Due, PlaceCase};
-pub use running::{booking, choose_cases, placed_booking, ChooseCase, Lent, RunCase};
+pub use running::{booking, choose_cases, placed_booking, start_cases};
+pub use running::{ChooseCase, Lent, RunCase, StartCase};
 
 use crate::draft::Draft;
 

@@ -149,6 +149,11 @@ impl Cause {
         all
     }
 
+    /// The causes that a start in a lent list has besides those of the file.
+    pub fn of_starting() -> Vec<Cause> {
+        [Unfit::Records, Unfit::Beside].map(Cause::Lent).to_vec()
+    }
+
     /// The causes that a choice in a lent list has besides those of the file:
     /// the list's, and then those of the choice itself.
     pub fn of_choosing() -> Vec<Cause> {
@@ -226,6 +231,16 @@ impl Cause {
 pub struct Refusal {
     pub cause: Cause,
     pub place: u16,
+}
+
+/// What is lent is refused at place 0.
+impl From<Unfit> for Refusal {
+    fn from(unfit: Unfit) -> Refusal {
+        Refusal {
+            cause: Cause::Lent(unfit),
+            place: 0,
+        }
+    }
 }
 
 impl Refusal {

@@ -2,8 +2,8 @@
 //!
 //! It is written from the paper alone and shares nothing with the engine, so
 //! that the two can be compared. The timed functions, [`read`],
-//! [`read_names`], [`check`], [`place`], [`run`], [`ready`] and [`choose`], go
-//! over the file a few times, in place, and allocate nothing.
+//! [`read_names`], [`check`], [`place`], [`run`], [`ready`], [`start`] and
+//! [`choose`], go over the file a few times, in place, and allocate nothing.
 
 #![forbid(unsafe_code)]
 
@@ -174,6 +174,14 @@ pub fn ready(file: &[u8], choices: &[u16]) -> Ready {
     }
 }
 
+/// Refusals 1 to 10, and 18 at place 0 for another number of records than
+/// [`RECORDS`] or of words beside them than [`BESIDE`]. Without one, a thread for
+/// each session is written into the first records, in order, the number of these
+/// into the first word, and 0 into the second. All else stays as it was.
+pub fn start(file: &[u8], threads: &mut [Thread], beside: &mut [u16]) -> Verdict {
+    Verdict::of(judge_starting(file, threads, beside))
+}
+
 /// Refusals 1 to 10, 18 at place 0 for what is lent, and then the choice at
 /// place 1, which is carried out in what is lent: [`RECORDS`] records of
 /// threads, and [`BESIDE`] words beside them, namely how many threads there are,
@@ -188,8 +196,8 @@ pub fn choose(
     Verdict::of(judge_choosing(file, threads, beside, [thread, partner]))
 }
 
-/// The start of a run, if 1 to 10 leave the file clean.
-pub fn start(file: &[u8]) -> Result<Run<'_>, Refusal> {
+/// A run that has yet to make its first choice, if 1 to 10 leave the file clean.
+pub fn begin(file: &[u8]) -> Result<Run<'_>, Refusal> {
     judge_running(file, &[])
 }
 
@@ -206,6 +214,12 @@ pub fn resume<'a>(file: &'a [u8], threads: &[Thread], beside: &[u16]) -> Result<
 pub fn cause_in_run(file: &[u8], choices: &[u16], room: usize) -> Option<Refusal> {
     let judged = running::judge_room(room);
     judged.and_then(|()| judge_choices(file, choices)).err()
+}
+
+/// Why [`start`] refuses the file or what is lent, if it does.
+pub fn cause_in_starting(file: &[u8], threads: &[Thread], beside: &[u16]) -> Option<Refusal> {
+    let (mut threads, mut beside) = (threads.to_vec(), beside.to_vec());
+    judge_starting(file, &mut threads, &mut beside).err()
 }
 
 /// Why [`choose`] refuses the choice, if it does.
@@ -263,6 +277,13 @@ fn judge_choices<'a>(file: &'a [u8], choices: &[u16]) -> Result<Run<'a>, Refusal
     Ok(run)
 }
 
+fn judge_starting(file: &[u8], threads: &mut [Thread], beside: &mut [u16]) -> Result<(), Refusal> {
+    let file = judge_reading(file)?;
+    names::judge(&file)?;
+    Lent::sized(threads, beside)?.start(&file);
+    Ok(())
+}
+
 /// The lists are looked at before the names of the file's nodes are judged, so
 /// that one pass over these will do, but refused only after it.
 fn judge_lent<'a, 'l>(
@@ -275,14 +296,9 @@ fn judge_lent<'a, 'l>(
     let counted = lent.as_ref().map_or(&[][..], Lent::counted);
     let mut scopes = Scopes::of(counted);
     names::each_node(&file, |context, node| scopes.note(node, context))?;
-    let judged = lent.and_then(|lent| lent.judge(&file, &scopes).map(|()| lent));
-    match judged {
-        Ok(lent) => Ok((file, lent)),
-        Err(unfit) => Err(Refusal {
-            cause: Cause::Lent(unfit),
-            place: 0,
-        }),
-    }
+    let lent = lent?;
+    lent.judge(&file, &scopes)?;
+    Ok((file, lent))
 }
 
 fn judge_choosing(

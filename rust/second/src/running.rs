@@ -14,7 +14,7 @@ pub use unfit::Unfit;
 
 use crate::cause::{Cause, Refusal};
 use crate::draft::set_word;
-use crate::file::{three, File};
+use crate::file::File;
 use crate::roles::{Permitted, Rights};
 use state::{counted, kind_of, made, node_of, RECEIVE, SEND};
 
@@ -54,14 +54,14 @@ pub struct Run<'a> {
 }
 
 impl<'a> Run<'a> {
-    /// A thread for each session, in order, at its root.
+    /// The file's start, in lists of its own.
     pub(crate) fn start(file: File<'a>) -> Run<'a> {
-        let mut threads = [Thread::default(); RECORDS];
-        for (thread, session) in threads.iter_mut().zip(file.sessions) {
-            *thread = Thread::start(three(session));
-        }
-        let mut beside = [0; BESIDE];
-        beside[0] = file.sessions.len() as u16;
+        let (mut threads, mut beside) = ([Thread::default(); RECORDS], [0; BESIDE]);
+        let lists = Lent {
+            threads: &mut threads,
+            beside: &mut beside,
+        };
+        lists.start(&file);
         Run {
             permitted: Permitted::of(&file),
             threads,

@@ -1,8 +1,8 @@
 use crate::cases::{booking, cases, choose_cases, place_cases, placed_booking, run_cases};
-use crate::cases::{Due, BOOKING};
+use crate::cases::{start_cases, Due, BOOKING};
 use crate::draft::to_bytes;
-use crate::{cause, cause_in_choosing, cause_in_placing, cause_in_run};
-use crate::{check, choose, place, read, read_names, ready, run};
+use crate::{cause, cause_in_choosing, cause_in_placing, cause_in_run, cause_in_starting};
+use crate::{check, choose, place, read, read_names, ready, run, start};
 use crate::{Cause, Placed, Verdict, ROOM};
 use std::collections::BTreeSet;
 
@@ -49,6 +49,22 @@ fn named_cases_of_running() {
         causes.extend(refusal.map(|refusal| refusal.cause));
     }
     for cause in Cause::of_running() {
+        assert!(causes.contains(&cause), "no case of {cause:?}");
+    }
+}
+
+#[test]
+fn named_cases_of_starting() {
+    let mut causes = BTreeSet::new();
+    for case in start_cases() {
+        case.demand("second", start);
+        let (threads, beside) = case.lists();
+        let refusal = cause_in_starting(&case.file, &threads, &beside);
+        let told = refusal.map_or(Verdict::CLEAN, |refusal| refusal.verdict());
+        assert_eq!((told.number, told.place), case.answer, "{}", case.name);
+        causes.extend(refusal.map(|refusal| refusal.cause));
+    }
+    for cause in Cause::of_starting() {
         assert!(causes.contains(&cause), "no case of {cause:?}");
     }
 }

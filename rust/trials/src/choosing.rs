@@ -8,18 +8,13 @@ mod steps;
 mod tally;
 
 pub use deal::{deal_lent, full_lent, typical_lent};
+pub use fit::{any_thread, Clinic, Sort};
 pub use steps::{long_run_by_choices, run_by_choices, Steps};
 pub use tally::ChooseTally;
 
+use crate::lists::{by_engine, Call, Lists};
 use second::{Thread, Verdict};
 use std::fmt::Display;
-
-/// A list of threads and the words beside it.
-#[derive(Clone, Debug, PartialEq, Eq)]
-pub struct Lists {
-    pub threads: Vec<Thread>,
-    pub beside: Vec<u16>,
-}
 
 /// A file, what is lent with it, and a choice.
 #[derive(Clone)]
@@ -37,32 +32,9 @@ pub fn engine_choose(
     thread: u16,
     partner: u16,
 ) -> Verdict {
-    let mut records: Vec<_> = threads.iter().map(to_engine).collect();
-    let verdict = pilzdamo::choose(file, &mut records, beside, thread, partner);
-    for (thread, record) in threads.iter_mut().zip(&records) {
-        *thread = to_second(record);
-    }
-    let pilzdamo::Verdict { number, place } = verdict;
-    Verdict { number, place }
-}
-
-/// A thread's record, as the engine takes it.
-pub fn to_engine(thread: &Thread) -> pilzdamo::Thread {
-    pilzdamo::Thread {
-        user: thread.user,
-        node: thread.node,
-        mask: thread.mask,
-        vars: thread.variables,
-    }
-}
-
-fn to_second(record: &pilzdamo::Thread) -> Thread {
-    Thread {
-        user: record.user,
-        node: record.node,
-        mask: record.mask,
-        variables: record.vars,
-    }
+    by_engine(threads, |records| {
+        pilzdamo::choose(file, records, beside, thread, partner)
+    })
 }
 
 /// What both answer, and what both leave in the lists. Panics where they
@@ -73,45 +45,17 @@ pub fn agreed_choice(
     [thread, partner]: [u16; 2],
     origin: impl Display,
 ) -> (Verdict, Lists) {
-    let mut lists = before.clone();
-    let Lists { threads, beside } = &mut lists;
-    let verdict = engine_choose(file, threads, beside, thread, partner);
-    let mut of_second = before.clone();
-    let Lists { threads, beside } = &mut of_second;
-    let second = second::choose(file, threads, beside, thread, partner);
-    let fail = |what: &str| -> ! {
-        let count = before.beside.first().map_or(0, |count| (*count).into());
-        let counted = &before.threads[..before.threads.len().min(count)];
-        panic!(
-            "{what} at {origin}: engine {verdict:?}, second {second:?}, choice {thread}, \
-             {partner}, {} records, of which count {counted:?}, {} words beside {:?}, on {} \
-             bytes, to be had back by `xxd -r -p`:\n{}",
-            before.threads.len(),
-            before.beside.len(),
-            &before.beside[..before.beside.len().min(130)],
-            file.len(),
-            file.iter()
-                .map(|byte| format!("{byte:02x}"))
-                .collect::<String>()
-        )
+    let call = Call {
+        name: format_args!("choose {thread}, {partner}"),
+        origin,
+        file,
+        before,
     };
-    if verdict != second {
-        fail("choose differs");
-    }
-    if let Some(at) = first_difference(&lists.threads, &of_second.threads) {
-        fail(&format!("record {} differs", at + 1));
-    }
-    if let Some(at) = first_difference(&lists.beside, &of_second.beside) {
-        fail(&format!("word {at} beside differs"));
-    }
-    if let Err(fault) = judge(before, &lists, verdict) {
-        fail(fault);
-    }
-    (verdict, lists)
-}
-
-fn first_difference<T: PartialEq>(ours: &[T], theirs: &[T]) -> Option<usize> {
-    (0..ours.len()).find(|&at| ours[at] != theirs[at])
+    call.agreed(
+        |file, threads, beside| engine_choose(file, threads, beside, thread, partner),
+        |file, threads, beside| second::choose(file, threads, beside, thread, partner),
+        |after, verdict| judge(before, after, verdict),
+    )
 }
 
 /// Judges what is known of every answer without doing the choice anew.

@@ -162,7 +162,7 @@ pub fn any_choice(rng: &mut Rng, threads: usize) -> [u16; 2] {
 /// then one that is refused as it wants, if there is such a one.
 pub fn schedule(rng: &mut Rng, file: &[u8], goal: Goal) -> Vec<u16> {
     let mut choices = Vec::new();
-    let Ok(mut run) = second::start(file) else {
+    let Ok(mut run) = second::begin(file) else {
         choices.resize_with(2 * rng.below(20), || rng.word());
         return choices;
     };
@@ -210,7 +210,7 @@ pub fn largest_run(seed: u64) -> (Vec<u8>, Vec<u16>) {
 fn busy_choices(seed: u64, draft: &Draft, busy: usize) -> Vec<u16> {
     let rng = &mut Rng::new(seed, 0);
     let file = draft.bytes();
-    let mut run = second::start(&file).expect("1 to 10 leave it clean");
+    let mut run = second::begin(&file).expect("1 to 10 leave it clean");
     let most_pairs = (RECORDS - draft.sessions.len()) / 2;
     let mut repeats = Vec::new();
     let mut choices = Vec::new();

@@ -1,23 +1,26 @@
-use mathlib.Core.Path.{refl}
+use Prim.Native.Nat.{ℕ}
+use mathlib.Core.Path.{ap₂}
+use mathlib.Core.Bool.{_&&_}
+use lib.Dec.{eqb, leb}
+use lib.ListN.{length}
 use borrow.Author.Needs.{needs}
-use borrow.Author.Tests.{eq-eqb, ne-eqb}
 use Rattle.lending.proofs.sizes_fit.Statement.{statement}
 use Rattle.lending.proofs.sizes_fit.Tie as tie
 use Rattle.lending.proofs.sizes_fit.Reads as reads
 use Rattle.lending.proofs.sizes_fit.Lts as lts
+use Rattle.steps.proofs.beside.made_count.Reads as made-count-reads
+use Rattle.steps.proofs.beside.thread_count.Reads as thread-count-reads
+
+thread-count-requires : tie.Need-thread-count-requires
+thread-count-requires c κs = search needs
+
+made-count-requires : tie.Need-made-count-requires
+made-count-requires c κs = search needs
 
 returns : tie.Need-returns
-returns c = rw (ne-eqb _ 130 (c .if1 .taken)) refl
-
-shared-slice-read-result : tie.Need-shared-slice-read-result
-shared-slice-read-result c = search needs
-
-shared-slice-read-result-2 : tie.Need-shared-slice-read-result-2
-shared-slice-read-result-2 c = search needs
-
-returns-2 : tie.Need-returns-2
-returns-2 c = rw (eq-eqb _ 130 (c .before .before .if1 .left)) refl
+returns c =
+    let a = c .before .before .before .args in
+    ap₂ (λ (t m : ℕ). eqb (length (a .beside .now)) 130 && ((eqb (a .records) 64 && leb t 64) && leb m 64)) (c .before .thread-count .ensures) (c .made-count .ensures)
 
 pub sizes-fit-spec : {M : Type 1} → statement M
-sizes-fit-spec =
-    tie.close (tie.spec returns shared-slice-read-result shared-slice-read-result-2 returns-2)
+sizes-fit-spec = tie.close (tie.spec thread-count-requires made-count-requires returns)

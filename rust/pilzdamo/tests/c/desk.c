@@ -87,10 +87,10 @@ static void both_read(const char *folder) {
     const size_t words = sizeof choices / sizeof *choices;
     static pilzdamo_thread threads[PILZDAMO_RECORDS];
     static uint16_t beside[PILZDAMO_BESIDE];
-    uint8_t out[PILZDAMO_RUN_ROOM], start[PILZDAMO_RUN_ROOM];
+    uint8_t out[PILZDAMO_RUN_ROOM];
     clinic cut = example(folder, "spring/cut.clinic");
     pilzdamo_ready_pair pair;
-    size_t i, j;
+    size_t i;
 
     print("run", pilzdamo_run(cut.bytes, cut.len, choices, words, out, sizeof out));
     print_state(out);
@@ -98,17 +98,21 @@ static void both_read(const char *folder) {
     printf("ready after 4 choices: refusal %d %d, %d sends to %d\n", pair.number,
            pair.place, pair.sender, pair.receiver);
 
-    /* The start is what a run without choices writes. */
-    print("start", pilzdamo_run(cut.bytes, cut.len, choices, 0, start, sizeof start));
-    beside[0] = word_at(start, 2);
+    /* The lists may hold anything before they start. */
+    memset(threads, 0xab, sizeof threads);
+    memset(beside, 0xab, sizeof beside);
+    print("start in too little",
+          pilzdamo_start(cut.bytes, cut.len, threads, PILZDAMO_RECORDS, beside,
+                         PILZDAMO_BESIDE - 1));
+    print("start", pilzdamo_start(cut.bytes, cut.len, threads, PILZDAMO_RECORDS, beside,
+                                  PILZDAMO_BESIDE));
+    printf("started: %d threads, %d made channels\n", beside[0], beside[1]);
     for (i = 0; i < beside[0]; i++) {
-        threads[i].user = word_at(start, 4 + 12 * i);
-        threads[i].node = word_at(start, 4 + 12 * i + 1);
-        threads[i].mask = word_at(start, 4 + 12 * i + 2);
-        for (j = 0; j < 8; j++) {
-            threads[i].vars[j] = word_at(start, 4 + 12 * i + 4 + j);
-        }
+        printf("thread %d: user %d, node %d, mask %d, first and last variable %d %d\n",
+               (int)i + 1, threads[i].user, threads[i].node, threads[i].mask,
+               threads[i].vars[0], threads[i].vars[7]);
     }
+    printf("behind them: %x %x\n", threads[beside[0]].user, beside[2]);
     for (i = 0; i < words; i += 2) {
         pilzdamo_verdict verdict =
             pilzdamo_choose(cut.bytes, cut.len, threads, PILZDAMO_RECORDS, beside,

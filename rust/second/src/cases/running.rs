@@ -8,7 +8,7 @@ mod refusals;
 mod steps;
 
 pub use booking::{booking, placed_booking};
-pub use lent::{cases as choose_cases, ChooseCase, Lent};
+pub use lent::{cases as choose_cases, start_cases, ChooseCase, Lent, StartCase};
 
 use crate::draft::{set_word, Draft};
 use crate::{Ready, Verdict, RUN_ROOM};

@@ -1,27 +1,43 @@
-//! A list of threads that is lent for one choice, and what must hold of it.
+//! A list of threads that is lent: its start, and what must hold of it for a
+//! choice.
 
 use super::state::{counted, made, BESIDE, MADE, NAMED, RECORDS};
 use super::{Thread, Unfit};
-use crate::file::{word, File, Section};
+use crate::file::{three, word, File, Section};
 use crate::names::Context;
 use crate::tree::VARIABLES;
 
 const MOST_NODES: usize = Section::Nodes.most() as usize;
 
-/// As many records and words as there must be, and counts that fit in them.
+/// As many records and words as there must be.
 pub struct Lent<'l> {
     pub threads: &'l mut [Thread; RECORDS],
     pub beside: &'l mut [u16; BESIDE],
 }
 
 impl<'l> Lent<'l> {
-    /// Judges how many there are of everything.
-    pub fn of(threads: &'l mut [Thread], beside: &'l mut [u16]) -> Result<Lent<'l>, Unfit> {
+    /// Judges how many records and words there are.
+    pub fn sized(threads: &'l mut [Thread], beside: &'l mut [u16]) -> Result<Lent<'l>, Unfit> {
         let threads = threads.try_into().map_err(|_| Unfit::Records)?;
-        let beside: &mut [u16; BESIDE] = beside.try_into().map_err(|_| Unfit::Beside)?;
-        unless(usize::from(beside[0]) > RECORDS, Unfit::Threads)?;
-        unless(usize::from(beside[1]) > (BESIDE - 2) / 2, Unfit::Made)?;
+        let beside = beside.try_into().map_err(|_| Unfit::Beside)?;
         Ok(Lent { threads, beside })
+    }
+
+    /// Judges how many there are of everything: the two counts must fit as well.
+    pub fn of(threads: &'l mut [Thread], beside: &'l mut [u16]) -> Result<Lent<'l>, Unfit> {
+        let lent = Lent::sized(threads, beside)?;
+        unless(usize::from(lent.beside[0]) > RECORDS, Unfit::Threads)?;
+        unless(usize::from(lent.beside[1]) > (BESIDE - 2) / 2, Unfit::Made)?;
+        Ok(lent)
+    }
+
+    /// A thread for each session, in order, at its root, and no made channel.
+    pub fn start(self, file: &File) {
+        for (thread, session) in self.threads.iter_mut().zip(file.sessions) {
+            *thread = Thread::start(three(session));
+        }
+        self.beside[0] = file.sessions.len() as u16;
+        self.beside[1] = 0;
     }
 
     pub fn counted(&self) -> &[Thread] {

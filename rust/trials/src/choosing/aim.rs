@@ -2,7 +2,7 @@
 //! where the lists have nothing to change, they stay as they are.
 
 use super::fit::{any_thread, Clinic};
-use super::Lists;
+use crate::lists::Lists;
 use crate::rng::Rng;
 use second::{Thread, Unfit, BESIDE, RECORDS};
 

@@ -2,10 +2,11 @@
 
 use super::aim::Aim;
 use super::fit::{any_thread, Clinic, Sort};
-use super::{Lent, Lists};
+use super::Lent;
 use crate::change;
 use crate::deal::{largest, typical};
 use crate::desk::{deal_desk, Use};
+use crate::lists::Lists;
 use crate::rng::Rng;
 use crate::schedule::{any_choice, enabled, refused, schedule, Goal, Steer};
 use second::draft::Draft;
@@ -44,7 +45,7 @@ pub fn deal_lent(seed: u64, index: u64) -> Vec<Lent> {
         Use::Crowd,
     ]);
     let mut file = deal_desk(rng, good_for);
-    if second::start(&file).is_err() {
+    if second::begin(&file).is_err() {
         let lent = |_| of_any_words(rng, file.clone());
         return (0..LISTS_OF_REFUSED).map(lent).collect();
     }
@@ -134,7 +135,7 @@ fn state_in(rng: &mut Rng, clinic: &Clinic, file: &[u8], choices: &[u16]) -> Lis
     } else {
         rng.below(all + 1)
     };
-    let mut run = second::start(file).expect("1 to 10 leave it clean");
+    let mut run = second::begin(file).expect("1 to 10 leave it clean");
     for &[thread, partner] in &choices.as_chunks().0[..done] {
         run.choose(thread, partner).expect("it is done");
     }

@@ -1,6 +1,6 @@
 //! Lists with nothing wrong in them, though mostly no run comes to them.
 
-use super::Lists;
+use crate::lists::Lists;
 use crate::rng::Rng;
 use crate::trees::Trees;
 use second::draft::Draft;

@@ -1,11 +1,12 @@
 //! Whole runs, choice by choice in a lent list.
 
-use super::fit::Clinic;
-use super::{agreed_choice, engine_choose, Lists};
+use super::{agreed_choice, engine_choose};
+use crate::lists::Lists;
 use crate::rng::Rng;
 use crate::running::{deal_run, engine_run};
-use second::draft::{to_bytes, Draft};
-use second::{Run, Thread, Verdict, RUN_ROOM};
+use crate::starting::{agreed_start, any_lists};
+use second::draft::to_bytes;
+use second::{Run, Verdict, RUN_ROOM};
 
 /// What came up over the runs.
 #[derive(Debug, Default)]
@@ -16,18 +17,13 @@ pub struct Steps {
     pub halted: u64,
 }
 
-/// The threads at the start of a run, one for each session, with anything past
-/// them.
-fn start(rng: &mut Rng, file: &[u8]) -> Lists {
-    let sessions = Draft::of(file).sessions;
-    let thread = |&[user, mask, root]: &[u16; 3]| Thread {
-        user,
-        node: root,
-        mask,
-        ..Thread::default()
-    };
-    let threads: Vec<Thread> = sessions.iter().map(thread).collect();
-    Clinic::of(file).with_rest(rng, &threads, &[])
+/// The start of a run in lists that held anything before. The engine's run
+/// without a choice leaves the same.
+fn start(rng: &mut Rng, file: &[u8], origin: &str) -> Lists {
+    let (verdict, lists) = agreed_start(file, &any_lists(rng, file), origin);
+    assert_eq!(verdict, Verdict::CLEAN, "{origin}");
+    assert_run(file, &[], &lists, 0, origin);
+    lists
 }
 
 /// What a run writes in a state: the choices done, the refusal, and what the
@@ -81,14 +77,16 @@ pub fn run_by_choices(seed: u64, runs: u64) -> Steps {
     let mut steps = Steps::default();
     for index in 0..runs {
         let dealt = deal_run(seed, index);
-        let Ok(mut run) = second::start(&dealt.file) else {
+        let Ok(mut run) = second::begin(&dealt.file) else {
             continue;
         };
         steps.runs += 1;
-        let mut lists = start(&mut Rng::new(seed, index), &dealt.file);
+        let origin = format!("trials::deal_run({seed}, {index})");
+        let mut lists = start(&mut Rng::new(seed, index), &dealt.file, &origin);
+        assert!(holds(&lists, &run), "{origin}: not the run's start");
         let (choices, _) = dealt.choices.as_chunks();
         for (at, &choice) in choices.iter().enumerate() {
-            let origin = format!("trials::deal_run({seed}, {index}), choice {}", at + 1);
+            let origin = format!("{origin}, choice {}", at + 1);
             let (verdict, after) = agreed_choice(&dealt.file, &lists, choice, &origin);
             let Verdict { number, place } = verdict;
             assert_eq!(place, number.min(1), "{origin}: {verdict:?}");
@@ -104,6 +102,8 @@ pub fn run_by_choices(seed: u64, runs: u64) -> Steps {
             }
             steps.done += 1;
         }
+        // The list may start again, wherever it has come to.
+        agreed_start(&dealt.file, &lists, format!("{origin}, again"));
     }
     steps
 }
@@ -111,8 +111,8 @@ pub fn run_by_choices(seed: u64, runs: u64) -> Steps {
 /// Goes through one run by the engine's choices alone. All of them are done,
 /// and each leaves the state of the second implementation's run.
 pub fn long_run_by_choices(file: &[u8], choices: &[u16]) {
-    let mut lists = start(&mut Rng::new(0, 0), file);
-    let mut run = second::start(file).expect("1 to 10 leave it clean");
+    let mut lists = start(&mut Rng::new(0, 0), file, "the start");
+    let mut run = second::begin(file).expect("1 to 10 leave it clean");
     for &[thread, partner] in choices.as_chunks().0 {
         let Lists { threads, beside } = &mut lists;
         let verdict = engine_choose(file, threads, beside, thread, partner);

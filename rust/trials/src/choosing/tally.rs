@@ -1,7 +1,8 @@
 //! Counting choices in lent lists by number and cause, and by what is lent.
 
 use super::fit::Clinic;
-use super::{Lent, Lists};
+use super::Lent;
+use crate::lists::Lists;
 use second::{Cause, Halt, Unfit, Verdict, BESIDE, RECORDS};
 use std::collections::BTreeMap;
 

@@ -47,7 +47,7 @@ pub fn deal_state(seed: u64, index: u64) -> (Vec<u8>, Vec<u16>) {
         halt: None,
     };
     let mut choices = schedule(rng, &file, goal);
-    if second::start(&file).is_ok() {
+    if second::begin(&file).is_ok() {
         let states = meetings(&file, &choices);
         let wish = rng.below(4);
         let wished = |meeting: &Meeting| match wish {

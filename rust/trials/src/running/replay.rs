@@ -26,7 +26,7 @@ pub struct Meeting {
 impl<'a> Replay<'a> {
     pub fn start(file: &'a [u8]) -> Replay<'a> {
         Replay {
-            run: second::start(file).expect("1 to 10 leave it clean"),
+            run: second::begin(file).expect("1 to 10 leave it clean"),
             nodes: Draft::of(file).nodes,
         }
     }

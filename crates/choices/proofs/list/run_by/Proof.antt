@@ -7,6 +7,7 @@ use Rattle.rules.proofs.GrantLaws.{granting}
 use Rattle.steps.specs.Choice.{State, clinicOf}
 use Rattle.choices.specs.Choices.{run}
 use Rattle.choices.specs.Stored.{Gone}
+use Rattle.choices.proofs.TriedLaws.{through-gone}
 use borrow.Author.Needs.{needs}
 use Rattle.choices.proofs.list.run_by.Statement.{statement}
 use Rattle.choices.proofs.list.run_by.Tie as tie
@@ -55,9 +56,12 @@ returns : tie.Need-returns
 returns c =
     let a = c .before .before .before .before .before .before .before .before .before .before .before .before .before .before .before .before .before .before .before .before .before .before .before .before .before .before .before .before .before .args in
     let went = c .before .before .before .before .go-through in
-    let R = run (clinicOf (contentsAt (a .file .now) (a .head))) in
+    let C = clinicOf (contentsAt (a .file .now) (a .head)) in
+    let w = went .last .1 .1 .1 .1 .1 .0 in
+    let b = went .last .1 .1 .1 .1 .1 .1 .0 in
+    let done = through-gone _ _ (went .result) w b (went .ensures) in
     let tables = granted (c .before .before .before .before .before .before .before .before .before .before .before .before .before .before .before .before .before .before .before .before) in (
-      subst (λ (s : State). Gone (R s (a .choices .now)) (went .result) (went .last .1 .1 .1 .1 .1 .0) (went .last .1 .1 .1 .1 .1 .1 .0)) (c .before .before .before .before .before .before .before .before .before .before .before .before .before .open-threads .ensures .0) (went .ensures),
+      subst (λ (s : State). Gone (run C s (a .choices .now)) (record { count = went .result .count; refusal = went .result .refusal }) w b) (c .before .before .before .before .before .before .before .before .before .before .before .before .before .open-threads .ensures .0) done,
       tables .0,
       tables .1,
     )

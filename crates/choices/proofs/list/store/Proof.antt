@@ -13,8 +13,8 @@ use Rattle.choices.proofs.list.store.Reads as reads
 use Rattle.choices.proofs.list.store.Lts as lts
 use Rattle.format.proofs.words.wide.Reads as wide-reads
 use Rattle.choices.proofs.state.add_thread.Reads as add-thread-reads
-use Rattle.choices.proofs.state.put_made.Reads as put-made-reads
-use Rattle.choices.proofs.state.put_thread.Reads as put-thread-reads
+use Rattle.steps.proofs.beside.add_made.Reads as add-made-reads
+use Rattle.steps.proofs.records.put_thread.Reads as put-thread-reads
 use Rattle.choices.proofs.state.remove_thread.Reads as remove-thread-reads
 
 sub-wide : tie.Need-sub-wide
@@ -32,7 +32,7 @@ returns c =
     let p = c .before .before .before .before .before .before .before .before .pre in
     let w = a .threads .now in
     let b = a .beside .now in
-    (refused-stored (stateIn w b) (a .i) (a .p) (a .it) (c .before .answer .given .0 .0) (c .before .answer .given .1), p .0)
+    refused-stored w b (a .i) (a .p) (a .it) (c .before .answer .given .0 .0) (c .before .answer .given .1) (p .0)
 
 enum-told : tie.Need-enum-told
 enum-told c = search needs
@@ -50,7 +50,7 @@ returns-2 c =
     let w = a .threads .now in
     let b = a .beside .now in
     let put = put-state w _ b (a .i) (c .before .before .before .before .before .before .before .before .wide .result) (a .it .first) (p .0) (p .1) (p .2) (c .before .before .before .before .before .before .before .before .wide .ensures .0) (c .before .before .put-thread .ensures) in
-    (moves-stored (stateIn w b) (a .i) (a .p) (a .it) _ (c .before .before .before .before .enum-told .given .1) (put .0), put .1)
+    moves-stored w b (a .i) (a .p) (a .it) _ (c .before .before .before .before .enum-told .given .1) (put .0) (put .1)
 
 enum-told-2 : tie.Need-enum-told-2
 enum-told-2 c = search needs
@@ -81,7 +81,7 @@ returns-3 c =
     let b = a .beside .now in
     let put = put-state w _ b (a .i) (c .before .before .before .before .before .before .before .before .before .before .before .before .before .before .before .wide .result) (a .it .first) (p .0) (p .1) (p .2) (c .before .before .before .before .before .before .before .before .before .before .before .before .before .before .before .wide .ensures .0) (c .before .before .before .before .before .before .before .before .before .put-thread2 .ensures) in
     let add = c .before .before .before .before .add-thread .ensures in
-    (adds-stored (stateIn w b) (a .i) (a .p) (a .it) _ (c .before .before .before .before .before .before .before .before .before .before .before .enum-told2 .given .1) (then-added (stateIn w b) _ _ (a .i) (a .it .first) (a .it .second) (put .0) (add .0)), add .1)
+    adds-stored w b (a .i) (a .p) (a .it) _ _ (c .before .before .before .before .before .before .before .before .before .before .before .enum-told2 .given .1) (then-added (stateIn w b) _ _ (a .i) (a .it .first) (a .it .second) (put .0) (add .0)) (add .1) (add .2)
 
 enum-known-answer-2 : tie.Need-enum-known-answer-2
 enum-known-answer-2 c = search needs
@@ -89,8 +89,8 @@ enum-known-answer-2 c = search needs
 put-thread-requires-3 : tie.Need-put-thread-requires-3
 put-thread-requires-3 c κs = search needs
 
-put-made-requires : tie.Need-put-made-requires
-put-made-requires c κs =
+add-made-requires : tie.Need-add-made-requires
+add-made-requires c κs =
     let a = c .before .before .before .before .before .before .before .before .before .before .before .before .before .args in
     let p = c .before .before .before .before .before .before .before .before .before .before .before .before .before .pre in
     let w = a .threads .now in
@@ -111,8 +111,8 @@ returns-4 c =
     let b = a .beside .now in
     let put = put-state w _ b (a .i) (c .before .before .before .before .before .before .before .before .before .before .before .before .before .wide .result) (a .it .first) (p .0) (p .1) (p .2) (c .before .before .before .before .before .before .before .before .before .before .before .before .before .wide .ensures .0) (c .before .before .before .before .before .before .put-thread3 .ensures) in
     let m = c .before .before .before .before .before .before .before .before .before .answer2 .given .0 .0 in
-    let made = mint-state _ b _ m (put .1) (subst (HasRoom (getD b 0 0) (getD b 1 0) (a .p)) (c .before .before .before .before .before .before .before .before .before .answer2 .given .1) (p .3)) (c .before .before .put-made .ensures) in
-    (makes-stored (stateIn w b) (a .i) (a .p) (a .it) _ m (c .before .before .before .before .before .before .before .before .before .answer2 .given .1) (then-minted (stateIn w b) _ _ (a .i) (a .it .first) m (put .0) (made .0)), made .1)
+    let made = mint-state _ b _ m (put .1) (subst (HasRoom (getD b 0 0) (getD b 1 0) (a .p)) (c .before .before .before .before .before .before .before .before .before .answer2 .given .1) (p .3)) (c .before .before .add-made .ensures) in
+    makes-stored w b (a .i) (a .p) (a .it) _ _ m (c .before .before .before .before .before .before .before .before .before .answer2 .given .1) (then-minted (stateIn w b) _ _ (a .i) (a .it .first) m (put .0) (made .0)) (c .before .before .add-made .ensures) (made .1)
 
 enum-told-3 : tie.Need-enum-told-3
 enum-told-3 c = search needs
@@ -133,7 +133,7 @@ returns-5 c =
     let w = a .threads .now in
     let b = a .beside .now in
     let gone = c .before .before .before .before .remove-thread .ensures in
-    (ends-stored (stateIn w b) (a .i) (a .p) (a .it) _ (c .before .before .before .before .before .before .before .enum-told3 .given .1) (gone .0), gone .1)
+    ends-stored w b (a .i) (a .p) (a .it) _ _ (c .before .before .before .before .before .before .before .enum-told3 .given .1) (gone .0) (gone .1) (gone .2)
 
 enum-told-4 : tie.Need-enum-told-4
 enum-told-4 c = search needs
@@ -175,7 +175,7 @@ returns-6 c =
     let put = put-state w _ b (a .i) (c .before .before .before .before .before .before .before .before .before .before .before .before .before .wide .result) (a .it .first) (p .0) (p .1) (p .2) (c .before .before .before .before .before .before .before .before .before .before .before .before .before .wide .ensures .0) (c .before .before .before .before .before .before .before .put-thread4 .ensures) in
     let both = (subst (HasRoom (getD b 0 0) (getD b 1 0) (a .p)) (c .before .before .before .before .before .before .before .before .before .enum-told4 .given .1) (p .3)) in
     let second = put-state _ _ b (a .p) (c .before .before .before .wide2 .result) (a .it .second) (put .1) (both .0) (both .1) (c .before .before .before .wide2 .ensures .0) (c .before .before .put-thread5 .ensures) in
-    (meets-stored (stateIn w b) (a .i) (a .p) (a .it) _ (c .before .before .before .before .before .before .before .before .before .enum-told4 .given .1) (second .0 ∙ ap (λ (s : State). changed s (a .p) (a .it .second)) (put .0)), second .1)
+    meets-stored w b (a .i) (a .p) (a .it) _ (c .before .before .before .before .before .before .before .before .before .enum-told4 .given .1) (second .0 ∙ ap (λ (s : State). changed s (a .p) (a .it .second)) (put .0)) (second .1)
 
 pub store-spec : {M : Type 1} → statement M
 store-spec =
@@ -197,7 +197,7 @@ store-spec =
     returns-3
     enum-known-answer-2
     put-thread-requires-3
-    put-made-requires
+    add-made-requires
     same-length-4
     same-length-5
     returns-4

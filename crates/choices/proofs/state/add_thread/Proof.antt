@@ -1,7 +1,7 @@
-use Prim.Native.Nat.{ℕ, _*_}
-use mathlib.Core.Path.{refl, ap, _∙_}
-use lib.ListN.{getD}
-use Rattle.choices.specs.Stored.{stored}
+use Prim.Native.Nat.{ℕ, _+_, _*_}
+use mathlib.Core.Path.{ap, _∙_}
+use Rattle.steps.specs.Records.{stored}
+use Rattle.steps.specs.Beside.{withThreads}
 use Rattle.choices.proofs.StateLaws.{add-state}
 use borrow.Author.Needs.{needs}
 use Rattle.choices.proofs.state.add_thread.Statement.{statement}
@@ -9,10 +9,12 @@ use Rattle.choices.proofs.state.add_thread.Tie as tie
 use Rattle.choices.proofs.state.add_thread.Reads as reads
 use Rattle.choices.proofs.state.add_thread.Lts as lts
 use Rattle.format.proofs.words.wide.Reads as wide-reads
-use Rattle.choices.proofs.state.put_thread.Reads as put-thread-reads
+use Rattle.steps.proofs.beside.set_threads.Reads as set-threads-reads
+use Rattle.steps.proofs.beside.thread_count.Reads as thread-count-reads
+use Rattle.steps.proofs.records.put_thread.Reads as put-thread-reads
 
-slice-read-n : tie.Need-slice-read-n
-slice-read-n c = search needs
+thread-count-requires : tie.Need-thread-count-requires
+thread-count-requires c κs = search needs
 
 wide-requires : tie.Need-wide-requires
 wide-requires c κs = search needs
@@ -20,11 +22,11 @@ wide-requires c κs = search needs
 put-thread-requires : tie.Need-put-thread-requires
 put-thread-requires c κs = search needs
 
-add-beside : tie.Need-add-beside
-add-beside c = search needs
+add-set-threads : tie.Need-add-set-threads
+add-set-threads c = search needs
 
-slice-write-beside : tie.Need-slice-write-beside
-slice-write-beside c = search needs
+set-threads-requires : tie.Need-set-threads-requires
+set-threads-requires c κs = search needs
 
 same-length : tie.Need-same-length
 same-length c = search needs
@@ -34,22 +36,24 @@ same-length-2 c = search needs
 
 returns : tie.Need-returns
 returns c =
-    let a = c .before .before .before .before .before .before .before .before .args in
-    let p = c .before .before .before .before .before .before .before .before .pre in
-    let put = c .before .before .put-thread .ensures in
-    let n = getD (a .beside .now) 0 0 in
-    add-state (a .threads .now) _ (a .beside .now) _ (a .t) (p .0) (p .1) (put .1)
-    (put .0 ∙ ap (λ (x : ℕ). stored (a .threads .now) (11 * x) (a .t)) (c .before .before .before .wide .ensures .0)) refl
+    let a = c .before .before .before .before .before .before .before .before .before .before .before .before .before .args in
+    let p = c .before .before .before .before .before .before .before .before .before .before .before .before .before .pre in
+    let put = c .before .before .before .before .before .before .put-thread .ensures in
+    let count = c .before .before .before .before .before .before .before .before .before .thread-count .ensures in
+    let beside = c .before .before .set-threads .ensures ∙ ap (λ (n : ℕ). withThreads (a .beside .now) (n + 1)) count in
+    let added = add-state (a .threads .now) _ (a .beside .now) _ (a .t) (p .0) (p .1) (put .1)
+    (put .0 ∙ ap (λ (x : ℕ). stored (a .threads .now) (11 * x) (a .t)) (c .before .before .before .before .before .before .before .wide .ensures .0 ∙ count)) beside in
+    (added .0, beside, added .1)
 
 pub add-thread-spec : {M : Type 1} → statement M
 add-thread-spec =
     tie.close
     (tie.spec
-    slice-read-n
+    thread-count-requires
     wide-requires
     put-thread-requires
-    add-beside
-    slice-write-beside
+    add-set-threads
+    set-threads-requires
     same-length
     same-length-2
     returns)

@@ -8,7 +8,7 @@ use borrow.Author.Needs.{needs}
 use Rattle.format.specs.Contents.{contentsAt}
 use Rattle.format.proofs.ContentsLaws.{users-held, kinds-held}
 use Rattle.rules.specs.Schema.{schemaOf}
-use Rattle.steps.specs.Kept.{madeIn}
+use Rattle.steps.specs.Beside.{madeIn}
 use Rattle.lending.specs.Lent.{every, madeFits}
 use Rattle.lending.proofs.JudgeLaws.{made-owner, made-kind, made-fits, made-done}
 use Rattle.lending.proofs.judging.made_fit.Statement.{statement}
@@ -17,6 +17,8 @@ use Rattle.lending.proofs.judging.made_fit.Reads as reads
 use Rattle.lending.proofs.judging.made_fit.Lts as lts
 use Rattle.format.proofs.sections.in_count.Reads as in-count-reads
 use Rattle.format.proofs.words.wide.Reads as wide-reads
+use Rattle.steps.proofs.beside.made_at.Reads as made-at-reads
+use Rattle.steps.proofs.beside.made_count.Reads as made-count-reads
 
 abbrev Inv-loop : tie.InvT-loop
 Inv-loop head beside n k₀ k =
@@ -25,8 +27,8 @@ Inv-loop head beside n k₀ k =
 abbrev μ-loop : tie.MeasureT-loop
 μ-loop head beside n k₀ k = n - k
 
-shared-slice-read-wide : tie.Need-shared-slice-read-wide Inv-loop μ-loop
-shared-slice-read-wide c = search needs
+made-count-requires : tie.Need-made-count-requires Inv-loop μ-loop
+made-count-requires c κs = search needs
 
 wide-requires : tie.Need-wide-requires Inv-loop μ-loop
 wide-requires c κs = search needs
@@ -34,17 +36,8 @@ wide-requires c κs = search needs
 loop-holds : tie.Need-loop-holds Inv-loop μ-loop
 loop-holds c = (omega arith, λ bytes. refl)
 
-mul-in-count : tie.Need-mul-in-count Inv-loop μ-loop
-mul-in-count c = search needs
-
-add-in-count : tie.Need-add-in-count Inv-loop μ-loop
-add-in-count c = search needs
-
-mul-in-count-2 : tie.Need-mul-in-count-2 Inv-loop μ-loop
-mul-in-count-2 c = search needs
-
-shared-slice-read-in-count : tie.Need-shared-slice-read-in-count Inv-loop μ-loop
-shared-slice-read-in-count c = search needs
+made-at-requires : tie.Need-made-at-requires Inv-loop μ-loop
+made-at-requires c κs = search needs
 
 in-count-requires : tie.Need-in-count-requires Inv-loop μ-loop
 in-count-requires c κs = search needs
@@ -53,31 +46,21 @@ returns : tie.Need-returns Inv-loop μ-loop
 returns c =
     let a = c .before .before .before .before .before .before .before .before .args in
     let l = c .before .before .before .before .loop in
+    let it = c .before .before .made-at in
     let owner = sym (c .before .in-count .ensures) ∙ not-true _ (c .if1 .taken) in
-    λ bytes. sym (made-owner (schemaOf (contentsAt bytes (a .head))) (a .beside .now) (getD (a .beside .now) 1 0) (l .k) (a .head .count .users) (a .head .count .kinds) (users-held bytes (a .head)) (kinds-held bytes (a .head)) (omega arith) owner) ∙ l .inv .1 bytes
-
-mul-in-count-3 : tie.Need-mul-in-count-3 Inv-loop μ-loop
-mul-in-count-3 c = search needs
-
-add-in-count-2 : tie.Need-add-in-count-2 Inv-loop μ-loop
-add-in-count-2 c = search needs
-
-mul-in-count-4 : tie.Need-mul-in-count-4 Inv-loop μ-loop
-mul-in-count-4 c = search needs
-
-shared-slice-read-in-count-2 : tie.Need-shared-slice-read-in-count-2 Inv-loop μ-loop
-shared-slice-read-in-count-2 c = search needs
+    λ bytes. sym (made-owner (schemaOf (contentsAt bytes (a .head))) (a .beside .now) (getD (a .beside .now) 1 0) (l .k) (a .head .count .users) (a .head .count .kinds) (users-held bytes (a .head)) (kinds-held bytes (a .head)) (it .result) (it .ensures) (omega arith) owner) ∙ l .inv .1 bytes
 
 in-count-requires-2 : tie.Need-in-count-requires-2 Inv-loop μ-loop
 in-count-requires-2 c κs = search needs
 
 returns-2 : tie.Need-returns-2 Inv-loop μ-loop
 returns-2 c =
-    let a = c .before .before .before .before .before .before .before .before .before .before .before .args in
-    let l = c .before .before .before .before .before .before .before .loop in
-    let owner = sym (c .before .before .before .before .in-count .ensures) ∙ not-false _ (c .before .before .before .if1 .left) in
+    let a = c .before .before .before .before .before .before .before .before .before .before .args in
+    let l = c .before .before .before .before .before .before .loop in
+    let it = c .before .before .before .before .made-at in
+    let owner = sym (c .before .before .before .in-count .ensures) ∙ not-false _ (c .before .before .if1 .left) in
     let kind = sym (c .before .in-count2 .ensures) ∙ not-true _ (c .if2 .taken) in
-    λ bytes. sym (made-kind (schemaOf (contentsAt bytes (a .head))) (a .beside .now) (getD (a .beside .now) 1 0) (l .k) (a .head .count .users) (a .head .count .kinds) (users-held bytes (a .head)) (kinds-held bytes (a .head)) (omega arith) owner kind) ∙ l .inv .1 bytes
+    λ bytes. sym (made-kind (schemaOf (contentsAt bytes (a .head))) (a .beside .now) (getD (a .beside .now) 1 0) (l .k) (a .head .count .users) (a .head .count .kinds) (users-held bytes (a .head)) (kinds-held bytes (a .head)) (it .result) (it .ensures) (omega arith) owner kind) ∙ l .inv .1 bytes
 
 add-k : tie.Need-add-k Inv-loop μ-loop
 add-k c = search needs
@@ -87,11 +70,12 @@ loop-less c = search needs
 
 loop-again : tie.Need-loop-again Inv-loop μ-loop
 loop-again c =
-    let a = c .before .before .before .before .before .before .before .before .before .before .before .args in
-    let l = c .before .before .before .before .before .before .before .loop in
-    let owner = sym (c .before .before .before .before .in-count .ensures) ∙ not-false _ (c .before .before .before .if1 .left) in
+    let a = c .before .before .before .before .before .before .before .before .before .before .args in
+    let l = c .before .before .before .before .before .before .loop in
+    let it = c .before .before .before .before .made-at in
+    let owner = sym (c .before .before .before .in-count .ensures) ∙ not-false _ (c .before .before .if1 .left) in
     let kind = sym (c .before .in-count2 .ensures) ∙ not-false _ (c .if2 .left) in
-    (omega arith, λ bytes. sym (made-fits (schemaOf (contentsAt bytes (a .head))) (a .beside .now) (getD (a .beside .now) 1 0) (l .k) (a .head .count .users) (a .head .count .kinds) (users-held bytes (a .head)) (kinds-held bytes (a .head)) (omega arith) owner kind) ∙ l .inv .1 bytes)
+    (omega arith, λ bytes. sym (made-fits (schemaOf (contentsAt bytes (a .head))) (a .beside .now) (getD (a .beside .now) 1 0) (l .k) (a .head .count .users) (a .head .count .kinds) (users-held bytes (a .head)) (kinds-held bytes (a .head)) (it .result) (it .ensures) (omega arith) owner kind) ∙ l .inv .1 bytes)
 
 returns-3 : tie.Need-returns-3 Inv-loop μ-loop
 returns-3 c =
@@ -105,19 +89,12 @@ made-fit-spec =
     (tie.spec
     Inv-loop
     μ-loop
-    shared-slice-read-wide
+    made-count-requires
     wide-requires
     loop-holds
-    mul-in-count
-    add-in-count
-    mul-in-count-2
-    shared-slice-read-in-count
+    made-at-requires
     in-count-requires
     returns
-    mul-in-count-3
-    add-in-count-2
-    mul-in-count-4
-    shared-slice-read-in-count-2
     in-count-requires-2
     returns-2
     add-k

@@ -7,7 +7,7 @@ use borrow.Author.Needs.{needs}
 use Rattle.masks.specs.Mask.{within}
 use Rattle.format.specs.Contents.{inCount, contentsAt}
 use Rattle.format.proofs.ContentsLaws.{in-count, nodes-held, nodes-counted}
-use Rattle.steps.specs.Kept.{madeIn}
+use Rattle.steps.specs.Beside.{madeIn}
 use Rattle.lending.proofs.JudgeLaws.{thread-nowhere, thread-user, thread-mask, thread-vars}
 use Rattle.lending.proofs.judging.thread_fits.Statement.{statement}
 use Rattle.lending.proofs.judging.thread_fits.Tie as tie

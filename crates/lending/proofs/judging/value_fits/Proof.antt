@@ -2,7 +2,7 @@ use mathlib.Core.Path.{sym, _∙_}
 use lib.ListN.{getD}
 use borrow.Author.Tests.{not-true, not-false}
 use borrow.Author.Needs.{needs}
-use Rattle.steps.specs.Kept.{madeIn}
+use Rattle.steps.specs.Beside.{madeIn}
 use Rattle.steps.proofs.ActLaws.{length-made}
 use Rattle.lending.proofs.judging.value_fits.Statement.{statement}
 use Rattle.lending.proofs.judging.value_fits.Tie as tie
@@ -10,9 +10,10 @@ use Rattle.lending.proofs.judging.value_fits.Reads as reads
 use Rattle.lending.proofs.judging.value_fits.Lts as lts
 use Rattle.lending.proofs.judging.is_value.Reads as is-value-reads
 use Rattle.steps.proofs.act.kind_held.Reads as kind-held-reads
+use Rattle.steps.proofs.beside.made_count.Reads as made-count-reads
 
-shared-slice-read-is-value : tie.Need-shared-slice-read-is-value
-shared-slice-read-is-value c = search needs
+made-count-requires : tie.Need-made-count-requires
+made-count-requires c κs = search needs
 
 is-value-requires : tie.Need-is-value-requires
 is-value-requires c κs = search needs
@@ -21,7 +22,7 @@ returns : tie.Need-returns
 returns c =
     let a = c .before .before .before .before .before .args in
     let n = getD (a .beside .now) 1 0 in
-    let e = sym (c .before .is-value .ensures (a .file .now) (madeIn (a .beside .now) 2 n) (length-made (a .beside .now) 2 n)) ∙ not-true _ (c .if1 .taken) in
+    let e = sym (c .before .is-value .ensures (a .file .now) (madeIn (a .beside .now) 2 n) (length-made (a .beside .now) 2 n ∙ sym (c .before .before .made-count .ensures))) ∙ not-true _ (c .if1 .taken) in
     rw e
 
 kind-held-requires : tie.Need-kind-held-requires
@@ -31,10 +32,9 @@ returns-2 : tie.Need-returns-2
 returns-2 c =
     let a = c .before .before .before .before .before .before .args in
     let n = getD (a .beside .now) 1 0 in
-    let e = sym (c .before .before .is-value .ensures (a .file .now) (madeIn (a .beside .now) 2 n) (length-made (a .beside .now) 2 n)) ∙ not-false _ (c .before .if1 .left) in
+    let e = sym (c .before .before .is-value .ensures (a .file .now) (madeIn (a .beside .now) 2 n) (length-made (a .beside .now) 2 n ∙ sym (c .before .before .before .made-count .ensures))) ∙ not-false _ (c .before .if1 .left) in
     rw (e, ← c .kind-held .ensures)
 
 pub value-fits-spec : {M : Type 1} → statement M
 value-fits-spec =
-    tie.close
-    (tie.spec shared-slice-read-is-value is-value-requires returns kind-held-requires returns-2)
+    tie.close (tie.spec made-count-requires is-value-requires returns kind-held-requires returns-2)

@@ -1,5 +1,5 @@
 use borrow.Author.Needs.{needs}
-use Prim.Native.Nat.{_+_, _-_, _≤_, _<_}
+use Prim.Native.Nat.{_+_, _-_, _%_, _≤_, _<_}
 use mathlib.Core.Path.{_≡_, refl, sym, ap, ap₂, subst, _∙_}
 use mathlib.Core.List.{[], map}
 use native.Mathlib.Omega.{arith}
@@ -11,8 +11,10 @@ use Rattle.rules.specs.declared.Point.{Point}
 use Rattle.format.specs.Stacks.{stacked}
 use Rattle.rules.specs.Schema.{schemaOf}
 use Rattle.rules.specs.Checking.{openingsFrom}
+use Rattle.rules.specs.Scopes.{scopeFrom, scopeOf}
 use Rattle.rules.specs.Kept.{kindIn, ownerIn, contextOf, Waits, barePoint, unmasked, unpaired, queued, Ownable}
 use Rattle.rules.proofs.StackLaws.{contexts-push, waits-push, context-bare}
+use Rattle.rules.proofs.ScopeLaws.{scope-pushed}
 use Rattle.rules.proofs.naming.open_users.Statement.{statement}
 use Rattle.rules.proofs.naming.open_users.Tie as tie
 use Rattle.rules.proofs.naming.open_users.Reads as reads
@@ -23,12 +25,13 @@ use Rattle.format.proofs.words.paired.Reads as paired-reads
 use Rattle.format.proofs.words.wide.Reads as wide-reads
 
 abbrev Inv-loop : tie.InvT-loop
-Inv-loop file head stack₀ sessions depth₀ stack depth =
+Inv-loop file head stack₀ waits₀ sessions depth₀ stack waits depth =
     (depth ≤ sessions) × (length stack ≡ length stack₀) × Waits Ownable 0 (queued (schemaOf (contentsAt file head)) stack depth)
     × (map (contextOf []) (queued (schemaOf (contentsAt file head)) stack depth) ≡ map unmasked (openingsFrom (drop (sessions - depth) (contentsAt file head .sessions))))
+    × (length waits ≡ length waits₀) × (stacked 0 waits depth ≡ map scopeOf (map unmasked (openingsFrom (drop (sessions - depth) (contentsAt file head .sessions)))))
 
 abbrev μ-loop : tie.MeasureT-loop
-μ-loop file head stack₀ sessions depth₀ stack depth = sessions - depth
+μ-loop file head stack₀ waits₀ sessions depth₀ stack waits depth = sessions - depth
 
 wide-requires : tie.Need-wide-requires Inv-loop μ-loop
 wide-requires c κs = search needs
@@ -36,10 +39,10 @@ wide-requires c κs = search needs
 loop-holds : tie.Need-loop-holds Inv-loop μ-loop
 unfolding stacked openingsFrom
 loop-holds c =
-    let a = c .before .before .before .args in
+    let a = c .before .before .before .before .args in
     let none : drop (c .wide .result - 0) (contentsAt (a .file .now) (a .head) .sessions) ≡ [] =
     none-past (contentsAt (a .file .now) (a .head) .sessions) (c .wide .result - 0) (omega (arith, sessions-held (a .file .now) (a .head), c .wide .ensures .0)) in
-    (omega arith, refl, tt, rw none)
+    (omega arith, refl, tt, rw none, refl, rw none)
 
 sub-narrow : tie.Need-sub-narrow Inv-loop μ-loop
 sub-narrow c = search needs
@@ -59,6 +62,15 @@ mul-stack c = search needs
 slice-write-stack : tie.Need-slice-write-stack Inv-loop μ-loop
 slice-write-stack c = search needs
 
+cast-waits : tie.Need-cast-waits Inv-loop μ-loop
+cast-waits c = search needs
+
+mul-waits : tie.Need-mul-waits Inv-loop μ-loop
+mul-waits c = search needs
+
+slice-write-waits : tie.Need-slice-write-waits Inv-loop μ-loop
+slice-write-waits c = search needs
+
 add-depth : tie.Need-add-depth Inv-loop μ-loop
 add-depth c = search needs
 
@@ -66,38 +78,44 @@ loop-less : tie.Need-loop-less Inv-loop μ-loop
 loop-less c = search needs
 
 loop-again : tie.Need-loop-again Inv-loop μ-loop
-unfolding openingsFrom
+unfolding openingsFrom scopeOf scopeFrom
 loop-again c =
-    let a = c .before .before .before .before .before .before .before .before .args in
-    let l = c .before .before .before .before .loop in
-    let s = c .before .before .before .before .before .wide .result in
+    let a = c .before .before .before .before .before .before .before .before .before .before .args in
+    let l = c .before .before .before .before .before .loop in
+    let s = c .before .before .before .before .before .before .wide .result in
     let D = schemaOf (contentsAt (a .file .now) (a .head)) in
     let S = contentsAt (a .file .now) (a .head) .sessions in
-    let it = c .before .session in
-    let its : it .result ≡ item noSession S (s - l .depth) = it .ensures ∙ ap (item noSession S) (c .before .before .narrow .ensures) in
-    let turn = from-item noSession S (s - l .depth) (omega arith) (omega (arith, sessions-held (a .file .now) (a .head), c .before .before .before .before .before .wide .ensures .0)) in
+    let it = c .before .before .session in
+    let its : it .result ≡ item noSession S (s - l .depth) = it .ensures ∙ ap (item noSession S) (c .before .before .before .narrow .ensures) in
+    let turn = from-item noSession S (s - l .depth) (omega arith) (omega (arith, sessions-held (a .file .now) (a .head), c .before .before .before .before .before .before .wide .ensures .0)) in
     let one : s - (l .depth + 1) ≡ s - l .depth - 1 = omega arith in
     let p : Point = barePoint D (it .result .user) 0 in
-    let low : kindIn (c .paired .result) ≡ it .result .user = omega (arith, c .paired .ensures) in
-    let high : ownerIn (c .paired .result) ≡ 0 = omega (arith, c .paired .ensures) in
-    let is : unpaired D (c .paired .result) ≡ p = ap₂ (barePoint D) low high in
-    let small : it .result .user < 65534 = subst (λ (x : Session). x .user < 65534) (sym its) (c .before .before .before .before .before .before .before .before .pre .1 .1 (s - l .depth)) in (
+    let low : kindIn (c .before .paired .result) ≡ it .result .user = omega (arith, c .before .paired .ensures) in
+    let high : ownerIn (c .before .paired .result) ≡ 0 = omega (arith, c .before .paired .ensures) in
+    let is : unpaired D (c .before .paired .result) ≡ p = ap₂ (barePoint D) low high in
+    let small : it .result .user < 65534 = subst (λ (x : Session). x .user < 65534) (sym its) (c .before .before .before .before .before .before .before .before .before .before .pre .1 .1 (s - l .depth)) in (
       omega arith,
       simp length-set (l .inv .1),
-      waits-push (unpaired D) Ownable 0 (l .stack) (l .depth) (c .paired .result) p (omega arith) is (omega arith) small (l .inv .2),
-      rw (one, turn, ← its) (contexts-push (unpaired D) [] (l .stack) (l .depth) (c .paired .result) p (omega arith) is (context-bare (p .user) (p .assigned) 0) (l .inv .3)),
+      waits-push (unpaired D) Ownable 0 (l .stack) (l .depth) (c .before .paired .result) p (omega arith) is (omega arith) small (l .inv .2),
+      rw (one, turn, ← its) (contexts-push (unpaired D) [] (l .stack) (l .depth) (c .before .paired .result) p (omega arith) is (context-bare (p .user) (p .assigned) 0) (l .inv .3)),
+      simp length-set (l .inv .4),
+      rw (one, turn, ← its) (scope-pushed (l .waits) (l .depth) (it .result .user % 64) (record { user = it .result .user; mask = 0; vars = [] }) (map unmasked (openingsFrom (drop (s - l .depth) S))) (omega arith) refl (l .inv .5)),
     )
 
 same-length : tie.Need-same-length Inv-loop μ-loop
 same-length c = search needs
 
+same-length-2 : tie.Need-same-length-2 Inv-loop μ-loop
+same-length-2 c = search needs
+
 returns : tie.Need-returns Inv-loop μ-loop
 returns c =
-    let a = c .before .before .before .before .before .args in
+    let a = c .before .before .before .before .before .before .args in
     let l = c .before .loop in
     let all : l .depth ≡ a .head .count .sessions = omega (arith, c .before .before .wide .ensures .0) in
     let none : c .before .before .wide .result - l .depth ≡ 0 = omega arith in
-    (all, l .inv .2, l .inv .3 ∙ ap (λ k. map unmasked (openingsFrom (drop k (contentsAt (a .file .now) (a .head) .sessions)))) none)
+    let S = contentsAt (a .file .now) (a .head) .sessions in
+    (all, l .inv .2, l .inv .3 ∙ ap (λ k. map unmasked (openingsFrom (drop k S))) none, l .inv .5 ∙ ap (λ k. map scopeOf (map unmasked (openingsFrom (drop k S)))) none)
 
 pub open-users-spec : {M : Type 1} → statement M
 open-users-spec =
@@ -113,8 +131,12 @@ open-users-spec =
     paired-requires
     mul-stack
     slice-write-stack
+    cast-waits
+    mul-waits
+    slice-write-waits
     add-depth
     loop-less
     loop-again
     same-length
+    same-length-2
     returns)

@@ -1,24 +1,32 @@
--- The invariant: i is the node due, `user` and `bound` are its context's, the contexts on the stack have fewer and fewer variables from its top
--- down, and what is left from here gives the first of 9 and 10 of all.
+-- The invariant: i is the node due, `user` and `bound` are its context's, the contexts on the stack have fewer and fewer variables from its top down,
+-- and what is left from here gives the first of 9 and 10 of all, and the table. Where there is room for the node, `here` is its context as one number,
+-- and so are those that wait beside the stack.
 use borrow.Author.Needs.{needs}
-use Prim.Native.Nat.{_+_, _-_, _≤_, _<_}
+use Prim.Native.Nat.{ℕ, _+_, _-_, _≤_, _<_}
 use mathlib.Core.Path.{_≡_, refl, sym, ap, ap₂, subst, _∙_}
+use mathlib.Core.Bool.{cond}
 use mathlib.Core.List.{List, [], _∷_, map}
 use native.Mathlib.Omega.{arith}
-use lib.ListN.{length, set, length-set}
+use lib.Dec.{eqb}
+use borrow.Author.Tests.{lt-ltb}
+use lib.ListN.{length, getD, set, length-set}
 use Rattle.format.specs.Contents.{contentsAt}
+use Rattle.format.specs.Stacks.{stacked}
 use Rattle.format.proofs.ContentsLaws.{users-held, channels-held, nodes-held}
 use Rattle.rules.specs.declared.NameStep.{NameStep}
 use Rattle.rules.specs.declared.Point.{Point}
 use Rattle.rules.specs.Schema.{schemaOf}
 use Rattle.rules.specs.Rules.{Context, waitingAfter}
 use Rattle.rules.specs.Checking.{openings}
-use Rattle.rules.specs.Kept.{NameTable, contextOf, Waits, barePoint, unmasked, unpaired, queued, Ownable}
+use Rattle.rules.specs.Scopes.{bindScope, scopeOf}
+use Rattle.rules.specs.Kept.{kindIn, NameTable, contextOf, Waits, barePoint, unmasked, unpaired, queued, Ownable}
 use Rattle.rules.proofs.NameLaws.{Held, held-less, named-kept}
 use Rattle.rules.proofs.StepLaws.{NamesJudged, told, step-right}
 use Rattle.format.proofs.StackLaws.{read-none, read-top, read-push}
 use Rattle.rules.proofs.StackLaws.{waits-push, waits-more, contexts-kept, contexts-bare}
-use Rattle.rules.proofs.PassLaws.{Names, names-begin, names-on, after-step, names-refused, names-tree, names-fork, names-out, names-end}
+use Rattle.rules.proofs.ScopeLaws.{scope-next, scope-pushed, scope-popped}
+use Rattle.rules.proofs.PassLaws.{after-step}
+use Rattle.rules.proofs.ScopePass.{Scoping, scoping-begins, scoping-out, scoping-ends, scoping-refused, scoping-on, scoping-tree, scoping-fork}
 use Rattle.rules.proofs.naming.walk_names.Statement.{statement}
 use Rattle.rules.proofs.naming.walk_names.Tie as tie
 use Rattle.rules.proofs.naming.walk_names.Reads as reads
@@ -28,32 +36,36 @@ use Rattle.format.proofs.words.paired.Reads as paired-reads
 use Rattle.format.proofs.words.wide.Reads as wide-reads
 use Rattle.rules.proofs.names.kind_of.Reads as kind-of-reads
 use Rattle.rules.proofs.names.name_all.Reads as name-all-reads
+use Rattle.rules.proofs.names.owner_of.Reads as owner-of-reads
 use Rattle.rules.proofs.naming.naming_at.Reads as naming-at-reads
 use Rattle.rules.proofs.naming.open_users.Reads as open-users-reads
-use Rattle.rules.proofs.names.owner_of.Reads as owner-of-reads
+use Rattle.rules.proofs.scopes.keep.Reads as keep-reads
+use Rattle.rules.proofs.scopes.scope_after.Reads as scope-after-reads
 
 abbrev Inv-loop : tie.InvT-loop
-Inv-loop file head names₀ stack₀ fine depth₀ top user₀ bound₀ nodes i₀ names stack depth user bound i =
+Inv-loop file head names₀ stack₀ waits₀ scopes₀ fine depth₀ top user₀ bound₀ here₀ nodes i₀ names stack waits scopes depth user bound here i =
     (1 ≤ i) × (i ≤ nodes + 1) × (length stack ≡ length stack₀) × (length names ≡ length names₀) × (depth + 2 ≤ head .count .sessions + i) × (bound < i) × (user < 65534)
     × NameTable (schemaOf (contentsAt file head)) (head .count .users) (head .count .channels) names × Held names bound
     × Waits Ownable bound (queued (schemaOf (contentsAt file head)) stack depth)
-    × Names (contentsAt file head) i (contextOf names (barePoint (schemaOf (contentsAt file head)) user bound) ∷ map (contextOf names) (queued (schemaOf (contentsAt file head)) stack depth))
+    × Scoping (contentsAt file head) scopes₀ i (contextOf names (barePoint (schemaOf (contentsAt file head)) user bound) ∷ map (contextOf names) (queued (schemaOf (contentsAt file head)) stack depth)) scopes
+    × (length waits ≡ length waits₀) × (i < length scopes → here ≡ scopeOf (contextOf names (barePoint (schemaOf (contentsAt file head)) user bound)))
+    × (i < length scopes → stacked 0 waits depth ≡ map scopeOf (map (contextOf names) (queued (schemaOf (contentsAt file head)) stack depth))) × (length scopes ≡ length scopes₀)
 
 abbrev μ-loop : tie.MeasureT-loop
-μ-loop file head names₀ stack₀ fine depth₀ top user₀ bound₀ nodes i₀ names stack depth user bound i = nodes + 1 - i
+μ-loop file head names₀ stack₀ waits₀ scopes₀ fine depth₀ top user₀ bound₀ here₀ nodes i₀ names stack waits scopes depth user bound here i = nodes + 1 - i
 
 -- what the step tells of the node
-told-at : (c : tie.After-naming-at Inv-loop μ-loop) → NamesJudged (schemaOf (contentsAt (c .before .before .before .before .before .before .before .before .before .before .before .before .before .before .before .before .before .before .before .before .before .args .file .now) (c .before .before .before .before .before .before .before .before .before .before .before .before .before .before .before .before .before .before .before .before .before .args .head))) (c .before .before .before .before .before .loop .names) (c .before .before .before .before .before .loop .user) (c .before .before .before .before .before .loop .bound) (c .before .before .before .node .result) (c .naming-at .result)
+told-at : (c : tie.After-naming-at Inv-loop μ-loop) → NamesJudged (schemaOf (contentsAt (c .before .before .before .before .before .before .before .before .before .before .before .before .before .before .before .before .before .before .before .before .before .before .before .before .before .before .before .args .file .now) (c .before .before .before .before .before .before .before .before .before .before .before .before .before .before .before .before .before .before .before .before .before .before .before .before .before .before .before .args .head))) (c .before .before .before .before .before .loop .names) (c .before .before .before .before .before .loop .user) (c .before .before .before .before .before .loop .bound) (c .before .before .before .node .result) (c .naming-at .result)
 told-at c =
-    let a = c .before .before .before .before .before .before .before .before .before .before .before .before .before .before .before .before .before .before .before .before .before .args in
-    let pre = c .before .before .before .before .before .before .before .before .before .before .before .before .before .before .before .before .before .before .before .before .before .pre in
+    let a = c .before .before .before .before .before .before .before .before .before .before .before .before .before .before .before .before .before .before .before .before .before .before .before .before .before .before .before .args in
+    let pre = c .before .before .before .before .before .before .before .before .before .before .before .before .before .before .before .before .before .before .before .before .before .before .before .before .before .before .before .pre in
     let l = c .before .before .before .before .before .loop in
     let n = c .before .before .before .node .result in
     let D = schemaOf (contentsAt (a .file .now) (a .head)) in
     let users = users-held (a .file .now) (a .head) in
     let channels = channels-held (a .file .now) (a .head) in
     let named = subst (λ k. NameTable D k (D .channels) (l .names)) (sym users) (subst (λ k. NameTable D (a .head .count .users) k (l .names)) (sym channels) (l .inv .7)) in
-    let long : 512 + l .bound < length (l .names) = omega (arith, l .inv .3, l .inv .5, c .before .before .before .before .loop-test .taken, c .before .before .before .before .before .before .before .before .before .before .before .before .before .before .before .before .name-all .ensures .0, pre .2) in
+    let long : 512 + l .bound < length (l .names) = omega (arith, l .inv .3, l .inv .5, c .before .before .before .before .loop-test .taken, c .before .before .before .before .before .before .before .before .before .before .before .before .before .before .before .before .before .before .before .before .name-all .ensures .0, pre .2) in
     subst (λ (s : NameStep). NamesJudged D (l .names) (l .user) (l .bound) n s) (sym (c .naming-at .ensures .0))
     (told D (l .names) (l .user) (l .bound) n
     (step-right D (l .names) (barePoint D (l .user) (l .bound)) n (omega (arith, users, pre .0 .users)) (omega (arith, channels, pre .0 .channels)) named long (l .inv .8) refl (c .before .before .match .rest .0 .1) (c .before .before .match .rest .1) (omega arith) (c .naming-at .ensures .1)))
@@ -70,14 +82,17 @@ same-length c = search needs
 same-length-2 : tie.Need-same-length-2 Inv-loop μ-loop
 same-length-2 c = search needs
 
+same-length-3 : tie.Need-same-length-3 Inv-loop μ-loop
+same-length-3 c = search needs
+
 returns : tie.Need-returns Inv-loop μ-loop
 returns c =
-    let a = c .before .before .before .before .before .before .before .before .before .before .before .before .args in
-    let os = c .before .before .before .open-users in
+    let a = c .before .before .before .before .before .before .before .before .before .before .before .before .before .before .before .before .before .args in
+    let os = c .before .before .before .before .before .open-users in
     let C = contentsAt (a .file .now) (a .head) in
     let stack = os .last .1 .1 .0 in
     let none : [] ≡ map unmasked (openings C) = ap (map (contextOf [])) (sym (ap (queued (schemaOf C) stack) (c .if1 .taken) ∙ read-none 0 (unpaired (schemaOf C)) stack)) ∙ os .ensures .2 in
-    names-out C 1 (names-begin C [] none)
+    scoping-out C (a .scopes .now) 1 (a .scopes .now) (scoping-begins C (a .scopes .now) [] none)
 
 sub-depth : tie.Need-sub-depth Inv-loop μ-loop
 sub-depth c = search needs
@@ -94,23 +109,31 @@ kind-of-requires c κs = search needs
 owner-of-requires : tie.Need-owner-of-requires Inv-loop μ-loop
 owner-of-requires c κs = search needs
 
+mul-here : tie.Need-mul-here Inv-loop μ-loop
+mul-here c = search needs
+
+slice-read-here : tie.Need-slice-read-here Inv-loop μ-loop
+slice-read-here c = search needs
+
 loop-holds : tie.Need-loop-holds Inv-loop μ-loop
 loop-holds c =
-    let a = c .before .before .before .before .before .before .before .before .before .before .before .before .before .before .before .args in
-    let os = c .before .before .before .before .before .before .open-users in
-    let names = c .before .before .before .before .before .before .before .before .before .before .name-all in
+    let a = c .before .before .before .before .before .before .before .before .before .before .before .before .before .before .before .before .before .before .before .before .before .args in
+    let os = c .before .before .before .before .before .before .before .before .before .open-users in
+    let names = c .before .before .before .before .before .before .before .before .before .before .before .before .before .before .name-all in
     let C = contentsAt (a .file .now) (a .head) in
     let D = schemaOf C in
     let t = names .last .1 .1 .0 in
     let stack = os .last .1 .1 .0 in
+    let waits = os .last .1 .1 .1 .0 in
     let r = os .result in
-    let p = barePoint D (c .before .kind-of .result) (c .owner-of .result) in
+    let p = barePoint D (c .before .before .kind-of .result) (c .before .owner-of .result) in
     let pos : 0 < r = omega arith in
     let top : queued D stack r ≡ p ∷ queued D stack (r - 1) =
-    read-top 0 (unpaired D) stack r pos ∙ ap (λ (q : Point). q ∷ queued D stack (r - 1)) (ap₂ (barePoint D) (sym (c .before .kind-of .ensures)) (sym (c .owner-of .ensures))) in
+    read-top 0 (unpaired D) stack r pos ∙ ap (λ (q : Point). q ∷ queued D stack (r - 1)) (ap₂ (barePoint D) (sym (c .before .before .kind-of .ensures)) (sym (c .before .owner-of .ensures))) in
     let w : Waits Ownable 0 (p ∷ queued D stack (r - 1)) = subst (λ (ps : List Point). Waits Ownable 0 ps) top (os .ensures .1) in
     let st : contextOf t p ∷ map (contextOf t) (queued D stack (r - 1)) ≡ map unmasked (openings C) =
-    ap (map (contextOf t)) (sym top) ∙ contexts-bare Ownable t (queued D stack r) (os .ensures .1) ∙ os .ensures .2 in (
+    ap (map (contextOf t)) (sym top) ∙ contexts-bare Ownable t (queued D stack r) (os .ensures .1) ∙ os .ensures .2 in
+    let popped = scope-popped waits r (contextOf t p) (map (contextOf t) (queued D stack (r - 1))) pos (os .ensures .3 ∙ ap (map scopeOf) (sym st)) in (
       omega arith,
       omega arith,
       refl,
@@ -121,7 +144,11 @@ loop-holds c =
       names .ensures .1,
       (λ j low high. let no : ⊥ = omega (arith, low, high, w .0) in absurd no),
       w .2,
-      names-begin C _ st,
+      scoping-begins C (a .scopes .now) _ st,
+      refl,
+      (λ room. popped .0),
+      (λ room. popped .1),
+      refl,
     )
 
 node-requires : tie.Need-node-requires Inv-loop μ-loop
@@ -130,28 +157,41 @@ node-requires c κs = search needs
 add-i : tie.Need-add-i Inv-loop μ-loop
 add-i c = search needs
 
-same-length-3 : tie.Need-same-length-3 Inv-loop μ-loop
-same-length-3 c = search needs
+wide-requires : tie.Need-wide-requires Inv-loop μ-loop
+wide-requires c κs = search needs
+
+keep-requires : tie.Need-keep-requires Inv-loop μ-loop
+keep-requires c κs = search needs
 
 same-length-4 : tie.Need-same-length-4 Inv-loop μ-loop
 same-length-4 c = search needs
 
+same-length-5 : tie.Need-same-length-5 Inv-loop μ-loop
+same-length-5 c = search needs
+
+same-length-6 : tie.Need-same-length-6 Inv-loop μ-loop
+same-length-6 c = search needs
+
+same-length-7 : tie.Need-same-length-7 Inv-loop μ-loop
+same-length-7 c = let l = c .before .before .before .before .before .before .before .before .before .loop in ap length (c .before .before .before .keep .ensures) ∙ length-set (l .scopes) (c .before .before .before .before .wide .result) (l .here) ∙ l .inv .14
+
 returns-2 : tie.Need-returns-2 Inv-loop μ-loop
 returns-2 c =
-    let a = c .before .before .before .before .before .before .before .before .before .before .before .before .before .before .before .before .before .before .before .before .args in
-    let l = c .before .before .before .before .loop in
-    let n = c .before .before .node in
+    let a = c .before .before .before .before .before .before .before .before .before .before .before .before .before .before .before .before .before .before .before .before .before .before .before .before .before .before .before .before .before .before .before .args in
+    let l = c .before .before .before .before .before .before .before .before .before .loop in
+    let n = c .before .before .before .before .before .before .before .node in
     let C = contentsAt (a .file .now) (a .head) in
     let st : map (contextOf (l .names)) (queued (schemaOf C) (l .stack) (l .depth)) ≡ [] =
     ap (λ d. map (contextOf (l .names)) (queued (schemaOf C) (l .stack) d)) (c .if2 .taken) ∙ ap (map (contextOf (l .names))) (read-none 0 (unpaired (schemaOf C)) (l .stack)) in
-    let left = names-tree C (l .i) (contextOf (l .names) (barePoint (schemaOf C) (l .user) (l .bound))) _ (n .result) (l .inv .0) (omega (arith, nodes-held (a .file .now) (a .head), c .before .before .before .loop-test .taken)) (n .ensures) (c .before .match .keys1) (l .inv .10) in
-    names-out C (l .i + 1) (subst (λ (x : List Context). Names C (l .i + 1) x) st left)
+    let left = scoping-tree C (a .scopes .now) (l .i) (contextOf (l .names) (barePoint (schemaOf C) (l .user) (l .bound))) _ (l .scopes) (n .result) (l .inv .0) (omega (arith, nodes-held (a .file .now) (a .head), c .before .before .before .before .before .before .before .before .loop-test .taken)) (n .ensures) (l .inv .10) (c .before .before .before .before .wide .result) (l .here) (c .before .before .before .before .wide .ensures .0) (l .inv .12) (c .before .before .before .before .before .before .match .keys1) in
+    let done = scoping-out C (a .scopes .now) (l .i + 1) _ (subst (λ (x : List Context). Scoping C (a .scopes .now) (l .i + 1) x (set (l .scopes) (c .before .before .before .before .wide .result) (l .here))) st left) in
+    (done .0, c .before .before .before .keep .ensures ∙ done .1)
 
 sub-depth-2 : tie.Need-sub-depth-2 Inv-loop μ-loop
 sub-depth-2 c = search needs
 
 mul-next : tie.Need-mul-next Inv-loop μ-loop
-mul-next c = search needs
+mul-next c = let l = c .before .before .before .before .before .before .before .before .before .loop in omega (arith, l .inv .4, c .before .before .before .before .before .before .before .before .loop-test .taken, c .before .before .before .before .before .before .before .before .before .before .before .before .before .before .before .before .before .before .before .before .before .before .before .before .before .before .before .before .before .before .before .pre .0 .sessions, c .before .before .before .before .before .before .before .before .before .before .before .before .before .before .before .before .before .before .before .before .before .before .before .before .before .before .before .before .before .before .before .pre .0 .nodes)
 
 slice-read-next : tie.Need-slice-read-next Inv-loop μ-loop
 slice-read-next c = search needs
@@ -162,22 +202,31 @@ kind-of-requires-2 c κs = search needs
 owner-of-requires-2 : tie.Need-owner-of-requires-2 Inv-loop μ-loop
 owner-of-requires-2 c κs = search needs
 
+mul-here-2 : tie.Need-mul-here-2 Inv-loop μ-loop
+mul-here-2 c = let l = c .before .before .before .before .before .before .before .before .before .before .before .before .loop in omega (arith, l .inv .4, c .before .before .before .before .before .before .before .before .before .before .before .loop-test .taken, c .before .before .before .before .before .before .before .before .before .before .before .before .before .before .before .before .before .before .before .before .before .before .before .before .before .before .before .before .before .before .before .before .before .before .pre .0 .sessions, c .before .before .before .before .before .before .before .before .before .before .before .before .before .before .before .before .before .before .before .before .before .before .before .before .before .before .before .before .before .before .before .before .before .before .pre .0 .nodes)
+
+slice-read-here-2 : tie.Need-slice-read-here-2 Inv-loop μ-loop
+slice-read-here-2 c = let l = c .before .before .before .before .before .before .before .before .before .before .before .before .before .loop in omega (arith, l .inv .4, l .inv .11, c .before .before .before .before .before .before .before .before .before .before .before .before .loop-test .taken, c .before .before .before .before .before .before .before .before .before .before .before .before .before .before .before .before .before .before .before .before .before .before .before .before .before .before .before .before .before .before .before .before .before .before .before .pre .5)
+
 loop-less : tie.Need-loop-less Inv-loop μ-loop
 loop-less c = search needs
 
 loop-again : tie.Need-loop-again Inv-loop μ-loop
 loop-again c =
-    let a = c .before .before .before .before .before .before .before .before .before .before .before .before .before .before .before .before .before .before .before .before .before .before .before .args in
-    let l = c .before .before .before .before .before .before .before .loop in
-    let n = c .before .before .before .before .before .node in
+    let a = c .before .before .before .before .before .before .before .before .before .before .before .before .before .before .before .before .before .before .before .before .before .before .before .before .before .before .before .before .before .before .before .before .before .before .before .args in
+    let l = c .before .before .before .before .before .before .before .before .before .before .before .before .before .loop in
+    let n = c .before .before .before .before .before .before .before .before .before .before .before .node in
     let C = contentsAt (a .file .now) (a .head) in
     let D = schemaOf C in
-    let p = barePoint D (c .before .kind-of2 .result) (c .owner-of2 .result) in
+    let p = barePoint D (c .before .before .kind-of2 .result) (c .before .owner-of2 .result) in
     let pos : 0 < l .depth = omega arith in
     let top : queued D (l .stack) (l .depth) ≡ p ∷ queued D (l .stack) (l .depth - 1) =
-    read-top 0 (unpaired D) (l .stack) (l .depth) pos ∙ ap (λ (q : Point). q ∷ queued D (l .stack) (l .depth - 1)) (ap₂ (barePoint D) (sym (c .before .kind-of2 .ensures)) (sym (c .owner-of2 .ensures))) in
+    read-top 0 (unpaired D) (l .stack) (l .depth) pos ∙ ap (λ (q : Point). q ∷ queued D (l .stack) (l .depth - 1)) (ap₂ (barePoint D) (sym (c .before .before .kind-of2 .ensures)) (sym (c .before .owner-of2 .ensures))) in
     let w : Waits Ownable (l .bound) (p ∷ queued D (l .stack) (l .depth - 1)) = subst (λ (ps : List Point). Waits Ownable (l .bound) ps) top (l .inv .9) in
-    let left = names-tree C (l .i) (contextOf (l .names) (barePoint D (l .user) (l .bound))) _ (n .result) (l .inv .0) (omega (arith, nodes-held (a .file .now) (a .head), c .before .before .before .before .before .before .loop-test .taken)) (n .ensures) (c .before .before .before .before .match .keys1) (l .inv .10) in (
+    let left = scoping-tree C (a .scopes .now) (l .i) (contextOf (l .names) (barePoint D (l .user) (l .bound))) _ (l .scopes) (n .result) (l .inv .0) (omega (arith, nodes-held (a .file .now) (a .head), c .before .before .before .before .before .before .before .before .before .before .before .before .loop-test .taken)) (n .ensures) (l .inv .10) (c .before .before .before .before .before .before .before .before .wide .result) (l .here) (c .before .before .before .before .before .before .before .before .wide .ensures .0) (l .inv .12) (c .before .before .before .before .before .before .before .before .before .before .match .keys1) in
+    let long : length (set (l .scopes) (c .before .before .before .before .before .before .before .before .wide .result) (l .here)) ≡ length (l .scopes) = length-set (l .scopes) (c .before .before .before .before .before .before .before .before .wide .result) (l .here) in
+    let popped : l .i < length (l .scopes) → (getD (l .waits) (l .depth - 1) 0 ≡ scopeOf (contextOf (l .names) p)) × (stacked 0 (l .waits) (l .depth - 1) ≡ map scopeOf (map (contextOf (l .names)) (queued D (l .stack) (l .depth - 1)))) =
+    λ room. scope-popped (l .waits) (l .depth) (contextOf (l .names) p) (map (contextOf (l .names)) (queued D (l .stack) (l .depth - 1))) pos (l .inv .13 room ∙ ap (λ (ps : List Point). map scopeOf (map (contextOf (l .names)) ps)) top) in (
       omega arith,
       omega arith,
       l .inv .2,
@@ -188,36 +237,54 @@ loop-again c =
       l .inv .7,
       held-less (l .names) (l .bound) (p .bound) (w .0) (l .inv .8),
       w .2,
-      subst (λ (ps : List Point). Names C (l .i + 1) (map (contextOf (l .names)) ps)) top left,
+      rw (c .before .before .before .before .before .before .before .keep .ensures) (subst (λ (ps : List Point). Scoping C (a .scopes .now) (l .i + 1) (map (contextOf (l .names)) ps) (set (l .scopes) (c .before .before .before .before .before .before .before .before .wide .result) (l .here))) top left),
+      l .inv .11,
+      (λ room. popped (omega (arith, room, ap length (c .before .before .before .before .before .before .before .keep .ensures), long)) .0),
+      (λ room. popped (omega (arith, room, ap length (c .before .before .before .before .before .before .before .keep .ensures), long)) .1),
+      ap length (c .before .before .before .before .before .before .before .keep .ensures) ∙ long ∙ l .inv .14,
     )
+
+wide-requires-2 : tie.Need-wide-requires-2 Inv-loop μ-loop
+wide-requires-2 c κs = search needs
+
+keep-requires-2 : tie.Need-keep-requires-2 Inv-loop μ-loop
+keep-requires-2 c κs = search needs
 
 paired-requires : tie.Need-paired-requires Inv-loop μ-loop
 paired-requires c κs = search needs
 
 mul-stack : tie.Need-mul-stack Inv-loop μ-loop
-mul-stack c = search needs
+mul-stack c = let l = c .before .before .before .before .before .before .before .before .before .loop in omega (arith, l .inv .4, c .before .before .before .before .before .before .before .before .loop-test .taken, c .before .before .before .before .before .before .before .before .before .before .before .before .before .before .before .before .before .before .before .before .before .before .before .before .before .before .before .before .before .before .before .pre .0 .sessions, c .before .before .before .before .before .before .before .before .before .before .before .before .before .before .before .before .before .before .before .before .before .before .before .before .before .before .before .before .before .before .before .pre .0 .nodes)
 
 slice-write-stack : tie.Need-slice-write-stack Inv-loop μ-loop
 slice-write-stack c = search needs
 
+mul-waits : tie.Need-mul-waits Inv-loop μ-loop
+mul-waits c = let l = c .before .before .before .before .before .before .before .before .before .loop in omega (arith, l .inv .4, c .before .before .before .before .before .before .before .before .loop-test .taken, c .before .before .before .before .before .before .before .before .before .before .before .before .before .before .before .before .before .before .before .before .before .before .before .before .before .before .before .before .before .before .before .pre .0 .sessions, c .before .before .before .before .before .before .before .before .before .before .before .before .before .before .before .before .before .before .before .before .before .before .before .before .before .before .before .before .before .before .before .pre .0 .nodes)
+
+slice-write-waits : tie.Need-slice-write-waits Inv-loop μ-loop
+slice-write-waits c = search needs
+
 add-depth : tie.Need-add-depth Inv-loop μ-loop
-add-depth c = search needs
+add-depth c = let l = c .before .before .before .before .before .before .before .before .before .loop in omega (arith, l .inv .4, c .before .before .before .before .before .before .before .before .loop-test .taken, c .before .before .before .before .before .before .before .before .before .before .before .before .before .before .before .before .before .before .before .before .before .before .before .before .before .before .before .before .before .before .before .pre .0 .sessions, c .before .before .before .before .before .before .before .before .before .before .before .before .before .before .before .before .before .before .before .before .before .before .before .before .before .before .before .before .before .before .before .pre .0 .nodes)
 
 loop-less-2 : tie.Need-loop-less-2 Inv-loop μ-loop
 loop-less-2 c = search needs
 
 loop-again-2 : tie.Need-loop-again-2 Inv-loop μ-loop
 loop-again-2 c =
-    let a = c .before .before .before .before .before .before .before .before .before .before .before .before .before .before .before .before .before .before .before .before .args in
-    let l = c .before .before .before .before .loop in
-    let n = c .before .before .node in
+    let a = c .before .before .before .before .before .before .before .before .before .before .before .before .before .before .before .before .before .before .before .before .before .before .before .before .before .before .before .before .before .before .before .args in
+    let l = c .before .before .before .before .before .before .before .before .before .loop in
+    let n = c .before .before .before .before .before .before .before .node in
     let C = contentsAt (a .file .now) (a .head) in
     let D = schemaOf C in
     let p = barePoint D (l .user) (l .bound) in
-    let room : l .depth < length (l .stack) = omega (arith, l .inv .4, l .inv .2, c .before .before .before .loop-test .taken, c .before .before .before .before .before .before .before .before .before .before .before .before .before .before .before .before .before .before .before .before .pre .4) in
+    let room : l .depth < length (l .stack) = omega (arith, l .inv .4, l .inv .2, c .before .before .before .before .before .before .before .before .loop-test .taken, c .before .before .before .before .before .before .before .before .before .before .before .before .before .before .before .before .before .before .before .before .before .before .before .before .before .before .before .before .before .before .before .pre .4) in
+    let beside : l .depth < length (l .waits) = omega (arith, l .inv .4, l .inv .11, c .before .before .before .before .before .before .before .before .loop-test .taken, c .before .before .before .before .before .before .before .before .before .before .before .before .before .before .before .before .before .before .before .before .before .before .before .before .before .before .before .before .before .before .before .pre .5) in
     let is : unpaired D (c .paired .result) ≡ p = ap₂ (barePoint D) (omega (arith, c .paired .ensures)) (omega (arith, c .paired .ensures)) in
+    let long : length (set (l .scopes) (c .before .before .before .before .wide2 .result) (l .here)) ≡ length (l .scopes) = length-set (l .scopes) (c .before .before .before .before .wide2 .result) (l .here) in
     let push = read-push 0 (unpaired D) (l .stack) (l .depth) (c .paired .result) p room is in
-    let left = names-fork C (l .i) (contextOf (l .names) p) (map (contextOf (l .names)) (queued D (l .stack) (l .depth))) (n .result) (l .inv .0) (omega (arith, nodes-held (a .file .now) (a .head), c .before .before .before .loop-test .taken)) (n .ensures) (c .before .match .keys2) (l .inv .10) in (
+    let left = scoping-fork C (a .scopes .now) (l .i) (contextOf (l .names) p) (map (contextOf (l .names)) (queued D (l .stack) (l .depth))) (l .scopes) (n .result) (l .inv .0) (omega (arith, nodes-held (a .file .now) (a .head), c .before .before .before .before .before .before .before .before .loop-test .taken)) (n .ensures) (l .inv .10) (c .before .before .before .before .wide2 .result) (l .here) (c .before .before .before .before .wide2 .ensures .0) (l .inv .12) (c .before .before .before .before .before .before .match .keys2) in (
       omega arith,
       omega arith,
       simp length-set (l .inv .2),
@@ -228,29 +295,47 @@ loop-again-2 c =
       l .inv .7,
       l .inv .8,
       waits-push (unpaired D) Ownable (l .bound) (l .stack) (l .depth) (c .paired .result) p room is (omega arith) (l .inv .6) (l .inv .9),
-      subst (λ (ps : List Point). Names C (l .i + 1) (contextOf (l .names) p ∷ map (contextOf (l .names)) ps)) (sym push) left,
+      rw (c .before .before .before .keep2 .ensures) (subst (λ (ps : List Point). Scoping C (a .scopes .now) (l .i + 1) (contextOf (l .names) p ∷ map (contextOf (l .names)) ps) (set (l .scopes) (c .before .before .before .before .wide2 .result) (l .here))) (sym push) left),
+      simp length-set (l .inv .11),
+      (λ room. l .inv .12 (omega (arith, room, ap length (c .before .before .before .keep2 .ensures), long))),
+      (λ room.
+          let due : l .i < length (l .scopes) = omega (arith, room, ap length (c .before .before .before .keep2 .ensures), long) in
+          scope-pushed (l .waits) (l .depth) (l .here) (contextOf (l .names) p) (map (contextOf (l .names)) (queued D (l .stack) (l .depth))) beside (l .inv .12 due) (l .inv .13 due) ∙ ap (λ (ps : List Point). map scopeOf (map (contextOf (l .names)) ps)) (sym push)),
+      ap length (c .before .before .before .keep2 .ensures) ∙ long ∙ l .inv .14,
     )
 
 naming-at-requires : tie.Need-naming-at-requires Inv-loop μ-loop
 naming-at-requires c κs = search needs
 
-same-length-5 : tie.Need-same-length-5 Inv-loop μ-loop
-same-length-5 c = search needs
+same-length-8 : tie.Need-same-length-8 Inv-loop μ-loop
+same-length-8 c = search needs
 
-same-length-6 : tie.Need-same-length-6 Inv-loop μ-loop
-same-length-6 c = search needs
+same-length-9 : tie.Need-same-length-9 Inv-loop μ-loop
+same-length-9 c = search needs
+
+same-length-10 : tie.Need-same-length-10 Inv-loop μ-loop
+same-length-10 c = search needs
+
+same-length-11 : tie.Need-same-length-11 Inv-loop μ-loop
+same-length-11 c = c .before .before .before .before .before .before .before .loop .inv .14
 
 returns-3 : tie.Need-returns-3 Inv-loop μ-loop
 returns-3 c =
-    let a = c .before .before .before .before .before .before .before .before .before .before .before .before .before .before .before .before .before .before .before .before .before .before .before .args in
+    let a = c .before .before .before .before .before .before .before .before .before .before .before .before .before .before .before .before .before .before .before .before .before .before .before .before .before .before .before .before .before .args in
     let l = c .before .before .before .before .before .before .before .loop in
     let n = c .before .before .before .before .before .node in
     let C = contentsAt (a .file .now) (a .head) in
-    names-refused C (l .i) (contextOf (l .names) (barePoint (schemaOf C) (l .user) (l .bound))) _ (c .before .before .naming-at .result .wrong) (n .result) (l .inv .0) (omega (arith, nodes-held (a .file .now) (a .head), c .before .before .before .before .before .before .loop-test .taken)) (n .ensures)
-    (told-at (c .before .before) .wrong) (c .if3 .taken) (l .inv .10)
+    scoping-refused C (a .scopes .now) (l .i) (contextOf (l .names) (barePoint (schemaOf C) (l .user) (l .bound))) _ (l .scopes) (n .result) (l .inv .0) (omega (arith, nodes-held (a .file .now) (a .head), c .before .before .before .before .before .before .loop-test .taken)) (n .ensures) (l .inv .10) (c .before .before .naming-at .result .wrong)
+    (told-at (c .before .before) .wrong) (c .if3 .taken)
 
-wide-requires : tie.Need-wide-requires Inv-loop μ-loop
-wide-requires c κs = search needs
+wide-requires-3 : tie.Need-wide-requires-3 Inv-loop μ-loop
+wide-requires-3 c κs = search needs
+
+keep-requires-3 : tie.Need-keep-requires-3 Inv-loop μ-loop
+keep-requires-3 c κs = search needs
+
+wide-requires-4 : tie.Need-wide-requires-4 Inv-loop μ-loop
+wide-requires-4 c κs = search needs
 
 add-names : tie.Need-add-names Inv-loop μ-loop
 add-names c = search needs
@@ -259,32 +344,45 @@ mul-names : tie.Need-mul-names Inv-loop μ-loop
 mul-names c = search needs
 
 slice-write-names : tie.Need-slice-write-names Inv-loop μ-loop
-slice-write-names c = let l = c .before .before .before .before .before .before .before .before .loop in omega (arith, c .wide .ensures .0, l .inv .3, l .inv .5, c .before .before .before .before .before .before .before .loop-test .taken, c .before .before .before .before .before .before .before .before .before .before .before .before .before .before .before .before .before .before .before .name-all .ensures .0, c .before .before .before .before .before .before .before .before .before .before .before .before .before .before .before .before .before .before .before .before .before .before .before .before .pre .2)
+slice-write-names c = let l = c .before .before .before .before .before .before .before .before .before .before .before .before .before .loop in omega (arith, c .wide4 .ensures .0, l .inv .3, l .inv .5, c .before .before .before .before .before .before .before .before .before .before .before .before .loop-test .taken, c .before .before .before .before .before .before .before .before .before .before .before .before .before .before .before .before .before .before .before .before .before .before .before .before .before .before .before .before .name-all .ensures .0, c .before .before .before .before .before .before .before .before .before .before .before .before .before .before .before .before .before .before .before .before .before .before .before .before .before .before .before .before .before .before .before .before .before .before .before .pre .2)
+
+wide-requires-5 : tie.Need-wide-requires-5 Inv-loop μ-loop
+wide-requires-5 c κs = search needs
+
+scope-after-requires : tie.Need-scope-after-requires Inv-loop μ-loop
+scope-after-requires c κs = search needs
 
 loop-less-3 : tie.Need-loop-less-3 Inv-loop μ-loop
 loop-less-3 c = search needs
 
 loop-again-3 : tie.Need-loop-again-3 Inv-loop μ-loop
 loop-again-3 c =
-    let a = c .before .before .before .before .before .before .before .before .before .before .before .before .before .before .before .before .before .before .before .before .before .before .before .before .args in
-    let l = c .before .before .before .before .before .before .before .before .loop in
-    let n = c .before .before .before .before .before .before .node in
+    let a = c .before .before .before .before .before .before .before .before .before .before .before .before .before .before .before .before .before .before .before .before .before .before .before .before .before .before .before .before .before .before .before .before .before .before .before .before .before .args in
+    let l = c .before .before .before .before .before .before .before .before .before .before .before .before .before .before .before .loop in
+    let n = c .before .before .before .before .before .before .before .before .before .before .before .before .before .node in
     let C = contentsAt (a .file .now) (a .head) in
     let D = schemaOf C in
-    let s = c .before .before .before .naming-at .result in
-    let it = told-at (c .before .before .before) in
-    let good = c .before .if3 .left in
+    let s = c .before .before .before .before .before .before .before .before .before .before .naming-at .result in
+    let it = told-at (c .before .before .before .before .before .before .before .before .before .before) in
+    let good = c .before .before .before .before .before .before .before .before .if3 .left in
     let here = contextOf (l .names) (barePoint D (l .user) (l .bound)) in
     let rest = map (contextOf (l .names)) (queued D (l .stack) (l .depth)) in
-    let to : 512 + c .wide .result ≡ 512 + l .bound = ap (λ k. 512 + k) (c .wide .ensures .0) in
+    let to : 512 + c .before .before .wide4 .result ≡ 512 + l .bound = ap (λ k. 512 + k) (c .before .before .wide4 .ensures .0) in
+    let long : 512 + l .bound < length (l .names) = omega (arith, l .inv .3, l .inv .5, c .before .before .before .before .before .before .before .before .before .before .before .before .before .before .loop-test .taken, c .before .before .before .before .before .before .before .before .before .before .before .before .before .before .before .before .before .before .before .before .before .before .before .before .before .before .before .before .before .before .name-all .ensures .0, c .before .before .before .before .before .before .before .before .before .before .before .before .before .before .before .before .before .before .before .before .before .before .before .before .before .before .before .before .before .before .before .before .before .before .before .before .before .pre .2) in
     let same : l .bound ≤ l .bound = omega arith in
     let kept = contexts-kept Ownable (l .names) (l .bound) (s .binding) (l .bound) (queued D (l .stack) (l .depth)) same (l .inv .9) in
     let t = set (l .names) (512 + l .bound) (s .binding) in
     let more = contextOf t (barePoint D (l .user) (s .bound)) ∷ map (contextOf t) (queued D (l .stack) (l .depth)) in
     let next : map unmasked more ≡ map unmasked (waitingAfter D here (n .result) rest) =
-    ap₂ _∷_ (it .child good) (ap (map unmasked) kept) ∙ ap (map unmasked) (after-step D here (n .result) rest (c .before .before .before .before .before .match .rest .0 .1) (c .before .before .before .before .before .match .rest .1) refl refl) in
-    let left = names-on C (l .i) here rest more (n .result) (l .inv .0) (omega (arith, nodes-held (a .file .now) (a .head), c .before .before .before .before .before .before .before .loop-test .taken)) (n .ensures) (sym (it .wrong) ∙ good) next (l .inv .10) in
-    rw (to) (
+    ap₂ _∷_ (it .child good) (ap (map unmasked) kept) ∙ ap (map unmasked) (after-step D here (n .result) rest (c .before .before .before .before .before .before .before .before .before .before .before .before .match .rest .0 .1) (c .before .before .before .before .before .before .before .before .before .before .before .before .match .rest .1) refl refl) in
+    let left = scoping-on C (a .scopes .now) (l .i) here rest (l .scopes) (n .result) (l .inv .0) (omega (arith, nodes-held (a .file .now) (a .head), c .before .before .before .before .before .before .before .before .before .before .before .before .before .before .loop-test .taken)) (n .ensures) (l .inv .10) (c .before .before .before .before .before .before .wide3 .result) (l .here) (c .before .before .before .before .before .before .wide3 .ensures .0) (l .inv .12) more (sym (it .wrong) ∙ good) next in
+    let same-room : length (set (l .scopes) (c .before .before .before .before .before .before .wide3 .result) (l .here)) ≡ length (l .scopes) = length-set (l .scopes) (c .before .before .before .before .before .before .wide3 .result) (l .here) in
+    let child : l .i < length (l .scopes) → c .scope-after .result ≡ scopeOf (contextOf t (barePoint D (l .user) (s .bound))) =
+    λ due.
+    c .scope-after .ensures (lt-ltb (c .before .wide5 .result) (length (c .before .before .before .before .before .keep3 .last .0)) (omega (arith, due, c .before .wide5 .ensures .0, ap length (c .before .before .before .before .before .keep3 .ensures), same-room)))
+    ∙ ap (λ (w : ℕ). cond (eqb (s .bound) (l .bound)) w (bindScope w (kindIn (s .binding)))) (l .inv .12 due)
+    ∙ scope-next D (l .names) (l .user) (l .bound) (s .binding) (s .bound) long (it .least good) (it .most good) in
+    rw (to, c .before .before .before .before .before .keep3 .ensures) (
       omega arith,
       omega arith,
       l .inv .2,
@@ -296,19 +394,29 @@ loop-again-3 c =
       it .held good,
       waits-more Ownable (l .bound) (s .bound) (queued D (l .stack) (l .depth)) (it .least good) (l .inv .9),
       left,
+      l .inv .11,
+      (λ room. child (omega (arith, room, same-room))),
+      (λ room. l .inv .13 (omega (arith, room, same-room)) ∙ ap (map scopeOf) (sym kept)),
+      same-room ∙ l .inv .14,
     )
 
-same-length-7 : tie.Need-same-length-7 Inv-loop μ-loop
-same-length-7 c = search needs
+same-length-12 : tie.Need-same-length-12 Inv-loop μ-loop
+same-length-12 c = search needs
 
-same-length-8 : tie.Need-same-length-8 Inv-loop μ-loop
-same-length-8 c = search needs
+same-length-13 : tie.Need-same-length-13 Inv-loop μ-loop
+same-length-13 c = search needs
+
+same-length-14 : tie.Need-same-length-14 Inv-loop μ-loop
+same-length-14 c = search needs
+
+same-length-15 : tie.Need-same-length-15 Inv-loop μ-loop
+same-length-15 c = c .before .loop .inv .14
 
 returns-4 : tie.Need-returns-4 Inv-loop μ-loop
 returns-4 c =
-    let a = c .before .before .before .before .before .before .before .before .before .before .before .before .before .before .before .before .before .args in
+    let a = c .before .before .before .before .before .before .before .before .before .before .before .before .before .before .before .before .before .before .before .before .before .before .before .args in
     let l = c .before .loop in
-    names-end (contentsAt (a .file .now) (a .head)) (l .i) _ (omega (arith, nodes-held (a .file .now) (a .head), c .loop-test .left)) (l .inv .10)
+    scoping-ends (contentsAt (a .file .now) (a .head)) (a .scopes .now) (l .i) _ (l .scopes) (omega (arith, nodes-held (a .file .now) (a .head), c .loop-test .left)) (l .inv .10)
 
 pub walk-names-spec : {M : Type 1} → statement M
 walk-names-spec =
@@ -320,41 +428,62 @@ walk-names-spec =
     open-users-requires
     same-length
     same-length-2
+    same-length-3
     returns
     sub-depth
     mul-top
     slice-read-top
     kind-of-requires
     owner-of-requires
+    mul-here
+    slice-read-here
     loop-holds
     node-requires
     add-i
-    same-length-3
+    wide-requires
+    keep-requires
     same-length-4
+    same-length-5
+    same-length-6
+    same-length-7
     returns-2
     sub-depth-2
     mul-next
     slice-read-next
     kind-of-requires-2
     owner-of-requires-2
+    mul-here-2
+    slice-read-here-2
     loop-less
     loop-again
+    wide-requires-2
+    keep-requires-2
     paired-requires
     mul-stack
     slice-write-stack
+    mul-waits
+    slice-write-waits
     add-depth
     loop-less-2
     loop-again-2
     naming-at-requires
-    same-length-5
-    same-length-6
+    same-length-8
+    same-length-9
+    same-length-10
+    same-length-11
     returns-3
-    wide-requires
+    wide-requires-3
+    keep-requires-3
+    wide-requires-4
     add-names
     mul-names
     slice-write-names
+    wide-requires-5
+    scope-after-requires
     loop-less-3
     loop-again-3
-    same-length-7
-    same-length-8
+    same-length-12
+    same-length-13
+    same-length-14
+    same-length-15
     returns-4)

@@ -5,7 +5,7 @@ use lib.ListN.{length}
 use lib.Seq.{sets}
 use Rattle.format.specs.Words.{bytesOf}
 use Rattle.running.specs.Run.{madeWords}
-use Rattle.steps.specs.Kept.{madeIn}
+use Rattle.steps.specs.Beside.{madeIn}
 use Rattle.running.proofs.PutLaws.{made-begin, made-turn, made-end}
 use borrow.Author.Needs.{needs}
 use Rattle.running.proofs.out.put_made.Statement.{statement}
@@ -13,11 +13,12 @@ use Rattle.running.proofs.out.put_made.Tie as tie
 use Rattle.running.proofs.out.put_made.Reads as reads
 use Rattle.running.proofs.out.put_made.Lts as lts
 use Rattle.running.proofs.out.put_two.Reads as put-two-reads
+use Rattle.steps.proofs.beside.made_at.Reads as made-at-reads
 
 abbrev Inv-loop : tie.InvT-loop
 Inv-loop beside made out₀ i₀ out i =
     (i ≤ made) × (length out ≡ length out₀)
-    × (sets out (2 * (4 + 2 * i)) (bytesOf (madeWords (madeIn beside (2 + 2 * i) (made - i)))) ≡ sets out₀ 8 (bytesOf (madeWords (madeIn beside 2 made))))
+    × (sets out (2 * (4 + 2 * i)) (bytesOf (madeWords (madeIn beside (2 * i + 2) (made - i)))) ≡ sets out₀ 8 (bytesOf (madeWords (madeIn beside 2 made))))
 
 abbrev μ-loop : tie.MeasureT-loop
 μ-loop beside made out₀ i₀ out i = made - i
@@ -27,29 +28,14 @@ loop-holds c =
     let a = c .before .before .args in
     (omega arith, refl, made-begin (a .beside .now) (a .out .now) (a .made))
 
-mul-at : tie.Need-mul-at Inv-loop μ-loop
-mul-at c = search needs
-
-add-at : tie.Need-add-at Inv-loop μ-loop
-add-at c = search needs
-
-add-put-two : tie.Need-add-put-two Inv-loop μ-loop
-add-put-two c = search needs
+made-at-requires : tie.Need-made-at-requires Inv-loop μ-loop
+made-at-requires c κs = search needs
 
 mul-put-two : tie.Need-mul-put-two Inv-loop μ-loop
 mul-put-two c = search needs
 
-shared-slice-read-put-two : tie.Need-shared-slice-read-put-two Inv-loop μ-loop
-shared-slice-read-put-two c = search needs
-
-add-put-two-2 : tie.Need-add-put-two-2 Inv-loop μ-loop
-add-put-two-2 c = search needs
-
-mul-put-two-2 : tie.Need-mul-put-two-2 Inv-loop μ-loop
-mul-put-two-2 c = search needs
-
-shared-slice-read-put-two-2 : tie.Need-shared-slice-read-put-two-2 Inv-loop μ-loop
-shared-slice-read-put-two-2 c = search needs
+add-put-two : tie.Need-add-put-two Inv-loop μ-loop
+add-put-two c = search needs
 
 put-two-requires : tie.Need-put-two-requires Inv-loop μ-loop
 put-two-requires c κs = search needs
@@ -62,12 +48,13 @@ loop-less c = search needs
 
 loop-again : tie.Need-loop-again Inv-loop μ-loop
 loop-again c =
-    let a = c .before .before .before .before .before .before .before .before .before .before .args in
-    let l = c .before .before .before .before .before .before .before .loop in
+    let a = c .before .before .before .before .before .before .before .before .before .args in
+    let l = c .before .before .before .before .before .before .loop in
+    let it = c .before .before .before .before .made-at in
     let g = c .before .before .put-two in (
       omega arith,
       search needs,
-      made-turn (a .beside .now) (l .out) (g .last .0) _ (a .made) (l .i) (omega arith) (g .ensures) (l .inv .2),
+      made-turn (a .beside .now) (l .out) (g .last .0) _ (a .made) (l .i) (it .result) (omega arith) (it .ensures) (g .ensures) (l .inv .2),
     )
 
 same-length : tie.Need-same-length Inv-loop μ-loop
@@ -86,14 +73,9 @@ put-made-spec =
     Inv-loop
     μ-loop
     loop-holds
-    mul-at
-    add-at
-    add-put-two
+    made-at-requires
     mul-put-two
-    shared-slice-read-put-two
-    add-put-two-2
-    mul-put-two-2
-    shared-slice-read-put-two-2
+    add-put-two
     put-two-requires
     add-i
     loop-less

@@ -5,7 +5,7 @@ use lib.ListN.{length}
 use lib.Seq.{sets}
 use Rattle.format.specs.Words.{bytesOf}
 use Rattle.running.specs.Run.{threadWords}
-use Rattle.steps.specs.Kept.{threadsIn}
+use Rattle.steps.specs.Records.{threadsIn}
 use Rattle.running.proofs.PutLaws.{threads-begin, threads-turn, threads-end}
 use borrow.Author.Needs.{needs}
 use Rattle.running.proofs.out.put_threads.Statement.{statement}
@@ -13,7 +13,7 @@ use Rattle.running.proofs.out.put_threads.Tie as tie
 use Rattle.running.proofs.out.put_threads.Reads as reads
 use Rattle.running.proofs.out.put_threads.Lts as lts
 use Rattle.running.proofs.out.put_thread.Reads as put-thread-reads
-use Rattle.choices.proofs.state.thread_at.Reads as thread-at-reads
+use Rattle.steps.proofs.records.thread_at.Reads as thread-at-reads
 
 abbrev Inv-loop : tie.InvT-loop
 Inv-loop threads count out₀ base i₀ out i =

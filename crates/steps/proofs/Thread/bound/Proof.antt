@@ -1,109 +1,87 @@
+-- The invariant: the variables before k are done, and nothing else of the thread changes.
+use Prim.Native.Nat.{_+_, _-_, _≤_}
+use mathlib.Core.Path.{_≡_, refl, _∙_}
 use native.Mathlib.Omega.{arith}
-use Rattle.steps.proofs.ThreadLaws.{past-eight, bound-at, bound-full, unmapped}
+use lib.ListN.{length, length-set}
 use borrow.Author.Needs.{needs}
+use Rattle.steps.proofs.ThreadLaws.{Passed, pass-more, passed-all, unmapped}
 use Rattle.steps.proofs.Thread.bound.Statement.{statement}
 use Rattle.steps.proofs.Thread.bound.Tie as tie
 use Rattle.steps.proofs.Thread.bound.Reads as reads
 use Rattle.steps.proofs.Thread.bound.Lts as lts
-use Rattle.steps.proofs.threads.first_free.Reads as first-free-reads
+use Rattle.steps.proofs.threads.either.Reads as either-reads
 
-first-free-requires : tie.Need-first-free-requires
-first-free-requires c κs = search needs
+abbrev Inv-loop : tie.InvT-loop
+Inv-loop given self₀ open₀ k₀ self «open» k =
+    (k ≤ 8) × (length (self₀ .vars) ≡ 8) × (length (self .vars) ≡ 8) × Passed (self₀ .vars) given k «open» (self .vars)
+    × (self .user ≡ self₀ .user) × (self .node ≡ self₀ .node) × (self .mask ≡ self₀ .mask)
 
-add-self : tie.Need-add-self
-add-self c = search needs
+abbrev μ-loop : tie.MeasureT-loop
+μ-loop given self₀ open₀ k₀ self «open» k = 8 - k
 
-element-write-self : tie.Need-element-write-self
+loop-holds : tie.Need-loop-holds Inv-loop μ-loop
+loop-holds c =
+    let l = unmapped _ (c .args .t1 .vars) 8 (c .good .0 .1 .1 .1 .1 .1 .0 .1 .0 .1) in
+    (omega arith, l, l, (refl, omega arith), refl, refl, refl)
+
+mul-v : tie.Need-mul-v Inv-loop μ-loop
+mul-v c = search needs
+
+element-copy-out-v : tie.Need-element-copy-out-v Inv-loop μ-loop
+element-copy-out-v c = search needs
+
+either-requires : tie.Need-either-requires Inv-loop μ-loop
+either-requires c κs = search needs
+
+mul-self : tie.Need-mul-self Inv-loop μ-loop
+mul-self c = search needs
+
+element-write-self : tie.Need-element-write-self Inv-loop μ-loop
 element-write-self c = search needs
 
-element-write-self-2 : tie.Need-element-write-self-2
-element-write-self-2 c = search needs
+add-k : tie.Need-add-k Inv-loop μ-loop
+add-k c = search needs
 
-element-write-self-3 : tie.Need-element-write-self-3
-element-write-self-3 c = search needs
+loop-less : tie.Need-loop-less Inv-loop μ-loop
+loop-less c = omega arith
 
-element-write-self-4 : tie.Need-element-write-self-4
-element-write-self-4 c = search needs
+loop-again : tie.Need-loop-again Inv-loop μ-loop
+loop-again c =
+    let a = c .before .before .before .before .args in
+    let l = c .before .before .before .loop in (
+      omega arith,
+      l .inv .1,
+      length-set (l .self .vars) (l .k) (c .either .result) ∙ l .inv .2,
+      pass-more (a .t1 .vars) (a .given) (l .k) (l .«open») _ (l .self .vars) (c .either .result) (omega (arith, l .inv .1)) refl (c .either .ensures) (l .inv .3),
+      l .inv .4,
+      l .inv .5,
+      l .inv .6,
+    )
 
-element-write-self-5 : tie.Need-element-write-self-5
-element-write-self-5 c = search needs
+add-self : tie.Need-add-self Inv-loop μ-loop
+add-self c = omega arith
 
-element-write-self-6 : tie.Need-element-write-self-6
-element-write-self-6 c = search needs
-
-element-write-self-7 : tie.Need-element-write-self-7
-element-write-self-7 c = search needs
-
-element-write-self-8 : tie.Need-element-write-self-8
-element-write-self-8 c = search needs
-
-returns : tie.Need-returns
+returns : tie.Need-returns Inv-loop μ-loop
 returns c =
-    let w = c .before in
-    bound-at (w .before .before .args .t1) (w .before .before .args .given) (w .first-free .result) 0 (w .first-free .ensures) (c .match .keys1)
-
-returns-2 : tie.Need-returns-2
-returns-2 c =
-    let w = c .before in
-    bound-at (w .before .before .args .t1) (w .before .before .args .given) (w .first-free .result) 1 (w .first-free .ensures) (c .match .keys2)
-
-returns-3 : tie.Need-returns-3
-returns-3 c =
-    let w = c .before in
-    bound-at (w .before .before .args .t1) (w .before .before .args .given) (w .first-free .result) 2 (w .first-free .ensures) (c .match .keys3)
-
-returns-4 : tie.Need-returns-4
-returns-4 c =
-    let w = c .before in
-    bound-at (w .before .before .args .t1) (w .before .before .args .given) (w .first-free .result) 3 (w .first-free .ensures) (c .match .keys4)
-
-returns-5 : tie.Need-returns-5
-returns-5 c =
-    let w = c .before in
-    bound-at (w .before .before .args .t1) (w .before .before .args .given) (w .first-free .result) 4 (w .first-free .ensures) (c .match .keys5)
-
-returns-6 : tie.Need-returns-6
-returns-6 c =
-    let w = c .before in
-    bound-at (w .before .before .args .t1) (w .before .before .args .given) (w .first-free .result) 5 (w .first-free .ensures) (c .match .keys6)
-
-returns-7 : tie.Need-returns-7
-returns-7 c =
-    let w = c .before in
-    bound-at (w .before .before .args .t1) (w .before .before .args .given) (w .first-free .result) 6 (w .first-free .ensures) (c .match .keys7)
-
-returns-8 : tie.Need-returns-8
-returns-8 c =
-    let w = c .before in
-    bound-at (w .before .before .args .t1) (w .before .before .args .given) (w .first-free .result) 7 (w .first-free .ensures) (c .match .keys8)
-
-returns-9 : tie.Need-returns-9
-returns-9 c =
-    let w = c .before in
-    let l = unmapped _ (w .before .before .args .t1 .vars) 8 (w .before .before .good .0 .1 .1 .1 .1 .1 .0 .1 .0 .1) in
-    let g = c .match .rest in
-    bound-full (w .before .before .args .t1) (w .before .before .args .given) (w .first-free .result) (w .first-free .ensures) (omega (arith, l, past-eight 0 (w .first-free .result) (omega arith) (g .0 .0 .0 .0 .0 .0 .0 .1) (g .0 .0 .0 .0 .0 .0 .1) (g .0 .0 .0 .0 .0 .1) (g .0 .0 .0 .0 .1) (g .0 .0 .0 .1) (g .0 .0 .1) (g .0 .1) (g .1)))
+    let l = c .before .loop in
+    let a = c .before .before .args in
+    let vars = passed-all (a .t1 .vars) (a .given) (l .k) (l .«open») (l .self .vars) (omega (arith, l .inv .1)) (l .inv .3) in
+    λ i. record { user = l .inv .4 i; node = l .inv .5 i + 1; mask = l .inv .6 i; vars = vars i }
 
 pub bound-spec : {M : Type 1} → statement M
 bound-spec =
     tie.close
     (tie.spec
-    first-free-requires
-    add-self
+    Inv-loop
+    μ-loop
+    loop-holds
+    mul-v
+    element-copy-out-v
+    either-requires
+    mul-self
     element-write-self
-    element-write-self-2
-    element-write-self-3
-    element-write-self-4
-    element-write-self-5
-    element-write-self-6
-    element-write-self-7
-    element-write-self-8
-    returns
-    returns-2
-    returns-3
-    returns-4
-    returns-5
-    returns-6
-    returns-7
-    returns-8
-    returns-9)
+    add-k
+    loop-less
+    loop-again
+    add-self
+    returns)

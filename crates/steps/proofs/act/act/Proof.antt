@@ -1,12 +1,14 @@
-use mathlib.Core.Path.{_≡_, sym, _∙_}
+use Prim.Native.Nat.{ℕ}
+use mathlib.Core.Path.{_≡_, sym, ap₂, _∙_}
 use mathlib.Core.Bool.{Bool}
 use native.Mathlib.Omega.{arith}
 use lib.ListN.{length, getD}
 use borrow.Author.Tests.{not-true, not-false}
 use Rattle.format.specs.Contents.{inCount, contentsAt}
 use Rattle.format.proofs.ContentsLaws.{in-count, nodes-held, nodes-counted}
-use Rattle.steps.specs.Choice.{clinicOf}
-use Rattle.steps.specs.Kept.{madeIn}
+use Rattle.steps.specs.Choice.{clinicOf, lone}
+use Rattle.steps.specs.Acted.{actedOf}
+use Rattle.steps.specs.Beside.{madeIn}
 use Rattle.steps.proofs.ActLaws.{answered, length-made, acting-out, acting-send, acting-receive, acting-partner, acting-lone}
 use borrow.Author.Needs.{needs}
 use Rattle.steps.proofs.act.act.Statement.{statement}
@@ -18,6 +20,8 @@ use Rattle.format.proofs.sections.node.Reads as node-reads
 use Rattle.steps.proofs.act.refused.Reads as refused-reads
 use Rattle.steps.proofs.act.send.Reads as send-reads
 use Rattle.steps.proofs.act.step.Reads as step-reads
+use Rattle.steps.proofs.beside.made_count.Reads as made-count-reads
+use Rattle.steps.proofs.beside.thread_count.Reads as thread-count-reads
 
 -- the thread's node is in count, or not
 counted : (c : tie.After-in-count) {b : Bool} → c .in-count .result ≡ b
@@ -66,11 +70,11 @@ returns-4 c =
     let a = c .before .before .before .before .before .before .before .before .before .before .before .before .before .args in
     answered (acting-partner (clinicOf (contentsAt (a .file .now) (a .head))) (getD (a .beside .now) 0 0) (madeIn (a .beside .now) 2 (getD (a .beside .now) 1 0)) (a .own) (a .partner) (a .other) (c .before .before .before .before .before .before .node .result) (c .before .before .before .before .before .before .node .ensures) (counted (c .before .before .before .before .before .before .before .before) (not-false _ (c .before .before .before .before .before .before .before .if1 .left))) (c .before .before .before .before .if2 .left) (c .before .before .if3 .left) (c .before .if4 .taken)) (c .refused3 .ensures)
 
-shared-slice-read-step : tie.Need-shared-slice-read-step
-shared-slice-read-step c = search needs
+thread-count-requires : tie.Need-thread-count-requires
+thread-count-requires c κs = search needs
 
-shared-slice-read-step-2 : tie.Need-shared-slice-read-step-2
-shared-slice-read-step-2 c = search needs
+made-count-requires : tie.Need-made-count-requires
+made-count-requires c κs = search needs
 
 step-requires : tie.Need-step-requires
 step-requires c κs =
@@ -82,7 +86,7 @@ step-requires c κs =
 returns-5 : tie.Need-returns-5
 returns-5 c =
     let a = c .before .before .before .before .before .before .before .before .before .before .before .before .before .before .before .args in
-    answered (acting-lone (clinicOf (contentsAt (a .file .now) (a .head))) (getD (a .beside .now) 0 0) (madeIn (a .beside .now) 2 (getD (a .beside .now) 1 0)) (a .own) (a .partner) (a .other) (c .before .before .before .before .before .before .before .before .node .result) (getD (a .beside .now) 1 0) (c .before .before .before .before .before .before .before .before .node .ensures) (length-made (a .beside .now) 2 (getD (a .beside .now) 1 0)) (counted (c .before .before .before .before .before .before .before .before .before .before) (not-false _ (c .before .before .before .before .before .before .before .before .before .if1 .left))) (c .before .before .before .before .before .before .if2 .left) (c .before .before .before .before .if3 .left) (c .before .before .before .if4 .left)) (c .step .ensures)
+    answered (acting-lone (clinicOf (contentsAt (a .file .now) (a .head))) (getD (a .beside .now) 0 0) (madeIn (a .beside .now) 2 (getD (a .beside .now) 1 0)) (a .own) (a .partner) (a .other) (c .before .before .before .before .before .before .before .before .node .result) (getD (a .beside .now) 1 0) (c .before .before .before .before .before .before .before .before .node .ensures) (length-made (a .beside .now) 2 (getD (a .beside .now) 1 0)) (counted (c .before .before .before .before .before .before .before .before .before .before) (not-false _ (c .before .before .before .before .before .before .before .before .before .if1 .left))) (c .before .before .before .before .before .before .if2 .left) (c .before .before .before .before .if3 .left) (c .before .before .before .if4 .left)) (c .step .ensures ∙ ap₂ (λ (n m : ℕ). actedOf (lone (clinicOf (contentsAt (a .file .now) (a .head))) n m (a .own) (c .before .before .before .before .before .before .before .before .node .result))) (c .before .before .thread-count .ensures) (c .before .made-count .ensures))
 
 pub act-spec : {M : Type 1} → statement M
 act-spec =
@@ -98,7 +102,7 @@ act-spec =
     returns-3
     refused-requires-3
     returns-4
-    shared-slice-read-step
-    shared-slice-read-step-2
+    thread-count-requires
+    made-count-requires
     step-requires
     returns-5)

@@ -13,6 +13,8 @@ use Rattle.steps.proofs.act.kind_held.Reads as reads
 use Rattle.steps.proofs.act.kind_held.Lts as lts
 use Rattle.format.proofs.sections.channel.Reads as channel-reads
 use Rattle.format.proofs.words.wide.Reads as wide-reads
+use Rattle.steps.proofs.beside.made_at.Reads as made-at-reads
+use Rattle.steps.proofs.beside.made_count.Reads as made-count-reads
 
 returns : tie.Need-returns
 returns c =
@@ -34,35 +36,30 @@ returns-2 c =
 wide-requires : tie.Need-wide-requires
 wide-requires c κs = search needs
 
-shared-slice-read-wide : tie.Need-shared-slice-read-wide
-shared-slice-read-wide c = search needs
+made-count-requires : tie.Need-made-count-requires
+made-count-requires c κs = search needs
 
 wide-requires-2 : tie.Need-wide-requires-2
 wide-requires-2 c κs = search needs
 
-mul-result : tie.Need-mul-result
-mul-result c = search needs
-
-add-result : tie.Need-add-result
-add-result c = search needs
-
-mul-result-2 : tie.Need-mul-result-2
-mul-result-2 c = search needs
-
-shared-slice-read-result : tie.Need-shared-slice-read-result
-shared-slice-read-result c = search needs
+made-at-requires : tie.Need-made-at-requires
+made-at-requires c κs =
+    let p = c .before .before .before .before .before .before .before .before .pre in
+    (p .1, omega (arith, p .2, c .if3 .taken, c .before .wide2 .ensures .0, c .before .before .made-count .ensures))
 
 returns-3 : tie.Need-returns-3
 returns-3 c =
     let w = c .before .before .before .before in
     let a = w .before .before .before .before .before .args in
-    kind-of-made (schemaOf (contentsAt (now (a .file)) (a .head))) (now (a .beside)) (getD (now (a .beside)) 1 0) (a .v) (w .wide .result) (w .before .if2 .left) (w .wide .ensures .0) (search needs)
+    kind-of-made (schemaOf (contentsAt (now (a .file)) (a .head))) (now (a .beside)) (getD (now (a .beside)) 1 0) (a .v) (w .wide .result) (c .made-at .result) (w .before .if2 .left) (w .wide .ensures .0)
+    (omega (arith, c .before .if3 .taken, c .before .before .wide2 .ensures .0, c .before .before .before .made-count .ensures)) (c .made-at .ensures)
 
 returns-4 : tie.Need-returns-4
 returns-4 c =
     let w = c .before .before .before in
     let a = w .before .before .before .before .before .args in
-    kind-of-none (schemaOf (contentsAt (now (a .file)) (a .head))) (now (a .beside)) (getD (now (a .beside)) 1 0) (a .v) (w .wide .result) (w .before .if2 .left) (w .wide .ensures .0) (search needs)
+    kind-of-none (schemaOf (contentsAt (now (a .file)) (a .head))) (now (a .beside)) (getD (now (a .beside)) 1 0) (a .v) (w .wide .result) (w .before .if2 .left) (w .wide .ensures .0)
+    (omega (arith, c .if3 .left, c .before .wide2 .ensures .0, c .before .before .made-count .ensures))
 
 pub kind-held-spec : {M : Type 1} → statement M
 kind-held-spec =
@@ -73,11 +70,8 @@ kind-held-spec =
     channel-requires
     returns-2
     wide-requires
-    shared-slice-read-wide
+    made-count-requires
     wide-requires-2
-    mul-result
-    add-result
-    mul-result-2
-    shared-slice-read-result
+    made-at-requires
     returns-3
     returns-4)

@@ -9,7 +9,7 @@ use Rattle.steps.specs.declared.Thread.{Thread}
 use Rattle.steps.specs.declared.Outcome.the-variants.{Meets}
 use Rattle.steps.specs.Threads.{value, bound}
 use Rattle.steps.specs.Choice.{clinicOf, isAllowed}
-use Rattle.steps.specs.Kept.{madeIn}
+use Rattle.steps.specs.Beside.{madeIn}
 use Rattle.steps.specs.Acted.{actedOf}
 use Rattle.steps.proofs.ActLaws.{answered, able-by, meeting-sender, meeting-receiver, meeting-apart, meeting-both}
 use borrow.Author.Needs.{needs}

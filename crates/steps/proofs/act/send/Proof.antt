@@ -6,7 +6,7 @@ use borrow.Author.Tests.{not-true, not-false}
 use Rattle.format.specs.Contents.{inCount, contentsAt}
 use Rattle.format.proofs.ContentsLaws.{in-count, nodes-held, nodes-counted}
 use Rattle.steps.specs.Choice.{clinicOf}
-use Rattle.steps.specs.Kept.{madeIn}
+use Rattle.steps.specs.Beside.{madeIn}
 use Rattle.steps.proofs.ActLaws.{answered, sending-alone, sending-missing, sending-out, sending-elsewhere, sending-received}
 use borrow.Author.Needs.{needs}
 use Rattle.steps.proofs.act.send.Statement.{statement}
@@ -17,6 +17,7 @@ use Rattle.format.proofs.sections.in_count.Reads as in-count-reads
 use Rattle.format.proofs.sections.node.Reads as node-reads
 use Rattle.steps.proofs.act.meets.Reads as meets-reads
 use Rattle.steps.proofs.act.refused.Reads as refused-reads
+use Rattle.steps.proofs.beside.thread_count.Reads as thread-count-reads
 
 -- the partner's node is in count, or not
 counted : (c : tie.After-in-count) {b : Bool} → c .in-count .result ≡ b
@@ -31,8 +32,8 @@ returns c =
     let a = c .before .before .before .before .before .before .args in
     answered (sending-alone (clinicOf (contentsAt (a .file .now) (a .head))) (madeIn (a .beside .now) 2 (getD (a .beside .now) 1 0)) (a .own) (a .it) (getD (a .beside .now) 0 0) (a .partner) (a .other) (c .before .if1 .taken)) (c .refused .ensures)
 
-shared-slice-read-if2 : tie.Need-shared-slice-read-if2
-shared-slice-read-if2 c = search needs
+thread-count-requires : tie.Need-thread-count-requires
+thread-count-requires c κs = search needs
 
 refused-requires-2 : tie.Need-refused-requires-2
 refused-requires-2 c κs = search needs
@@ -40,7 +41,7 @@ refused-requires-2 c κs = search needs
 returns-2 : tie.Need-returns-2
 returns-2 c =
     let a = c .before .before .before .before .before .before .before .before .args in
-    answered (sending-missing (clinicOf (contentsAt (a .file .now) (a .head))) (madeIn (a .beside .now) 2 (getD (a .beside .now) 1 0)) (a .own) (a .it) (getD (a .beside .now) 0 0) (a .partner) (a .other) (c .before .before .before .if1 .left) (c .before .if2 .taken)) (c .refused2 .ensures)
+    answered (sending-missing (clinicOf (contentsAt (a .file .now) (a .head))) (madeIn (a .beside .now) 2 (getD (a .beside .now) 1 0)) (a .own) (a .it) (getD (a .beside .now) 0 0) (a .partner) (a .other) (c .before .before .before .if1 .left) (omega (arith, c .before .if2 .taken, c .before .before .thread-count .ensures))) (c .refused2 .ensures)
 
 in-count-requires : tie.Need-in-count-requires
 in-count-requires c κs = search needs
@@ -51,7 +52,7 @@ refused-requires-3 c κs = search needs
 returns-3 : tie.Need-returns-3
 returns-3 c =
     let a = c .before .before .before .before .before .before .before .before .before .before .args in
-    answered (sending-out (clinicOf (contentsAt (a .file .now) (a .head))) (madeIn (a .beside .now) 2 (getD (a .beside .now) 1 0)) (a .own) (a .it) (getD (a .beside .now) 0 0) (a .partner) (a .other) (c .before .before .before .before .before .if1 .left) (c .before .before .before .if2 .left) (counted (c .before .before) (not-true _ (c .before .if3 .taken)))) (c .refused3 .ensures)
+    answered (sending-out (clinicOf (contentsAt (a .file .now) (a .head))) (madeIn (a .beside .now) 2 (getD (a .beside .now) 1 0)) (a .own) (a .it) (getD (a .beside .now) 0 0) (a .partner) (a .other) (c .before .before .before .before .before .if1 .left) (omega (arith, c .before .before .before .if2 .left, c .before .before .before .before .thread-count .ensures)) (counted (c .before .before) (not-true _ (c .before .if3 .taken)))) (c .refused3 .ensures)
 
 node-requires : tie.Need-node-requires
 node-requires c κs = search needs
@@ -62,7 +63,7 @@ refused-requires-4 c κs = search needs
 returns-4 : tie.Need-returns-4
 returns-4 c =
     let a = c .before .before .before .before .before .before .before .before .before .before .before .before .before .args in
-    answered (sending-elsewhere (clinicOf (contentsAt (a .file .now) (a .head))) (madeIn (a .beside .now) 2 (getD (a .beside .now) 1 0)) (a .own) (a .it) (getD (a .beside .now) 0 0) (a .partner) (a .other) (c .before .before .before .node .result) (c .before .before .before .node .ensures) (c .before .before .before .before .before .before .before .before .if1 .left) (c .before .before .before .before .before .before .if2 .left) (counted (c .before .before .before .before .before) (not-false _ (c .before .before .before .before .if3 .left))) (c .before .if4 .taken)) (c .refused4 .ensures)
+    answered (sending-elsewhere (clinicOf (contentsAt (a .file .now) (a .head))) (madeIn (a .beside .now) 2 (getD (a .beside .now) 1 0)) (a .own) (a .it) (getD (a .beside .now) 0 0) (a .partner) (a .other) (c .before .before .before .node .result) (c .before .before .before .node .ensures) (c .before .before .before .before .before .before .before .before .if1 .left) (omega (arith, c .before .before .before .before .before .before .if2 .left, c .before .before .before .before .before .before .before .thread-count .ensures)) (counted (c .before .before .before .before .before) (not-false _ (c .before .before .before .before .if3 .left))) (c .before .if4 .taken)) (c .refused4 .ensures)
 
 meets-requires : tie.Need-meets-requires
 meets-requires c κs =
@@ -74,7 +75,7 @@ meets-requires c κs =
 returns-5 : tie.Need-returns-5
 returns-5 c =
     let a = c .before .before .before .before .before .before .before .before .before .before .before .before .before .args in
-    answered (sending-received (clinicOf (contentsAt (a .file .now) (a .head))) (madeIn (a .beside .now) 2 (getD (a .beside .now) 1 0)) (a .own) (a .it) (getD (a .beside .now) 0 0) (a .partner) (a .other) (c .before .before .before .node .result) (c .before .before .before .node .ensures) (c .before .before .before .before .before .before .before .before .if1 .left) (c .before .before .before .before .before .before .if2 .left) (counted (c .before .before .before .before .before) (not-false _ (c .before .before .before .before .if3 .left))) (c .before .if4 .left)) (c .meets .ensures)
+    answered (sending-received (clinicOf (contentsAt (a .file .now) (a .head))) (madeIn (a .beside .now) 2 (getD (a .beside .now) 1 0)) (a .own) (a .it) (getD (a .beside .now) 0 0) (a .partner) (a .other) (c .before .before .before .node .result) (c .before .before .before .node .ensures) (c .before .before .before .before .before .before .before .before .if1 .left) (omega (arith, c .before .before .before .before .before .before .if2 .left, c .before .before .before .before .before .before .before .thread-count .ensures)) (counted (c .before .before .before .before .before) (not-false _ (c .before .before .before .before .if3 .left))) (c .before .if4 .left)) (c .meets .ensures)
 
 pub send-spec : {M : Type 1} → statement M
 send-spec =
@@ -82,7 +83,7 @@ send-spec =
     (tie.spec
     refused-requires
     returns
-    shared-slice-read-if2
+    thread-count-requires
     refused-requires-2
     returns-2
     in-count-requires

@@ -1,8 +1,11 @@
-//! Choices in a list of threads that is lent.
+//! Starts and choices in a list of threads that is lent.
 
 mod refusals;
+mod starts;
 mod steps;
 mod unfit;
+
+pub use starts::{cases as start_cases, StartCase};
 
 use super::RunCase;
 use crate::draft::Draft;
@@ -53,6 +56,32 @@ impl Lent {
         self.write(&mut threads, &mut beside);
         (threads, beside)
     }
+
+    /// Fails unless a call on these lists gives the answer that is due and leaves
+    /// every record and word as it should be, whatever stands where nothing
+    /// counts: `after` over what was there.
+    fn demand(
+        &self,
+        who: &str,
+        name: &str,
+        (number, place): (u16, u16),
+        after: Option<&Lent>,
+        call: impl Fn(&mut [Thread], &mut [u16]) -> Verdict,
+    ) {
+        for fill in [0, 1, 0xa5a5] {
+            let (mut threads, mut beside) = self.lists(fill);
+            let (mut threads_due, mut beside_due) = (threads.clone(), beside.clone());
+            if let Some(after) = after {
+                after.write(&mut threads_due, &mut beside_due);
+            }
+            let answer = call(&mut threads, &mut beside);
+            assert_eq!(answer, Verdict { number, place }, "{who}: {name}");
+            let record = (0..threads.len()).find(|&at| threads[at] != threads_due[at]);
+            assert_eq!(record, None, "{who}: a record of {name}");
+            let word = (0..beside.len()).find(|&at| beside[at] != beside_due[at]);
+            assert_eq!(word, None, "{who}: a word beside of {name}");
+        }
+    }
 }
 
 /// A file, what is lent, a choice, and what is left.
@@ -74,22 +103,12 @@ impl ChooseCase {
         who: &str,
         choose: impl Fn(&[u8], &mut [Thread], &mut [u16], u16, u16) -> Verdict,
     ) {
-        let name = self.name;
-        let (number, place) = self.answer;
         let [thread, partner] = self.choice;
-        for fill in [0, 1, 0xa5a5] {
-            let (mut threads, mut beside) = self.lent.lists(fill);
-            let (mut threads_due, mut beside_due) = (threads.clone(), beside.clone());
-            if let Some(after) = &self.after {
-                after.write(&mut threads_due, &mut beside_due);
-            }
-            let answer = choose(&self.file, &mut threads, &mut beside, thread, partner);
-            assert_eq!(answer, Verdict { number, place }, "{who}: {name}");
-            let record = (0..threads.len()).find(|&at| threads[at] != threads_due[at]);
-            assert_eq!(record, None, "{who}: a record of {name}");
-            let word = (0..beside.len()).find(|&at| beside[at] != beside_due[at]);
-            assert_eq!(word, None, "{who}: a word beside of {name}");
-        }
+        let call = |threads: &mut [Thread], beside: &mut [u16]| {
+            choose(&self.file, threads, beside, thread, partner)
+        };
+        let after = self.after.as_ref();
+        self.lent.demand(who, self.name, self.answer, after, call);
     }
 
     /// The lists as they are lent.

@@ -1,0 +1,113 @@
+-- What a list of choices leaves beside the threads, and the answer of its last: what is left of it after some choices.
+use Prim.Native.Nat.{ℕ, _+_, _*_, _/_, _≤_, _<_}
+use mathlib.Core.Path.{_≡_, refl, sym, ap, _∙_}
+use mathlib.Core.List.{List, [], _∷_}
+use native.Mathlib.Omega.{arith}
+use lib.ListN.{length, getD, drop, length-drop}
+use Rattle.steps.specs.declared.Outcome.{Outcome}
+use Rattle.steps.specs.declared.Outcome.the-variants.{Refused, Moves, Adds, Makes, Ends, Meets}
+use Rattle.steps.specs.declared.Answer.{Answer}
+use Rattle.steps.specs.declared.Answer.the-variants as answers
+use Rattle.steps.specs.Acted.{actedOf}
+use Rattle.steps.specs.Choice.{Clinic, State, Chosen, done, outcome, choice}
+use Rattle.steps.specs.Kept.{stateIn, Sized, stateAfter}
+use Rattle.choices.specs.Choices.{Ran, follow, run}
+use Rattle.choices.specs.Stored.{Tried, untried, triedBy, onFrom, tried, Chose, Gone, Through}
+use Rattle.choices.specs.declared.Went.{Went}
+use Rattle.choices.proofs.RunLaws.{next, Refuses, refused-by}
+
+-- what is left from here gives what the whole gives
+abbrev pub LeftTried : Clinic → State → Tried → List ℕ → ℕ → State → Tried → Type 0
+LeftTried C s t₀ ws k now t = tried C s t₀ ws ≡ tried C now t (drop (2 * k) ws)
+
+module _ (C : Clinic) (s : State) (t₀ : Tried) (ws : List ℕ) (k : ℕ) (now now′ : State) (t t′ : Tried) (lt : k < length ws / 2) (left : LeftTried C s t₀ ws k now t)
+    (o : Outcome) (is : o ≡ outcome C now (getD ws (2 * k) 0) (getD ws (2 * k + 1) 0))
+    (kept : now′ ≡ stateAfter now (done now (getD ws (2 * k) 0) (getD ws (2 * k + 1) 0) o)) (told : t′ ≡ triedBy (t .beside) o) where
+  abbrev chosen : Outcome → Chosen
+  chosen x = done now (getD ws (2 * k) 0) (getD ws (2 * k + 1) 0) x
+
+  abbrev rest : Tried → State → Tried
+  rest u x = tried C x u (drop (2 * (k + 1)) ws)
+
+  here : tried C s t₀ ws ≡ onFrom (chosen o) t′ (rest t′)
+  unfolding tried
+  here =
+      left ∙ ap (λ (l : List ℕ). tried C now t l) (next ws k lt)
+      ∙ ap (λ (x : Outcome). onFrom (chosen x) (triedBy (t .beside) x) (rest (triedBy (t .beside) x))) (sym is)
+      ∙ ap (λ (u : Tried). onFrom (chosen o) u (rest u)) (sym told)
+
+  pub tried-halts : (n : ℕ) → answers.Refused n ≡ actedOf o .answer → tried C s t₀ ws ≡ t′
+  unfolding done
+  tried-halts n e = here ∙ ap (λ (x : Outcome). onFrom (chosen x) t′ (rest t′)) (refused-by o n e)
+
+  pub tried-goes : (Refuses (actedOf o .answer) → ⊥) → LeftTried C s t₀ ws (k + 1) now′ t′
+  unfolding done
+  tried-goes none = go o none kept here
+    where
+      go : (x : Outcome) → (Refuses (actedOf x .answer) → ⊥) → now′ ≡ stateAfter now (chosen x) → tried C s t₀ ws ≡ onFrom (chosen x) t′ (rest t′) → LeftTried C s t₀ ws (k + 1) now′ t′
+      go (Refused n) f q h = absurd (f tt)
+      go (Moves u) f q h = h ∙ ap (rest t′) (sym q)
+      go (Adds u) f q h = h ∙ ap (rest t′) (sym q)
+      go (Makes u) f q h = h ∙ ap (rest t′) (sym q)
+      go Ends f q h = h ∙ ap (rest t′) (sym q)
+      go (Meets u) f q h = h ∙ ap (rest t′) (sym q)
+
+-- at the end no choice is left
+pub tried-ends : (C : Clinic) (s : State) (t₀ : Tried) (ws : List ℕ) (k : ℕ) (now : State) (t : Tried) → k ≡ length ws / 2 → LeftTried C s t₀ ws k now t → tried C s t₀ ws ≡ t
+unfolding tried
+tried-ends C s t₀ ws k now t e left = left ∙ go (drop (2 * k) ws) (omega (arith, e, length-drop (2 * k) ws))
+  where
+    go : (l : List ℕ) → length l ≤ 1 → tried C now t l ≡ t
+    go [] h = refl
+    go (x ∷ []) h = refl
+    go (x ∷ y ∷ l) h = let none : ⊥ = omega (arith, h) in absurd none
+
+-- so many choices done, then a refusal or the end, are the answer
+pub through : (R : Ran) (T : Tried) (k : ℕ) (w b : List ℕ) (c r : ℕ) (a : Answer) → R ≡ record { count = k; refusal = r; state = stateIn w b } → T ≡ record { beside = b; last = a } → c ≡ k → Sized w b
+    → Through R T (record { count = c; refusal = r; last = a }) w b
+through R T k w b c r a e f q z = (
+  (λ j. record { count = (q ∙ ap (λ (x : Ran). x .count) (sym e)) j; refusal = sym e j .refusal; last = sym f j .last }),
+  ap (λ (x : Ran). x .state) (sym e),
+  ap (λ (x : Tried). x .beside) (sym f),
+  z,
+)
+
+-- a list of one choice is that choice
+pub one-chosen : (C : Clinic) (s : State) (b : List ℕ) (i p : ℕ) → tried C s (untried b) (i ∷ p ∷ []) ≡ triedBy b (outcome C s i p)
+unfolding tried done
+one-chosen C s b i p = go (outcome C s i p)
+  where
+    go : (o : Outcome) → onFrom (done s i p o) (triedBy b o) (λ x. tried C x (triedBy b o) []) ≡ triedBy b o
+    go (Refused n) = refl
+    go (Moves t) = refl
+    go (Adds q) = refl
+    go (Makes q) = refl
+    go Ends = refl
+    go (Meets q) = refl
+
+pub one-state : (C : Clinic) (s : State) (i p : ℕ) → run C s (i ∷ p ∷ []) .state ≡ stateAfter s (done s i p (outcome C s i p))
+unfolding run choice done
+one-state C s i p = go (outcome C s i p)
+  where
+    go : (o : Outcome) → follow s (done s i p o) (λ x. run C x []) .state ≡ stateAfter s (done s i p o)
+    go (Refused n) = refl
+    go (Moves t) = refl
+    go (Adds q) = refl
+    go (Makes q) = refl
+    go Ends = refl
+    go (Meets q) = refl
+
+pub one-chose : (C : Clinic) (w b w′ b′ : List ℕ) (i p : ℕ) (r : Went)
+    → Through (run C (stateIn w b) (i ∷ p ∷ [])) (tried C (stateIn w b) (untried b) (i ∷ p ∷ [])) r w′ b′
+    → Chose (outcome C (stateIn w b) i p) i p (r .last) w b w′ b′
+one-chose C w b w′ b′ i p r (told, state, words, sized) =
+    let one = one-chosen C (stateIn w b) b i p in (
+      ap (λ (x : Went). x .last) told ∙ ap (λ (x : Tried). x .last) one,
+      state ∙ one-state C (stateIn w b) i p,
+      words ∙ ap (λ (x : Tried). x .beside) one,
+      sized,
+    )
+
+-- and without the last answer
+pub through-gone : (R : Ran) (T : Tried) (r : Went) (w b : List ℕ) → Through R T r w b → Gone R (record { count = r .count; refusal = r .refusal }) w b
+through-gone R T r w b (told, state, words, sized) = (ap (λ (x : Went). record { count = x .count; refusal = x .refusal }) told, state, sized)

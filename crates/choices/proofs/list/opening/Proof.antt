@@ -1,0 +1,23 @@
+use mathlib.Core.Path.{ap, _∙_}
+use Rattle.format.specs.Contents.{contentsAt}
+use Rattle.format.specs.declared.Session.{Session}
+use Rattle.steps.specs.Threads.{zeros}
+use Rattle.choices.proofs.RunLaws.{opened-item}
+use borrow.Author.Needs.{needs}
+use Rattle.choices.proofs.list.opening.Statement.{statement}
+use Rattle.choices.proofs.list.opening.Tie as tie
+use Rattle.choices.proofs.list.opening.Reads as reads
+use Rattle.choices.proofs.list.opening.Lts as lts
+use Rattle.format.proofs.sections.session.Reads as session-reads
+
+session-requires : tie.Need-session-requires
+session-requires c κs = search needs
+
+returns : tie.Need-returns
+returns c =
+    let a = c .before .before .args in
+    ap (λ (x : Session). record { user = x .user; node = x .root; mask = x .mask; vars = zeros }) (c .session .ensures)
+    ∙ opened-item (contentsAt (a .file .now) (a .head) .sessions) (a .k)
+
+pub opening-spec : {M : Type 1} → statement M
+opening-spec = tie.close (tie.spec session-requires returns)

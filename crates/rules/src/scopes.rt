@@ -1,0 +1,58 @@
+// What a node is reached with, as one number: the session's user, how many variables are bound, and their kinds.
+use super::NameStep;
+use super::names::kind_of;
+ghost use mathlib.Core.Path.{_≡_};
+ghost use mathlib.Core.Bool.{true, cond};
+ghost use Prim.Native.Nat.{_≤_};
+ghost use lib.Dec.{eqb};
+ghost use lib.ListN.{set};
+ghost use Rattle.rules.specs.Kept.{kindIn};
+ghost use Rattle.rules.specs.Scopes.{boundIn, kindAt, bindScope};
+
+// How many variables are bound.
+pub fn bound_in(w: u64) -> u64
+    ensures { λ r. ⌜ r ≡ boundIn w ⌝ }
+{
+    w / 64 % 16
+}
+
+// The kind of the variable of an index.
+pub fn kind_at(w: u64, i: u64) -> u16
+    requires { ⌜ i ≤ 8 ⌝ }
+    ensures { λ r. ⌜ r ≡ kindAt w i ⌝ }
+{
+    ((w >> (10 + 6 * i)) % 64) as u16
+}
+
+// One variable more; none is added to eight.
+fn bind(w: u64, kind: u16) -> u64
+    ensures { λ r. ⌜ r ≡ bindScope w kind ⌝ }
+{
+    let bound = bound_in(w);
+    if bound < 8 {
+        return w % 288230376151711744 + 64 + (((kind % 64) as u64) << (10 + 6 * bound));
+    }
+    w
+}
+
+// What a step leaves to the node's child, where so many variables are bound at the node; of no account where it is not wanted.
+pub fn scope_after(w: u64, bound: u16, step: NameStep, wanted: bool) -> u64
+    ensures { λ r. ⌜ (wanted ≡ true → r ≡ cond (eqb (step .bound) bound) w (bindScope w (kindIn (step .binding)))) ⌝ }
+{
+    if !wanted {
+        return w;
+    }
+    if step.bound == bound {
+        return w;
+    }
+    bind(w, kind_of(step.binding))
+}
+
+// Stored at an index, if there is room.
+pub fn keep(scopes: &mut [u64], at: usize, w: u64)
+    ensures { λ r. ⌜ now (scopes .exit) ≡ set (now (scopes .entry)) at w ⌝ }
+{
+    if at < scopes.len() {
+        scopes[at] = w;
+    }
+}

@@ -1,0 +1,75 @@
+//! Starts of lent lists by both implementations: compared, judged and counted.
+
+mod deal;
+mod tally;
+
+pub use deal::{any_lists, deal_start};
+pub use tally::StartTally;
+
+use crate::answers::second_read;
+use crate::lists::{by_engine, Call, Lists};
+use second::draft::Draft;
+use second::{Thread, Verdict, BESIDE, RECORDS};
+use std::fmt::Display;
+
+/// The engine's answer, in the second implementation's form.
+pub fn engine_start(file: &[u8], threads: &mut [Thread], beside: &mut [u16]) -> Verdict {
+    by_engine(threads, |records| pilzdamo::start(file, records, beside))
+}
+
+/// What both answer, and what both leave in the lists. Panics where they
+/// differ, and where it is not as it should be.
+pub fn agreed_start(file: &[u8], before: &Lists, origin: impl Display) -> (Verdict, Lists) {
+    let call = Call {
+        name: "start",
+        origin,
+        file,
+        before,
+    };
+    call.agreed(engine_start, second::start, |after, verdict| {
+        judge(file, before, after, verdict)
+    })
+}
+
+/// Judges all of it: answer, records and words.
+fn judge(file: &[u8], before: &Lists, after: &Lists, verdict: Verdict) -> Result<(), &'static str> {
+    let unless = |wrong: bool, fault| if wrong { Err(fault) } else { Ok(()) };
+    let sized = before.threads.len() == RECORDS && before.beside.len() == BESIDE;
+    let due = match second_read(file) {
+        (0, 0) if !sized => (18, 0),
+        read => read,
+    };
+    unless((verdict.number, verdict.place) != due, "no such answer")?;
+    if verdict != Verdict::CLEAN {
+        return unless(before != after, "something written");
+    }
+    unless(*after != started(file, before), "not the file's start")
+}
+
+/// The lists that are left where the file starts in these.
+fn started(file: &[u8], before: &Lists) -> Lists {
+    let mut lists = before.clone();
+    let sessions = Draft::of(file).sessions;
+    for (thread, &[user, mask, root]) in lists.threads.iter_mut().zip(&sessions) {
+        *thread = Thread {
+            user,
+            node: root,
+            mask,
+            variables: [0; 8],
+        };
+    }
+    lists.beside[..2].copy_from_slice(&[sessions.len() as u16, 0]);
+    lists
+}
+
+/// Deals `files` files and lists to both and panics at the first difference.
+pub fn compare_starting(seed: u64, files: u64) -> StartTally {
+    let mut tally = StartTally::default();
+    for index in 0..files {
+        let (file, lists) = deal_start(seed, index);
+        let origin = format_args!("trials::deal_start({seed}, {index})");
+        agreed_start(&file, &lists, origin);
+        tally.count(&file, &lists);
+    }
+    tally
+}
