@@ -1,5 +1,4 @@
 -- what the tests say: masks, operands, steps
-pub mod PermittedRoles
 pub mod OperandKinds
 pub mod StepRules
 pub mod KnownKinds
@@ -14,3 +13,6 @@ pub mod ClearTrees
 pub mod TreeRules
 pub mod FileRules
 pub mod CheckExact
+-- what both sides rest on: grants by words, masks by items, the context below a node
+pub mod GrantWords
+pub mod BelowLaws

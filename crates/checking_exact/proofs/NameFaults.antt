@@ -46,7 +46,7 @@ and-not-right true b e = e
 and-not-right false b e = refl
 
 module _ (D : Schema) (R : Ranged D) (vs : List Bound) where
-  nothing-iff : (x : ℕ) → (named D vs x ≡ false) ↔ Nothing D vs x
+  pub nothing-iff : (x : ℕ) → (named D vs x ≡ false) ↔ Nothing D vs x
   nothing-iff x =
       (λ e k h. false≢true (sym e ∙ kind-named D R vs x k h), λ h. not-eq-not .0 (λ e. h (kindOf D vs x) (named-kind D R vs x e)))
 

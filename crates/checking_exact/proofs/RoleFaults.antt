@@ -7,14 +7,14 @@ use Rattle.masks.specs.Mask.{has}
 use Rattle.format.specs.declared.Node.{Node}
 use Rattle.rules.specs.declared.Way.{Way}
 use Rattle.rules.specs.declared.Way.the-variants.{Sends, Receives}
-use Rattle.rules.specs.Schema.{Schema}
+use Rattle.rules.specs.Schema.{Schema, Permitted}
 use Rattle.rules.specs.Names.{kindOf}
 use Rattle.rules.specs.Rules.{Context, namesFit, able, wrong, barred}
 use Rattle.reading_exact.specs.Tree.{words}
-use Rattle.checking_exact.specs.Typing.{HasKind, Permitted}
+use Rattle.checking_exact.specs.Typing.{HasKind}
 use Rattle.checking_exact.specs.Faults.{Fault, nameless, mismatched, not-assigned, not-active, cannot-receive, cannot-send}
 use Rattle.checking_exact.proofs.NameFaults.{by-tag, fails-iff, both-kinds, names-fit}
-use Rattle.checking_exact.proofs.PermittedRoles.{able-iff}
+use Rattle.rules.proofs.PermittedRoles.{able-iff}
 use Rattle.checking_exact.proofs.OperandKinds.{Ranged, kind-at, named-kind}
 
 module _ (D : Schema) (R : Ranged D) (c : Context) where

@@ -7,14 +7,14 @@ use mathlib.Core.List.{List}
 use native.Mathlib.Omega.{arith}
 use Rattle.masks.specs.Mask.{has, with, without}
 use Rattle.rules.specs.declared.Way.the-variants.{Sends, Receives}
-use Rattle.rules.specs.Schema.{Schema}
+use Rattle.rules.specs.Schema.{Schema, Permitted}
 use Rattle.rules.specs.Names.{Bound, kindOf}
 use Rattle.rules.specs.Rules.{Context, able, wrong, barred, childOf}
 use Rattle.reading_exact.specs.Tree.{repeat, new, compare, receive, send, on, off, Tree, end, fork, step, switch}
-use Rattle.checking_exact.specs.Typing.{HasKind, Permitted, withVariable, Typed}
+use Rattle.checking_exact.specs.Typing.{HasKind, withVariable, Typed}
 use Rattle.checking_exact.specs.Typing.{Kinded, k-end, k-fork, k-repeat, k-new, k-compare, k-receive, k-send, k-switch}
 use Rattle.checking_exact.specs.Typing.{ByRoles, r-end, r-fork, r-repeat, r-new, r-compare, r-receive, r-send, r-on, r-off}
-use Rattle.checking_exact.proofs.PermittedRoles.{able-iff}
+use Rattle.rules.proofs.PermittedRoles.{able-iff}
 use Rattle.checking_exact.proofs.OperandKinds.{Ranged, kind-at}
 use Rattle.checking_exact.proofs.ClearTrees.{Clear}
 use Rattle.checking_exact.proofs.StepRules.{step-iff, switch-iff}

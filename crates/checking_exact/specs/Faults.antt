@@ -10,7 +10,7 @@ use Rattle.masks.specs.Mask.{has}
 use Rattle.format.specs.Contents.{contentsOf}
 use Rattle.format.specs.declared.Node.{Node}
 use Rattle.rules.specs.declared.Way.the-variants.{Sends, Receives}
-use Rattle.rules.specs.Schema.{Schema, schemaOf}
+use Rattle.rules.specs.Schema.{Schema, schemaOf, Permitted}
 use Rattle.rules.specs.Names.{Bound}
 use Rattle.rules.specs.Rules.{Context, childOf}
 use Rattle.rules.specs.Checking.{openings}
@@ -18,7 +18,7 @@ use Rattle.reading_exact.specs.File.{InCount}
 use Rattle.reading_exact.specs.Order.{Order}
 use Rattle.reading_exact.specs.Refusals.{nth, Reached, Refusable}
 pub use Rattle.reading_exact.specs.Refusals.{root, child, first-child, second-child}
-use Rattle.checking_exact.specs.Typing.{HasKind, Receivable, Permitted}
+use Rattle.checking_exact.specs.Typing.{HasKind, Receivable}
 
 abbrev pub nowhere : Context
 nowhere = record { user = 0; mask = 0; vars = [] }

@@ -1,3 +1,5 @@
 pub mod Tables
 pub mod Typing
 pub mod Faults
+pub mod Below
+pub mod ByWords

@@ -5,9 +5,8 @@ use mathlib.Core.Bool.{Bool, true, false}
 use mathlib.Core.List.{List, [], _∷_, _++_}
 use lib.ListN.{length, getD}
 use Rattle.masks.specs.Mask.{has, with, without}
-use Rattle.rules.specs.declared.Way.{Way}
 use Rattle.rules.specs.declared.Way.the-variants.{Sends, Receives}
-use Rattle.rules.specs.Schema.{Schema, permits}
+use Rattle.rules.specs.Schema.{Schema, Permitted}
 use Rattle.rules.specs.Names.{Bound, unbound}
 use Rattle.reading_exact.specs.Lists.{All}
 use Rattle.reading_exact.specs.Tree.{Switch, Tree, end, fork, step, switch, repeat, new, compare, receive, send, on, off}
@@ -24,10 +23,6 @@ pub data HasKind (D : Schema) (vs : List Bound) (x k : ℕ) : Type 0 where
 pub data Receivable (D : Schema) (u : ℕ) (vs : List Bound) (x : ℕ) : Type 0 where
   own-channel : (c : ℕ) → InCount (D .channels) c → x ≡ 256 + c → D .owner c ≡ u → Receivable D u vs x
   own-new : (i : ℕ) → i < length vs → x ≡ 512 + i → getD vs i unbound .fresh ≡ true → Receivable D u vs x
-
--- Rule 6: one active role may send, or receive, on the kind. The acting session's user counts, never the channel's owner.
-abbrev pub Permitted : Schema → ℕ → Way → ℕ → Type 0
-Permitted D m w k = (r : ℕ) × InCount (D .roles) r × (has m r ≡ true) × (permits D w (record { 0 = r }) (record { 0 = k }) ≡ true)
 
 abbrev pub withVariable : List Bound → ℕ → Bool → List Bound
 withVariable vs k fresh = vs ++ (record { sort = k; fresh = fresh } ∷ [])

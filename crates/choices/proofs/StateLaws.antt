@@ -86,7 +86,7 @@ made-same b d p q (suc k) h =
     let zp : p ≡ p + 0 = omega arith in
     let zq : q + 0 ≡ q = omega arith in
     ap₂ (λ (m : Made) (ms : List Made). m ∷ ms)
-    (ap₂ (λ (x y : ℕ). record { owner = x; kind = y }) (ap (λ (x : ℕ). getD b x 0) zp ∙ h 0 (omega arith) ∙ ap (λ (x : ℕ). getD d x 0) zq) (h 1 (omega arith)))
+    (ap₂ (λ (x y : ℕ). record { owner = x; kind = record { 0 = y } }) (ap (λ (x : ℕ). getD b x 0) zp ∙ h 0 (omega arith) ∙ ap (λ (x : ℕ). getD d x 0) zq) (h 1 (omega arith)))
     (made-same b d (p + 2) (q + 2) k (λ j lt. ap (λ (x : ℕ). getD b x 0) (there p j) ∙ h (2 + j) (omega (arith, lt)) ∙ ap (λ (x : ℕ). getD d x 0) (sym (there q j))))
   where
     there : (p j : ℕ) → p + 2 + j ≡ p + (2 + j)
@@ -101,12 +101,12 @@ made-more b p (suc k) =
 
 -- a made channel more, beside the threads
 abbrev pub minting : List ℕ → ℕ → Made → List ℕ
-minting b m x = set (set (set b (2 * m + 2) (x .owner)) (2 * m + 3) (x .kind)) 1 (m + 1)
+minting b m x = set (set (set b (2 * m + 2) (x .owner)) (2 * m + 3) (x .kind .0)) 1 (m + 1)
 
 mint-other : (b : List ℕ) (m j : ℕ) (x : Made) → (j ≡ 1 → ⊥) → (j ≡ 2 * m + 2 → ⊥) → (j ≡ 2 * m + 3 → ⊥) → getD (minting b m x) j 0 ≡ getD b j 0
 mint-other b m j x h1 h2 h3 =
-    getD-set-other (set (set b (2 * m + 2) (x .owner)) (2 * m + 3) (x .kind)) 1 j (m + 1) 0 h1
-    ∙ getD-set-other (set b (2 * m + 2) (x .owner)) (2 * m + 3) j (x .kind) 0 h3
+    getD-set-other (set (set b (2 * m + 2) (x .owner)) (2 * m + 3) (x .kind .0)) 1 j (m + 1) 0 h1
+    ∙ getD-set-other (set b (2 * m + 2) (x .owner)) (2 * m + 3) j (x .kind .0) 0 h3
     ∙ getD-set-other b (2 * m + 2) j (x .owner) 0 h2
 
 made-add : (b : List ℕ) (m : ℕ) (x : Made) → 2 * m + 4 ≤ length b → madeIn (minting b m x) 2 (m + 1) ≡ madeIn b 2 m ++ (x ∷ [])
@@ -116,21 +116,21 @@ made-add b m x fits =
     let p : 2 + 2 * m ≡ 2 * m + 2 = omega arith in
     let q : 2 + 2 * m + 1 ≡ 2 * m + 3 = omega arith in
     let low : List ℕ = set b (2 * m + 2) (x .owner) in
-    let both : List ℕ = set low (2 * m + 3) (x .kind) in
+    let both : List ℕ = set low (2 * m + 3) (x .kind .0) in
     let owner : getD d (2 + 2 * m) 0 ≡ x .owner =
     ap (λ (k : ℕ). getD d k 0) p
     ∙ getD-set-other both 1 (2 * m + 2) (m + 1) 0 (λ e. omega (arith, e))
-    ∙ getD-set-other low (2 * m + 3) (2 * m + 2) (x .kind) 0 (λ e. omega (arith, e))
+    ∙ getD-set-other low (2 * m + 3) (2 * m + 2) (x .kind .0) 0 (λ e. omega (arith, e))
     ∙ getD-set-same b (2 * m + 2) (x .owner) 0 (omega (arith, fits)) in
-    let kind : getD d (2 + 2 * m + 1) 0 ≡ x .kind =
+    let kind : getD d (2 + 2 * m + 1) 0 ≡ x .kind .0 =
     ap (λ (k : ℕ). getD d k 0) q
     ∙ getD-set-other both 1 (2 * m + 3) (m + 1) 0 (λ e. omega (arith, e))
-    ∙ getD-set-same low (2 * m + 3) (x .kind) 0 (omega (arith, fits, length-set b (2 * m + 2) (x .owner))) in
+    ∙ getD-set-same low (2 * m + 3) (x .kind .0) 0 (omega (arith, fits, length-set b (2 * m + 2) (x .owner))) in
     ap (madeIn d 2) one
     ∙ made-more d 2 m
     ∙ ap₂ (λ (a c : List Made). a ++ c)
     (made-same d b 2 2 m (λ j lt. mint-other b m (2 + j) x (λ e. omega (arith, e)) (λ e. omega (arith, e, lt)) (λ e. omega (arith, e, lt))))
-    (ap₂ (λ (a c : ℕ). record { owner = a; kind = c } ∷ []) owner kind)
+    (ap₂ (λ (a c : ℕ). record { owner = a; kind = record { 0 = c } } ∷ []) owner kind)
 
 abbrev state : List Thread → List Made → State
 state ts ms = record { threads = ts; made = ms }
@@ -167,9 +167,9 @@ pub mint-state : (w b d : List ℕ) (x : Made) → Sized w b → getD b 1 0 < 64
 mint-state w b d x z room r =
     let m : ℕ = getD b 1 0 in
     let low : List ℕ = set b (2 * m + 2) (x .owner) in
-    let both : List ℕ = set low (2 * m + 3) (x .kind) in
+    let both : List ℕ = set low (2 * m + 3) (x .kind .0) in
     let count : getD d 0 0 ≡ getD b 0 0 = ap (λ (y : List ℕ). getD y 0 0) r ∙ mint-other b m 0 x (λ h. omega (arith, h)) (λ h. omega (arith, h)) (λ h. omega (arith, h)) in
-    let long : length both ≡ 130 = length-set low (2 * m + 3) (x .kind) ∙ length-set b (2 * m + 2) (x .owner) ∙ z .beside in
+    let long : length both ≡ 130 = length-set low (2 * m + 3) (x .kind .0) ∙ length-set b (2 * m + 2) (x .owner) ∙ z .beside in
     let made : getD d 1 0 ≡ m + 1 = ap (λ (y : List ℕ). getD y 1 0) r ∙ getD-set-same both 1 (m + 1) 0 (omega (arith, long)) in (
       ap₂ state
           (ap (threadsIn w 0) count)

@@ -3,65 +3,85 @@
 -- `pilzdamo_check` `checking`, the refusals 1 to 13, `pilzdamo_place` `placing`, with `placedOver` in the output, `pilzdamo_run`
 -- `running`, with `runOver` in the output, `pilzdamo_ready` `ready`, `pilzdamo_start` `starting`, with `recordsStarted` in the lent list and
 -- `besideStarted` beside it, and `pilzdamo_choose` `choosing`, with `recordsOver` and `besideOver`.
-use Prim.Native.Nat.{ℕ, _+_, _*_, _%_, _≤_, _<_}
+use Prim.Native.Nat.{ℕ, _+_, _*_, _-_, _/_, _%_, _^_, _≤_, _<_}
 use mathlib.Core.Path.{_≡_, refl}
 use mathlib.Core.Logic.{_↔_, _≢_, _⊎_}
-use mathlib.Core.Bool.{true, cond}
+use mathlib.Core.Bool.{true, false, cond}
 use mathlib.Core.List.{List, [], _∷_, _++_}
+use native.Mathlib.Omega.{arith}
 use lib.Dec.{eqb}
 use lib.ListN.{length, getD, take, drop}
-use Rattle.format.specs.Contents.{Contents, contentsOf}
+use Rattle.masks.specs.Mask.{has, with, without}
+use Rattle.format.specs.Words.{wordAt, bytesOf}
+use Rattle.format.specs.Contents.{Contents, item, noSession, contentsOf}
 use Rattle.format.specs.Answers.{fine, refused}
-use Rattle.format.specs.Header.{headAt, roomFor}
+use Rattle.format.specs.Header.{roomFor}
 use Rattle.reading.specs.Reading.{reading}
 use Rattle.reading_exact.specs.Lists.{All}
-use Rattle.reading_exact.specs.File.{InCount, File, WellFormed, encode}
+use Rattle.reading_exact.specs.File.{InCount, File, WellFormed, contentsFor, encode}
+use Rattle.reading_exact.specs.ByWords.{CountedByWords, ByWords}
 use Rattle.reading_exact.specs.Order.{First}
-use Rattle.reading_exact.specs.Refusals.{Refusable, readingOrder}
+use Rattle.reading_exact.specs.Refusals.{OneChild, Refusable, readingOrder}
 use Rattle.checking.specs.Check.{readingNames, checking}
 use Rattle.checking_exact.specs.Typing.{WellKinded, Obeys}
-use Rattle.checking_exact.specs.Faults.{Objection, checkOrder}
-use Rattle.rules.specs.Schema.{Schema}
+use Rattle.checking_exact.specs.Faults.{Nameless, Objection, checkOrder}
+use Rattle.checking_exact.specs.ByWords.{TablesByWords, GrantedByWords}
+use Rattle.checking_exact.specs.Below.{Added, Removed, Below}
+use Rattle.rules.specs.Schema.{Schema, schemaOf}
 use Rattle.reading_exact.specs.Tree.{Tree}
-use Rattle.reading_exact.specs.Refusals.{nth}
 use Rattle.placing.specs.Placing.{placing, noPlace, placedBytes, placedOver}
 use Rattle.placing_exact.specs.Placement.{onSteps, onStepsOf, Placement, PlacementByRoles}
-use Rattle.placing_exact.specs.Placed.{labels, placedTree, Throughout}
-use Rattle.placing_exact.specs.Promised.{WellPlaced, Clean, SomeMask, IsSwitch, Unserved, Lowest, Unrefused, NoPlacement, PlacedWith}
+use Rattle.placing_exact.specs.Causes.{SomeMask, IsSwitch, Unserved, PlacedWith, Cause, refusalIn, placingOrder}
+use Rattle.placing_exact.specs.Promised.{WellPlaced, Ruled, Clean, Lowest, Unrefused, NoPlacement, session, Covers}
 use Rattle.placing_exact.specs.Cases.{Shown, cases}
 use Rattle.format.specs.declared.Node.{Node}
-use Rattle.rules.specs.Rules.{Context}
+use Rattle.rules.specs.Rules.{Context, childOf}
 use Rattle.steps.specs.declared.Thread.{Thread}
-use Rattle.steps.specs.Threads.{firstFree}
+use Rattle.steps.specs.Threads.{noThread, firstFree}
 use Rattle.steps.specs.Choice.{Clinic, clinicOf, State, threadAt, choice, halts, goes}
 use Rattle.choices.specs.Choices.{start, run, ranOf}
-use Rattle.running.specs.Run.{listed, running, readyPair}
+use Rattle.running.specs.Run.{listed, running, runOver, readyPair, ready}
 use Rattle.running_exact.specs.Steps.{StandsAt, Steps, Chain}
 use Rattle.running_exact.specs.Conditions.{Condition, FirstRefusal}
+use Rattle.running_exact.specs.Effects.{Effect}
+use Rattle.running_exact.specs.Runs.{Seated, Refuses, Unlisted, Unfit, Listed, Fit, noPair}
+use Rattle.running_exact.specs.Output.{Written}
+use Rattle.running_exact.specs.RunCases.{Shown as RunShown, cases as run-cases}
 use Rattle.running_exact.specs.Keeps.{Reaches, Kept}
 use Rattle.lending.specs.Lent.{stateOf, lending, choosing, recordsOver, besideOver}
 use Rattle.lending.specs.Starting.{starting, recordsStarted, besideStarted}
 use Rattle.lending_exact.specs.Lendable.{Lendable, Eight, Lends, inTurn}
-use Rattle.reading.proofs.LongLaws.{StandsFor}
-use Rattle.checking.proofs.CheckLaws.{stands-check}
+use Rattle.reading.specs.Long.{enough}
+use Rattle.checking_exact.proofs.GrantWords.{tables-by-words, has-bit, has-zero, granted-by-words}
+use Rattle.checking_exact.proofs.BelowLaws.{with-adds, without-removes, child-below}
 use Rattle.checking_exact.proofs.CheckExact.{check-exact, names-exact}
 use Rattle.checking_exact.proofs.CheckFirst.{check-first, names-first}
-use Rattle.placing.proofs.PlaceLaws.{stands-placed}
-use Rattle.placing_exact.proofs.FilePlaced.{one-role}
-use Rattle.placing_exact.proofs.PlacingExact.{placed-well, placed-exactly, fourteen-masks, fifteen-exactly, fifteen-place, sixteen-exactly, seventeen-exactly, ten-exactly, out-kept, out-written}
+use Rattle.placing_exact.proofs.PlacingExact.{placed-well, placed-exactly, ruled, fourteen-masks, fourteen-node, fifteen-exactly, fifteen-place, sixteen-exactly, seventeen-exactly, ten-exactly, out-kept, out-written}
+use Rattle.placing_exact.proofs.PlacingFirst.{placing-first}
+use Rattle.placing_exact.proofs.OneRole.{one-role-written}
 use Rattle.placing_exact.proofs.RivalsByRoles.{rivals-all, fewest-of-all, none-at-all}
 use Rattle.placing_exact.proofs.StarredCases.{starred}
 use Rattle.running_exact.proofs.Agree.{agree, one-result, refused-first, done-free}
-use Rattle.running_exact.proofs.RunChain.{Refuses, run-chain, run-stopped, run-whole}
-use Rattle.running_exact.proofs.ReadyPair.{ready-done, ready-lowest, ready-none}
-use Rattle.running_exact.proofs.RunSafe.{run-kept, next-free, run-safe, placed-safe, placed-seventeen, placed-unbarred}
-use Rattle.lending_exact.proofs.LendableLaws.{eighteen-zero, ten-first, past-ten-one}
+use Rattle.running_exact.proofs.StepEffects.{step-effect}
+use Rattle.running_exact.proofs.RunChain.{run-chain, run-stopped, run-whole}
+use Rattle.running_exact.proofs.ReadyPair.{ready-done, ready-lowest, ready-none, ready-zero}
+use Rattle.running_exact.proofs.StartThreads.{start-seats}
+use Rattle.running_exact.proofs.RunSafe.{run-kept, next-free, run-safe, placed-safe, placed-unbarred}
+use Rattle.running_exact.proofs.RunAnswers.{run-unfit, run-seventeen, run-names, run-through, run-halted, run-unwritten, run-written}
+use Rattle.running_exact.proofs.ReadyAnswers.{ready-unlisted, ready-seventeen, ready-names, ready-halted, ready-found}
+use Rattle.running_exact.proofs.RunsShown.{runs-shown}
+use Rattle.lending_exact.proofs.LendableLaws.{eighteen-zero, ten-first, past-ten-one, choosing-fine}
 use Rattle.lending_exact.proofs.LentRuns.{kept-lendable, lent-next, whole-run, lent-again}
+use Rattle.lending_exact.proofs.LentSteps.{lent-free, lent-steps}
 use Rattle.lending_exact.proofs.Unchanged.{refused-unchanged, past-kept}
 use Rattle.lending_exact.proofs.LentStarts.{start-lends, start-lendable, start-records-past, start-words-past, refused-start}
 use Rattle.lending_exact.proofs.StartAnswers.{start-ten, start-eighteen, start-fine}
 use Rattle.engine.specs.Alike.{Alike}
 use Rattle.engine.proofs.SameContents.{alike}
+use Rattle.engine.proofs.LongInputs.{kept-alike}
+use Rattle.reading_exact.proofs.Bytes.{length-bytesOf, word-back, small-bytes}
+use Rattle.reading_exact.proofs.RecordWords.{counted-by-words, by-words, item-out}
+use Rattle.reading_exact.proofs.FileContents.{contents-back}
 use Rattle.reading_exact.proofs.Exact.{sound, complete, single}
 use Rattle.reading_exact.proofs.EncodedBytes.{encode-bytes}
 use Rattle.reading_exact.proofs.FirstRefusal.{first-refusal}
@@ -86,6 +106,55 @@ one-file = single
 pub file-bytes : (F : File) → WellFormed F → All (λ b. b < 256) (encode F)
 file-bytes = encode-bytes
 
+-- "A word is a 16-bit unsigned number, low byte first": read so, and written so.
+pub low-byte-first : (f : List ℕ) (k : ℕ) → wordAt f k ≡ getD f (2 * k) 0 + 256 * getD f (2 * k + 1) 0
+low-byte-first f k = refl
+
+pub words-as-bytes : (ws : List ℕ) → All (λ w. w < 65536) ws
+    → All (λ b. b < 256) (bytesOf ws) × (length (bytesOf ws) ≡ 2 * length ws) × ((i : ℕ) → wordAt (bytesOf ws) i ≡ getD ws i 0)
+words-as-bytes ws words = (small-bytes ws words, length-bytesOf ws, word-back ws)
+
+-- "Offsets count words from the start .. User, 1 word: mask of the roles assigned. Role, 4 words ..": what a file's bytes hold is what the words at those places say, as many records as the head counts;
+-- the encoding of a file holds that file; and there is nothing out of count.
+pub counts-by-words : (f : List ℕ) → CountedByWords f
+counts-by-words = counted-by-words
+
+pub records-by-words : (f : List ℕ) → ByWords f
+records-by-words = by-words
+
+pub encoded-as-held : (F : File) → contentsOf (encode F) ≡ contentsFor F
+encoded-as-held = contents-back
+
+pub no-such-item : {A : Type 0} (nothing : A) (xs : List A) (n : ℕ) → (InCount (length xs) n → ⊥) → item nothing xs n ≡ nothing
+no-such-item = item-out
+
+-- The rules ask these words: the counts, a user's mask, what a kind carries, a channel's owner and kind.
+pub rules-by-words : (f : List ℕ) → TablesByWords f (schemaOf (contentsOf f))
+rules-by-words = tables-by-words
+
+-- "mask of kinds it may send on (low word, high word), then of kinds it may receive on": what a role may do is a bit of its record's first two words for sending, of the other two for receiving.
+pub grants-by-words : (f : List ℕ) → All (λ b. b < 256) f → (r : ℕ) → InCount (wordAt f 2) r → GrantedByWords f r
+grants-by-words = granted-by-words
+
+-- "a mask's bit i-1 stands for item i", and no item is 0.
+pub mask-bits : (m x : ℕ) → 1 ≤ x → (has m x ≡ true) ↔ (m / 2 ^ (x - 1) % 2 ≡ 1)
+mask-bits = has-bit
+
+pub no-item-zero : (m : ℕ) → has m 0 ≡ false
+no-item-zero = has-zero
+
+-- "On adds a role .. Off removes a role that is there", for masks of any width.
+pub on-adds : (m r : ℕ) → 1 ≤ r → Added m r (with m r)
+on-adds = with-adds
+
+pub off-removes : (m r : ℕ) → Removed m r (without m r)
+off-removes = without-removes
+
+-- Rules 1 and 5 below a node with one child, whose names 9 does not object to: the context that its child is reached in is the one that `Below` has, a line for each tag.
+pub left-to-child : (D : Schema) → D .users ≤ 32 → D .channels ≤ 64 → (c : Context) (n : Node) → OneChild (n .tag) → (Nameless D (c .vars) n → ⊥) → (c′ : Context)
+    → (childOf D c n ≡ c′) ↔ Below D c n c′
+left-to-child D u k c = child-below D (record { users = omega (arith, u); channels = omega (arith, k) }) c
+
 -- "Order: .. 1 to 8 by number, lowest place first. Then 9 and 10 together, by node, 9 first. Checking: 11 to 13 by node." The refusal answered is the first that the file gives
 -- cause for, and none is answered where it gives none: of all of them, of 1 to 10, and of 1 to 8.
 pub first-of-check : (f : List ℕ) → First checkOrder (Objection f) (checking f)
@@ -97,12 +166,12 @@ first-of-names = names-first
 pub first-in-order : (f : List ℕ) → First readingOrder (Refusable f) (reading f)
 first-in-order = first-refusal
 
--- A program that keeps only the start of a long input answers for the whole of it.
-pub long-input : (kept input : List ℕ) → StandsFor kept input → checking kept ≡ checking input
-long-input = stands-check
+-- A program that keeps only the start of a long input, never more than two bytes more than the largest file has, answers for the whole of it, whoever asks.
+pub long-input : (f : List ℕ) → Alike (take (enough (length f)) f) f
+long-input = kept-alike
 
-pub long-input-placed : (room : ℕ) (kept input : List ℕ) → StandsFor kept input → placing kept room ≡ placing input room
-long-input-placed = stands-placed
+pub little-kept : (n : ℕ) → enough n ≤ 6876
+little-kept n = omega arith
 
 -- Placing. "A placed file has its input's users, roles, kinds and channels, its sessions' users and starting masks, and is a placement of its input that passes the check, each
 -- branch holding at most one role at any moment and none at its end; every other such placement has at least as many on steps, and the count returned is the number of on steps in the
@@ -129,15 +198,25 @@ pub no-role-no-rival : (f : List ℕ) → All (λ b. b < 256) f → (room : ℕ)
     → ((p : ℕ) × (placing f room ≡ noPlace 15 p)) ↔ (Unrefused f room × ((F : File) → encode F ≡ f → (ts : List Tree) → PlacementByRoles F ts → ⊥))
 no-role-no-rival = none-at-all
 
--- "16 placing only: the result has over 1,024 nodes": exactly when nothing before it refuses, there is a placement, and the file fixed by the rule has more.
-pub too-large-exactly : (f : List ℕ) → All (λ b. b < 256) f → (room : ℕ) → ((p : ℕ) × (placing f room ≡ noPlace 16 p)) ↔ (Unrefused f room × PlacedWith (λ n. 1024 < n) f)
+-- "The states taken have the fewest on steps; among those, the list of states in node order that is smallest at the first difference": for every file that nothing before 15 refuses and that
+-- has a placement there is exactly one such list of allowed states, it is the one taken, and the file measured by 16 and the one written have these states.
+pub tie-rule : (f : List ℕ) → All (λ b. b < 256) f → (room : ℕ) → Unrefused f room → (F : File) → encode F ≡ f → (ts : List Tree) → Placement F ts → Ruled f F
+tie-rule = ruled
+
+-- "16 placing only: the result has over 1,024 nodes (place 0)": exactly when nothing before it refuses, and the file that the tie rule fixes is a placement and has more.
+pub too-large-exactly : (f : List ℕ) → All (λ b. b < 256) f → (room p : ℕ) → (placing f room ≡ noPlace 16 p) ↔ ((p ≡ 0) × Unrefused f room × PlacedWith (λ n. 1024 < n) f)
 too-large-exactly = sixteen-exactly
 
 -- A file is placed in all other cases.
 pub placed-otherwise : (f : List ℕ) → All (λ b. b < 256) f → (room : ℕ) → (placing f room .number ≡ 0) ↔ (Unrefused f room × PlacedWith (λ n. n ≤ 1024) f)
 placed-otherwise = placed-exactly
 
--- "Order: 17, then 1 to 8 by number .. 9 and 10 together .. Placing: 14 (masks before nodes), 15, 16, each at its lowest node."
+-- "Order: 17, then 1 to 8 by number, lowest place first. Then 9 and 10 together, by node, 9 first .. Placing: 14 (masks before nodes), 15, 16, each at its lowest node." The refusal answered
+-- is the first in that order that has its cause, and none is answered where none has.
+pub first-of-placing : (f : List ℕ) → All (λ b. b < 256) f → (room : ℕ) → First placingOrder (Cause f room) (refusalIn (placing f room))
+first-of-placing = placing-first
+
+-- One by one: 17, 1 to 10, 14 at place 0 and at a node, 15 in words.
 pub room-wanted : (f : List ℕ) → roomFor f ≡ 6874
 room-wanted f = refl
 
@@ -150,6 +229,10 @@ names-come-first = ten-exactly
 pub masks-before-nodes : (f : List ℕ) → All (λ b. b < 256) f → (room : ℕ) → (placing f room ≡ noPlace 14 0) ↔ (Clean f room × SomeMask (contentsOf f))
 masks-before-nodes = fourteen-masks
 
+pub lowest-switch : (f : List ℕ) → All (λ b. b < 256) f → (room p : ℕ) → 1 ≤ p
+    → (placing f room ≡ noPlace 14 p) ↔ (Clean f room × (SomeMask (contentsOf f) → ⊥) × Lowest (IsSwitch (contentsOf f .nodes)) p)
+lowest-switch = fourteen-node
+
 pub lowest-unserved : (f : List ℕ) → All (λ b. b < 256) f → (room p : ℕ) → (placing f room ≡ noPlace 15 p) ↔ (Unrefused f room × Lowest (Unserved (contentsOf f)) p)
 lowest-unserved = fifteen-place
 
@@ -161,11 +244,21 @@ rest-kept = out-written
 pub nothing-written : (f out : List ℕ) → placing f (length out) .number ≢ 0 → placedOver f out ≡ out
 nothing-written = out-kept
 
--- A session all of whose sends and receives one role of its user permits has at most one on step.
-pub one-role-once : (D : Schema) (u r : ℕ) (t : Tree) → r ≤ 16 → Throughout r (labels D u [] t) → onSteps (placedTree D u t) ≤ 1
-one-role-once = one-role
+-- A session all of whose sends and receives one role of its user permits has at most one on step in the file written. (Where no one role permits them all, two steps that one role permits may
+-- be cut: {1}, {1, 2}, {2} has the states 1, 1, 2.)
+pub one-role-once : (f : List ℕ) → All (λ b. b < 256) f → (room : ℕ) → placing f room .number ≡ 0 → (F G : File) → encode F ≡ f → encode G ≡ placedBytes f
+    → (k r : ℕ) → InCount (length (F .sessions)) k → Covers F k r → onSteps (session G k .tree) ≤ 1
+one-role-once = one-role-written
 
--- Running. "a run does, choice by choice, exactly the calculus steps listed there": a choice gives the state s′ exactly where the relation of steps has it, and no other; it is refused with the
+-- Running. "One thread per session at the start, in order .. with each session's thread at its root, with the session's mask, nothing bound and no channel made": as many threads as sessions, and thread k is
+-- that of session k.
+pub start-of-a-run : (C : Contents)
+    → (length (start C .threads) ≡ length (C .sessions))
+    × ((k : ℕ) → InCount (length (C .sessions)) k → Seated (item noSession (C .sessions) k) (getD (start C .threads) (k - 1) noThread))
+    × (start C .made ≡ [])
+start-of-a-run = start-seats
+
+-- "a run does, choice by choice, exactly the calculus steps listed there": a choice gives the state s′ exactly where the relation of steps has it, and no other; it is refused with the
 -- first number in the order 18, 11, 12, 13, 19, 20 whose condition holds; and where none holds it is done.
 pub choice-is-a-step : (C : Clinic) (s : State) (i p : ℕ) (s′ : State) → (choice C s i p ≡ goes s′) ↔ Steps C s i p s′
 choice-is-a-step = agree
@@ -179,6 +272,11 @@ refused-in-order = refused-first
 pub done-otherwise : (C : Clinic) (s : State) (i p : ℕ) → ((s′ : State) × (choice C s i p ≡ goes s′)) ↔ ((n : ℕ) → Condition C s i p n → ⊥)
 done-otherwise = done-free
 
+-- "fork (the thread takes the first child, a new last thread the second ..); repeat (the thread stays, a new last thread takes the child ..); new (made channel i .. has value 384 + i ..); .. end removes the
+-- thread, those after it move down by one; a send with a receiver .. moves both": what a step leaves of each thread and made channel, by its number, those that it doesn't change among them.
+pub step-by-number : (C : Clinic) (s : State) (i p : ℕ) (s′ : State) → Steps C s i p s′ → Effect C s s′ i p
+step-by-number = step-effect
+
 -- "The run stops at the first refused choice": the choices done are steps in order from the start, the next is refused with the number answered, and without one all are done.
 pub run-is-steps : (C : Clinic) (ws : List ℕ) (s : State) → Chain C s (take (2 * run C s ws .count) ws) (run C s ws .state)
 run-is-steps = run-chain
@@ -188,6 +286,36 @@ run-stops = run-stopped
 
 pub run-ends : (C : Clinic) (ws : List ℕ) (s : State) → run C s ws .refusal ≡ 0 → length ws % 2 ≡ 0 → 2 * run C s ws .count ≡ length ws
 run-ends = run-whole
+
+-- What a run of any bytes through any list answers. "17 output under .. 1,800 for a run; an odd number of words of choices, or over 65,535 choices", at place 0, exactly for these and before any look at the file;
+-- "Order: 17, then 1 to 8 by number": then 1 to 10 exactly as the file is read; then 0, or what halted the run at "the choice's number from 1": the choices done and one more.
+pub run-no-room : (f ws : List ℕ) (room : ℕ) → Unfit ws room → running f ws room ≡ refused 17 0
+run-no-room = run-unfit
+
+pub run-seventeen-exactly : (f ws : List ℕ) (room : ℕ) → (running f ws room .number ≡ 17) ↔ Unfit ws room
+run-seventeen-exactly = run-seventeen
+
+pub run-names-next : (f ws : List ℕ) (room n p : ℕ) → 1 ≤ n → n ≤ 10 → (running f ws room ≡ refused n p) ↔ (Fit ws room × (readingNames f ≡ refused n p))
+run-names-next = run-names
+
+pub run-goes-through : (f ws : List ℕ) (room : ℕ) → Fit ws room → readingNames f ≡ fine → ranOf f ws .refusal ≡ 0 → running f ws room ≡ fine
+run-goes-through = run-through
+
+pub run-halts : (f ws : List ℕ) (room : ℕ) → Fit ws room → readingNames f ≡ fine → ranOf f ws .refusal ≢ 0 → running f ws room ≡ refused (ranOf f ws .refusal) (ranOf f ws .count + 1)
+run-halts = run-halted
+
+-- "nothing is written, except that a run halted at a choice writes the state before that choice": nothing where 17 or 1 to 10 refuse.
+pub run-writes-nothing : (f ws out : List ℕ) → Unfit ws (length out) ⊎ (readingNames f ≢ fine) → runOver f ws out ≡ out
+run-writes-nothing = run-unwritten
+
+-- "Output words: choices done, refusal (0 if none), threads, made channels; per made channel owner and kind; per thread user, node, mask, the number of roles it holds, its eight variables. Nothing past that is
+-- written": else each word by its offset is a field of `Written`, and every byte past them is what it was.
+pub run-writes : (f ws out : List ℕ) → Fit ws (length out) → readingNames f ≡ fine → Written (ranOf f ws) out (runOver f ws out)
+run-writes = run-written
+
+-- Runs and ready pairs in literal words: a fork, a repeat, a made channel, a meeting, ends and halts.
+pub runs-in-words : All RunShown run-cases
+runs-in-words = runs-shown
 
 -- In every state of a run of a file that 1 to 10 let through each thread's node is in count, its user that of its session, its mask the active set of rule 5 at that node and within the
 -- user's roles, each variable of rule 1's kind there, and 0 where none is bound; the variable that a binder takes, the first 0 of the eight, is the next on the path.
@@ -212,7 +340,7 @@ placed-run-answers = placed-safe
 
 pub placed-run-seventeen : (f : List ℕ) → All (λ b. b < 256) f → (room : ℕ) → placing f room .number ≡ 0 → (ws : List ℕ) (room′ : ℕ)
     → (room′ < 1800) ⊎ ((length ws % 2 ≡ 1) ⊎ (131070 < length ws)) → running (placedBytes f) ws room′ ≡ refused 17 0
-placed-run-seventeen = placed-seventeen
+placed-run-seventeen f bytes room placed ws room′ unfit = run-unfit (placedBytes f) ws room′ unfit
 
 -- The same of any file that passes the check.
 pub checked-never-for-a-role : (f : List ℕ) → checking f ≡ fine → (ws : List ℕ) → (ranOf f ws .refusal ≢ 11) × (ranOf f ws .refusal ≢ 12) × (ranOf f ws .refusal ≢ 13)
@@ -230,6 +358,42 @@ pub no-pair-exactly : (C : Clinic) (s : State)
     → (readyPair C s ≡ (0, 0)) ↔ ((j q : ℕ) (n : Node) → StandsAt C s j n → n .tag ≡ 6 → (m : ℕ) × (choice C s j q ≡ halts m))
 no-pair-exactly = ready-none
 
+pub none-together : (C : Clinic) (s : State) (i p : ℕ) → readyPair C s ≡ (i, p) → (i ≡ 0) ↔ (p ≡ 0)
+none-together = ready-zero
+
+-- What is answered for it after a list of choices: there is no output, so 17 exactly for the list's own faults; then 1 to 10 as the file is read; then what halted the run, with its place; each with 0, 0 in place
+-- of a pair. Else number and place are 0, and sender and receiver those of the state after the list.
+pub ready-unfit : (f ws : List ℕ) → Unlisted ws → ready f ws ≡ noPair 17 0
+ready-unfit = ready-unlisted
+
+pub ready-seventeen-exactly : (f ws : List ℕ) → (ready f ws .number ≡ 17) ↔ Unlisted ws
+ready-seventeen-exactly = ready-seventeen
+
+pub ready-names-next : (f ws : List ℕ) (n p : ℕ) → 1 ≤ n → n ≤ 10 → (ready f ws ≡ noPair n p) ↔ (Listed ws × (readingNames f ≡ refused n p))
+ready-names-next = ready-names
+
+pub ready-halts : (f ws : List ℕ) → Listed ws → readingNames f ≡ fine → ranOf f ws .refusal ≢ 0 → ready f ws ≡ noPair (ranOf f ws .refusal) (ranOf f ws .count + 1)
+ready-halts = ready-halted
+
+pub ready-after-list : (f ws : List ℕ) → Listed ws → readingNames f ≡ fine → ranOf f ws .refusal ≡ 0
+    → ready f ws ≡ record {
+      number = 0;
+      place = 0;
+      sender = readyPair (clinicOf (contentsOf f)) (ranOf f ws .state) .0;
+      receiver = readyPair (clinicOf (contentsOf f)) (ranOf f ws .state) .1;
+    }
+ready-after-list = ready-found
+
+-- "a lent list of threads may be no state of a run": in any that may be lent the variable that a binder takes is the next on the path, and a choice that is done is a step of the state that is lent, whose result the
+-- list then holds.
+pub next-variable-lent : (C : Contents) (l : List Thread) (b : List ℕ) → Lendable C l b → (i : ℕ) → InCount (length (stateOf l b .threads)) i → (c : Context)
+    → Reaches C (threadAt (stateOf l b) i) c → firstFree (threadAt (stateOf l b) i .vars) ≡ length (c .vars)
+next-variable-lent = lent-free
+
+pub lent-choice-is-a-step : (f : List ℕ) (l : List Thread) → All Eight l → (b : List ℕ) (i p : ℕ) → choosing f l b i p ≡ fine
+    → (s′ : State) × Steps (clinicOf (contentsOf f)) (stateOf l b) i p s′ × Lends (recordsOver f l b i p) (besideOver f l b i p) s′
+lent-choice-is-a-step = lent-steps
+
 -- The live desk's list. "Another number of records, a count above 64, a made channel's owner or kind out of count, or in a counted thread a node out of count, a user not that of the node's session, a role in
 -- the mask not assigned to that user, or a variable not of the kind that rule 1 gives it at that node (0 where none is bound), is 18 at place 0": exactly where the file passes 1 to 10 and what is lent is not `Lendable`.
 pub lent-exactly : (f : List ℕ) (l : List Thread) → All Eight l → (b : List ℕ) (i p : ℕ) → (choosing f l b i p ≡ refused 18 0) ↔ ((readingNames f ≡ fine) × (Lendable (contentsOf f) l b → ⊥))
@@ -242,6 +406,11 @@ file-first = ten-first
 pub choice-has-place-one : (f : List ℕ) (l : List Thread) (b : List ℕ) (i p n : ℕ) → 10 < n
     → (choosing f l b i p ≡ refused n 1) ↔ ((lending f l b ≡ fine) × (choice (clinicOf (contentsOf f)) (stateOf l b) i p ≡ halts n))
 choice-has-place-one = past-ten-one
+
+-- In any list that may be lent, state of a run or not, a choice is answered 0 exactly where it is done in the state that is lent.
+pub lent-choice-exactly : (f : List ℕ) (l : List Thread) (b : List ℕ) (i p : ℕ)
+    → (choosing f l b i p ≡ fine) ↔ ((lending f l b ≡ fine) × ((s : State) × (choice (clinicOf (contentsOf f)) (stateOf l b) i p ≡ goes s)))
+lent-choice-exactly = choosing-fine
 
 -- "from a state of a run it gives the run's next state": a state of a run is never 18 at place 0; a choice in it leaves the list holding the state of the run with that choice more, or is refused at place 1 as
 -- that run is; and so for whole lists of choices, done one after the other.
@@ -298,6 +467,6 @@ past-the-count = past-kept
 pub starred-cases : All Shown cases
 starred-cases = starred
 
--- What a file holds decides: two files that 1 to 8 answer alike, whose nodes begin at the same word and that hold the same have the same answers and outputs, for every caller.
-pub same-contents : (f g : List ℕ) → reading f ≡ reading g → headAt f .at .nodes ≡ headAt g .at .nodes → contentsOf f ≡ contentsOf g → Alike f g
+-- What a file holds decides: two files that 1 to 8 answer alike and that hold the same have the same answers and outputs, for every caller.
+pub same-contents : (f g : List ℕ) → reading f ≡ reading g → contentsOf f ≡ contentsOf g → Alike f g
 same-contents = alike

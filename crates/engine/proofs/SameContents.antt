@@ -1,8 +1,7 @@
--- What is answered of a file is answered of what it holds: of its bytes only the head and where the nodes begin count besides.
+-- What is answered of a file is answered of what it holds: of its bytes nothing counts besides but what 1 to 8 say of them.
 use mathlib.Core.Path.{_≡_}
 use Prim.Native.Nat.{ℕ}
 use mathlib.Core.List.{List}
-use Rattle.format.specs.Header.{headAt}
 use Rattle.format.specs.Contents.{contentsOf}
 use Rattle.reading.specs.Reading.{reading}
 use Rattle.checking.specs.Check.{readingNames, checking}
@@ -12,13 +11,13 @@ use Rattle.lending.specs.Lent.{lending, choosing, recordsOver, besideOver}
 use Rattle.lending.specs.Starting.{starting, recordsStarted, besideStarted}
 use Rattle.engine.specs.Alike.{Alike}
 
-pub alike : (f g : List ℕ) → reading f ≡ reading g → headAt f .at .nodes ≡ headAt g .at .nodes → contentsOf f ≡ contentsOf g → Alike f g
+pub alike : (f g : List ℕ) → reading f ≡ reading g → contentsOf f ≡ contentsOf g → Alike f g
 unfolding readingNames checking judging placing placedBytes placedOver running runOver ready lending choosing recordsOver besideOver starting recordsStarted besideStarted
-alike f g r n c = record {
+alike f g r c = record {
   read = rw (r, c);
   check = rw (r, c);
-  place = λ room. rw (r, c, n);
-  placed = λ out. rw (r, c, n);
+  place = λ room. rw (r, c);
+  placed = λ out. rw (r, c);
   run = λ ws room. rw (r, c);
   ran = λ ws out. rw (r, c);
   pair = λ ws. rw (r, c);

@@ -10,6 +10,7 @@ use format::writing::put_head;
 use format::writing::put_node;
 use format::writing::put_session;
 use format::writing::put_tables;
+use masks::UserRole;
 ghost use mathlib.Core.Path.{_≡_};
 ghost use mathlib.Core.Bool.{cond};
 ghost use mathlib.Core.List.{[], _∷_, _++_};
@@ -73,15 +74,23 @@ fn renamed(starts: &[u16], names: bool, n: u16) -> u16
 }
 
 // The node that switches a role, where the states differ and it is one; the number after it.
-fn put_switch(out: &mut [u8], head: Head, at: u16, tag: u16, from: u16, to: u16, role: u16) -> u16
-    requires { ⌜ (0 < at) × (at + length (switches tag from to role) ≤ 1025) × (2 * placeOf head Nodes (at + length (switches tag from to role)) ≤ length (now out)) ⌝ }
-    ensures { λ r. ⌜ (r ≡ at + length (switches tag from to role))
-        × (now (out .exit) ≡ sets (now (out .entry)) (2 * placeOf head Nodes at) (bytesOf (nodeWords (switches tag from to role)))) ⌝ }
+fn put_switch(
+    out: &mut [u8],
+    head: Head,
+    at: u16,
+    tag: u16,
+    from: u16,
+    to: u16,
+    role: UserRole,
+) -> u16
+    requires { ⌜ (0 < at) × (at + length (switches tag from to (role .0)) ≤ 1025) × (2 * placeOf head Nodes (at + length (switches tag from to (role .0))) ≤ length (now out)) ⌝ }
+    ensures { λ r. ⌜ (r ≡ at + length (switches tag from to (role .0)))
+        × (now (out .exit) ≡ sets (now (out .entry)) (2 * placeOf head Nodes at) (bytesOf (nodeWords (switches tag from to (role .0))))) ⌝ }
 {
     if from == to {
         return at;
     }
-    if role == 0 {
+    if role.0 == 0 {
         return at;
     }
     put_node(
@@ -90,7 +99,7 @@ fn put_switch(out: &mut [u8], head: Head, at: u16, tag: u16, from: u16, to: u16,
         at,
         Node {
             tag,
-            f1: role,
+            f1: role.0,
             f2: 0,
         },
     );
@@ -105,8 +114,8 @@ fn put_group(out: &mut [u8], head: Head, at: u16, turn: u16, it: Node, starts: &
 {
     let from = turn % 256;
     let to = turn / 256;
-    let off = put_switch(out, head, at, 8, from, to, from);
-    let on = put_switch(out, head, off, 7, from, to, to);
+    let off = put_switch(out, head, at, 8, from, to, UserRole(from));
+    let on = put_switch(out, head, off, 7, from, to, UserRole(to));
     let f1 = renamed(starts, it.tag == 1, it.f1);
     put_node(
         out,

@@ -52,7 +52,7 @@ module _ (D : Schema) (b : List ℕ) (n k u q : ℕ) (users : D .users ≡ u) (k
   made-done h = every-done (madeFits D) (madeIn b 2 n) k (omega (arith, length-made b 2 n))
 
   module _ (it : Made) (read : it ≡ madeAt b (2 * k + 2)) (h : k < n) where
-    made-step : made-from k ≡ ((inCount u (it .owner) && inCount q (it .kind)) && made-from (k + 1))
+    made-step : made-from k ≡ ((inCount u (it .owner) && inCount q (it .kind .0)) && made-from (k + 1))
     unfolding madeFits
     made-step =
         every-step (madeFits D) (madeIn b 2 n) k noMade (omega (arith, h, length-made b 2 n))
@@ -62,10 +62,10 @@ module _ (D : Schema) (b : List ℕ) (n k u q : ℕ) (users : D .users ≡ u) (k
     pub made-owner : inCount u (it .owner) ≡ false → made-from k ≡ false
     made-owner e = made-step ∙ rw e
 
-    pub made-kind : inCount u (it .owner) ≡ true → inCount q (it .kind) ≡ false → made-from k ≡ false
+    pub made-kind : inCount u (it .owner) ≡ true → inCount q (it .kind .0) ≡ false → made-from k ≡ false
     made-kind e g = made-step ∙ rw (e, g)
 
-    pub made-fits : inCount u (it .owner) ≡ true → inCount q (it .kind) ≡ true → made-from k ≡ made-from (k + 1)
+    pub made-fits : inCount u (it .owner) ≡ true → inCount q (it .kind .0) ≡ true → made-from k ≡ made-from (k + 1)
     made-fits e g = made-step ∙ rw (e, g)
 
 -- what may be a value: a user, a channel of the file, a made channel

@@ -127,7 +127,7 @@ unfolding madeIn
 made-kept b v p zero h = refl
 made-kept b v p (suc k) h =
     ap₂ (λ (m : Made) (ms : List Made). m ∷ ms)
-    (ap₂ (λ (x y : ℕ). record { owner = x; kind = y }) (getD-set-other b 0 p v 0 h) (getD-set-other b 0 (p + 1) v 0 (λ e. omega (arith, e))))
+    (ap₂ (λ (x y : ℕ). record { owner = x; kind = record { 0 = y } }) (getD-set-other b 0 p v 0 h) (getD-set-other b 0 (p + 1) v 0 (λ e. omega (arith, e))))
     (made-kept b v (p + 2) k (λ e. omega (arith, e)))
 
 module _ (b : List ℕ) (long : length b ≡ 130) (few : threadCount b ≤ 64) (room : madeCount b ≤ 64) where
@@ -144,16 +144,16 @@ module _ (b : List ℕ) (long : length b ≡ 130) (few : threadCount b ≤ 64) (
   made-told x s more e same =
       let m : ℕ = madeCount b in
       let low : List ℕ = set b (2 * m + 2) (x .owner) in
-      let both : List ℕ = set low (2 * m + 3) (x .kind) in
+      let both : List ℕ = set low (2 * m + 3) (x .kind .0) in
       let d : List ℕ = oneMade b x in
       let w : List ℕ = replicate 704 0 in
       let z : Sized w b = record { words = length-replicate {A = ℕ} 704 0; beside = long; threads = few; made = room } in
       let (state, size) = mint-state w b d x z more refl in
       let count : getD d 0 0 ≡ getD b 0 0 =
-      getD-set-other both 1 0 (m + 1) 0 (λ q. omega (arith, q)) ∙ getD-set-other low (2 * m + 3) 0 (x .kind) 0 (λ q. omega (arith, q))
+      getD-set-other both 1 0 (m + 1) 0 (λ q. omega (arith, q)) ∙ getD-set-other low (2 * m + 3) 0 (x .kind .0) 0 (λ q. omega (arith, q))
       ∙ getD-set-other b (2 * m + 2) 0 (x .owner) 0 (λ q. omega (arith, q)) in
-      let wide : 1 < length both = omega (arith, long, length-set low (2 * m + 3) (x .kind), length-set b (2 * m + 2) (x .owner)) in
+      let wide : 1 < length both = omega (arith, long, length-set low (2 * m + 3) (x .kind .0), length-set b (2 * m + 2) (x .owner)) in
       let number : getD d 1 0 ≡ m + 1 = getD-set-same both 1 (m + 1) 0 wide in
       let k : ℕ = 2 + 2 * madeCount d in
       words-are b d s long (size .beside) (size .made) (count ∙ e) (ap (λ (y : State). y .made) state ∙ sym same)
-      (drop-set-lt k both 1 (m + 1) (omega arith) ∙ drop-set-lt k low (2 * m + 3) (x .kind) (omega (arith, number)) ∙ drop-set-lt k b (2 * m + 2) (x .owner) (omega (arith, number)))
+      (drop-set-lt k both 1 (m + 1) (omega arith) ∙ drop-set-lt k low (2 * m + 3) (x .kind .0) (omega (arith, number)) ∙ drop-set-lt k b (2 * m + 2) (x .owner) (omega (arith, number)))

@@ -45,7 +45,7 @@ threadFits C made t =
 
 -- a made channel's owner and kind in count
 unfoldable pub madeFits : Schema → Made → Bool
-madeFits D m = inCount (D .users) (m .owner) && inCount (D .kinds) (m .kind)
+madeFits D m = inCount (D .users) (m .owner) && inCount (D .kinds) (m .kind .0)
 
 unfoldable pub every : {A : Type 0} → (A → Bool) → List A → Bool
 every test [] = true

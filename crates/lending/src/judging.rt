@@ -3,6 +3,7 @@ use format::Head;
 use format::sections::in_count;
 use format::sections::user_roles;
 use format::words::wide;
+use masks::ChannelKind;
 use masks::roles_within;
 use rules::scopes::bound_in;
 use rules::scopes::kind_at;
@@ -39,7 +40,7 @@ pub fn made_fit(head: Head, beside: &[u16]) -> bool
         if !in_count(head.count.users, it.owner) {
             return false;
         }
-        if !in_count(head.count.kinds, it.kind) {
+        if !in_count(head.count.kinds, it.kind.0) {
             return false;
         }
         k += 1;
@@ -65,15 +66,15 @@ fn is_value(head: Head, made: u16, v: u16) -> bool
 }
 
 // A value of a kind.
-fn value_fits(file: &[u8], head: Head, beside: &[u16], kind: u16, v: u16) -> bool
+fn value_fits(file: &[u8], head: Head, beside: &[u16], kind: ChannelKind, v: u16) -> bool
     requires { ⌜ Laid (now file) head × (length (now beside) ≡ besideWords) × (madeCount (now beside) ≤ 64) ⌝ }
     ensures { λ r. ⌜ r ≡ (isValue (schemaOf (contentsAt (now (file .entry)) head)) (madeOf (now (beside .entry))) v
-        && eqb (kindHeld (schemaOf (contentsAt (now (file .entry)) head)) (madeOf (now (beside .entry))) v) kind) ⌝ }
+        && eqb (kindHeld (schemaOf (contentsAt (now (file .entry)) head)) (madeOf (now (beside .entry))) v) (kind .0)) ⌝ }
 {
     if !is_value(head, made_count(beside), v) {
         return false;
     }
-    kind_held(file, head, beside, v) == kind
+    kind_held(file, head, beside, v).0 == kind.0
 }
 
 // The variables of a thread at a node.

@@ -97,7 +97,7 @@ module _ (D : Schema) (S : Apart D) (made : List Made) where
 -- a made channel
 formed-iff : (D : Schema) (m : Made) → (madeFits D m ≡ true) ↔ Formed D m
 unfolding madeFits
-formed-iff D m = and-iff (inCount-iff (D .users) (m .owner)) (λ e. inCount-iff (D .kinds) (m .kind))
+formed-iff D m = and-iff (inCount-iff (D .users) (m .owner)) (λ e. inCount-iff (D .kinds) (m .kind .0))
 
 -- a test of every one of a list
 every-iff : {A : Type 0} (test : A → Bool) (xs : List A) → (every test xs ≡ true) ↔ All (λ x. test x ≡ true) xs

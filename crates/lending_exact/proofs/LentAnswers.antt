@@ -1,7 +1,7 @@
 -- The ways through a choice in what is lent: the file refuses, what is lent refuses, the choice is refused, or it is carried out.
 use Prim.Native.Nat.{ℕ, _≤_, _<_}
 use mathlib.Core.Path.{_≡_, refl, sym, ap, subst}
-use mathlib.Core.Logic.{_↔_, inl, inr}
+use mathlib.Core.Logic.{_↔_}
 use mathlib.Core.Bool.{Bool, true, false, cond}
 use mathlib.Core.List.{List}
 use native.Mathlib.Omega.{arith}
@@ -14,7 +14,8 @@ use Rattle.steps.specs.declared.Thread.{Thread}
 use Rattle.steps.specs.Choice.{clinicOf, State, Chosen, halts, goes}
 use Rattle.reading_exact.proofs.FirstLaws.{number-of, both-fine}
 use Rattle.placing_exact.proofs.AnswerStages.{Among, none, some, among-fine, names-among}
-use Rattle.running_exact.proofs.Agree.{Number, refused-number}
+use Rattle.running_exact.proofs.Agree.{refused-number}
+use Rattle.running_exact.proofs.AnswerCases.{past-ten}
 use Rattle.lending.specs.Lent.{stateOf, mayBeLent, lending, chosenAnswer, chosenIn, choosing, recordsAfter, besideAfter, recordsOver, besideOver}
 
 -- equal answers have equal places
@@ -33,15 +34,6 @@ pub data OfChoice (f : List ℕ) (l : List Thread) (b : List ℕ) (i p : ℕ) : 
   unfit : readingNames f ≡ fine → mayBeLent (contentsOf f) l b ≡ false → lending f l b ≡ refused 18 0 → Leaves f l b i p (refused 18 0) l b → OfChoice f l b i p
   halted : (n : ℕ) → 10 < n → lending f l b ≡ fine → chosenIn f l b i p ≡ halts n → Leaves f l b i p (refused n 1) l b → OfChoice f l b i p
   carried : (s : State) → lending f l b ≡ fine → chosenIn f l b i p ≡ goes s → Leaves f l b i p fine (recordsAfter l (goes s)) (besideAfter b (goes s)) → OfChoice f l b i p
-
--- a choice's own refusals are over 10
-over-ten : (n : ℕ) → Number n → 10 < n
-over-ten n (inl e) = omega arith
-over-ten n (inr (inl e)) = omega arith
-over-ten n (inr (inr (inl e))) = omega arith
-over-ten n (inr (inr (inr (inl e)))) = omega arith
-over-ten n (inr (inr (inr (inr (inl e))))) = omega arith
-over-ten n (inr (inr (inr (inr (inr e))))) = omega arith
 
 module _ (f : List ℕ) (l : List Thread) (b : List ℕ) where
   -- what refuses before the choice is the answer, and nothing changes
@@ -62,7 +54,7 @@ module _ (f : List ℕ) (l : List Thread) (b : List ℕ) where
   of-choice i p = go (names-among f) (mayBeLent (contentsOf f) l b) refl
     where
       chosen : lending f l b ≡ fine → (o : Chosen) → chosenIn f l b i p ≡ o → OfChoice f l b i p
-      chosen e (halts n) h = halted n (over-ten n (refused-number (clinicOf (contentsOf f)) (stateOf l b) i p n h)) e h (chooses i p e (halts n) h)
+      chosen e (halts n) h = halted n (past-ten n (refused-number (clinicOf (contentsOf f)) (stateOf l b) i p n h) .0) e h (chooses i p e (halts n) h)
       chosen e (goes s) h = carried s e h (chooses i p e (goes s) h)
 
       go : Among 1 10 (readingNames f) → (t : Bool) → mayBeLent (contentsOf f) l b ≡ t → OfChoice f l b i p

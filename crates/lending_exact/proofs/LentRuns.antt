@@ -47,8 +47,8 @@ made-back [] b p rest e = refl
 made-back (m ∷ ms) b p rest e =
     let z : p ≡ p + 0 = omega arith in
     let owner : getD b p 0 ≡ m .owner = ap (λ (k : ℕ). getD b k 0) z ∙ sym (getD-drop p b 0 0) ∙ ap (λ (x : List ℕ). getD x 0 0) e in
-    let kind : getD b (p + 1) 0 ≡ m .kind = sym (getD-drop p b 1 0) ∙ ap (λ (x : List ℕ). getD x 1 0) e in
-    ap₂ (λ (x : Made) (xs : List Made). x ∷ xs) (ap₂ (λ (o k : ℕ). record { owner = o; kind = k }) owner kind)
+    let kind : getD b (p + 1) 0 ≡ m .kind .0 = sym (getD-drop p b 1 0) ∙ ap (λ (x : List ℕ). getD x 1 0) e in
+    ap₂ (λ (x : Made) (xs : List Made). x ∷ xs) (ap₂ (λ (o k : ℕ). record { owner = o; kind = record { 0 = k } }) owner kind)
     (made-back ms b (p + 2) rest (sym (drop-drop 2 p b) ∙ ap (drop 2) e))
 
 module _ (l : List Thread) (b : List ℕ) (records : length l ≡ 64) (words : length b ≡ 130) (s : State) (few : length (s .threads) ≤ 64) (made : length (s .made) ≤ 64) where
@@ -221,11 +221,11 @@ module _ (f : List ℕ) where
 
   module _ (l : List Thread) (eights : All Eight l) (b : List ℕ) (fit : lending f l b ≡ fine) (i p : ℕ) where
     -- it passes the judging
-    lendable : Lendable (contentsOf f) l b
+    pub lendable : Lendable (contentsOf f) l b
     lendable = let (clean, judged) = lending-fine f l b .0 fit in judged-lendable f clean l b eights judged
 
     -- a choice that is carried out leaves a state in which every thread fits its node
-    chosen-held : (s : State) → choice clinic (stateOf l b) i p ≡ goes s → Invariant clinic (StandsIn (contentsOf f)) loose s
+    pub chosen-held : (s : State) → choice clinic (stateOf l b) i p ≡ goes s → Invariant clinic (StandsIn (contentsOf f)) loose s
     chosen-held s h =
         subst (Keeps clinic (StandsIn (contentsOf f)) loose any) h
         (choice-keeps clinic (StandsIn (contentsOf f)) (lawful f (lending-fine f l b .0 fit .0)) loose steady any come (stateOf l b) (lendable-held l b lendable) i p)

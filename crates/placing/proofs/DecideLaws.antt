@@ -1,27 +1,27 @@
 -- What is decided, from the answers for its parts.
-use Prim.Native.Nat.{ℕ, suc, _+_, _≤_, _<_}
-use mathlib.Core.Path.{_≡_, refl, sym, ap, _∙_}
+use Prim.Native.Nat.{ℕ, zero, suc, _+_, _≤_, _<_}
+use mathlib.Core.Path.{_≡_, refl, sym, ap, subst, _∙_}
 use mathlib.Core.List.{List, [], _∷_, _++_, map}
-use mathlib.Core.Bool.{Bool, true, false}
+use mathlib.Core.Bool.{Bool, true, false, cond, _&&_}
 use native.Mathlib.Omega.{arith}
-use lib.Dec.{leb}
+use lib.Dec.{eqb, leb, ltb}
 use lib.ListN.{length, take, drop, replicate, length-map, length-drop}
 use lib.Seq.{sets, sets-eq, take-append-seam}
 use borrow.Author.Tests.{eq-eqb, ne-eqb, le-leb, lt-leb, leb-true}
-use Rattle.format.specs.Contents.{Contents}
-use Rattle.format.specs.Answers.{fine, refused, orElse}
+use Rattle.format.specs.Contents.{Contents, item, noSession, noNode}
+use Rattle.format.specs.Answers.{fine, refused, orElse, firstOf}
 use Rattle.format.specs.declared.Verdict.{Verdict}
 use Rattle.format.specs.declared.Node.{Node}
 use Rattle.format.proofs.AnswerLaws.{NoRefusal, quiet-first, loud-first, both-quiet}
 use Rattle.trees.specs.Shape.{shapeAnswer}
 use Rattle.rules.specs.Checking.{namesAnswer}
 use Rattle.rules.specs.Candidates.{candidatesIn}
-use Rattle.states.specs.States.{Label, labelled, turnsOf, packed, unpacked}
+use Rattle.states.specs.States.{Label, needs, labelled, turnsOf, packed, unpacked}
 use Rattle.states.specs.declared.Turn.{Turn}
 use Rattle.groups.specs.Groups.{sizesOf, startsFrom, startsOf, placedContents, turnsIn}
 use Rattle.states.proofs.TurnLaws.{turns-length, turns-unpacked}
 use Rattle.groups.proofs.GroupLaws.{placed-same, starts-table}
-use Rattle.placing.specs.Placing.{labelsIn, Labelled, turnsFor, masksAnswer, switchesAnswer, unservedFrom, sizeAnswer, settling, placeable, decided, noSums, summed}
+use Rattle.placing.specs.Placing.{labelsIn, Labelled, turnsFor, masksAnswer, switchesAnswer, unservedFrom, sizeAnswer, unsettled, Settled, settling, placeable, decided, noSums, summed}
 use Rattle.placing.proofs.CandidateLaws.{candidates-length, labelled-more}
 
 pub decided-loud : (v : Verdict) (ts : List Turn) → (NoRefusal v → ⊥) → decided v ts ≡ record { verdict = v; sums = noSums }
@@ -29,6 +29,43 @@ decided-loud v ts l = rw (ne-eqb (v .number) 0 l)
 
 pub decided-quiet : (v : Verdict) (ts : List Turn) → NoRefusal v → decided v ts ≡ record { verdict = v; sums = summed ts }
 decided-quiet v ts q = rw (eq-eqb (v .number) 0 q)
+
+-- the tables as they were, or filled
+module _ (n : ℕ) (ts : List Turn) where
+  pub settled-before : (turns starts : List ℕ) → unsettled n ≡ true → Settled n ts turns turns starts starts
+  settled-before turns starts e =
+      (ap (λ b. cond b turns (sets turns 1 (map packed ts))) (sym e), ap (λ b. cond b starts (sets starts 1 (startsFrom 1 ts))) (sym e))
+
+  pub settled-after : (turns turns′ starts starts′ : List ℕ) → unsettled n ≡ false → turns′ ≡ sets turns 1 (map packed ts) → starts′ ≡ sets starts 1 (startsFrom 1 ts)
+      → Settled n ts turns turns′ starts starts′
+  settled-after turns turns′ starts starts′ e t s =
+      (t ∙ ap (λ b. cond b turns (sets turns 1 (map packed ts))) (sym e), s ∙ ap (λ b. cond b starts (sets starts 1 (startsFrom 1 ts))) (sym e))
+
+  pub settled-quiet : (turns turns′ starts starts′ : List ℕ) → n ≡ 0 → Settled n ts turns turns′ starts starts′
+      → (turns′ ≡ sets turns 1 (map packed ts)) × (starts′ ≡ sets starts 1 (startsFrom 1 ts))
+  settled-quiet turns turns′ starts starts′ z s = subst (λ k. Settled k ts turns turns′ starts starts′) z s
+
+pub unserved-number : (i : ℕ) (ls : List Label) → (NoRefusal (unservedFrom i ls) → ⊥) → unservedFrom i ls .number ≡ 15
+unfolding unservedFrom
+unserved-number i [] loud = absurd (loud refl)
+unserved-number i (l ∷ ls) loud = go (needs (l .tag) && eqb (l .roles) 0) loud (unserved-number (suc i) ls)
+  where
+    go : (b : Bool) → (NoRefusal (cond b (refused 15 i) (unservedFrom (suc i) ls)) → ⊥) → ((NoRefusal (unservedFrom (suc i) ls) → ⊥) → unservedFrom (suc i) ls .number ≡ 15)
+        → cond b (refused 15 i) (unservedFrom (suc i) ls) .number ≡ 15
+    go true loud later = refl
+    go false loud later = later loud
+
+first-number : (fits : ℕ → Bool) (refusal : ℕ → Verdict) (n : ℕ) → ((i : ℕ) → refusal i .number ≡ n) → (i k : ℕ) → (NoRefusal (firstOf fits refusal i k) → ⊥)
+    → firstOf fits refusal i k .number ≡ n
+unfolding firstOf
+first-number fits refusal n all i zero loud = absurd (loud refl)
+first-number fits refusal n all i (suc k) loud = go (fits i) loud (first-number fits refusal n all (suc i) k)
+  where
+    go : (b : Bool) → (NoRefusal (cond b (firstOf fits refusal (suc i) k) (refusal i)) → ⊥)
+        → ((NoRefusal (firstOf fits refusal (suc i) k) → ⊥) → firstOf fits refusal (suc i) k .number ≡ n)
+        → cond b (firstOf fits refusal (suc i) k) (refusal i) .number ≡ n
+    go true loud later = later loud
+    go false loud later = all i
 
 -- 15 and 16
 module _ (ls : List Label) where
@@ -84,6 +121,14 @@ module _ (C : Contents) where
   -- 14 to 16
   abbrev pub bare : Verdict
   bare = orElse (masksAnswer C) (switchesAnswer C)
+
+  pub bare-number : (NoRefusal bare → ⊥) → bare .number ≡ 14
+  unfolding masksAnswer switchesAnswer
+  bare-number loud = go (eqb (masksAnswer C .number) 0) refl loud
+    where
+      go : (b : Bool) → eqb (masksAnswer C .number) 0 ≡ b → (NoRefusal (cond b (switchesAnswer C) (masksAnswer C)) → ⊥) → cond b (switchesAnswer C) (masksAnswer C) .number ≡ 14
+      go true e loud = first-number (λ n. ltb (item noNode (C .nodes) n .tag) 7) (λ n. refused 14 n) 14 (λ n. refl) 1 (length (C .nodes)) loud
+      go false e loud = first-number (λ n. eqb (item noSession (C .sessions) n .mask) 0) (λ n. refused 14 0) 14 (λ n. refl) 1 (length (C .sessions)) loud
 
   pub bare-loud : (NoRefusal bare → ⊥) → placeable C ≡ bare
   unfolding placeable

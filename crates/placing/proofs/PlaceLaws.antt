@@ -9,14 +9,15 @@ use lib.ListN.{length}
 use lib.Seq.{sets, length-sets}
 use borrow.Author.Tests.{eq-eqb, ne-eqb, lt-ltb, le-ltb, ltb-true, ltb-false, eqb-true, eqb-false}
 use Rattle.format.specs.Contents.{contentsAt, contentsOf}
-use Rattle.format.specs.Writing.{encoded}
+use Rattle.format.specs.Writing.{headFor, encoded}
 use Rattle.format.specs.Answers.{refused, orElse}
-use Rattle.format.specs.Header.{headAt, headOf}
+use Rattle.format.specs.Header.{headAt, headOf, lengthFor, Laid}
 use Rattle.format.specs.declared.Verdict.{Verdict}
 use Rattle.format.specs.declared.Head.{Head}
 use Rattle.format.specs.declared.HeadAnswer.the-variants.{Refused}
 use Rattle.format.proofs.AnswerLaws.{NoRefusal, quiet-first, loud-first, both-quiet}
 use Rattle.format.proofs.HeadLaws.{head-number}
+use Rattle.format.proofs.ContentsLaws.{users-held, roles-held, kinds-held, channels-held, sessions-held}
 use Rattle.tables.specs.Records.{recordsAnswer}
 use Rattle.trees.specs.Shape.{shapeAnswer}
 use Rattle.reading.specs.Reading.{bodyAnswer, reading}
@@ -26,22 +27,26 @@ use Rattle.reading.proofs.ReadingLaws.{by-body}
 use Rattle.rules.specs.Candidates.{candidatesIn}
 use Rattle.checking.specs.Check.{readingNames, entered, surveyed}
 use Rattle.checking.proofs.CheckLaws.{names-refused, names-parts, names-headed, entered-fine, entered-refused}
-use Rattle.groups.specs.Groups.{sizesOf, startsOf, placedContents}
+use Rattle.groups.specs.Groups.{sizesOf, onsOf, startsOf, placedContents}
 use Rattle.placing.specs.Placing.{Labelled, turnsFor, placeable, judging, noPlace, placedIn, placedAnswer, placing, placedBytes, placedOver}
 use Rattle.placing.specs.declared.Placed.{Placed}
 use Rattle.placing.proofs.DecideLaws.{labels-kept, few-nodes}
+
+-- the nodes of a file that is laid out begin where what it holds says
+nodes-begin : (f : List ℕ) (h : Head) → Laid f h → h .at .nodes ≡ headFor (contentsAt f h) .at .nodes
+nodes-begin f h l = omega (arith, l, users-held f h, roles-held f h, kinds-held f h, channels-held f h, sessions-held f h)
 
 module _ (f : List ℕ) where
   pub too-small : (room : ℕ) → room < 6874 → placing f room ≡ noPlace 17 0
   unfolding placing
   too-small room h = rw (lt-ltb room 6874 h)
 
-  answers : (room : ℕ) → 6874 ≤ room → placing f room ≡ placedAnswer f (judging f)
+  answers : (room : ℕ) → 6874 ≤ room → placing f room ≡ placedAnswer (contentsOf f) (judging f)
   unfolding placing
   answers room h = rw (le-ltb room 6874 h)
 
   pub placing-refused : (room : ℕ) (v : Verdict) → 6874 ≤ room → judging f ≡ v → (NoRefusal v → ⊥) → placing f room ≡ noPlace (v .number) (v .place)
-  placing-refused room v h e l = answers room h ∙ ap (placedAnswer f) e ∙ rw (ne-eqb (v .number) 0 l)
+  placing-refused room v h e l = answers room h ∙ ap (placedAnswer (contentsOf f)) e ∙ rw (ne-eqb (v .number) 0 l)
 
   -- where anything is refused the output stays
   pub over-kept : (out : List ℕ) (n p : ℕ) → (n ≡ 0 → ⊥) → placing f (length out) ≡ noPlace n p → placedOver f out ≡ out
@@ -63,7 +68,7 @@ module _ (f : List ℕ) where
       let (l, same) = entered-refused f w e in (loud-first (readingNames f) (placeable (contentsOf f)) l ∙ sym same, λ q. l (subst NoRefusal same q))
 
   -- where nothing is refused
-  pub placing-placed : (room : ℕ) → 6874 ≤ room → NoRefusal (judging f) → placing f room ≡ placedIn (headAt f) (contentsOf f)
+  pub placing-placed : (room : ℕ) → 6874 ≤ room → NoRefusal (judging f) → placing f room ≡ placedIn (contentsOf f)
   placing-placed room r q = answers room r ∙ rw (eq-eqb (judging f .number) 0 q)
 
   pub over-placed : (out : List ℕ) → 6874 ≤ length out → NoRefusal (judging f) → placedOver f out ≡ sets out 0 (placedBytes f)
@@ -85,8 +90,16 @@ module _ (f : List ℕ) where
     unfolding judging
     judged = quiet-first (readingNames f) (placeable (contentsOf f)) names-quiet ∙ ap (λ (k : Head). placeable (contentsAt f k)) (sym same)
 
-    pub placed-here : placedIn h (contentsAt f h) ≡ placedIn (headAt f) (contentsOf f)
-    placed-here = ap (λ (k : Head). placedIn k (contentsAt f k)) same
+    pub placed-here : _≡_ {A = Placed} (record {
+      number = 0;
+      place = 0;
+      length = lengthFor (h .at .nodes) (sizesOf (turnsFor (contentsAt f h)));
+      «on_steps» = onsOf (turnsFor (contentsAt f h));
+    }) (placedIn (contentsOf f))
+    placed-here =
+        ap (λ (n : ℕ). record { number = 0; place = 0; length = lengthFor n (sizesOf (turnsFor (contentsAt f h))); «on_steps» = onsOf (turnsFor (contentsAt f h)) })
+        (nodes-begin f h (entered-fine f h e .0))
+        ∙ ap (λ (k : Head). placedIn (contentsAt f k)) same
 
     pub bytes-here : encoded (placedContents (contentsAt f h) (turnsFor (contentsAt f h)) (startsOf (turnsFor (contentsAt f h)))) ≡ placedBytes f
     unfolding placedBytes
@@ -140,9 +153,10 @@ length-most f room = go (ltb room 6874) refl (eqb (judging f .number) 0) refl
     go false r true j =
         let quiet : NoRefusal (judging f) = eqb-true (judging f .number) 0 j in
         let (names, rest) = both-quiet NoRefusal (readingNames f) (placeable (contentsOf f)) (λ z. z) .0 quiet in
-        let size : placing f room .length ≡ 2 * (headAt f .at .nodes + 3 * sizesOf (turnsFor (contentsOf f))) =
+        let laid = names-headed f names .laid in
+        let size : placing f room .length ≡ 2 * (headFor (contentsOf f) .at .nodes + 3 * sizesOf (turnsFor (contentsOf f))) =
         ap (λ (a : Placed). a .length) (placing-placed f room (ltb-false room 6874 r) quiet) in
-        omega (arith, size, few-nodes (contentsOf f) rest, names-headed f names .laid)
+        omega (arith, size, few-nodes (contentsOf f) rest, laid, nodes-begin f (headAt f) laid)
 
 -- what a caller has in hand: an answer no longer than that, and an output as long as it was
 pub answer-short : (f : List ℕ) (room : ℕ) (a : Placed) → a ≡ placing f room → a .length ≤ 6874

@@ -1,17 +1,16 @@
 -- Placing a file's bytes: 17 first of all, then 1 to 10, then 14 to 16, then the placed file.
 use Prim.Native.Nat.{ℕ, zero, suc}
-use mathlib.Core.Bool.{Bool, true, false, cond, _&&_}
+use mathlib.Core.Bool.{Bool, true, false, cond, _&&_, _||_}
 use mathlib.Core.Path.{_≡_}
 use mathlib.Core.List.{List, [], _∷_, map}
 use lib.Dec.{eqb, leb, ltb}
 use lib.ListN.{length, drop}
 use lib.Seq.{sets}
 use Rattle.format.specs.Answers.{fine, refused, orElse, firstOf}
-use Rattle.format.specs.Header.{headAt, lengthFor, roomFor}
+use Rattle.format.specs.Header.{lengthFor, roomFor}
 use Rattle.format.specs.Contents.{Contents, item, noSession, noNode, contentsOf}
-use Rattle.format.specs.Writing.{encoded}
+use Rattle.format.specs.Writing.{headFor, encoded}
 use Rattle.format.specs.declared.Verdict.{Verdict}
-use Rattle.format.specs.declared.Head.{Head}
 use Rattle.rules.specs.Candidates.{candidatesIn}
 use Rattle.checking.specs.Check.{readingNames}
 use Rattle.states.specs.States.{Label, needs, labelled, turnsOf, packed}
@@ -49,9 +48,14 @@ unservedFrom i (l ∷ ls) = cond (needs (l .tag) && eqb (l .roles) 0) (refused 1
 abbrev pub sizeAnswer : ℕ → Verdict
 sizeAnswer nodes = cond (leb nodes 1024) fine (refused 16 0)
 
--- the turns and the starts stand in their tables, each at its node's number
-abbrev pub Settled : List Turn → List ℕ → List ℕ → List ℕ → List ℕ → Type 0
-Settled ts turns turns′ starts starts′ = (turns′ ≡ sets turns 1 (map packed ts)) × (starts′ ≡ sets starts 1 (startsFrom 1 ts))
+-- refused before there are turns: 14 or 15
+abbrev pub unsettled : ℕ → Bool
+unsettled number = eqb number 14 || eqb number 15
+
+-- what a decision leaves in the tables: what they held, or, once there are turns, these and the starts, each at its node's number
+abbrev pub Settled : ℕ → List Turn → List ℕ → List ℕ → List ℕ → List ℕ → Type 0
+Settled number ts turns turns′ starts starts′ =
+    (turns′ ≡ cond (unsettled number) turns (sets turns 1 (map packed ts))) × (starts′ ≡ cond (unsettled number) starts (sets starts 1 (startsFrom 1 ts)))
 
 -- 15 and 16, by the nodes as placing sees them
 abbrev pub settling : List Label → Verdict
@@ -79,20 +83,20 @@ abbrev pub noPlace : ℕ → ℕ → Placed
 noPlace n p = record { number = n; place = p; length = 0; «on_steps» = 0 }
 
 -- where nothing is refused: the length of the placed file in bytes, and the number of on steps
-abbrev pub placedIn : Head → Contents → Placed
-placedIn h C = record {
+abbrev pub placedIn : Contents → Placed
+placedIn C = record {
   number = 0;
   place = 0;
-  length = lengthFor (h .at .nodes) (sizesOf (turnsFor C));
+  length = lengthFor (headFor C .at .nodes) (sizesOf (turnsFor C));
   «on_steps» = onsOf (turnsFor C);
 }
 
-abbrev pub placedAnswer : List ℕ → Verdict → Placed
-placedAnswer f v = cond (eqb (v .number) 0) (placedIn (headAt f) (contentsOf f)) (noPlace (v .number) (v .place))
+abbrev pub placedAnswer : Contents → Verdict → Placed
+placedAnswer C v = cond (eqb (v .number) 0) (placedIn C) (noPlace (v .number) (v .place))
 
 -- 17 first of all: output under 6,874 bytes
 unfoldable pub placing : List ℕ → ℕ → Placed
-placing f room = cond (ltb room (roomFor f)) (noPlace 17 0) (placedAnswer f (judging f))
+placing f room = cond (ltb room (roomFor f)) (noPlace 17 0) (placedAnswer (contentsOf f) (judging f))
 
 -- the bytes of the placed file
 unfoldable pub placedBytes : List ℕ → List ℕ

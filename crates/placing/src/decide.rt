@@ -30,7 +30,7 @@ fn refused(verdict: Verdict) -> Decision
 fn settle(file: &[u8], head: Head, roles: &[u16], turns: &mut [u16], starts: &mut [u16]) -> Decision
     requires { ⌜ Laid (now file) head × (length (now roles) ≡ 1025) × (length (now turns) ≡ 1025) × (length (now starts) ≡ 1025) ⌝ }
     ensures { λ r. ⌜ (r ≡ decided (settling (labelled (contentsAt (now (file .entry)) head .nodes) (drop 1 (now (roles .entry))))) (turnsOf (labelled (contentsAt (now (file .entry)) head .nodes) (drop 1 (now (roles .entry))))))
-        × (r .verdict .number ≡ 0 → Settled (turnsOf (labelled (contentsAt (now (file .entry)) head .nodes) (drop 1 (now (roles .entry))))) (now (turns .entry)) (now (turns .exit)) (now (starts .entry)) (now (starts .exit))) ⌝ }
+        × Settled (r .verdict .number) (turnsOf (labelled (contentsAt (now (file .entry)) head .nodes) (drop 1 (now (roles .entry))))) (now (turns .entry)) (now (turns .exit)) (now (starts .entry)) (now (starts .exit)) ⌝ }
 {
     let first = unserved(file, head, roles);
     if first.number != 0 {
@@ -63,7 +63,7 @@ pub fn decide(
 ) -> Decision
     requires { ⌜ Laid (now file) head × Labelled (contentsAt (now file) head) (now roles) × (length (now roles) ≡ 1025) × (length (now turns) ≡ 1025) × (length (now starts) ≡ 1025) ⌝ }
     ensures { λ r. ⌜ (r ≡ decided (placeable (contentsAt (now (file .entry)) head)) (turnsFor (contentsAt (now (file .entry)) head)))
-        × (r .verdict .number ≡ 0 → Settled (turnsFor (contentsAt (now (file .entry)) head)) (now (turns .entry)) (now (turns .exit)) (now (starts .entry)) (now (starts .exit))) ⌝ }
+        × Settled (r .verdict .number) (turnsFor (contentsAt (now (file .entry)) head)) (now (turns .entry)) (now (turns .exit)) (now (starts .entry)) (now (starts .exit)) ⌝ }
 {
     let first = bare(file, head);
     if first.number != 0 {

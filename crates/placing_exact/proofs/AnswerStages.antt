@@ -8,9 +8,9 @@ use native.Mathlib.Omega.{arith}
 use lib.Dec.{eqb, leb, ltb}
 use lib.ListN.{length}
 use borrow.Author.Tests.{eqb-true, eqb-false, eq-eqb, ne-eqb, leb-true, leb-false, ltb-true, ltb-false, lt-ltb, le-ltb}
-use Rattle.format.specs.Contents.{Contents, item, noSession, noNode, contentsOf}
+use Rattle.format.specs.Contents.{Contents, contentsOf}
 use Rattle.format.specs.Answers.{fine, refused, orElse}
-use Rattle.format.specs.Header.{headAt, roomFor}
+use Rattle.format.specs.Header.{roomFor}
 use Rattle.format.specs.declared.Verdict.{Verdict}
 use Rattle.format.proofs.AnswerLaws.{quiet-first, loud-first, both-quiet}
 use Rattle.checking.specs.Check.{readingNames}
@@ -20,10 +20,11 @@ use Rattle.placing.specs.declared.Placed.{Placed}
 use Rattle.placing.specs.Placing.{labelsIn, turnsFor, masksAnswer, switchesAnswer, unservedFrom, sizeAnswer, settling, placeable, judging, noPlace, placedIn, placing}
 use Rattle.reading_exact.specs.Order.{Order, First}
 use Rattle.reading_exact.specs.Refusals.{readingOrder}
-use Rattle.reading_exact.proofs.FirstLaws.{number-of, both-zero, both-fine, Unfit, first-of}
+use Rattle.reading_exact.proofs.FirstLaws.{number-of, both-zero, both-fine, Unfit}
 use Rattle.checking_exact.specs.Faults.{checkOrder}
 use Rattle.checking_exact.proofs.CheckFirst.{objection-number, names-first}
 use Rattle.placing_exact.specs.Promised.{Clean, Unrefused}
+use Rattle.placing_exact.proofs.RefusedPlaces.{bareMask, lowTag, masks-first, switches-first, masks-none, switches-none}
 
 -- an answer that is fine, or refuses with one of the numbers lo to hi
 pub data Among (lo hi : ℕ) (v : Verdict) : Type 0 where
@@ -80,43 +81,26 @@ names-among f = first-among checkOrder _ 1 10 (readingNames f) (λ n p (o, l). (
 
 -- 14 for a starting mask has place 0, and for on or off a node as place
 module _ (C : Contents) where
-  abbrev pub bareMask : ℕ → Bool
-  bareMask n = eqb (item noSession (C .sessions) n .mask) 0
-
-  abbrev pub lowTag : ℕ → Bool
-  lowTag n = ltb (item noNode (C .nodes) n .tag) 7
-
-  abbrev count : ℕ
-  count = length (C .sessions)
-
-  pub masks-first : First readingOrder (Unfit bareMask 14 (λ n. 0) 1 count) (masksAnswer C)
-  unfolding masksAnswer
-  masks-first = first-of readingOrder bareMask 14 (λ n. 0) (λ x y l. omega arith) 1 count
-
-  pub switches-first : First readingOrder (Unfit lowTag 14 (λ n. n) 1 (length (C .nodes))) (switchesAnswer C)
-  unfolding switchesAnswer
-  switches-first = first-of readingOrder lowTag 14 (λ n. n) (λ x y l. l) 1 (length (C .nodes))
-
   pub masks-answers : (masksAnswer C ≡ fine) ⊎ (masksAnswer C ≡ refused 14 0)
-  masks-answers = go masks-first
+  masks-answers = go (masks-first C readingOrder)
     where
-      go : First readingOrder (Unfit bareMask 14 (λ n. 0) 1 count) (masksAnswer C) → (masksAnswer C ≡ fine) ⊎ (masksAnswer C ≡ refused 14 0)
+      go : First readingOrder (Unfit (bareMask C) 14 (λ n. 0) 1 (length (C .sessions))) (masksAnswer C) → (masksAnswer C ≡ fine) ⊎ (masksAnswer C ≡ refused 14 0)
       go (inl (e, clear)) = inl e
       go (inr (n, p, e, ((a, x, l, k, z, b), low))) = inr (e ∙ ap₂ refused a b)
 
   pub switches-answers : (switchesAnswer C ≡ fine) ⊎ ((p : ℕ) × (1 ≤ p) × (switchesAnswer C ≡ refused 14 p))
-  switches-answers = go switches-first
+  switches-answers = go (switches-first C readingOrder)
     where
-      go : First readingOrder (Unfit lowTag 14 (λ n. n) 1 (length (C .nodes))) (switchesAnswer C)
+      go : First readingOrder (Unfit (lowTag C) 14 (λ n. n) 1 (length (C .nodes))) (switchesAnswer C)
           → (switchesAnswer C ≡ fine) ⊎ ((p : ℕ) × (1 ≤ p) × (switchesAnswer C ≡ refused 14 p))
       go (inl (e, clear)) = inl e
       go (inr (n, p, e, ((a, x, l, k, z, b), low))) = inr (p, omega arith, e ∙ ap (λ (m : ℕ). refused m p) a)
 
   pub masks-among : Among 14 14 (masksAnswer C)
-  masks-among = first-among readingOrder _ 14 14 (masksAnswer C) (λ n p u. omega (arith, u .0)) masks-first
+  masks-among = first-among readingOrder _ 14 14 (masksAnswer C) (λ n p u. omega (arith, u .0)) (masks-first C readingOrder)
 
   pub switches-among : Among 14 14 (switchesAnswer C)
-  switches-among = first-among readingOrder _ 14 14 (switchesAnswer C) (λ n p u. omega (arith, u .0)) switches-first
+  switches-among = first-among readingOrder _ 14 14 (switchesAnswer C) (λ n p u. omega (arith, u .0)) (switches-first C readingOrder)
 
 pub unserved-answers : (i : ℕ) (ls : List Label) → (unservedFrom i ls ≡ fine) ⊎ ((p : ℕ) × (unservedFrom i ls ≡ refused 15 p))
 unfolding unservedFrom
@@ -172,7 +156,7 @@ module _ (f : List ℕ) (room : ℕ) where
   unfolding placeable
   placeable-among = among-or 14 14 15 16 bare (settling (labelsIn C)) (omega arith) (omega arith) bare-among settling-among
 
-  judging-among : Among 1 16 (judging f)
+  pub judging-among : Among 1 16 (judging f)
   unfolding judging
   judging-among = among-or 1 10 14 16 (readingNames f) (placeable C) (omega arith) (omega arith) (names-among f) placeable-among
 
@@ -182,7 +166,7 @@ module _ (f : List ℕ) (room : ℕ) where
   room-stage = (to (ltb room (roomFor f)) refl (eqb (judging f .number) 0) refl, λ l. rw (lt-ltb room (roomFor f) l))
     where
       to : (b : Bool) → ltb room (roomFor f) ≡ b → (c : Bool) → eqb (judging f .number) 0 ≡ c
-          → cond b (noPlace 17 0) (cond c (placedIn (headAt f) C) (noPlace (judging f .number) (judging f .place))) ≡ noPlace 17 0
+          → cond b (noPlace 17 0) (cond c (placedIn C) (noPlace (judging f .number) (judging f .place))) ≡ noPlace 17 0
           → room < roomFor f
       to true e c k h = ltb-true room (roomFor f) e
       to false e true k h = absurd (omega (arith, ap (λ (x : Placed). x .number) h))
@@ -193,13 +177,13 @@ module _ (f : List ℕ) (room : ℕ) where
   placed-zero = (to (ltb room (roomFor f)) refl (eqb (judging f .number) 0) refl, λ (l, q). rw (le-ltb room (roomFor f) l, eq-eqb (judging f .number) 0 q))
     where
       to : (b : Bool) → ltb room (roomFor f) ≡ b → (c : Bool) → eqb (judging f .number) 0 ≡ c
-          → cond b (noPlace 17 0) (cond c (placedIn (headAt f) C) (noPlace (judging f .number) (judging f .place))) .number ≡ 0
+          → cond b (noPlace 17 0) (cond c (placedIn C) (noPlace (judging f .number) (judging f .place))) .number ≡ 0
           → (roomFor f ≤ room) × (judging f .number ≡ 0)
       to true e c k h = absurd (omega arith)
       to false e true k h = (ltb-false room (roomFor f) e, eqb-true (judging f .number) 0 k)
       to false e false k h = absurd (eqb-false (judging f .number) 0 k h)
 
-  pub placed-answer : placing f room .number ≡ 0 → placing f room ≡ placedIn (headAt f) C
+  pub placed-answer : placing f room .number ≡ 0 → placing f room ≡ placedIn C
   unfolding placing
   placed-answer h = let (l, q) = placed-zero .0 h in rw (le-ltb room (roomFor f) l, eq-eqb (judging f .number) 0 q)
 
@@ -211,7 +195,7 @@ module _ (f : List ℕ) (room : ℕ) where
   )
     where
       to : (b : Bool) → ltb room (roomFor f) ≡ b → (c : Bool) → eqb (judging f .number) 0 ≡ c
-          → cond b (noPlace 17 0) (cond c (placedIn (headAt f) C) (noPlace (judging f .number) (judging f .place))) ≡ noPlace n p
+          → cond b (noPlace 17 0) (cond c (placedIn C) (noPlace (judging f .number) (judging f .place))) ≡ noPlace n p
           → (roomFor f ≤ room) × (judging f ≡ refused n p)
       to true e c z h = absurd (omega (arith, ap (λ (x : Placed). x .number) h))
       to false e true z h = absurd (omega (arith, ap (λ (x : Placed). x .number) h))
@@ -244,8 +228,8 @@ module _ (f : List ℕ) (room : ℕ) where
 
   unrefused-iff : Unrefused f room ↔ ((roomFor f ≤ room) × (readingNames f ≡ fine) × (bare ≡ fine))
   unrefused-iff = (
-    λ u. (u .wide, u .names, bare-iff .1 (u .masks, u .switches)),
-    λ (l, e, b). let (m, s) = bare-iff .0 b in record { wide = l; names = e; masks = m; switches = s },
+    λ u. (u .wide, u .names, bare-iff .1 (masks-none C .1 (u .masks), switches-none f (u .names) .1 (u .switches))),
+    λ (l, e, b). let (m, s) = bare-iff .0 b in record { wide = l; names = e; masks = masks-none C .0 m; switches = switches-none f e .0 s },
   )
 
   -- 16

@@ -8,16 +8,14 @@ use native.Mathlib.Omega.{arith}
 use lib.ListN.{length}
 use Rattle.format.specs.Contents.{Contents}
 use Rattle.format.specs.Answers.{fine}
-use Rattle.format.specs.Header.{headAt, lengthFor}
-use Rattle.format.specs.Writing.{encoded}
-use Rattle.format.specs.declared.Head.{Head}
+use Rattle.format.specs.Header.{lengthFor}
+use Rattle.format.specs.Writing.{headFor, encoded}
 use Rattle.rules.specs.Schema.{Schema}
 use Rattle.states.specs.declared.Turn.{Turn}
 use Rattle.states.specs.States.{Label, turnsFrom, turnsOf}
 use Rattle.groups.specs.Groups.{sizesOf, onsOf, startsOf, placedContents}
 use Rattle.placing.specs.Placing.{labelsIn, turnsFor, unservedFrom, placedBytes}
 use Rattle.reading_exact.specs.File.{File, WellFormed, nodesOf, contentsFor, encode}
-use Rattle.reading_exact.proofs.SectionRows.{head-back}
 use Rattle.reading_exact.proofs.Places.{length-encoded}
 use Rattle.reading_exact.proofs.FileContents.{length-rooted, contents-back}
 use Rattle.checking_exact.specs.Tables.{schemaFor}
@@ -66,14 +64,13 @@ module _ (F : File) (W : WellFormed F) (N : WellKinded F) (B : Bare F) where
   placed-size = ap sizesOf turns-read ∙ all-sizes D 1 (F .sessions) states ∙ ap (λ (G : File). length (nodesOf G)) file-read
 
   -- the length answered is the placed file's, in bytes
-  pub placed-length : lengthFor (headAt (encode F) .at .nodes) (sizesOf (turnsFor (contentsFor F))) ≡ length (encode (placedFile F))
+  pub placed-length : lengthFor (headFor (contentsFor F) .at .nodes) (sizesOf (turnsFor (contentsFor F))) ≡ length (encode (placedFile F))
   unfolding encode
   placed-length =
       let G : File = placedFile F in
       omega (
         arith,
         placed-size,
-        ap (λ (h : Head). h .at .nodes) (head-back C),
         length-encoded (contentsFor G),
         length-rooted 1 (F .sessions),
         length-rooted 1 (G .sessions),

@@ -24,14 +24,13 @@ use Rattle.placing_exact.specs.Placed.{
   AllStates,
   listedAll,
   insertAll,
-  AllAllowed,
   takingAll,
   servedAll,
   Bare,
 }
+use Rattle.placing_exact.proofs.AllowedStates.{AllAllowed}
 use Rattle.placing_exact.proofs.SoundSessions.{Sound, sound}
 use Rattle.placing_exact.proofs.SessionPlaced.{taken-within, taken-allowed, taken-least, taken-first, placed-back, placed-passes, rival}
-pub use Rattle.placing_exact.proofs.SessionPlaced.{one-role}
 
 module _ (D : Schema) (R : Ranged D) (few : D .roles ≤ 16) where
   abbrev Passing : Routine → Type 0
@@ -120,11 +119,16 @@ module _ (F : File) (W : WellFormed F) (N : WellKinded F) (B : Bare F) where
       → (a : AllStates (schemaFor F) (F .sessions)) × AllAllowed (schemaFor F) (F .sessions) a × (onStepsOf (insertAll (schemaFor F) (F .sessions) a) ≤ onStepsOf ts)
   rival-states ts P = rival-all D (ranged F W) (W .few-roles) (F .sessions) ts (sound F W N B) (P .back) (P .passes) (P .holds)
 
+  -- no allowed states cost fewer on steps
+  pub least : (a : AllStates (schemaFor F) (F .sessions)) → AllAllowed (schemaFor F) (F .sessions) a
+      → onStepsOf (placedTrees (schemaFor F) (F .sessions)) ≤ onStepsOf (insertAll (schemaFor F) (F .sessions) a)
+  least a h = least-all D (ranged F W) (W .few-roles) (F .sessions) (sound F W N B) a h
+
   -- no rival has fewer on steps
   pub fewest : (ts : List Tree) → Placement F ts → onStepsOf (placedTrees (schemaFor F) (F .sessions)) ≤ onStepsOf ts
   fewest ts P =
       let (a, h, l) = rival-states ts P in
-      omega (arith, least-all D (ranged F W) (W .few-roles) (F .sessions) (sound F W N B) a h)
+      omega (arith, least a h)
 
   -- where there is a placement no send or receive is without a role
   pub placement-served : (ts : List Tree) → Placement F ts → servedAll (schemaFor F) (F .sessions) ≡ true

@@ -5,6 +5,8 @@ pub mod StateRules
 -- states give a placement, and a placement gives states
 pub mod InsertGood
 pub mod Rivals
+-- the states that nodes may have, in words (allowed-stated)
+pub mod AllowedStates
 -- one session
 pub mod SoundSessions
 pub mod SessionPlaced
@@ -20,6 +22,8 @@ pub mod TreeRows
 pub mod TurnedNodes
 pub mod GroupTrees
 pub mod GroupSessions
+-- The tie rule fixes one list of states, and it is the one taken (fixed-single, taking-fixed)
+pub mod FixedStates
 -- 14 and 15, and that the placed file is well formed
 pub mod BareAnswers
 pub mod ServedLabels
@@ -29,9 +33,14 @@ pub mod OnNodes
 pub mod BytesPlaced
 -- Placing's answer by stages, the places of 14 and 15, and when the answer is which: what a placed file is (placed-well), and when 14, 15, 16
 -- or none refuses (fourteen-masks, fourteen-node, fifteen-exactly, fifteen-place, sixteen-exactly, placed-exactly)
-pub mod AnswerStages
+pub mod UnservedNodes
 pub mod RefusedPlaces
+pub mod AnswerStages
 pub mod PlacingExact
+-- the answer is the first refusal in order that has a cause (placing-first)
+pub mod PlacingFirst
+-- a session that one role covers (one-role-written)
+pub mod OneRole
 -- A rival that is asked for rules 5 and 6 alone obeys every rule (rivals-by-roles, rivals-all): the fewest on steps of all, and 15 where there is none at all
 -- (fewest-of-all, none-at-all)
 pub mod RivalsByRoles

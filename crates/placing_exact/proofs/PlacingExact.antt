@@ -10,10 +10,9 @@ use lib.Seq.{sets-eq}
 use borrow.Author.Tests.{eq-eqb, ne-eqb}
 use Rattle.format.specs.Contents.{Contents, contentsOf}
 use Rattle.format.specs.Answers.{fine, refused}
-use Rattle.format.specs.Header.{headAt, largest, roomFor}
+use Rattle.format.specs.Header.{largest, roomFor}
 use Rattle.format.specs.declared.Verdict.{Verdict}
 use Rattle.rules.specs.Schema.{Schema}
-use Rattle.rules.specs.Candidates.{candidatesIn}
 use Rattle.checking.specs.Check.{readingNames, checking}
 use Rattle.states.specs.declared.Turn.{Turn}
 use Rattle.groups.specs.Groups.{sizesOf, onsOf}
@@ -30,12 +29,14 @@ use Rattle.reading_exact.proofs.FileContents.{treesOf, length-rooted, contents-
 use Rattle.checking_exact.specs.Tables.{schemaFor}
 use Rattle.checking_exact.specs.Typing.{WellKinded}
 use Rattle.checking_exact.proofs.CheckExact.{names-exact, check-exact}
-use Rattle.placing_exact.specs.Placement.{plain, onStepsOf, grafted, Placement}
-use Rattle.placing_exact.specs.Placed.{placedTree, placedTrees, placedFile, takingAll, servedAll, Bare}
+use Rattle.placing_exact.specs.Placement.{plain, onStepsOf, grafted, graft, Placement}
+use Rattle.placing_exact.specs.Placed.{placedTree, placedTrees, placedFile, insertAll, takingAll, servedAll, Bare}
 use Rattle.placing_exact.specs.Counts.{onNodes}
-use Rattle.placing_exact.specs.Promised.{WellPlaced, Clean, SomeMask, IsSwitch, Unserved, Lowest, Unrefused, NoPlacement, PlacedWith}
+use Rattle.placing_exact.specs.Causes.{SomeMask, IsSwitch, Unserved, PlacedWith}
+use Rattle.placing_exact.specs.Promised.{WellPlaced, Ruled, Clean, Lowest, Unrefused, NoPlacement}
 use Rattle.placing_exact.proofs.GroupSessions.{placed-inserted}
-use Rattle.placing_exact.proofs.FilePlaced.{states-allowed, placed-good, fewest, placement-served, smallest}
+use Rattle.placing_exact.proofs.FilePlaced.{placed-good, fewest, placement-served}
+use Rattle.placing_exact.proofs.FixedStates.{fixed-single, taking-fixed}
 use Rattle.placing_exact.proofs.BytesPlaced.{
   placed-bytes,
   placed-size,
@@ -60,7 +61,7 @@ use Rattle.placing_exact.proofs.AnswerStages.{
   switches-stage,
   placed-stage,
 }
-use Rattle.placing_exact.proofs.RefusedPlaces.{masks-some, switches-lowest, unserved-lowest, lowest-unserved, nodes-served}
+use Rattle.placing_exact.proofs.RefusedPlaces.{masks-some, masks-none, switches-none, switches-lowest, unserved-lowest}
 
 -- the trees grafted are those given
 grafted-trees : (D : Schema) (ss : List Routine) → treesOf (grafted ss (placedTrees D ss)) ≡ placedTrees D ss
@@ -85,10 +86,10 @@ at-largest F W =
     )
 
 -- what 1 to 10 and 14 leave of a file
-record Ready (F : File) : Type 0 where
-  formed : WellFormed F
-  named : WellKinded F
-  bare : Bare F
+pub record Ready (F : File) : Type 0 where
+  pub formed : WellFormed F
+  pub named : WellKinded F
+  pub bare : Bare F
 
 bare-iff : (F : File) → ((masksAnswer (contentsFor F) ≡ fine) × (switchesAnswer (contentsFor F) ≡ fine)) ↔ Bare F
 bare-iff F = (
@@ -118,7 +119,7 @@ module _ (f : List ℕ) (bytes : All (λ b. b < 256) f) where
     ready : Unrefused f room → (F : File) → encode F ≡ f → Ready F
     ready u F e =
         let (W, N) = named-file (u .names) F e in
-        let same = subst (λ (C : Contents). (masksAnswer C ≡ fine) × (switchesAnswer C ≡ fine)) (contents-held F f e) (u .masks, u .switches) in
+        let same = subst (λ (C : Contents). (masksAnswer C ≡ fine) × (switchesAnswer C ≡ fine)) (contents-held F f e) (masks-none (contentsOf f) .1 (u .masks), switches-none f (u .names) .1 (u .switches)) in
         record { formed = W; named = N; bare = bare-iff F .0 same }
 
     -- nothing before 15 refuses exactly where nothing before 14 does, all starting masks are 0 and there is no on or off
@@ -127,7 +128,7 @@ module _ (f : List ℕ) (bytes : All (λ b. b < 256) f) where
       λ u. let (F, e) = some-file u in (record { wide = u .wide; names = u .names }, (F, e, ready u F e .bare)),
       λ (c, (F, e, b)).
           let (m, s) = subst (λ (C : Contents). (masksAnswer C ≡ fine) × (switchesAnswer C ≡ fine)) (sym (contents-held F f e)) (bare-iff F .1 b) in
-          record { wide = c .wide; names = c .names; masks = m; switches = s },
+          record { wide = c .wide; names = c .names; masks = masks-none (contentsOf f) .0 m; switches = switches-none f (c .names) .0 s },
     )
 
     -- 15 finds nothing exactly where every node is served; then there is a placement, and only then
@@ -162,38 +163,61 @@ module _ (f : List ℕ) (bytes : All (λ b. b < 256) f) where
         lacking u n (inr z) = z
 
     -- what 15 leaves
-    placement-read : (Size : ℕ → Type 0) → Unrefused f room → unservedFrom 1 (labelsIn (contentsOf f)) ≡ fine → Size (sizesOf (turnsFor (contentsOf f)))
+    pub placement-read : (Size : ℕ → Type 0) → Unrefused f room → unservedFrom 1 (labelsIn (contentsOf f)) ≡ fine → Size (sizesOf (turnsFor (contentsOf f)))
         → PlacedWith Size f
     placement-read Size u s z =
         let (F, e) = some-file u in
-        let r = ready u F e in (
+        let r = ready u F e in
+        let served = served-read F e r .0 s in
+        let same = placed-inserted (schemaFor F) (F .sessions) in (
           F,
-          placedTrees (schemaFor F) (F .sessions),
+          takingAll (schemaFor F) (F .sessions),
           e,
-          placed-good F (r .formed) (r .named) (r .bare) (served-read F e r .0 s),
-          subst Size (size-read F e r) z,
+          taking-fixed F (r .formed) (r .named) (r .bare) served,
+          subst (Placement F) same (placed-good F (r .formed) (r .named) (r .bare) served),
+          subst Size (size-read F e r ∙ ap (λ (ts : List Tree). length (nodesOf (graft F ts))) same) z,
         )
 
-    read-placement : (Size : ℕ → Type 0) → Unrefused f room → PlacedWith Size f
+    pub read-placement : (Size : ℕ → Type 0) → Unrefused f room → PlacedWith Size f
         → (unservedFrom 1 (labelsIn (contentsOf f)) ≡ fine) × Size (sizesOf (turnsFor (contentsOf f)))
-    read-placement Size u (F, ts, e, P, z) =
+    read-placement Size u (F, states, e, rule, P, z) =
         let r = ready u F e in
-        (served-read F e r .1 (placement-served F (r .formed) (r .named) (r .bare) ts P), subst Size (sym (size-read F e r)) z)
+        let served = placement-served F (r .formed) (r .named) (r .bare) _ P in
+        let one = fixed-single F states (takingAll (schemaFor F) (F .sessions)) rule (taking-fixed F (r .formed) (r .named) (r .bare) served) in
+        let trees = ap (insertAll (schemaFor F) (F .sessions)) one ∙ sym (placed-inserted (schemaFor F) (F .sessions)) in
+        (served-read F e r .1 served, subst Size (ap (λ (ts : List Tree). length (nodesOf (graft F ts))) trees ∙ sym (size-read F e r)) z)
 
-    -- 16: there is one, and the result has over 1,024 nodes
-    pub sixteen-exactly : ((p : ℕ) × (placing f room ≡ noPlace 16 p)) ↔ (Unrefused f room × PlacedWith (λ n. 1024 < n) f)
-    sixteen-exactly = (
-      λ (p, h).
+    -- where there is a placement the tie rule fixes the states, and what is measured and written
+    pub ruled : Unrefused f room → (F : File) → encode F ≡ f → (ts : List Tree) → Placement F ts → Ruled f F
+    ruled u F e ts P =
+        let r = ready u F e in
+        let C = contents-held F f e in
+        let same = placed-inserted (schemaFor F) (F .sessions) in
+        let rule = taking-fixed F (r .formed) (r .named) (r .bare) (placement-served F (r .formed) (r .named) (r .bare) ts P) in
+        record {
+          states = takingAll (schemaFor F) (F .sessions);
+          fixed = rule;
+          only = λ other h. fixed-single F other (takingAll (schemaFor F) (F .sessions)) h rule;
+          taken = ap (λ (C : Contents). map (λ (t : Turn). t .to) (turnsFor C)) C ∙ placed-states F (r .formed) (r .named) (r .bare);
+          measured = size-read F e r ∙ ap (λ (ts : List Tree). length (nodesOf (graft F ts))) same;
+          written = ap (λ (b : List ℕ). placedBytes b) (sym e) ∙ placed-bytes F (r .formed) (r .named) (r .bare) ∙ ap (λ (ts : List Tree). encode (graft F ts)) same;
+        }
+
+    -- 16, at place 0: the file that the tie rule fixes has over 1,024 nodes
+    pub sixteen-exactly : (p : ℕ) → (placing f room ≡ noPlace 16 p) ↔ ((p ≡ 0) × Unrefused f room × PlacedWith (λ n. 1024 < n) f)
+    sixteen-exactly p = (
+      λ h.
           let (u, s, z) = sixteen-stage f room p .0 h in
-          (u, placement-read (λ n. 1024 < n) u s (over p (size-answers (sizesOf (turnsFor (contentsOf f)))) z)),
-      λ (u, q).
-          let (s, l) = read-placement (λ n. 1024 < n) u q in
-          (0, sixteen-stage f room 0 .1 (u, s, at (size-answers (sizesOf (turnsFor (contentsOf f)))) l)),
+          let (q, l) = over (size-answers (sizesOf (turnsFor (contentsOf f)))) z in
+          (q, u, placement-read (λ n. 1024 < n) u s l),
+      λ (q, u, h).
+          let (s, l) = read-placement (λ n. 1024 < n) u h in
+          sixteen-stage f room p .1 (u, s, at (size-answers (sizesOf (turnsFor (contentsOf f)))) l ∙ ap (refused 16) (sym q)),
     )
       where
-        over : {n : ℕ} (p : ℕ) → ((sizeAnswer n ≡ fine) × (n ≤ 1024)) ⊎ ((sizeAnswer n ≡ refused 16 0) × (1024 < n)) → sizeAnswer n ≡ refused 16 p → 1024 < n
-        over p (inl (e, l)) h = absurd (omega (arith, ap (λ (v : Verdict). v .number) (sym e ∙ h)))
-        over p (inr (e, l)) h = l
+        over : {n : ℕ} → ((sizeAnswer n ≡ fine) × (n ≤ 1024)) ⊎ ((sizeAnswer n ≡ refused 16 0) × (1024 < n)) → sizeAnswer n ≡ refused 16 p → (p ≡ 0) × (1024 < n)
+        over (inl (e, l)) h = absurd (omega (arith, ap (λ (v : Verdict). v .number) (sym e ∙ h)))
+        over (inr (e, l)) h = (ap (λ (v : Verdict). v .place) (sym h ∙ e), l)
 
         at : {n : ℕ} → ((sizeAnswer n ≡ fine) × (n ≤ 1024)) ⊎ ((sizeAnswer n ≡ refused 16 0) × (1024 < n)) → 1024 < n → sizeAnswer n ≡ refused 16 0
         at (inl (e, k)) l = absurd (omega (arith, k, l))
@@ -215,32 +239,18 @@ module _ (f : List ℕ) (bytes : All (λ b. b < 256) f) where
 
     -- 14: no starting mask, and the lowest node that is on or off
     pub fourteen-node : (p : ℕ) → 1 ≤ p
-        → (placing f room ≡ noPlace 14 p) ↔ (Clean f room × (masksAnswer (contentsOf f) ≡ fine) × Lowest (IsSwitch (contentsOf f .nodes)) p)
+        → (placing f room ≡ noPlace 14 p) ↔ (Clean f room × (SomeMask (contentsOf f) → ⊥) × Lowest (IsSwitch (contentsOf f .nodes)) p)
     fourteen-node p l = (
-      λ h. let (c, m, s) = switches-stage f room p l .0 h in (c, m, switches-lowest f (c .names) p .0 s),
-      λ (c, m, s). switches-stage f room p l .1 (c, m, switches-lowest f (c .names) p .1 s),
+      λ h. let (c, m, s) = switches-stage f room p l .0 h in (c, masks-none (contentsOf f) .0 m, switches-lowest f (c .names) p .0 s),
+      λ (c, m, s). switches-stage f room p l .1 (c, masks-none (contentsOf f) .1 m, switches-lowest f (c .names) p .1 s),
     )
 
     -- 15, by its place: the lowest send or receive that no role of the user permits
     pub fifteen-place : (p : ℕ) → (placing f room ≡ noPlace 15 p) ↔ (Unrefused f room × Lowest (Unserved (contentsOf f)) p)
     fifteen-place p = (
-      λ h. let (u, s) = fifteen-stage f room p .0 h in (u, unserved-lowest (contentsOf f) p s),
-      λ (u, s). fifteen-stage f room p .1 (u, lowest-unserved (contentsOf f) p (long u) s),
+      λ h. let (u, s) = fifteen-stage f room p .0 h in (u, unserved-lowest f (u .names) p .0 s),
+      λ (u, s). fifteen-stage f room p .1 (u, unserved-lowest f (u .names) p .1 s),
     )
-      where
-        long : Unrefused f room → length (contentsOf f .nodes) ≤ length (candidatesIn (contentsOf f))
-        long u =
-            let (F, e) = some-file u in
-            let r = ready u F e in
-            subst (λ (C : Contents). length (C .nodes) ≤ length (candidatesIn C)) (sym (contents-held F f e)) (nodes-served F (r .formed) (r .named) (r .bare))
-
-    -- 16 has the place 0
-    pub sixteen-place : (p : ℕ) → placing f room ≡ noPlace 16 p → p ≡ 0
-    sixteen-place p h = let (u, s, z) = sixteen-stage f room p .0 h in go (size-answers (sizesOf (turnsFor (contentsOf f)))) z
-      where
-        go : {n : ℕ} → ((sizeAnswer n ≡ fine) × (n ≤ 1024)) ⊎ ((sizeAnswer n ≡ refused 16 0) × (1024 < n)) → sizeAnswer n ≡ refused 16 p → p ≡ 0
-        go (inl (e, l)) z = absurd (omega (arith, ap (λ (v : Verdict). v .number) (sym e ∙ z)))
-        go (inr (e, l)) z = ap (λ (v : Verdict). v .place) (sym z ∙ e)
 
 -- a placed file
 module _ (F : File) (r : Ready F) (served : servedAll (schemaFor F) (F .sessions) ≡ true) (few : length (nodesOf (placedFile F)) ≤ 1024) where
@@ -286,32 +296,38 @@ module _ (F : File) (r : Ready F) (served : servedAll (schemaFor F) (F .sessions
         counted = ons ∙ counted;
         fewest = λ ts P. omega (arith, fewest F (r .formed) (r .named) (r .bare) ts P);
         states = takingAll (schemaFor F) (F .sessions);
-        allowed = states-allowed F (r .formed) (r .named) (r .bare) served;
+        fixed = taking-fixed F (r .formed) (r .named) (r .bare) served;
         taken = ap (λ (C : Contents). map (λ (t : Turn). t .to) (turnsFor C)) (contents-back F) ∙ placed-states F (r .formed) (r .named) (r .bare);
         turned = placed-inserted (schemaFor F) (F .sessions);
-        smallest = λ other h l. smallest F (r .formed) (r .named) (r .bare) served other h (omega arith);
       }
 
 -- The answer and the output.
 
 module _ (f : List ℕ) (bytes : All (λ b. b < 256) f) (room : ℕ) (placed : placing f room .number ≡ 0) where
   -- the file, and that all its nodes are served
-  found : (F : File) × (encode F ≡ f) × Ready F × (servedAll (schemaFor F) (F .sessions) ≡ true) × (length (nodesOf (placedFile F)) ≤ 1024)
+  pub found : (F : File) × (encode F ≡ f) × Ready F × (servedAll (schemaFor F) (F .sessions) ≡ true) × (length (nodesOf (placedFile F)) ≤ 1024)
   found =
-      let (u, (F, ts, e, P, l)) = placed-exactly f bytes room .0 placed in
+      let (u, (F, states, e, _, P, _)) = placed-exactly f bytes room .0 placed in
       let r = ready f bytes room u F e in
-      (F, e, r, placement-served F (r .formed) (r .named) (r .bare) ts P, l)
+      let (_, _, l) = placed-stage f room .0 placed in
+      (F, e, r, placement-served F (r .formed) (r .named) (r .bare) _ P, omega (arith, l, size-read f bytes room F e r))
 
   -- what is placed
   pub placed-well : WellPlaced f (placing f room) (placedBytes f)
   placed-well =
       let (F, e, r, s, l) = found in
       let answer = subst (λ (b : List ℕ). placing b room .number ≡ 0) (sym e) placed in
-      let same = placed-answer (encode F) room answer ∙ ap (placedIn (headAt (encode F))) (contents-back F) in
+      let same = placed-answer (encode F) room answer ∙ ap (λ (C : Contents). placedIn C) (contents-back F) in
       let long : placing (encode F) room .length ≡ length (placedBytes (encode F)) =
       ap (λ (a : Placed). a .length) same ∙ placed-length F (r .formed) (r .named) (r .bare) ∙ ap length (written F r s l) in
       subst (λ (b : List ℕ). WellPlaced b (placing b room) (placedBytes b)) e
       (file-well F r s l (placing (encode F) room) long (ap (λ (a : Placed). a .«on_steps») same))
+
+  -- the file written
+  pub placed-written : (F : File) → encode F ≡ f → placedBytes f ≡ encode (placedFile F)
+  placed-written F e =
+      let r = ready f bytes room (placed-exactly f bytes room .0 placed .0) F e in
+      ap (λ (b : List ℕ). placedBytes b) (sym e) ∙ placed-bytes F (r .formed) (r .named) (r .bare)
 
   -- the output has room for it
   pub placed-fits : length (placedBytes f) ≤ room

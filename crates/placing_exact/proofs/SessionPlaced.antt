@@ -16,7 +16,7 @@ use Rattle.checking_exact.specs.Typing.{Typed}
 use Rattle.checking_exact.proofs.OperandKinds.{Ranged}
 use Rattle.checking_exact.proofs.TreeRules.{kinded-iff, typed-iff}
 use Rattle.placing_exact.specs.Placement.{plain, onSteps, Holds}
-use Rattle.placing_exact.specs.Placed.{labels, insert, taking, placedTree, Throughout}
+use Rattle.placing_exact.specs.Placed.{labels, insert, taking, placedTree}
 use Rattle.placing_exact.proofs.HeldRole.{is-empty}
 use Rattle.placing_exact.proofs.StepCosts.{on-most, on-same}
 use Rattle.placing_exact.proofs.InsertGood.{labels-plain, plain-insert, on-insert, choose-ends, insert-good}
@@ -101,6 +101,11 @@ module _ (D : Schema) (R : Ranged D) (few : D .roles ≤ 16) (s : Routine) (S : 
       (a, i, j, omega (arith, on-insert D u 0 [] (s .tree) a))
 
 -- One role throughout.
+
+-- a role that every node may be given: it is the user's, and permits each send and receive
+abbrev pub Throughout : ℕ → Bin Label → Type 0
+Throughout r nil = Unit {0}
+Throughout r (node l a b) = (suits l r ≡ true) × Throughout r a × Throughout r b
 
 abbrev everywhere : ℕ → (t : Bin Label) → States t
 everywhere r nil = tt

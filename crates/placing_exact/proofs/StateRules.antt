@@ -47,13 +47,13 @@ unfolding able
 able-held D w k m p i h = rw (ne-eqb (bitAnd m (permitting D w k)) 0 (meet-iff m (permitting D w k) .1 (suc p, is-has m p i, h)))
 
 -- a role of the user that permits
-both : (a b x : ℕ) → has a x ≡ true → has b x ≡ true → has (bitAnd a b) x ≡ true
+pub both : (a b x : ℕ) → has a x ≡ true → has b x ≡ true → has (bitAnd a b) x ≡ true
 both a b x h k = has-and a b x ∙ and-eq-true-iff (has a x) (has b x) .1 (h, k)
 
-first-of : (a b x : ℕ) → has (bitAnd a b) x ≡ true → has a x ≡ true
+pub first-of : (a b x : ℕ) → has (bitAnd a b) x ≡ true → has a x ≡ true
 first-of a b x h = and-eq-true-iff (has a x) (has b x) .0 (sym (has-and a b x) ∙ h) .0
 
-second-of : (a b x : ℕ) → has (bitAnd a b) x ≡ true → has b x ≡ true
+pub second-of : (a b x : ℕ) → has (bitAnd a b) x ≡ true → has b x ≡ true
 second-of a b x h = and-eq-true-iff (has a x) (has b x) .0 (sym (has-and a b x) ∙ h) .1
 
 -- what is not refused is had

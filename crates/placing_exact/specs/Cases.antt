@@ -12,12 +12,14 @@ use Rattle.states.specs.declared.Turn.{Turn}
 use Rattle.placing.specs.Placing.{turnsFor, noPlace, placing, placedBytes}
 use Rattle.placing.specs.declared.Placed.{Placed}
 
--- a file's words, and what is said of it
+-- a file, by its words or its bytes, and what is said of it
 pub data Case : Type 0 where
   -- the check's answer
   checks : List ℕ → Verdict → Case
   -- the words of the placed file and its on steps
   places : List ℕ → List ℕ → ℕ → Case
+  -- the same by bytes: those of a file, and of the placed file
+  placesBytes : List ℕ → List ℕ → ℕ → Case
   -- the states taken
   takes : List ℕ → List ℕ → Case
   -- placing's refusal
@@ -27,6 +29,7 @@ abbrev pub Shown : Case → Type 0
 Shown (checks ws v) = checking (bytesOf ws) ≡ v
 Shown (places ws xs n) =
     (placing (bytesOf ws) 6874 ≡ record { number = 0; place = 0; length = 2 * length xs; «on_steps» = n }) × (placedBytes (bytesOf ws) ≡ bytesOf xs)
+Shown (placesBytes f g n) = (placing f 6874 ≡ record { number = 0; place = 0; length = length g; «on_steps» = n }) × (placedBytes f ≡ g)
 Shown (takes ws ss) = map (λ (t : Turn). t .to) (turnsFor (contentsOf (bytesOf ws))) ≡ ss
 Shown (refuses ws n p) = placing (bytesOf ws) 6874 ≡ noPlace n p
 
@@ -52,10 +55,34 @@ booking = file both 3 (6 ∷ 257 ∷ 2 ∷ 6 ∷ 258 ∷ 2 ∷ 0 ∷ 0 ∷ 0 ∷
 abbrev placed : List ℕ
 placed = file both 5 (7 ∷ 2 ∷ 0 ∷ 6 ∷ 257 ∷ 2 ∷ 6 ∷ 258 ∷ 2 ∷ 8 ∷ 2 ∷ 0 ∷ 0 ∷ 0 ∷ 0 ∷ [])
 
+-- the booking in its 82 bytes, and placed in 94: version and counts, offsets, users, roles, kinds, channels, session, nodes
+abbrev bookingBytes : List ℕ
+bookingBytes =
+    1 ∷ 0 ∷ 2 ∷ 0 ∷ 2 ∷ 0 ∷ 2 ∷ 0 ∷ 2 ∷ 0 ∷ 1 ∷ 0 ∷ 3 ∷ 0
+    ∷ 13 ∷ 0 ∷ 15 ∷ 0 ∷ 23 ∷ 0 ∷ 25 ∷ 0 ∷ 29 ∷ 0 ∷ 32 ∷ 0
+    ∷ 3 ∷ 0 ∷ 0 ∷ 0
+    ∷ 1 ∷ 0 ∷ 0 ∷ 0 ∷ 0 ∷ 0 ∷ 0 ∷ 0 ∷ 3 ∷ 0 ∷ 0 ∷ 0 ∷ 0 ∷ 0 ∷ 0 ∷ 0
+    ∷ 0 ∷ 0 ∷ 0 ∷ 0
+    ∷ 2 ∷ 0 ∷ 1 ∷ 0 ∷ 2 ∷ 0 ∷ 2 ∷ 0
+    ∷ 1 ∷ 0 ∷ 0 ∷ 0 ∷ 1 ∷ 0
+    ∷ 6 ∷ 0 ∷ 1 ∷ 1 ∷ 2 ∷ 0 ∷ 6 ∷ 0 ∷ 2 ∷ 1 ∷ 2 ∷ 0 ∷ 0 ∷ 0 ∷ 0 ∷ 0 ∷ 0 ∷ 0 ∷ []
+
+abbrev placedBooking : List ℕ
+placedBooking =
+    1 ∷ 0 ∷ 2 ∷ 0 ∷ 2 ∷ 0 ∷ 2 ∷ 0 ∷ 2 ∷ 0 ∷ 1 ∷ 0 ∷ 5 ∷ 0
+    ∷ 13 ∷ 0 ∷ 15 ∷ 0 ∷ 23 ∷ 0 ∷ 25 ∷ 0 ∷ 29 ∷ 0 ∷ 32 ∷ 0
+    ∷ 3 ∷ 0 ∷ 0 ∷ 0
+    ∷ 1 ∷ 0 ∷ 0 ∷ 0 ∷ 0 ∷ 0 ∷ 0 ∷ 0 ∷ 3 ∷ 0 ∷ 0 ∷ 0 ∷ 0 ∷ 0 ∷ 0 ∷ 0
+    ∷ 0 ∷ 0 ∷ 0 ∷ 0
+    ∷ 2 ∷ 0 ∷ 1 ∷ 0 ∷ 2 ∷ 0 ∷ 2 ∷ 0
+    ∷ 1 ∷ 0 ∷ 0 ∷ 0 ∷ 1 ∷ 0
+    ∷ 7 ∷ 0 ∷ 2 ∷ 0 ∷ 0 ∷ 0 ∷ 6 ∷ 0 ∷ 1 ∷ 1 ∷ 2 ∷ 0 ∷ 6 ∷ 0 ∷ 2 ∷ 1 ∷ 2 ∷ 0 ∷ 8 ∷ 0 ∷ 2 ∷ 0 ∷ 0 ∷ 0 ∷ 0 ∷ 0 ∷ 0 ∷ 0 ∷ 0 ∷ 0 ∷ []
+
 abbrev pub cases : List Case
 cases =
     -- the booking, and as placed
     places booking placed 1
+    ∷ placesBytes bookingBytes placedBooking 1
     ∷ checks booking (refused 13 1)
     ∷ checks placed fine
     -- fork of two {2} sends

@@ -1,5 +1,6 @@
 pub mod Placement
 pub mod Placed
 pub mod Counts
+pub mod Causes
 pub mod Promised
 pub mod Cases

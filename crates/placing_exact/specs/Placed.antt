@@ -1,21 +1,26 @@
 -- Placing on trees: the states taken, and the tree with off and on put in.
-use Prim.Native.Nat.{ℕ, zero, suc}
+use Prim.Native.Nat.{ℕ, zero, suc, _≤_}
 use mathlib.Core.Path.{_≡_}
+use mathlib.Core.Logic.{_⊎_}
 use mathlib.Core.Bool.{Bool, true, cond, _&&_}
 use mathlib.Core.List.{List, [], _∷_}
 use lib.Dec.{eqb}
 use Rattle.format.specs.declared.Node.{Node}
-use Rattle.rules.specs.Schema.{Schema}
+use Rattle.masks.specs.Mask.{has}
+use Rattle.rules.specs.declared.Way.{Way}
+use Rattle.rules.specs.declared.Way.the-variants.{Sends, Receives}
+use Rattle.rules.specs.Schema.{Schema, permits}
 use Rattle.rules.specs.Names.{Bound}
 use Rattle.rules.specs.Rules.{Context, childOf}
 use Rattle.rules.specs.Candidates.{candidates}
-use Rattle.optimum.specs.Optimum.{Bin, nil, node, States, listed, Within, Allowed, served, choose}
+use Rattle.optimum.specs.Optimum.{Bin, nil, node, States, listed, served, choose, LexLe}
 use Rattle.states.specs.States.{Label, suits, cost}
 use Rattle.reading_exact.specs.Lists.{All}
-use Rattle.reading_exact.specs.Tree.{Step, Tree, end, fork, step, switch, on, off, words, stepNode}
-use Rattle.reading_exact.specs.File.{Routine, File}
+use Rattle.reading_exact.specs.Tree.{Step, repeat, new, compare, receive, send, Tree, end, fork, step, switch, on, off, words, stepNode}
+use Rattle.reading_exact.specs.File.{Routine, File, InCount}
 use Rattle.checking_exact.specs.Tables.{schemaFor}
-use Rattle.placing_exact.specs.Placement.{plain, graft}
+use Rattle.checking_exact.specs.Typing.{HasKind}
+use Rattle.placing_exact.specs.Placement.{plain, onStepsOf, graft}
 
 -- a context without roles
 abbrev pub context : ℕ → List Bound → Context
@@ -84,15 +89,42 @@ unfoldable pub insertAll : (D : Schema) (ss : List Routine) → AllStates D ss �
 insertAll D [] a = []
 insertAll D (s ∷ ss) a = insert D (s .user) 0 [] (s .tree) (a .0) ∷ insertAll D ss (a .1)
 
--- each state is 0 or a role of the user, and permits the node's step
-abbrev pub AllAllowed : (D : Schema) (ss : List Routine) → AllStates D ss → Type 0
-AllAllowed D [] a = Unit {0}
-AllAllowed D (s ∷ ss) a =
-    Within 16 (labels D (s .user) [] (s .tree)) (a .0) × Allowed suits (labels D (s .user) [] (s .tree)) (a .0) × AllAllowed D ss (a .1)
+-- "Each node gets a state: 0 (no role) or one role assigned to the user. Send and receive need a state that permits them; every other node may have any."
+abbrev pub IsState : Schema → ℕ → ℕ → Type 0
+IsState D u s = (s ≡ 0) ⊎ (has (D .assigned u) s ≡ true)
+
+abbrev pub Permits : Schema → List Bound → Way → ℕ → ℕ → Type 0
+Permits D vs w c s = (k : ℕ) × HasKind D vs c k × InCount (D .roles) s × (permits D w (record { 0 = s }) (record { 0 = k }) ≡ true)
+
+abbrev pub Needed : Schema → List Bound → Step → ℕ → Type 0
+Needed D vs repeat s = Unit {0}
+Needed D vs (new k) s = Unit {0}
+Needed D vs (compare a b) s = Unit {0}
+Needed D vs (receive c) s = Permits D vs Receives c s
+Needed D vs (send c v) s = Permits D vs Sends c s
+
+abbrev pub Stated : (D : Schema) (u : ℕ) (vs : List Bound) (t : Tree) → States (labels D u vs t) → Type 0
+Stated D u vs end a = IsState D u (a .0)
+Stated D u vs (fork x y) a = IsState D u (a .0) × Stated D u vs x (a .1) × Stated D u vs y (a .2)
+Stated D u vs (step s t) a = IsState D u (a .0) × Needed D vs s (a .0) × Stated D u (varsBelow D u vs s) t (a .1)
+Stated D u vs (switch w r t) a = Stated D u vs t a
+
+abbrev pub AllStated : (D : Schema) (ss : List Routine) → AllStates D ss → Type 0
+AllStated D [] a = Unit {0}
+AllStated D (s ∷ ss) a = Stated D (s .user) [] (s .tree) (a .0) × AllStated D ss (a .1)
 
 abbrev pub takingAll : (D : Schema) (ss : List Routine) → AllStates D ss
 takingAll D [] = tt
 takingAll D (s ∷ ss) = (taking D (s .user) (s .tree), takingAll D ss)
+
+-- The tie rule: "The states taken have the fewest on steps; among those, the list of states in node order that is smallest at the first difference."
+pub record Fixed (F : File) (states : AllStates (schemaFor F) (F .sessions)) : Type 0 where
+  pub allowed : AllStated (schemaFor F) (F .sessions) states
+  pub fewest : (other : AllStates (schemaFor F) (F .sessions)) → AllStated (schemaFor F) (F .sessions) other
+      → onStepsOf (insertAll (schemaFor F) (F .sessions) states) ≤ onStepsOf (insertAll (schemaFor F) (F .sessions) other)
+  pub smallest : (other : AllStates (schemaFor F) (F .sessions)) → AllStated (schemaFor F) (F .sessions) other
+      → onStepsOf (insertAll (schemaFor F) (F .sessions) other) ≤ onStepsOf (insertAll (schemaFor F) (F .sessions) states)
+      → LexLe (listedAll (schemaFor F) (F .sessions) states) (listedAll (schemaFor F) (F .sessions) other)
 
 -- no send or receive is without a role of the user that permits it
 unfoldable pub servedAll : Schema → List Routine → Bool
@@ -102,8 +134,3 @@ servedAll D (s ∷ ss) = served suits 16 (labels D (s .user) [] (s .tree)) && se
 -- what 14 leaves: all starting masks are 0 and there is no on or off
 abbrev pub Bare : File → Type 0
 Bare F = All (λ (s : Routine). (s .mask ≡ 0) × (plain (s .tree) ≡ s .tree)) (F .sessions)
-
--- a role that every node may be given: it is the user's, and permits each send and receive
-abbrev pub Throughout : ℕ → Bin Label → Type 0
-Throughout r nil = Unit {0}
-Throughout r (node l a b) = (suits l r ≡ true) × Throughout r a × Throughout r b

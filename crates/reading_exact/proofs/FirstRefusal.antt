@@ -1,6 +1,6 @@
 -- Reading gives the first refusal in the paper's order: the least number that objects to the file, and its lowest place.
 use Prim.Native.Nat.{ℕ, suc, _%_, _≤_, _<_}
-use mathlib.Core.Path.{_≡_, refl, sym}
+use mathlib.Core.Path.{_≡_, refl, sym, _∙_}
 use mathlib.Core.Logic.{_⊎_, inl, inr, _≢_, _↔_}
 use mathlib.Core.Bool.{Bool, true, false, cond, false≢true}
 use mathlib.Core.List.{List}
@@ -11,7 +11,7 @@ use borrow.Author.Tests.{eqb-true, eqb-false, ltb-true, ltb-false}
 use Rattle.format.specs.Words.{wordAt}
 use Rattle.format.specs.Answers.{fine, refused}
 use Rattle.format.specs.Contents.{Contents, contentsAt, contentsOf}
-use Rattle.format.specs.Header.{sixAt, headAt, lengthFor, Laid, from5, from4, from3, from2, headOf}
+use Rattle.format.specs.Header.{sixAt, headAt, lengthFits, lengthFor, Laid, from5, from4, from3, from2, headOf}
 use Rattle.tables.specs.Records.{recordsAnswer}
 use Rattle.trees.specs.Shape.{shapeAnswer}
 use Rattle.reading.specs.Reading.{bodyAnswer, readingBy, reading}
@@ -22,7 +22,7 @@ use Rattle.format.proofs.BoolLaws.{eq-iff}
 use Rattle.format.proofs.HeadLaws.{counts-iff, offsets-iff, laid-iff}
 use Rattle.reading_exact.specs.Order.{First}
 use Rattle.format.specs.Header.{Counted, BackToBack}
-use Rattle.reading_exact.specs.Refusals.{Refusable, short, odd, version, count, offset, size, misnamed, unassigned, misshapen, readingOrder}
+use Rattle.reading_exact.specs.Refusals.{Refusable, short, odd, version, count, offset, size, misnamed, unassigned, misshapen, lengthOf, readingOrder}
 use Rattle.reading_exact.proofs.FirstLaws.{Both, number-of, lowest, first-zero, first-clear, first-map, first-none, first-some, first-or}
 use Rattle.reading_exact.proofs.Standing.{rootsIn, roots-due}
 use Rattle.reading_exact.proofs.RecordsFirst.{BadRecord, records-first, record-number}
@@ -69,7 +69,7 @@ stage f k P Q false x l t go = refuse k (P → ⊥) Q l (λ p. false≢true (t .
 module _ (f : List ℕ) where
   -- what the refusals from a number on object to
   abbrev From5 : ℕ → ℕ → Type 0
-  From5 = Both (OfHead 5 (length f ≢ lengthFor (headAt f .at .nodes) (headAt f .count .nodes))) (BadBody (headAt f) (contentsOf f))
+  From5 = Both (OfHead 5 (length f ≢ lengthOf (sixAt f 1))) (BadBody (headAt f) (contentsOf f))
 
   abbrev From4 : ℕ → ℕ → Type 0
   From4 = Both (OfHead 4 (BackToBack (sixAt f 1) (sixAt f 7) → ⊥)) From5
@@ -95,10 +95,16 @@ module _ (f : List ℕ) where
   later2 : Later 2 From2
   later2 = head-later 2 _ From3 later3
 
+  -- where the offsets are as the counts give, the nodes' offset gives the same length
+  length-iff : BackToBack (sixAt f 1) (sixAt f 7) → (lengthFits (wordAt f 6) (wordAt f 12) (length f) ≡ true) ↔ (length f ≡ lengthOf (sixAt f 1))
+  length-iff b =
+      let same : lengthFor (wordAt f 12) (wordAt f 6) ≡ lengthOf (sixAt f 1) = omega (arith, b) in
+      (λ e. eqb-true _ _ e ∙ same, λ e. eq-iff _ _ .1 (e ∙ sym same))
+
   first5 : Counted (sixAt f 1) → BackToBack (sixAt f 1) (sixAt f 7) → First readingOrder From5 (readingBy f (from5 f))
   unfolding from5
-  first5 c b = stage f 5 _ (BadBody (headAt f) (contentsOf f)) _ (Fine (headAt f)) (from-six (headAt f) (contentsOf f)) (eq-iff _ _)
-      (λ e. body-first f (headAt f) (laid-iff f (headAt f) .0 (counts-iff (sixAt f 1) .1 c, offsets-iff (sixAt f 1) (sixAt f 7) .1 b, e)))
+  first5 c b = stage f 5 _ (BadBody (headAt f) (contentsOf f)) _ (Fine (headAt f)) (from-six (headAt f) (contentsOf f)) (length-iff b)
+      (λ e. body-first f (headAt f) (laid-iff f (headAt f) .0 (counts-iff (sixAt f 1) .1 c, offsets-iff (sixAt f 1) (sixAt f 7) .1 b, eqb-true _ _ (length-iff b .1 e))))
 
   first4 : Counted (sixAt f 1) → First readingOrder From4 (readingBy f (from4 f))
   unfolding from4

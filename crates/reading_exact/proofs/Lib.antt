@@ -32,3 +32,5 @@ pub mod ShapeFirst
 pub mod RecordsObjected
 pub mod RecordsFirst
 pub mod FirstRefusal
+-- What a file holds, word by word (counted-by-words, by-words)
+pub mod RecordWords

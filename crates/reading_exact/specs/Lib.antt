@@ -3,3 +3,4 @@ pub mod Tree
 pub mod File
 pub mod Order
 pub mod Refusals
+pub mod ByWords

@@ -7,11 +7,12 @@ use mathlib.Core.List.{List, map}
 use lib.ListN.{length, getD}
 use Rattle.masks.specs.Mask.{has}
 use Rattle.format.specs.Words.{wordAt}
-use Rattle.format.specs.Header.{sixAt, headAt, headBytes, lengthFor, Counted, BackToBack}
+use Rattle.format.specs.Header.{sixAt, headAt, Counted, BackToBack}
 use Rattle.format.specs.Sections.{placeOf}
 use Rattle.format.specs.Contents.{Contents, item, noRole, noChannel, noSession, noNode, contentsOf}
 use Rattle.trees.specs.Shape.{boundBelow}
 use Rattle.format.specs.declared.Head.{Head}
+use Rattle.format.specs.declared.Six.{Six}
 use Rattle.format.specs.declared.Session.{Session}
 use Rattle.format.specs.declared.Node.{Node}
 use Rattle.format.specs.declared.Section.the-variants.{Users, Roles, Kinds, Channels}
@@ -77,14 +78,18 @@ pub data Misshapen (ns : List Node) (roots : List ℕ) (p : ℕ) : Type 0 where
   left-over : Begins ns (suc (length roots)) p → InCount (length ns) p → Misshapen ns roots p
   ninth : (b : ℕ) → ReachedWith ns (length roots) p b → 8 ≤ b → InCount (length ns) p → (nth ns p .tag ≡ 3) ⊎ (nth ns p .tag ≡ 5) → Misshapen ns roots p
 
+-- the length in bytes that the six counts give: 13 words of head, and for each record its words
+abbrev pub lengthOf : Six → ℕ
+lengthOf n = 2 * (13 + n .users + 4 * n .roles + n .kinds + 2 * n .channels + 3 * n .sessions + 3 * n .nodes)
+
 -- a refusal's number and place hold of a file
 pub data Refusable (f : List ℕ) (n p : ℕ) : Type 0 where
-  short : n ≡ 1 → p ≡ 0 → length f < headBytes → Refusable f n p
+  short : n ≡ 1 → p ≡ 0 → length f < 26 → Refusable f n p
   odd : n ≡ 1 → p ≡ 0 → length f % 2 ≡ 1 → Refusable f n p
   version : n ≡ 2 → p ≡ 0 → wordAt f 0 ≢ 1 → Refusable f n p
   count : n ≡ 3 → p ≡ 0 → (Counted (sixAt f 1) → ⊥) → Refusable f n p
   offset : n ≡ 4 → p ≡ 0 → (BackToBack (sixAt f 1) (sixAt f 7) → ⊥) → Refusable f n p
-  size : n ≡ 5 → p ≡ 0 → length f ≢ lengthFor (headAt f .at .nodes) (headAt f .count .nodes) → Refusable f n p
+  size : n ≡ 5 → p ≡ 0 → length f ≢ lengthOf (sixAt f 1) → Refusable f n p
   misnamed : n ≡ 6 → Misnamed (headAt f) (contentsOf f) p → Refusable f n p
   unassigned : n ≡ 7 → Unassigned (contentsOf f) p → Refusable f n p
   misshapen : n ≡ 8 → Misshapen (contentsOf f .nodes) (map (λ (s : Session). s .root) (contentsOf f .sessions)) p → Refusable f n p

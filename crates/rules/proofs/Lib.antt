@@ -1,4 +1,5 @@
 pub mod GrantLaws
+pub mod PermittedRoles
 pub mod NameLaws
 pub mod StepLaws
 pub mod StackLaws

@@ -10,14 +10,17 @@ use masks::UserRole;
 use masks::has_kind;
 use masks::with_role;
 ghost use mathlib.Core.Path.{_≡_};
-ghost use mathlib.Core.Bool.{cond};
+ghost use mathlib.Core.Bool.{true, cond, not};
+ghost use mathlib.Core.Logic.{_↔_};
 ghost use Prim.Native.Nat.{_≤_};
+ghost use lib.Bits.{bitAnd};
+ghost use lib.Dec.{eqb};
 ghost use lib.ListN.{length, getD, replicate};
 ghost use Rattle.masks.specs.Mask.{has, with};
 ghost use Rattle.format.specs.Header.{Laid};
 ghost use Rattle.format.specs.Contents.{contentsAt};
-ghost use Rattle.rules.specs.Schema.{granted, schemaOf, permits};
-ghost use Rattle.rules.specs.Kept.{grantsFrom, addRole, Beyond};
+ghost use Rattle.rules.specs.Schema.{Schema, granted, schemaOf, permits, Permitted, ThosePermitting};
+ghost use Rattle.rules.specs.Kept.{grantsFrom, addRole, Beyond, Granting};
 ghost use Rattle.rules.specs.declared.Way.the-variants.{Sends, Receives};
 
 fn granted_by(way: Way, it: Role) -> u32
@@ -29,19 +32,12 @@ fn granted_by(way: Way, it: Role) -> u32
     }
 }
 
-// The one lookup of a grant, by a user's role, whose record is at hand, and a channel's kind: whether the role permits sending, or receiving, on it.
+// Whether a user's role, whose record is at hand, permits sending, or receiving, on a channel's kind: each entry of the tables is decided by it.
 fn role_permits(it: Role, way: Way, role: UserRole, kind: ChannelKind) -> bool
-    ensures { λ r. ⌜ r ≡ has (granted way it) (kind .0) ⌝ }
+    ensures { λ r. ⌜ (r ≡ has (granted way it) (kind .0))
+        × ((D : Schema) → granted way it ≡ D .grants way (role .0) → r ≡ permits D way role kind) ⌝ }
 {
     has_kind(granted_by(way, it), kind)
-}
-
-// The same by the file.
-pub fn permits(file: &[u8], head: Head, way: Way, role: UserRole, kind: ChannelKind) -> bool
-    requires { ⌜ Laid (now file) head ⌝ }
-    ensures { λ r. ⌜ r ≡ permits (schemaOf (contentsAt (now (file .entry)) head)) way role kind ⌝ }
-{
-    role_permits(sections::role(file, head, role.0), way, role, kind)
 }
 
 fn with_if(mask: u16, role: UserRole, yes: bool) -> u16
@@ -83,13 +79,23 @@ pub fn fill_grants(file: &[u8], head: Head, sends: &mut [u16], receives: &mut [u
     }
 }
 
-// The roles that permit a step on a kind, from the table that has them. No role has a kind past it.
-pub fn grant_of(table: &[u16], kind: u16) -> u16
-    ensures { λ r. ⌜ r ≡ getD (now (table .entry)) kind 0 ⌝ }
+// The one lookup of a grant, in the check, in placing and in runs: of a user's roles those that permit a step on a channel's kind, from the table that
+// has them by kind. No role has a kind past it.
+pub fn permitting(table: &[u16], roles: u16, kind: ChannelKind) -> u16
+    ensures { λ r. ⌜ (r ≡ bitAnd roles (getD (now (table .entry)) (kind .0) 0))
+        × ((D : Schema) (way : Way) → Granting D way (now (table .entry)) → ThosePermitting D way roles kind r) ⌝ }
 {
-    let k = wide(kind);
+    let k = wide(kind.0);
     if k < table.len() {
-        return table[k];
+        return roles & table[k];
     }
     0
+}
+
+// Whether one of them does.
+pub fn may(table: &[u16], roles: u16, kind: ChannelKind) -> bool
+    ensures { λ r. ⌜ (r ≡ not (eqb (bitAnd roles (getD (now (table .entry)) (kind .0) 0)) 0))
+        × ((D : Schema) (way : Way) → Granting D way (now (table .entry)) → (r ≡ true) ↔ Permitted D roles way (kind .0)) ⌝ }
+{
+    permitting(table, roles, kind) != 0
 }

@@ -3,18 +3,19 @@ use format::Head;
 use format::sections::channel;
 use format::words::paired;
 use format::words::wide;
+use masks::ChannelKind;
 ghost use mathlib.Core.Path.{_≡_};
 ghost use Prim.Native.Nat.{_+_, _≤_};
-ghost use lib.ListN.{length, replicate};
+ghost use lib.ListN.{length, drop, replicate};
 ghost use Rattle.format.specs.Header.{Laid};
 ghost use Rattle.format.specs.Contents.{contentsAt};
 ghost use Rattle.rules.specs.Schema.{schemaOf};
 ghost use Rattle.rules.specs.Kept.{kindIn, ownerIn, look, NameTable, Owned};
 
-pub fn kind_of(e: u32) -> u16
-    ensures { λ r. ⌜ r ≡ kindIn e ⌝ }
+pub fn kind_of(e: u32) -> ChannelKind
+    ensures { λ r. ⌜ r .0 ≡ kindIn e ⌝ }
 {
-    (e % 65536) as u16
+    ChannelKind((e % 65536) as u16)
 }
 
 pub fn owner_of(e: u32) -> u16
@@ -35,11 +36,12 @@ pub fn look_up(names: &[u32], bound: u16, x: u16) -> u32
     0
 }
 
-// The users and the channels as operands.
+// The users and the channels as operands; the entries past them, for variables, stay.
 pub fn name_all(file: &[u8], head: Head, names: &mut [u32])
     requires { ⌜ Laid (now file) head × Owned (contentsAt (now file) head) × (512 ≤ length (now names)) × (now names ≡ replicate (length (now names)) 0) ⌝ }
     ensures { λ r. ⌜ (length (now (names .exit)) ≡ length (now (names .entry)))
-        × NameTable (schemaOf (contentsAt (now (file .entry)) head)) (head .count .users) (head .count .channels) (now (names .exit)) ⌝ }
+        × NameTable (schemaOf (contentsAt (now (file .entry)) head)) (head .count .users) (head .count .channels) (now (names .exit))
+        × (drop 512 (now (names .exit)) ≡ drop 512 (now (names .entry))) ⌝ }
 {
     let mut n: u16 = 0;
     while n < head.count.users {

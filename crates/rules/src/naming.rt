@@ -17,9 +17,10 @@ use format::sections::session;
 use format::words::narrow;
 use format::words::paired;
 use format::words::wide;
+use masks::ChannelKind;
 ghost use mathlib.Core.Path.{_≡_};
 ghost use mathlib.Core.List.{[], map};
-ghost use Prim.Native.Nat.{_+_, _≤_, _<_};
+ghost use Prim.Native.Nat.{_+_, _/_, _%_, _≤_, _<_};
 ghost use lib.ListN.{length, replicate};
 ghost use lib.Seq.{sets};
 ghost use Rattle.format.specs.Header.{Laid};
@@ -40,13 +41,13 @@ fn staying(wrong: u16, bound: u16) -> NameStep
     }
 }
 
-fn binding(wrong: u16, kind: u16, owner: u16, bound: u16) -> NameStep
+fn binding(wrong: u16, kind: ChannelKind, owner: u16, bound: u16) -> NameStep
     requires { ⌜ bound < 65535 ⌝ }
-    ensures { λ r. ⌜ r ≡ record { wrong = wrong; binding = entry kind owner; bound = bound + 1 } ⌝ }
+    ensures { λ r. ⌜ r ≡ record { wrong = wrong; binding = entry (kind .0) owner; bound = bound + 1 } ⌝ }
 {
     NameStep {
         wrong,
-        binding: paired(kind, owner),
+        binding: paired(kind.0, owner),
         bound: bound + 1,
     }
 }
@@ -62,7 +63,7 @@ fn naming_at(file: &[u8], head: Head, names: &[u32], user: u16, bound: u16, it: 
         2 => staying(0, bound),
         3 => binding(
             graded(in_count(head.count.kinds, it.f1), true),
-            it.f1,
+            ChannelKind(it.f1),
             user + 2,
             bound,
         ),
@@ -70,7 +71,7 @@ fn naming_at(file: &[u8], head: Head, names: &[u32], user: u16, bound: u16, it: 
             let one = look_up(names, bound, it.f1);
             let other = look_up(names, bound, it.f2);
             let named = (owner_of(one) != 0) & (owner_of(other) != 0);
-            staying(graded(named, kind_of(one) == kind_of(other)), bound)
+            staying(graded(named, kind_of(one).0 == kind_of(other).0), bound)
         }
         5 => {
             let on = look_up(names, bound, it.f1);
@@ -87,11 +88,24 @@ fn naming_at(file: &[u8], head: Head, names: &[u32], user: u16, bound: u16, it: 
             let value = look_up(names, bound, it.f2);
             let kind = kind_of(on);
             let named = (owner_of(on) != 0) & (owner_of(value) != 0);
-            let carried = (0 < kind) & (kind_of(value) == carries(file, head, kind));
+            let carried = (0 < kind.0) & (kind_of(value).0 == carries(file, head, kind).0);
             staying(graded(named, carried), bound)
         }
         _ => staying(graded(in_count(head.count.roles, it.f1), true), bound),
     }
+}
+
+// Of a tree that waits, the user and how many variables are bound above it.
+fn user_in(w: u32) -> u16
+    ensures { λ r. ⌜ r ≡ w % 65536 ⌝ }
+{
+    (w % 65536) as u16
+}
+
+fn bound_with(w: u32) -> u16
+    ensures { λ r. ⌜ r ≡ w / 65536 ⌝ }
+{
+    (w / 65536) as u16
 }
 
 // The sessions' users on the stack, session 1's on top, with nothing bound, and beside it each as one number; how many they are.
@@ -137,8 +151,8 @@ fn walk_names(
     }
     depth -= 1;
     let top = stack[depth];
-    let mut user = kind_of(top);
-    let mut bound = owner_of(top);
+    let mut user = user_in(top);
+    let mut bound = bound_with(top);
     let mut here = waits[depth];
     let nodes = head.count.nodes;
     let mut i: u16 = 1;
@@ -155,8 +169,8 @@ fn walk_names(
                 }
                 depth -= 1;
                 let next = stack[depth];
-                user = kind_of(next);
-                bound = owner_of(next);
+                user = user_in(next);
+                bound = bound_with(next);
                 here = waits[depth];
             }
             1 => {

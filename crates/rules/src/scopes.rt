@@ -1,6 +1,7 @@
 // What a node is reached with, as one number: the session's user, how many variables are bound, and their kinds.
 use super::NameStep;
 use super::names::kind_of;
+use masks::ChannelKind;
 ghost use mathlib.Core.Path.{_≡_};
 ghost use mathlib.Core.Bool.{true, cond};
 ghost use Prim.Native.Nat.{_≤_};
@@ -17,20 +18,20 @@ pub fn bound_in(w: u64) -> u64
 }
 
 // The kind of the variable of an index.
-pub fn kind_at(w: u64, i: u64) -> u16
+pub fn kind_at(w: u64, i: u64) -> ChannelKind
     requires { ⌜ i ≤ 8 ⌝ }
-    ensures { λ r. ⌜ r ≡ kindAt w i ⌝ }
+    ensures { λ r. ⌜ r .0 ≡ kindAt w i ⌝ }
 {
-    ((w >> (10 + 6 * i)) % 64) as u16
+    ChannelKind(((w >> (10 + 6 * i)) % 64) as u16)
 }
 
 // One variable more; none is added to eight.
-fn bind(w: u64, kind: u16) -> u64
-    ensures { λ r. ⌜ r ≡ bindScope w kind ⌝ }
+fn bind(w: u64, kind: ChannelKind) -> u64
+    ensures { λ r. ⌜ r ≡ bindScope w (kind .0) ⌝ }
 {
     let bound = bound_in(w);
     if bound < 8 {
-        return w % 288230376151711744 + 64 + (((kind % 64) as u64) << (10 + 6 * bound));
+        return w % 288230376151711744 + 64 + (((kind.0 % 64) as u64) << (10 + 6 * bound));
     }
     w
 }

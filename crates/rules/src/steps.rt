@@ -1,7 +1,8 @@
 // The rules at one node, in its context: its refusal for names, its refusal for roles, its candidates, and what it leaves to its child.
 use super::Point;
 use super::Step;
-use super::grants::grant_of;
+use super::grants::may;
+use super::grants::permitting;
 use super::names::kind_of;
 use super::names::look_up;
 use super::names::owner_of;
@@ -10,15 +11,14 @@ use format::Node;
 use format::sections::carries;
 use format::sections::in_count;
 use format::words::paired;
+use masks::ChannelKind;
 use masks::UserRole;
 use masks::has_role;
 use masks::with_role;
 use masks::without_role;
 ghost use mathlib.Core.Path.{_≡_};
-ghost use mathlib.Core.Bool.{cond, not};
+ghost use mathlib.Core.Bool.{cond};
 ghost use Prim.Native.Nat.{_+_, _≤_, _<_};
-ghost use lib.Bits.{bitAnd};
-ghost use lib.Dec.{eqb};
 ghost use lib.ListN.{length};
 ghost use Rattle.format.specs.Header.{Laid};
 ghost use Rattle.format.specs.Contents.{contentsAt};
@@ -37,13 +37,6 @@ pub fn graded(names: bool, kinds: bool) -> u16
         return 10;
     }
     0
-}
-
-// One active role permits it.
-fn is_able(mask: u16, grant: u16) -> bool
-    ensures { λ r. ⌜ r ≡ not (eqb (bitAnd mask grant) 0) ⌝ }
-{
-    (mask & grant) != 0
 }
 
 fn unless(fits: bool, number: u16) -> u16
@@ -105,16 +98,16 @@ fn turning(here: Point, barred: u16, mask: u16) -> Step
     }
 }
 
-fn new_at(head: Head, here: Point, kind: u16) -> Step
+fn new_at(head: Head, here: Point, kind: ChannelKind) -> Step
     requires { ⌜ (here .user < 65534) × (here .bound < 65535) ⌝ }
-    ensures { λ r. ⌜ r ≡ newStep (head .count .kinds) here kind ⌝ }
+    ensures { λ r. ⌜ r ≡ newStep (head .count .kinds) here (kind .0) ⌝ }
 {
     binding(
         here,
-        graded(in_count(head.count.kinds, kind), true),
+        graded(in_count(head.count.kinds, kind.0), true),
         0,
         here.assigned,
-        paired(kind, here.user + 2),
+        paired(kind.0, here.user + 2),
     )
 }
 
@@ -124,13 +117,12 @@ fn receive_at(file: &[u8], head: Head, receives: &[u16], here: Point, on: u32) -
 {
     let kind = kind_of(on);
     let owner = owner_of(on);
-    let grant = grant_of(receives, kind);
     binding(
         here,
         graded(owner != 0, owner == here.user + 2),
-        unless(is_able(here.mask, grant), 13),
-        here.assigned & grant,
-        paired(carries(file, head, kind), 1),
+        unless(may(receives, here.mask, kind), 13),
+        permitting(receives, here.assigned, kind),
+        paired(carries(file, head, kind).0, 1),
     )
 }
 
@@ -139,42 +131,41 @@ fn send_at(file: &[u8], head: Head, sends: &[u16], here: Point, on: u32, value: 
     ensures { λ r. ⌜ r ≡ sendStep (schemaOf (contentsAt (now (file .entry)) head)) here on value ⌝ }
 {
     let kind = kind_of(on);
-    let grant = grant_of(sends, kind);
     staying(
         here,
         graded(
             (owner_of(on) != 0) & (owner_of(value) != 0),
-            (0 < kind) & (kind_of(value) == carries(file, head, kind)),
+            (0 < kind.0) & (kind_of(value).0 == carries(file, head, kind).0),
         ),
-        unless(is_able(here.mask, grant), 13),
-        here.assigned & grant,
+        unless(may(sends, here.mask, kind), 13),
+        permitting(sends, here.assigned, kind),
     )
 }
 
-fn on_at(head: Head, here: Point, role: u16) -> Step
+fn on_at(head: Head, here: Point, role: UserRole) -> Step
     requires { ⌜ head .count .roles ≤ 16 ⌝ }
-    ensures { λ r. ⌜ r ≡ onAt (head .count .roles) here role ⌝ }
+    ensures { λ r. ⌜ r ≡ onAt (head .count .roles) here (role .0) ⌝ }
 {
-    if !in_count(head.count.roles, role) {
+    if !in_count(head.count.roles, role.0) {
         return staying(here, 9, 0, 0);
     }
     turning(
         here,
-        unless(has_role(here.assigned, UserRole(role)), 11),
-        with_role(here.mask, UserRole(role)),
+        unless(has_role(here.assigned, role), 11),
+        with_role(here.mask, role),
     )
 }
 
-fn off_at(head: Head, here: Point, role: u16) -> Step
-    ensures { λ r. ⌜ r ≡ offAt (head .count .roles) here role ⌝ }
+fn off_at(head: Head, here: Point, role: UserRole) -> Step
+    ensures { λ r. ⌜ r ≡ offAt (head .count .roles) here (role .0) ⌝ }
 {
-    if !in_count(head.count.roles, role) {
+    if !in_count(head.count.roles, role.0) {
         return staying(here, 9, 0, 0);
     }
     turning(
         here,
-        unless(has_role(here.mask, UserRole(role)), 12),
-        without_role(here.mask, UserRole(role)),
+        unless(has_role(here.mask, role), 12),
+        without_role(here.mask, role),
     )
 }
 
@@ -195,13 +186,13 @@ pub fn step_at(
     let tag = it.tag;
     match tag {
         2 => staying(here, 0, 0, here.assigned),
-        3 => new_at(head, here, it.f1),
+        3 => new_at(head, here, ChannelKind(it.f1)),
         4 => {
             let one = look_up(names, here.bound, it.f1);
             let other = look_up(names, here.bound, it.f2);
             let wrong = graded(
                 (owner_of(one) != 0) & (owner_of(other) != 0),
-                kind_of(one) == kind_of(other),
+                kind_of(one).0 == kind_of(other).0,
             );
             staying(here, wrong, 0, here.assigned)
         }
@@ -223,8 +214,8 @@ pub fn step_at(
                 look_up(names, here.bound, it.f2),
             )
         }
-        7 => on_at(head, here, it.f1),
-        8 => off_at(head, here, it.f1),
+        7 => on_at(head, here, UserRole(it.f1)),
+        8 => off_at(head, here, UserRole(it.f1)),
         _ => staying(
             here,
             graded(in_count(head.count.roles, it.f1), true),

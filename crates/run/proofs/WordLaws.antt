@@ -1,16 +1,17 @@
 -- The words of the choices, and which inputs are a list.
 use Prim.Native.Nat.{ℕ, zero, suc, _+_, _-_, _/_, _%_, _≤_, _<_}
-use mathlib.Core.Path.{_≡_, refl, ap, subst, _∙_}
+use mathlib.Core.Path.{_≡_, refl, sym, ap, subst, _∙_}
 use mathlib.Core.Bool.{Bool, true, false, _&&_}
-use mathlib.Core.List.{List}
+use mathlib.Core.List.{List, _++_}
 use native.Mathlib.Omega.{arith}
 use native.Mathlib.Numerals.{add-one}
 use lib.Dec.{eqb, leb, ltb}
-use lib.ListN.{set}
-use lib.Seq.{sets}
+use lib.ListN.{length, set, take, length-append}
+use lib.Seq.{sets, length-take-le, take-all, take-take, take-append-le}
 use borrow.Author.Tests.{eqb-true, leb-true, leb-false, ltb-true, ltb-false, eq-eqb, le-leb, lt-leb}
 use Rattle.format.specs.Words.{wordAt}
 use Rattle.running.specs.Run.{listed}
+use Rattle.streams.specs.Kept.{keptBy}
 use Rattle.run.specs.WordList.{enoughBytes, listWords, wordsOfBytes}
 
 -- A loop that puts words, one a turn: those still to come, from where they go.
@@ -57,3 +58,26 @@ list-stands n = go (ltb n 262144) refl (eqb (n % 4) 0) refl (leb n 262140) refl
         let most : enoughBytes n ≡ 262144 = omega (arith, ltb-false n 262144 e) in
         let long : leb n 262140 ≡ false = lt-leb n 262140 (omega (arith, ltb-false n 262144 e)) in
         ap (λ (k : ℕ). listed (listWords k)) most ∙ over x p long
+
+-- What is kept of the pieces of an input, one after the other, is its start.
+pub choices-kept : (input piece : List ℕ) → keptBy enoughBytes (take (enoughBytes (length input)) input) piece ≡ take (enoughBytes (length (input ++ piece))) (input ++ piece)
+choices-kept input piece = go (leb (length input) 262144) refl
+  where
+    go : (b : Bool) → leb (length input) 262144 ≡ b → keptBy enoughBytes (take (enoughBytes (length input)) input) piece ≡ take (enoughBytes (length (input ++ piece))) (input ++ piece)
+    go true e =
+        let short = leb-true (length input) 262144 e in
+        let all : take (enoughBytes (length input)) input ≡ input = take-all (enoughBytes (length input)) input (omega (arith, short)) in
+        ap (λ (k : List ℕ). keptBy enoughBytes k piece) all
+    go false e =
+        let long : 262144 < length input = leb-false (length input) 262144 e in
+        let cut : enoughBytes (length input) ≡ 262144 = omega (arith, long) in
+        let kept : List ℕ = take 262144 input in
+        let size : length kept ≡ 262144 = length-take-le 262144 input (omega (arith, long)) in
+        let both : enoughBytes (length (kept ++ piece)) ≡ 262144 = omega (arith, length-append kept piece, size) in
+        let whole : enoughBytes (length (input ++ piece)) ≡ 262144 = omega (arith, length-append input piece, long) in
+        ap (λ (n : ℕ). keptBy enoughBytes (take n input) piece) cut
+        ∙ ap (λ (n : ℕ). take n (kept ++ piece)) both
+        ∙ take-append-le 262144 kept piece (omega (arith, size))
+        ∙ take-take 262144 262144 input (omega arith)
+        ∙ sym (take-append-le 262144 input piece (omega (arith, long)))
+        ∙ ap (λ (n : ℕ). take n (input ++ piece)) (sym whole)

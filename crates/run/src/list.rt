@@ -4,9 +4,10 @@ use streams::Input;
 use streams::read_behind;
 ghost use Prim.Native.Nat.{_+_, _*_, _/_, _≤_};
 ghost use mathlib.Core.Path.{_≡_};
-ghost use lib.ListN.{length};
+ghost use lib.ListN.{length, take, drop};
 ghost use lib.Seq.{sets};
 ghost use Rattle.io.specs.Counts.{Counts};
+ghost use Rattle.streams.specs.Kept.{keptBy};
 ghost use Rattle.run.specs.WordList.{listWords, wordsOfBytes};
 ghost use Rattle.run.specs.WordList.{enoughBytes as WordList·enough};
 
@@ -32,6 +33,16 @@ fn enough(length: usize) -> usize
     if length < 262144 { length } else { 262144 }
 }
 
+// How many bytes are kept, where a piece of so many stands behind those kept so far: the first of both, as many as a list of the whole length has
+// kept (`choices-kept` of proofs/WordLaws).
+fn keep(buffer: &[u8], kept: usize, piece: usize) -> usize
+    requires { ⌜ kept + piece ≤ length (now buffer) ⌝ }
+    ensures { λ r. ⌜ take r (now (buffer .entry)) ≡ keptBy WordList·enough (take kept (now (buffer .entry))) (take piece (drop kept (now (buffer .entry)))) ⌝ }
+    ensures { λ r. ⌜ (r ≤ kept + piece) × (r ≤ 262144) ⌝ }
+{
+    enough(kept + piece)
+}
+
 // Reads the choices to their end, of whatever length. Each piece is read behind what is kept, and of both enough is kept.
 // A loop has to end, so the turns count down, from a number that no run uses up.
 pub fn read_choices(descriptor: i32, buffer: &mut [u8]) -> Input
@@ -49,7 +60,8 @@ pub fn read_choices(descriptor: i32, buffer: &mut [u8]) -> Input
                 failed: got < 0,
             };
         }
-        kept = enough(kept + io::count(got, buffer));
+        let piece = io::count(got, buffer);
+        kept = keep(buffer, kept, piece);
         turns -= 1;
     }
     Input {

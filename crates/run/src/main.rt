@@ -1,9 +1,11 @@
 // Runs a clinic file through a list of choices: the arguments name the file, and the choices as words, low byte first. It writes the state that
-// a run to the end of the list leaves, or the line `refused N P` with the refusal's number and its place. Where the arguments are not two, or a
-// file cannot be read, it says so on standard error and writes nothing else.
+// the run leaves, if there is one, and after it, if anything is refused, the line `refused N P` with the refusal's number and its place. Where the
+// arguments are not two, or a file cannot be read, it says so on standard error and writes nothing else.
 mod lines;
 mod list;
 
+use format::Verdict;
+use format::words::word;
 use lines::write_state;
 use list::list_words;
 use list::no_bytes;
@@ -16,6 +18,7 @@ ghost use Prim.Native.Nat.{_≤_};
 ghost use mathlib.Core.Path.{_≡_};
 ghost use lib.ListN.{length};
 ghost use Rattle.io.specs.Counts.{Counts};
+ghost use Rattle.run.specs.State.{hasState};
 
 // Opens the file that an argument names: a descriptor, or -1. An argument that is too long for a path counts as the empty one, which names no file.
 fn open_argument(i: usize) -> i32 {
@@ -47,6 +50,14 @@ fn load_choices(buffer: &mut [u8]) -> Input
     input
 }
 
+// Whether a run into an output of zeros has left a state there: it went to the end of the list, or was halted at a choice, whose refusal is the
+// second word. That it has one exactly where neither 17 nor 1 to 10 refuse is `state-exactly` of proofs/StateLaws.
+fn has_state(verdict: Verdict, out: &[u8]) -> bool
+    ensures { λ r. ⌜ r ≡ hasState verdict (now (out .entry)) ⌝ }
+{
+    (verdict.number == 0) | (word(out, 1) != 0)
+}
+
 // Runs the file through the choices, and writes what comes of it.
 fn run_through(file: &[u8], bytes: &[u8])
     requires { ⌜ length (now bytes) ≤ 262144 ⌝ }
@@ -56,11 +67,12 @@ fn run_through(file: &[u8], bytes: &[u8])
     let count = list_words(bytes.len());
     let mut out = [0u8; 1800];
     let verdict = run(file, &words[..count], &mut out);
+    if has_state(verdict, &out) {
+        write_state(&out);
+    }
     if verdict.number != 0 {
         streams::write_refused(verdict.number, verdict.place);
-        return;
     }
-    write_state(&out);
 }
 
 // Reads the choices for a file that could be read.

@@ -27,7 +27,7 @@ made-words-length (m ∷ ms) = let later : length (madeWords ms) ≡ 2 * length 
 abbrev madeAfter : List ℕ → ℕ → ℕ → List ℕ
 madeAfter b n i = madeWords (madeIn b (2 * i + 2) (n - i))
 
-made-more : (b : List ℕ) (n i : ℕ) (m : Made) → i < n → m ≡ madeAt b (2 * i + 2) → madeAfter b n i ≡ (m .owner ∷ m .kind ∷ []) ++ madeAfter b n (i + 1)
+made-more : (b : List ℕ) (n i : ℕ) (m : Made) → i < n → m ≡ madeAt b (2 * i + 2) → madeAfter b n i ≡ (m .owner ∷ m .kind .0 ∷ []) ++ madeAfter b n (i + 1)
 unfolding madeWords madeIn
 made-more b n i m h e =
     let c : n - i ≡ suc (n - (i + 1)) = omega arith in
@@ -37,10 +37,10 @@ made-more b n i m h e =
 pub made-begin : (b out : List ℕ) (n : ℕ) → sets out (2 * (4 + 2 * 0)) (bytesOf (madeAfter b n 0)) ≡ sets out 8 (bytesOf (madeWords (madeIn b 2 n)))
 made-begin b out n = let c : n - 0 ≡ n = omega arith in rw c
 
-pub made-turn : (b l q whole : List ℕ) (n i : ℕ) (m : Made) → i < n → m ≡ madeAt b (2 * i + 2) → q ≡ sets l (2 * (4 + 2 * i)) (bytesOf (m .owner ∷ m .kind ∷ []))
+pub made-turn : (b l q whole : List ℕ) (n i : ℕ) (m : Made) → i < n → m ≡ madeAt b (2 * i + 2) → q ≡ sets l (2 * (4 + 2 * i)) (bytesOf (m .owner ∷ m .kind .0 ∷ []))
     → sets l (2 * (4 + 2 * i)) (bytesOf (madeAfter b n i)) ≡ whole → sets q (2 * (4 + 2 * (i + 1))) (bytesOf (madeAfter b n (i + 1))) ≡ whole
 made-turn b l q whole n i m h em e inv =
-    puts-turn l q whole (4 + 2 * i) (4 + 2 * (i + 1)) (m .owner ∷ m .kind ∷ []) (madeAfter b n (i + 1)) (madeAfter b n i) e (omega arith) (made-more b n i m h em) inv
+    puts-turn l q whole (4 + 2 * i) (4 + 2 * (i + 1)) (m .owner ∷ m .kind .0 ∷ []) (madeAfter b n (i + 1)) (madeAfter b n i) e (omega arith) (made-more b n i m h em) inv
 
 pub made-end : (b l whole : List ℕ) (n i p : ℕ) → n ≤ i → sets l p (bytesOf (madeAfter b n i)) ≡ whole → l ≡ whole
 unfolding madeWords madeIn

@@ -24,7 +24,7 @@ use Rattle.choices.specs.Choices.{Ran, ranOf}
 -- per made channel owner and kind
 unfoldable pub madeWords : List Made → List ℕ
 madeWords [] = []
-madeWords (m ∷ ms) = m .owner ∷ m .kind ∷ madeWords ms
+madeWords (m ∷ ms) = m .owner ∷ m .kind .0 ∷ madeWords ms
 
 -- per thread user, node, mask, the number of roles it holds, its eight variables
 unfoldable pub threadWords : List Thread → List ℕ

@@ -56,7 +56,7 @@ fn put_made(beside: &[u16], made: usize, out: &mut [u8])
     let mut i: usize = 0;
     while i < made {
         let it = made_at(beside, i);
-        put_two(out, 4 + 2 * i, it.owner, it.kind);
+        put_two(out, 4 + 2 * i, it.owner, it.kind.0);
         i += 1;
     }
 }

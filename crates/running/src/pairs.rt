@@ -5,8 +5,8 @@ use format::Node;
 use format::sections::node;
 use format::words::narrow;
 use format::words::wide;
+use rules::grants::may;
 use steps::Thread;
-use steps::act::is_able;
 use steps::act::kind_held;
 use steps::beside::thread_count;
 use steps::records::thread_at;
@@ -34,7 +34,7 @@ fn works_on(file: &[u8], head: Head, table: &[u16], beside: &[u16], t: Thread, x
     ensures { λ r. ⌜ r ≡ cond (not (eqb (bitAnd (t .mask) (getD (now (table .entry)) (kindHeld (schemaOf (contentsAt (now (file .entry)) head)) (madeOf (now (beside .entry))) (value t x)) 0)) 0)) (value t x) 0 ⌝ }
 {
     let over = t.value(x);
-    if is_able(table, t.mask, kind_held(file, head, beside, over)) {
+    if may(table, t.mask, kind_held(file, head, beside, over)) {
         return over;
     }
     0

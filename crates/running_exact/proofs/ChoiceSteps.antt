@@ -24,7 +24,7 @@ use Rattle.steps.specs.Threads.{value}
 use Rattle.steps.specs.Choice.{Clinic, State, Chosen, halts, goes, threadAt, partnerAt, kindHeld, isAllowed, meeting, sending, lone, aloneOnly, acting, done, outcome, choice}
 use Rattle.reading_exact.specs.File.{InCount}
 use Rattle.checking_exact.proofs.NameFaults.{fails-iff}
-use Rattle.checking_exact.proofs.PermittedRoles.{able-iff}
+use Rattle.rules.proofs.PermittedRoles.{able-iff}
 use Rattle.running_exact.specs.Steps.{StandsAt, Able, Steps, on, off, fork, repeat, new, compare, end, meet}
 use Rattle.running_exact.specs.Conditions.{
   Lone,

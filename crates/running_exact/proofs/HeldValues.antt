@@ -54,14 +54,14 @@ module _ (D : Schema) (S : Apart D) where
   value-more made m v k (channel-value c n e f) = channel-value c n e f
   value-more made m v k (a-made c n e f) =
       let l : c - 1 < length made = omega arith in
-      a-made c (n .0, omega (arith, length-append made (m ∷ []))) e (f ∙ ap (λ (x : Made). x .kind) (sym (List·getD-append made (m ∷ []) noMade (c - 1) l)))
+      a-made c (n .0, omega (arith, length-append made (m ∷ []))) e (f ∙ ap (λ (x : Made). x .kind .0) (sym (List·getD-append made (m ∷ []) noMade (c - 1) l)))
 
   -- the new one's value
-  pub value-made : (made : List Made) (m : Made) → HasValue D (made ++ (m ∷ [])) (385 + length made) (m .kind)
+  pub value-made : (made : List Made) (m : Made) → HasValue D (made ++ (m ∷ [])) (385 + length made) (m .kind .0)
   value-made made m =
       let d : length made ≡ suc (length made) - 1 = omega arith in
       a-made (suc (length made)) (omega arith, omega (arith, length-append made (m ∷ []))) (omega arith)
-      (subst (λ (j : ℕ). m .kind ≡ getD (made ++ (m ∷ [])) j noMade .kind) d (ap (λ (x : Made). x .kind) (sym (getD-append-seam made m [] noMade))))
+      (subst (λ (j : ℕ). m .kind .0 ≡ getD (made ++ (m ∷ [])) j noMade .kind .0) d (ap (λ (x : Made). x .kind .0) (sym (getD-append-seam made m [] noMade))))
 
   -- nor what a thread holds
   pub held-more : (made : List Made) (m : Made) (bs : List Bound) (vs : List ℕ) → Held D made bs vs → Held D (made ++ (m ∷ [])) bs vs

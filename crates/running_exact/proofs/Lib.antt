@@ -2,6 +2,7 @@
 pub mod ChoiceSteps
 pub mod StepsChosen
 pub mod Agree
+pub mod StepEffects
 -- lists of choices
 pub mod RunChain
 -- the ready pair
@@ -23,4 +24,12 @@ pub mod ChoiceKeeps
 -- runs keep the rules, and a checked file's is not stopped for a role
 pub mod FileLawful
 pub mod StartKept
+pub mod StartThreads
 pub mod RunSafe
+-- the output of a run, and what is answered
+pub mod OutputWords
+pub mod AnswerCases
+pub mod RunAnswers
+pub mod ReadyAnswers
+-- runs in literal words
+pub mod RunsShown

@@ -61,9 +61,9 @@ module _ (C : Clinic) (At : ℕ → Context → Type 0) (L : Lawful C At) (K : �
       (onward-good D At K made t c F (child-at 2 z (omega arith) (omega arith) c (child-same D c n (inl z))) e)
       (ltb-true k 64 b)
 
-  news : n .tag ≡ 3 → ltb (length made) 64 ≡ true → T (Makes (record { thread = bound t (385 + length made); made = record { owner = t .user; kind = n .f1 } }))
+  news : n .tag ≡ 3 → ltb (length made) 64 ≡ true → T (Makes (record { thread = bound t (385 + length made); made = record { owner = t .user; kind = record { 0 = n .f1 } } }))
   news z b =
-      let m : Made = record { owner = t .user; kind = n .f1 } in
+      let m : Made = record { owner = t .user; kind = record { 0 = n .f1 } } in
       makes-told C At K R k made (record { thread = bound t (385 + length made); made = m })
       (bound-good D At K (made ++ (m ∷ [])) t c (fits-more D At K made t c F (L .apart) m) (L .apart) (n .f1) (385 + length made) true
       (child-at 3 z (omega arith) (omega arith) (bind c (n .f1) true) (child-new D c n z))

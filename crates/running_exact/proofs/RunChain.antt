@@ -1,5 +1,5 @@
 -- A run is the steps in order up to the first refused choice.
-use Prim.Native.Nat.{ℕ, suc, _+_, _*_, _/_, _%_, _≤_, _<_}
+use Prim.Native.Nat.{ℕ, suc, _+_, _*_, _/_, _%_, _≤_}
 use mathlib.Core.Path.{_≡_, refl, sym, ap, _∙_, subst}
 use mathlib.Core.Logic.{_≢_}
 use mathlib.Core.List.{List, [], _∷_}
@@ -8,6 +8,7 @@ use lib.ListN.{length, getD, take}
 use Rattle.steps.specs.Choice.{Clinic, State, Chosen, halts, goes, choice}
 use Rattle.choices.specs.Choices.{Ran, follow, run}
 use Rattle.running_exact.specs.Steps.{Chain}
+use Rattle.running_exact.specs.Runs.{Refuses}
 use Rattle.running_exact.proofs.StepsChosen.{steps-choice}
 use Rattle.running_exact.proofs.Agree.{choice-steps, refused-positive}
 
@@ -36,13 +37,8 @@ module _ (C : Clinic) where
   run-chain (i ∷ []) s = refl
   run-chain (i ∷ p ∷ ws) s = chain-follow s i p ws (choice C s i p) refl (λ s′. run C s′ ws) (run-chain ws)
 
-  -- the next choice of a list after a run is refused with the run's number
-  abbrev pub Refuses : List ℕ → Ran → Type 0
-  Refuses ws r =
-      (2 * r .count + 1 < length ws) × (choice C (r .state) (getD ws (2 * r .count) 0) (getD ws (2 * r .count + 1) 0) ≡ halts (r .refusal))
-
   refuses-follow : (s : State) (i p : ℕ) (ws : List ℕ) (o : Chosen) → choice C s i p ≡ o → (go : State → Ran)
-      → ((s′ : State) → go s′ .refusal ≢ 0 → Refuses ws (go s′)) → follow s o go .refusal ≢ 0 → Refuses (i ∷ p ∷ ws) (follow s o go)
+      → ((s′ : State) → go s′ .refusal ≢ 0 → Refuses C ws (go s′)) → follow s o go .refusal ≢ 0 → Refuses C (i ∷ p ∷ ws) (follow s o go)
   refuses-follow s i p ws (halts n) e go f z = (omega arith, e)
   refuses-follow s i p ws (goes s′) e go f z =
       let (l, h) = f s′ z in
@@ -55,7 +51,7 @@ module _ (C : Clinic) where
       )
 
   -- A run stopped before the end of its list stopped at a choice that is refused with that number in the state it left.
-  pub run-stopped : (ws : List ℕ) (s : State) → run C s ws .refusal ≢ 0 → Refuses ws (run C s ws)
+  pub run-stopped : (ws : List ℕ) (s : State) → run C s ws .refusal ≢ 0 → Refuses C ws (run C s ws)
   unfolding run
   run-stopped [] s z = absurd (z refl)
   run-stopped (i ∷ []) s z = absurd (z refl)

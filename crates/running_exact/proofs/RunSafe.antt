@@ -1,21 +1,21 @@
 -- Runs keep the rules: in every state of a run each thread fits its node's context, and no run of a file that passes the check is stopped for a role.
-use Prim.Native.Nat.{ℕ, _+_, _-_, _%_, _≤_, _<_}
+use Prim.Native.Nat.{ℕ, _+_, _-_, _≤_, _<_}
 use mathlib.Core.Path.{_≡_, refl, sym, ap, _∙_, subst}
-use mathlib.Core.Logic.{_⊎_, inl, inr, _≢_, _↔_}
-use mathlib.Core.Bool.{Bool, true, false, cond, _&&_}
+use mathlib.Core.Logic.{_⊎_, inl, inr, _≢_}
+use mathlib.Core.Bool.{Bool, true, false, cond}
 use mathlib.Core.List.{List, [], _∷_}
 use native.Mathlib.Omega.{arith}
-use lib.Dec.{eqb, leb}
+use lib.Dec.{eqb}
 use lib.ListN.{length}
-use borrow.Author.Tests.{eqb-true, ne-eqb, le-leb, lt-leb}
+use borrow.Author.Tests.{eqb-true, le-leb}
 use Rattle.masks.specs.Mask.{with, without}
 use Rattle.format.specs.Contents.{Contents, contentsOf}
 use Rattle.format.specs.Answers.{fine, refused}
-use Rattle.format.proofs.BoolLaws.{eq-iff, le-iff, and-iff}
 use Rattle.checking.specs.Check.{readingNames, checking}
 use Rattle.rules.specs.Schema.{schemaOf}
 use Rattle.rules.specs.Rules.{Context, activate, barred}
 use Rattle.rules.specs.Checking.{openings}
+use Rattle.steps.specs.declared.Thread.{Thread}
 use Rattle.steps.specs.Threads.{noThread, firstFree}
 use Rattle.steps.specs.Choice.{clinicOf, State, Chosen, halts, goes, threadAt, choice}
 use Rattle.choices.specs.Choices.{start, Ran, follow, run, ranOf}
@@ -23,12 +23,12 @@ use Rattle.running.specs.Run.{listed, stopped, running}
 use Rattle.placing.specs.Placing.{placing, placedBytes}
 use Rattle.reading_exact.specs.Lists.{All}
 use Rattle.reading_exact.specs.File.{InCount}
-use Rattle.reading_exact.proofs.AllLaws.{all-get}
+use Rattle.reading_exact.proofs.AllLaws.{all-map, all-get}
 use Rattle.reading_exact.proofs.ReachedStack.{reached-single}
 use Rattle.checking_exact.proofs.ContextStack.{contexts}
 use Rattle.checking_exact.proofs.CheckFirst.{check-fine}
 use Rattle.placing_exact.proofs.PlacingExact.{placed-well}
-use Rattle.running_exact.specs.Keeps.{Reaches, Kept}
+use Rattle.running_exact.specs.Keeps.{Fits, Reaches, Kept}
 use Rattle.running_exact.proofs.HeldValues.{held-free}
 use Rattle.running_exact.proofs.FileNodes.{StandsIn, roles-clear}
 use Rattle.running_exact.proofs.ThreadSteps.{Steady}
@@ -53,10 +53,6 @@ caller-no-role n (inr (inr e)) = (λ z. omega arith, λ z. omega arith, λ z. om
 -- what passes the check meets 1 to 10 clean
 pub passes-names : (f : List ℕ) → checking f ≡ fine → readingNames f ≡ fine
 passes-names f passes = check-fine f .0 passes .0
-
--- a list fits where its words are even in number, and not over 65,535 choices
-pub listed-iff : (n : ℕ) → (listed n ≡ true) ↔ ((n % 2 ≡ 0) × (n ≤ 131070))
-listed-iff n = and-iff (eq-iff (n % 2) 0) (λ _. le-iff n 131070)
 
 -- the thread's active set and the context's stay the same
 same : Steady _≡_
@@ -85,13 +81,17 @@ module _ (C : Contents) where
 
   -- The variable that a binder takes.
 
-  -- the first that is 0 is the next on the path, in the one context of the thread's node
-  pub next-free : {s : State} → Kept C s → (i : ℕ) → InCount (length (s .threads)) i → (c : Context) → Reaches C (threadAt s i) c
-      → firstFree (threadAt s i .vars) ≡ length (c .vars)
-  next-free {s} K i n c (a, h) =
-      let (d, (b, g), F, e) = all-get _ (s .threads) (i - 1) noThread (omega arith) (K .threads) in
+  -- the first that is 0 is the next on the path, in the one context of the thread's node, wherever threads fit their nodes
+  pub free-next : (s : State) → All (λ (t : Thread). (c : Context) × Reaches C t c × Fits (schemaOf C) (s .made) c t) (s .threads)
+      → (i : ℕ) → InCount (length (s .threads)) i → (c : Context) → Reaches C (threadAt s i) c → firstFree (threadAt s i .vars) ≡ length (c .vars)
+  free-next s fit i n c (a, h) =
+      let (d, (b, g), F) = all-get _ (s .threads) (i - 1) noThread (omega arith) fit in
       let one : d ≡ c = reached-single (contexts (schemaOf C) (openings C)) (C .nodes) g h in
       held-free (schemaOf C) (s .made) (d .vars) (threadAt s i .vars) (F .vars) ∙ ap (λ (x : Context). length (x .vars)) one
+
+  pub next-free : {s : State} → Kept C s → (i : ℕ) → InCount (length (s .threads)) i → (c : Context) → Reaches C (threadAt s i) c
+      → firstFree (threadAt s i .vars) ≡ length (c .vars)
+  next-free {s} K = free-next s (all-map (λ t (c, a, F, e). (c, a, F)) (s .threads) (K .threads))
 
 module _ (f : List ℕ) where
   abbrev C : Contents
@@ -172,20 +172,6 @@ module _ (f : List ℕ) where
   answers passes ws room l h =
       subst (λ (n : ℕ). (n ≡ 0) ⊎ OfCaller n) (sym (running-number (passes-names f passes) ws room l h)) (run-caller passes ws)
 
-  -- 17 comes before all else: too little room, an odd number of words, or over 65,535 choices
-  pub seventeen : (ws : List ℕ) (room : ℕ) → (room < 1800) ⊎ ((length ws % 2 ≡ 1) ⊎ (131070 < length ws)) → running f ws room ≡ refused 17 0
-  unfolding running
-  seventeen ws room h = rw (unfit h)
-    where
-      and-not : (a b : Bool) → b ≡ false → (a && b) ≡ false
-      and-not true b e = e
-      and-not false b e = refl
-
-      unfit : (room < 1800) ⊎ ((length ws % 2 ≡ 1) ⊎ (131070 < length ws)) → (listed (length ws) && leb 1800 room) ≡ false
-      unfit (inl l) = and-not (listed (length ws)) (leb 1800 room) (lt-leb 1800 room l)
-      unfit (inr (inl e)) = rw (ne-eqb (length ws % 2) 0 (λ z. omega arith))
-      unfit (inr (inr l)) = let z = and-not (eqb (length ws % 2) 0) (leb (length ws) 131070) (lt-leb (length ws) 131070 l) in rw z
-
 -- A placed file.
 
 module _ (f : List ℕ) (bytes : All (λ b. b < 256) f) (room : ℕ) (placed : placing f room .number ≡ 0) where
@@ -199,8 +185,3 @@ module _ (f : List ℕ) (bytes : All (λ b. b < 256) f) (room : ℕ) (placed : p
       → (running (placedBytes f) ws room′ .number ≡ 0)
       ⊎ ((running (placedBytes f) ws room′ .number ≡ 18) ⊎ ((running (placedBytes f) ws room′ .number ≡ 19) ⊎ (running (placedBytes f) ws room′ .number ≡ 20)))
   placed-safe ws room′ l h = answers (placedBytes f) (placed-well f bytes room placed .passes) ws room′ l h
-
-  -- with too little room, an odd list, or over 65,535 choices it is 17
-  pub placed-seventeen : (ws : List ℕ) (room′ : ℕ) → (room′ < 1800) ⊎ ((length ws % 2 ≡ 1) ⊎ (131070 < length ws))
-      → running (placedBytes f) ws room′ ≡ refused 17 0
-  placed-seventeen ws room′ h = seventeen (placedBytes f) ws room′ h

@@ -21,7 +21,7 @@ use Rattle.checking_exact.specs.Faults.{InContext}
 pub data HasValue (D : Schema) (made : List Made) (v k : ℕ) : Type 0 where
   a-user : InCount (D .users) v → k ≡ 0 → HasValue D made v k
   a-channel : (c : ℕ) → InCount (D .channels) c → v ≡ 256 + c → k ≡ D .kind c → HasValue D made v k
-  a-made : (c : ℕ) → InCount (length made) c → v ≡ 384 + c → k ≡ getD made (c - 1) noMade .kind → HasValue D made v k
+  a-made : (c : ℕ) → InCount (length made) c → v ≡ 384 + c → k ≡ getD made (c - 1) noMade .kind .0 → HasValue D made v k
 
 -- each bound variable holds a value of rule 1's kind; those that are not bound are 0
 abbrev pub Held : Schema → List Made → List Bound → List ℕ → Type 0
@@ -44,7 +44,7 @@ Reaches C t c = InCount (length (C .nodes)) (t .node) × InContext (schemaOf C) 
 
 -- a made channel's owner and kind are in count
 abbrev pub Formed : Schema → Made → Type 0
-Formed D m = InCount (D .users) (m .owner) × InCount (D .kinds) (m .kind)
+Formed D m = InCount (D .users) (m .owner) × InCount (D .kinds) (m .kind .0)
 
 -- a state of a run: every thread fits the context of its node, and holds exactly that context's active set
 pub record Kept (C : Contents) (s : State) : Type 0 where

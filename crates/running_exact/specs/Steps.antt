@@ -8,11 +8,11 @@ use Rattle.masks.specs.Mask.{has, with, without}
 use Rattle.format.specs.declared.Node.{Node}
 use Rattle.rules.specs.declared.Way.{Way}
 use Rattle.rules.specs.declared.Way.the-variants.{Sends, Receives}
+use Rattle.rules.specs.Schema.{Permitted}
 use Rattle.steps.specs.declared.Thread.{Thread}
 use Rattle.steps.specs.Threads.{value, movedTo, onward, masked, bound}
 use Rattle.steps.specs.Choice.{Clinic, State, threadAt, kindHeld, changed, added, withMade, removed}
 use Rattle.reading_exact.specs.File.{InCount}
-use Rattle.checking_exact.specs.Typing.{Permitted}
 
 -- thread i stands at the node n
 abbrev pub StandsAt : Clinic → State → ℕ → Node → Type 0
@@ -37,7 +37,7 @@ pub data Steps (C : Clinic) (s : State) : ℕ → ℕ → State → Type 0 where
       → Steps C s i 0 (added s i (threadAt s i) (onward (threadAt s i)))
   -- new: made channel i has value 384 + i, the thread's user as owner, and kind f1; 01: at most 64 made channels
   new : (i : ℕ) (n : Node) → StandsAt C s i n → n .tag ≡ 3 → length (s .made) < 64
-      → Steps C s i 0 (withMade s i (bound (threadAt s i) (385 + length (s .made))) (record { owner = threadAt s i .user; kind = n .f1 }))
+      → Steps C s i 0 (withMade s i (bound (threadAt s i) (385 + length (s .made))) (record { owner = threadAt s i .user; kind = record { 0 = n .f1 } }))
   -- compare goes on if equal
   compare : (i : ℕ) (n : Node) → StandsAt C s i n → n .tag ≡ 4 → value (threadAt s i) (n .f1) ≡ value (threadAt s i) (n .f2)
       → Steps C s i 0 (changed s i (onward (threadAt s i)))

@@ -74,15 +74,15 @@ module _ (D : Schema) (b : List ℕ) (n v : ℕ) where
   unfolding kindHeld
   kind-channel h l = rw (le-ltb v 257 h, lt-ltb v 385 l)
 
-  pub kind-of-made : (i : ℕ) (m : Made) → 385 ≤ v → i ≡ v - 385 → i < n → m ≡ madeAt b (2 * i + 2) → m .kind ≡ kindHeld D (madeIn b 2 n) v
+  pub kind-of-made : (i : ℕ) (m : Made) → 385 ≤ v → i ≡ v - 385 → i < n → m ≡ madeAt b (2 * i + 2) → m .kind .0 ≡ kindHeld D (madeIn b 2 n) v
   unfolding kindHeld
-  kind-of-made i m h e l f = rw (le-ltb v 257 (omega arith), le-ltb v 385 h, ← e) (ap (λ (x : Made). x .kind) (f ∙ sym (made-get b 2 n i l)))
+  kind-of-made i m h e l f = rw (le-ltb v 257 (omega arith), le-ltb v 385 h, ← e) (ap (λ (x : Made). x .kind .0) (f ∙ sym (made-get b 2 n i l)))
 
   pub kind-of-none : (i : ℕ) → 385 ≤ v → i ≡ v - 385 → n ≤ i → 0 ≡ kindHeld D (madeIn b 2 n) v
   unfolding kindHeld
   kind-of-none i h e l =
       rw (le-ltb v 257 (omega arith), le-ltb v 385 h, ← e)
-      (sym (ap (λ (m : Made). m .kind) (List·getD-eq-default (madeIn b 2 n) noMade {n = i} (omega (arith, length-made b 2 n)))))
+      (sym (ap (λ (m : Made). m .kind .0) (List·getD-eq-default (madeIn b 2 n) noMade {n = i} (omega (arith, length-made b 2 n)))))
 
 -- rule 6 by a table of grants: what a test says, made on the kind k of a value x
 pub able-by : (D : Schema) (way : Way) (l : List ℕ) (m : ℕ) (made : List Made) (k x v : ℕ) (p b : Bool)
@@ -155,7 +155,7 @@ module _ (C : Clinic) (threads made : ℕ) (t : Thread) (n : Node) where
 
   pub lone-new : n .tag ≡ 3
       → lone C threads made t n
-      ≡ cond (ltb made 64) (Makes (record { thread = bound t (385 + made); made = record { owner = t .user; kind = n .f1 } })) (Refused 20)
+      ≡ cond (ltb made 64) (Makes (record { thread = bound t (385 + made); made = record { owner = t .user; kind = record { 0 = n .f1 } } })) (Refused 20)
   unfolding lone
   lone-new e = rw e
 

@@ -17,7 +17,7 @@ madeCount b = getD b 1 0
 
 -- the made channel whose words stand from p on
 abbrev pub madeAt : List ℕ → ℕ → Made
-madeAt b p = record { owner = getD b p 0; kind = getD b (p + 1) 0 }
+madeAt b p = record { owner = getD b p 0; kind = record { 0 = getD b (p + 1) 0 } }
 
 -- so many made channels from p on
 unfoldable pub madeIn : List ℕ → ℕ → ℕ → List Made
@@ -39,7 +39,7 @@ abbrev pub withThreads : List ℕ → ℕ → List ℕ
 withThreads b n = set b 0 n
 
 abbrev pub oneMade : List ℕ → Made → List ℕ
-oneMade b m = set (set (set b (2 * madeCount b + 2) (m .owner)) (2 * madeCount b + 3) (m .kind)) 1 (madeCount b + 1)
+oneMade b m = set (set (set b (2 * madeCount b + 2) (m .owner)) (2 * madeCount b + 3) (m .kind .0)) 1 (madeCount b + 1)
 
 -- what an outcome leaves of them
 abbrev pub besideBy : List ℕ → Outcome → List ℕ

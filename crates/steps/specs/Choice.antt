@@ -32,7 +32,7 @@ clinicOf C = record { schema = schemaOf C; nodes = length (C .nodes); node = λ 
 
 -- the kind of a value, 0 for a plain one: made channel i has value 384 + i
 unfoldable pub kindHeld : Schema → List Made → ℕ → ℕ
-kindHeld D made v = cond (ltb v 257) 0 (cond (ltb v 385) (D .kind (v - 256)) (getD made (v - 385) noMade .kind))
+kindHeld D made v = cond (ltb v 257) 0 (cond (ltb v 385) (D .kind (v - 256)) (getD made (v - 385) noMade .kind .0))
 
 -- rule 6 for a thread, by the kind of the channel that an operand stands for
 abbrev pub isAllowed : Clinic → List Made → Thread → Way → ℕ → Bool
@@ -58,7 +58,7 @@ lone C threads made t n =
     (cond (eqb (n .tag) 1) (cond (ltb threads 64) (Adds (record { first = onward t; second = movedTo t (n .f1) })) (Refused 20))
     (cond (eqb (n .tag) 2) (cond (ltb threads 64) (Adds (record { first = t; second = onward t })) (Refused 20))
     (cond (eqb (n .tag) 3)
-    (cond (ltb made 64) (Makes (record { thread = bound t (385 + made); made = record { owner = t .user; kind = n .f1 } })) (Refused 20))
+    (cond (ltb made 64) (Makes (record { thread = bound t (385 + made); made = record { owner = t .user; kind = record { 0 = n .f1 } } })) (Refused 20))
     (cond (eqb (n .tag) 4) (cond (eqb (value t (n .f1)) (value t (n .f2))) (Moves (onward t)) (Refused 19))
     (cond (eqb (n .tag) 7) (cond (has (C .schema .assigned (t .user)) (n .f1)) (Moves (masked t (with (t .mask) (n .f1)))) (Refused 11))
     (cond (eqb (n .tag) 8) (cond (has (t .mask) (n .f1)) (Moves (masked t (without (t .mask) (n .f1)))) (Refused 12)) (Refused 18)))))))

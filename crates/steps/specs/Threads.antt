@@ -14,7 +14,7 @@ abbrev pub noThread : Thread
 noThread = record { user = 0; node = 0; mask = 0; vars = zeros }
 
 abbrev pub noMade : Made
-noMade = record { owner = 0; kind = 0 }
+noMade = record { owner = 0; kind = record { 0 = 0 } }
 
 -- what an operand stands for in a thread: a user or a channel for itself, 512 to 519 for the variable's value
 unfoldable pub value : Thread → ℕ → ℕ

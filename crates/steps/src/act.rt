@@ -13,15 +13,15 @@ use format::sections::in_count;
 use format::sections::node;
 use format::sections::user_roles;
 use format::words::wide;
+use masks::ChannelKind;
 use masks::UserRole;
 use masks::has_role;
-use rules::grants::grant_of;
+use rules::grants::may;
 ghost use mathlib.Core.Path.{_≡_};
-ghost use mathlib.Core.Bool.{cond, not};
+ghost use mathlib.Core.Bool.{cond};
 ghost use Prim.Native.Nat.{_+_, _≤_, _<_};
-ghost use lib.Bits.{bitAnd};
-ghost use lib.Dec.{eqb, ltb};
-ghost use lib.ListN.{length, getD};
+ghost use lib.Dec.{ltb};
+ghost use lib.ListN.{length};
 ghost use Rattle.masks.specs.Mask.{has, with};
 ghost use Rattle.format.specs.Header.{Laid};
 ghost use Rattle.format.specs.Contents.{contentsAt};
@@ -35,30 +35,23 @@ ghost use Rattle.steps.specs.Acted.{partnerOf, actedOf};
 ghost use Rattle.steps.specs.Beside.{threadCount, madeCount, madeOf, besideWords};
 
 // The kind of a value, 0 for a plain one.
-pub fn kind_held(file: &[u8], head: Head, beside: &[u16], v: u16) -> u16
+pub fn kind_held(file: &[u8], head: Head, beside: &[u16], v: u16) -> ChannelKind
     requires { ⌜ Laid (now file) head × (length (now beside) ≡ besideWords) × (madeCount (now beside) ≤ 64) ⌝ }
-    ensures { λ r. ⌜ r ≡ kindHeld (schemaOf (contentsAt (now (file .entry)) head)) (madeOf (now (beside .entry))) v ⌝ }
+    ensures { λ r. ⌜ r .0 ≡ kindHeld (schemaOf (contentsAt (now (file .entry)) head)) (madeOf (now (beside .entry))) v ⌝ }
 {
     if v < 257 {
-        return 0;
+        return ChannelKind(0);
     }
     if v < 385 {
         let it = channel(file, head, v - 256);
-        return it.kind.0;
+        return it.kind;
     }
     let i = wide(v - 385);
     if i < wide(made_count(beside)) {
         let it = made_at(beside, i);
         return it.kind;
     }
-    0
-}
-
-// One active role permits a step on the kind, by the table that has the roles for each kind.
-pub fn is_able(table: &[u16], mask: u16, kind: u16) -> bool
-    ensures { λ r. ⌜ r ≡ not (eqb (bitAnd mask (getD (now (table .entry)) kind 0)) 0) ⌝ }
-{
-    (mask & grant_of(table, kind)) != 0
+    ChannelKind(0)
 }
 
 fn no_thread() -> Thread
@@ -114,7 +107,7 @@ fn adds(threads: u16, first: Thread, second: Thread) -> Acted
 }
 
 // A made channel; 20 where it is the 65th.
-fn makes(made: u16, own: Thread, kind: u16) -> Acted
+fn makes(made: u16, own: Thread, kind: ChannelKind) -> Acted
     requires { ⌜ own .node < 65535 ⌝ }
     ensures { λ r. ⌜ r ≡ actedOf (cond (ltb made 64) (Makes (record { thread = bound own (385 + made); made = record { owner = own .user; kind = kind } })) (Refused 20)) ⌝ }
 {
@@ -149,7 +142,7 @@ fn step(file: &[u8], head: Head, threads: u16, made: u16, own: Thread, it: Node)
         0 => sole(Answer::Ends, no_thread()),
         1 => adds(threads, own.onward(), own.moved_to(it.f1)),
         2 => adds(threads, own, own.onward()),
-        3 => makes(made, own, it.f1),
+        3 => makes(made, own, ChannelKind(it.f1)),
         4 => moves_if(own.value(it.f1) == own.value(it.f2), own.onward(), 19),
         7 => switches_on(file, head, own, UserRole(it.f1)),
         8 => {
@@ -177,17 +170,17 @@ fn meets(
 {
     let over = own.value(it.f1);
     let kind = kind_held(file, head, beside, over);
-    if !is_able(sends, own.mask, kind) {
+    if !may(sends, own.mask, kind) {
         return refused(13);
     }
     let at = other.value(theirs.f1);
     if over != at {
-        if is_able(receives, other.mask, kind_held(file, head, beside, at)) {
+        if may(receives, other.mask, kind_held(file, head, beside, at)) {
             return refused(19);
         }
         return refused(13);
     }
-    if !is_able(receives, other.mask, kind) {
+    if !may(receives, other.mask, kind) {
         return refused(13);
     }
     Acted {

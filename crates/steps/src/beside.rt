@@ -1,6 +1,7 @@
 // The words beside a list of threads: how many threads, how many made channels, and owner and kind of 64 made channels.
 use super::Made;
 use format::words::wide;
+use masks::ChannelKind;
 ghost use mathlib.Core.Path.{_≡_};
 ghost use Prim.Native.Nat.{_+_, _*_, _<_};
 ghost use lib.ListN.{length};
@@ -36,7 +37,7 @@ pub fn made_at(beside: &[u16], i: usize) -> Made
     let at = 2 * i + 2;
     Made {
         owner: beside[at],
-        kind: beside[at + 1],
+        kind: ChannelKind(beside[at + 1]),
     }
 }
 
@@ -56,7 +57,7 @@ pub fn add_made(beside: &mut [u16], made: Made)
     let n = made_count(beside);
     let at = 2 * wide(n);
     beside[at + 2] = made.owner;
-    beside[at + 3] = made.kind;
+    beside[at + 3] = made.kind.0;
     beside[1] = n + 1;
 }
 

@@ -4,6 +4,8 @@ pub mod beside;
 pub mod records;
 mod threads;
 
+use masks::ChannelKind;
+
 // A thread: its user, its node, its active mask, and the values of its eight variables, 0 where nothing is bound.
 #[repr(C)]
 pub struct Thread {
@@ -16,7 +18,7 @@ pub struct Thread {
 // A made channel.
 pub struct Made {
     pub owner: u16,
-    pub kind: u16,
+    pub kind: ChannelKind,
 }
 
 // The partner that a choice names: none, a thread, or no thread of the list.

@@ -12,6 +12,7 @@ use format::sections::role;
 use format::sections::session;
 use format::sections::user_roles;
 use format::words::narrow;
+use masks::ChannelKind;
 use masks::names_only;
 use masks::roles_within;
 ghost use mathlib.Core.Path.{_≡_};
@@ -64,7 +65,7 @@ fn record_fits(file: &[u8], head: Head, section: Section, n: u16) -> bool
     match section {
         Section::Users => user_fits(file, head, n),
         Section::Roles => role_fits(file, head, n),
-        Section::Kinds => carries(file, head, n) <= head.count.kinds,
+        Section::Kinds => carries(file, head, ChannelKind(n)).0 <= head.count.kinds,
         Section::Channels => channel_fits(file, head, n),
         Section::Sessions => session_fits(file, head, n),
         Section::Nodes => true,

@@ -1,4 +1,5 @@
 pub mod EndsLaws
 pub mod FitsLaws
 pub mod ShapeLaws
+pub mod SoundExact
 pub mod SoundLaws

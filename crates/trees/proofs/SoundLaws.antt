@@ -1,5 +1,5 @@
--- The quicker look for 8: where it accepts, 8 refuses nothing.
-use Prim.Native.Nat.{ℕ, suc, _+_, _*_, _-_, _/_, _%_, _≤_, _<_}
+-- The quicker look for 8: where it accepts, 8 refuses nothing (the converse is in SoundExact).
+use Prim.Native.Nat.{ℕ, zero, suc, _+_, _*_, _-_, _/_, _%_, _≤_, _<_}
 use mathlib.Core.Path.{_≡_, refl, sym, ap, ap₂, _∙_}
 use mathlib.Core.Bool.{Bool, true, false, cond, not, _&&_, _||_, and-eq-true-iff}
 use mathlib.Core.List.{List, [], _∷_, map}
@@ -29,7 +29,7 @@ pub record Waiting : Type 0 where
 abbrev pub waiting : ℕ → ℕ → Waiting
 waiting n b = record { number = n; bound = b }
 
-abbrev none : List Waiting → Bool
+abbrev pub none : List Waiting → Bool
 none [] = true
 none (w ∷ st) = false
 
@@ -168,7 +168,7 @@ unfolding waits roots
 waits-match [] t = refl
 waits-match (s ∷ ss) t = (refl, eq-eqb (s .root) (s .root) refl, waits-match ss t)
 
-same-head : {A : Type 0} {a b : A} {x y : List A} → a ∷ x ≡ b ∷ y → (a ≡ b) × (x ≡ y)
+pub same-head : {A : Type 0} {a b : A} {x y : List A} → a ∷ x ≡ b ∷ y → (a ≡ b) × (x ≡ y)
 same-head e = (cc, cc)
 
 pub starts : (ss : List Session) (t : ℕ) (ns : List Node) (w : Waiting) (st : List Waiting) → w ∷ st ≡ waits ss t → w .number ≡ 1 → 1 + length ns ≡ t
@@ -183,14 +183,22 @@ starts (s ∷ ss) t ns w st e one l h =
     let at-one : s .root ≡ 1 = sym (ap (λ (x : Waiting). x .number) (same-head e .0)) ∙ one in
     accepts-shape t 1 ns 0 st (Root (s .root)) (roots ss) l (rw (same-head e .1) (waits-match ss t)) refl (eq-eqb (s .root) 1 at-one) h
 
+-- tests one of which fails
+false-first : (a c : Bool) → a ≡ false → (a && c) ≡ false
+false-first a c e = rw e
+
+false-both : (a b c : Bool) → (a && b) ≡ false → (a && (b && c)) ≡ false
+false-both true b c e = rw e
+false-both false b c e = refl
+
 -- the same look as the loop goes, at node i
 module _ (ns : List Node) (i : ℕ) (pos : 1 ≤ i) (h : i ≤ length ns) (node : Node) (its : node ≡ item noNode ns i) where
-  -- from this node on, and from the next one
-  abbrev pub Here : ℕ → List Waiting → Type 0
-  Here b st = accepts i (drop (i - 1) ns) b st ≡ true
+  -- the look from this node on, and from the next one
+  abbrev pub Here : ℕ → List Waiting → Bool
+  Here b st = accepts i (drop (i - 1) ns) b st
 
-  abbrev pub Next : ℕ → List Waiting → Type 0
-  Next b st = accepts (i + 1) (drop (i + 1 - 1) ns) b st ≡ true
+  abbrev pub Next : ℕ → List Waiting → Bool
+  Next b st = accepts (i + 1) (drop (i + 1 - 1) ns) b st
 
   turned : (b : ℕ) (st : List Waiting)
       → ((leb (node .tag) 8 && unusedFit node)
@@ -201,18 +209,40 @@ module _ (ns : List Node) (i : ℕ) (pos : 1 ≤ i) (h : i ≤ length ns) (node 
   unfolding accepts
   turned b st = rw (from-node ns i node pos h its, add-one i)
 
-  pub on-end : (b : ℕ) (w : Waiting) (st : List Waiting) → node .tag ≡ 0 → node .f1 ≡ 0 → node .f2 ≡ 0 → w .number ≡ i + 1 → Next (w .bound) st → Here b (w ∷ st)
-  on-end b w st t u v e a = sym (turned b (w ∷ st)) ∙ rw (t, u, v, eq-eqb (w .number) (i + 1) e) a
+  pub on-end : (b : ℕ) (w : Waiting) (st : List Waiting) → node .tag ≡ 0 → node .f1 ≡ 0 → node .f2 ≡ 0 → w .number ≡ i + 1 → Next (w .bound) st ≡ Here b (w ∷ st)
+  on-end b w st t u v e = rw (t, u, v, eq-eqb (w .number) (i + 1) e) at (turned b (w ∷ st))
 
-  pub on-fork : (b : ℕ) (st : List Waiting) → node .tag ≡ 1 → node .f2 ≡ 0 → Next b (waiting (node .f1) b ∷ st) → Here b st
-  on-fork b st t v a = sym (turned b st) ∙ rw (t, v) a
+  -- an end with a field, with no tree that waits, or before another tree
+  pub off-fields : (b : ℕ) (st : List Waiting) → node .tag ≡ 0 → (eqb (node .f1) 0 && eqb (node .f2) 0) ≡ false → Here b st ≡ false
+  off-fields b st t z = sym (turned b st) ∙ rw t (false-first (eqb (node .f1) 0 && eqb (node .f2) 0) (resumed (accepts (i + 1) (drop (i + 1 - 1) ns)) (i + 1) st) z)
+
+  pub off-none : (b : ℕ) → node .tag ≡ 0 → node .f1 ≡ 0 → node .f2 ≡ 0 → Here b [] ≡ false
+  off-none b t u v = sym (rw (t, u, v) at (turned b []))
+
+  pub off-number : (b : ℕ) (w : Waiting) (st : List Waiting) → node .tag ≡ 0 → node .f1 ≡ 0 → node .f2 ≡ 0 → (w .number ≡ i + 1 → ⊥) → Here b (w ∷ st) ≡ false
+  off-number b w st t u v e = sym (rw (t, u, v, ne-eqb (w .number) (i + 1) e) at (turned b (w ∷ st)))
+
+  pub on-fork : (b : ℕ) (st : List Waiting) → node .tag ≡ 1 → node .f2 ≡ 0 → Next b (waiting (node .f1) b ∷ st) ≡ Here b st
+  on-fork b st t v = rw (t, v) at (turned b st)
+
+  pub off-fork : (b : ℕ) (st : List Waiting) → node .tag ≡ 1 → (node .f2 ≡ 0 → ⊥) → Here b st ≡ false
+  off-fork b st t v = sym (rw (t, ne-eqb (node .f2) 0 v) at (turned b st))
 
   -- a node with one child
   pub on-other : (b : ℕ) (st : List Waiting) → (node .tag ≡ 0 → ⊥) → (node .tag ≡ 1 → ⊥)
-      → ((leb (node .tag) 8 && unusedFit node) && not (binds (node .tag) && leb 8 b)) ≡ true → Next (boundBelow (node .tag) b) st → Here b st
-  on-other b st z o fits a =
+      → ((leb (node .tag) 8 && unusedFit node) && not (binds (node .tag) && leb 8 b)) ≡ true → Next (boundBelow (node .tag) b) st ≡ Here b st
+  on-other b st z o fits =
       let p = and-eq-true-iff (leb (node .tag) 8 && unusedFit node) (not (binds (node .tag) && leb 8 b)) .0 fits in
-      sym (turned b st) ∙ rw (p .0, p .1, ne-eqb (node .tag) 0 z, ne-eqb (node .tag) 1 o) a
+      rw (p .0, p .1, ne-eqb (node .tag) 0 z, ne-eqb (node .tag) 1 o) at (turned b st)
+
+  pub off-other : (b : ℕ) (st : List Waiting) → (node .tag ≡ 0 → ⊥) → (node .tag ≡ 1 → ⊥)
+      → ((leb (node .tag) 8 && unusedFit node) && not (binds (node .tag) && leb 8 b)) ≡ false → Here b st ≡ false
+  off-other b st z o bad =
+      let fits : Bool = leb (node .tag) 8 && unusedFit node in
+      let one : Bool = not (binds (node .tag) && leb 8 b) && Next (boundBelow (node .tag) b) st in
+      sym (turned b st)
+      ∙ ap₂ (λ x y. fits && cond x (resumed (accepts (i + 1) (drop (i + 1 - 1) ns)) (i + 1) st) (cond y (Next b (waiting (node .f1) b ∷ st)) one)) (ne-eqb (node .tag) 0 z) (ne-eqb (node .tag) 1 o)
+      ∙ false-both fits (not (binds (node .tag) && leb 8 b)) (Next (boundBelow (node .tag) b) st) bad
 
   -- and where it binds, there is room
   pub has-room : (b : ℕ) → ((leb (node .tag) 8 && unusedFit node) && not (binds (node .tag) && leb 8 b)) ≡ true → binds (node .tag) ≡ true → b < 8
@@ -220,17 +250,21 @@ module _ (ns : List Node) (i : ℕ) (pos : 1 ≤ i) (h : i ≤ length ns) (node 
       let p = and-eq-true-iff (leb (node .tag) 8 && unusedFit node) (not (binds (node .tag) && leb 8 b)) .0 fits in
       leb-false 8 b (not-true (leb 8 b) (rw one at (p .1)))
 
--- past the last node nothing may wait
-pub on-last : (ns : List Node) (i b : ℕ) → length ns < i → accepts i (drop (i - 1) ns) b [] ≡ true
-unfolding accepts
-on-last ns i b h = rw (none-past ns (i - 1) (omega arith))
-
 -- what waits, each as one number in an array
 abbrev pub unpack : ℕ → Waiting
 unpack w = waiting (w % 65536) (w / 65536)
 
 abbrev pub held : List ℕ → ℕ → List Waiting
 held a d = map unpack (stacked 0 a d)
+
+-- past the last node nothing may wait
+pub on-last : (ns : List Node) (i b : ℕ) (a : List ℕ) (d : ℕ) → length ns < i → eqb d 0 ≡ accepts i (drop (i - 1) ns) b (held a d)
+unfolding accepts stacked
+on-last ns i b a d h = rw (none-past ns (i - 1) (omega arith)) (go d)
+  where
+    go : (d : ℕ) → eqb d 0 ≡ none (held a d)
+    go zero = refl
+    go (suc d) = ne-eqb (suc d) 0 (λ (e : suc d ≡ 0). omega (arith, e))
 
 pub unpacked : (x b : ℕ) → x < 65536 → unpack (x + 65536 * b) ≡ waiting x b
 unpacked x b h =

@@ -1,4 +1,4 @@
-// A quicker look for 8: one pass in order, which can tell that nothing is refused, and no more than that.
+// A quicker look for 8: one pass in order, which tells whether anything is refused, and not where.
 use super::shape::binds_one;
 use super::shape::bound_below;
 use super::shape::unused_fit;
@@ -10,11 +10,10 @@ use format::words::narrow;
 use format::words::paired;
 use format::words::wide;
 ghost use mathlib.Core.Path.{_≡_};
-ghost use mathlib.Core.Bool.{true, not, _&&_};
+ghost use mathlib.Core.Bool.{not, _&&_};
 ghost use Prim.Native.Nat.{_+_, _/_, _%_, _<_};
-ghost use lib.Dec.{leb};
+ghost use lib.Dec.{eqb, leb};
 ghost use lib.ListN.{length};
-ghost use Rattle.format.specs.Answers.{fine};
 ghost use Rattle.format.specs.Header.{Laid};
 ghost use Rattle.format.specs.Contents.{contentsAt};
 ghost use Rattle.trees.specs.Shape.{binds, unusedFit, shapeAnswer};
@@ -43,7 +42,7 @@ fn goes_on(n: Node, bound: u16) -> bool
 // it has room for the sessions and for as many forks as there are nodes. An end is followed by the tree on top.
 fn sound_by(file: &[u8], head: Head, stack: &mut [u32]) -> bool
     requires { ⌜ Laid (now file) head × (head .count .sessions + head .count .nodes < length (now stack)) ⌝ }
-    ensures { λ r. ⌜ (r ≡ true → shapeAnswer (contentsAt (now (file .entry)) head) ≡ fine) ⌝ }
+    ensures { λ r. ⌜ r ≡ eqb (shapeAnswer (contentsAt (now (file .entry)) head) .number) 0 ⌝ }
 {
     let nodes = head.count.nodes;
     let sessions = wide(head.count.sessions);
@@ -96,10 +95,10 @@ fn sound_by(file: &[u8], head: Head, stack: &mut [u32]) -> bool
     depth == 0
 }
 
-// True only where 8 refuses nothing. Most files are short, and need a shorter stack.
+// Whether 8 refuses nothing. Most files are short, and need a shorter stack.
 pub fn sound_shape(file: &[u8], head: Head) -> bool
     requires { ⌜ Laid (now file) head ⌝ }
-    ensures { λ r. ⌜ (r ≡ true → shapeAnswer (contentsAt (now (file .entry)) head) ≡ fine) ⌝ }
+    ensures { λ r. ⌜ r ≡ eqb (shapeAnswer (contentsAt (now (file .entry)) head) .number) 0 ⌝ }
 {
     if head.count.nodes <= 64 {
         let mut stack = [0u32; 97];

@@ -16,11 +16,11 @@ returns c = rw (eq-eqb _ _ (c .if1 .taken)) (omega arith, refl)
 
 returns-2 : tie.Need-returns-2
 unfolding bytesOf nodeWords
-returns-2 c = rw (ne-eqb _ _ (c .before .if1 .left), eq-eqb _ _ (c .if2 .taken)) (omega arith, refl)
+returns-2 c = rw (ne-eqb _ _ (c .before .before .if1 .left), eq-eqb _ _ (c .if2 .taken)) (omega arith, refl)
 
 put-node-requires : tie.Need-put-node-requires
 put-node-requires c κs =
-    let p = rw (ne-eqb _ _ (c .before .before .if1 .left), ne-eqb _ _ (c .before .if2 .left)) at (c .before .before .before .before .pre) in
+    let p = rw (ne-eqb _ _ (c .before .before .before .if1 .left), ne-eqb _ _ (c .before .if2 .left)) at (c .before .before .before .before .before .pre) in
     omega arith
 
 add-result : tie.Need-add-result
@@ -30,7 +30,7 @@ same-length : tie.Need-same-length
 same-length c = search needs
 
 returns-3 : tie.Need-returns-3
-returns-3 c = rw (ne-eqb _ _ (c .before .before .before .before .before .if1 .left), ne-eqb _ _ (c .before .before .before .before .if2 .left)) (omega arith, c .before .before .put-node .ensures)
+returns-3 c = rw (ne-eqb _ _ (c .before .before .before .before .before .before .if1 .left), ne-eqb _ _ (c .before .before .before .before .if2 .left)) (omega arith, c .before .before .put-node .ensures)
 
 pub put-switch-spec : {M : Type 1} → statement M
 put-switch-spec =

@@ -18,7 +18,7 @@ use Rattle.groups.specs.declared.Sums.{Sums}
 use Rattle.placing.specs.Placing.{turnsFor, placeable, judging, summed, noPlace}
 use Rattle.placing.specs.declared.Decision.{Decision}
 use Rattle.placing.specs.declared.Placed.{Placed}
-use Rattle.placing.proofs.DecideLaws.{decided-quiet, few-nodes, turns-kept, starts-kept}
+use Rattle.placing.proofs.DecideLaws.{decided-quiet, settled-quiet, few-nodes, turns-kept, starts-kept}
 use Rattle.placing.proofs.PlaceLaws.{head-version, judged, placing-refused, placing-placed, placed-here, over-kept, over-placed, bytes-here}
 use borrow.Author.Needs.{needs}
 use Rattle.placing.proofs.place_body.Statement.{statement}
@@ -44,12 +44,20 @@ sums-at c = ap (λ (x : Decision). x .sums) (c .before .before .before .before .
 few-at : (c : tie.Else1) → length (contentsAt (c .before .before .before .before .before .before .before .before .before .before .before .args .file .now) (c .before .before .before .before .before .before .before .before .before .before .before .args .head) .nodes) ≤ 1024
 few-at c = let a = c .before .before .before .before .before .before .before .before .before .before .before .args in omega (arith, nodes-held (a .file .now) (a .head), entered-fine (a .file .now) (a .head) (c .before .before .before .before .before .before .before .before .before .before .before .pre .0) .0 .nodes)
 
+-- the tables there
+tables-at : (c : tie.Else1)
+    → (c .before .before .before .before .before .decide .last .1 .1 .1 .0 ≡ sets (replicate 1025 0) 1 (map packed (turnsFor (contentsAt (c .before .before .before .before .before .before .before .before .before .before .before .args .file .now) (c .before .before .before .before .before .before .before .before .before .before .before .args .head)))))
+    × (c .before .before .before .before .before .decide .last .1 .1 .1 .1 .0 ≡ sets (replicate 1025 0) 1 (startsFrom 1 (turnsFor (contentsAt (c .before .before .before .before .before .before .before .before .before .before .before .args .file .now) (c .before .before .before .before .before .before .before .before .before .before .before .args .head)))))
+tables-at c =
+    let d = c .before .before .before .before .before .decide in
+    settled-quiet (d .result .verdict .number) (turnsFor (contentsAt (c .before .before .before .before .before .before .before .before .before .before .before .args .file .now) (c .before .before .before .before .before .before .before .before .before .before .before .args .head))) (replicate 1025 0) (d .last .1 .1 .1 .0) (replicate 1025 0) (d .last .1 .1 .1 .1 .0) (c .if1 .left) (d .ensures .1)
+
 turns-at : (c : tie.Else1) → turnsIn (c .before .before .before .before .before .decide .last .1 .1 .1 .0) (c .before .before .before .before .before .before .before .before .before .before .before .args .head .count .nodes) ≡ turnsFor (contentsAt (c .before .before .before .before .before .before .before .before .before .before .before .args .file .now) (c .before .before .before .before .before .before .before .before .before .before .before .args .head))
 turns-at c =
     let a = c .before .before .before .before .before .before .before .before .before .before .before .args in
     let t = c .before .before .before .before .before .decide .last .1 .1 .1 .0 in
     ap (turnsIn t) (sym (nodes-held (a .file .now) (a .head)))
-    ∙ turns-kept (contentsAt (a .file .now) (a .head)) (a .roles .now) (c .before .before .before .before .before .before .before .before .before .before .before .pre .1) (omega (arith, few-at c, c .before .before .before .before .before .before .before .before .before .before .before .pre .2)) (replicate 1025 0) t (c .before .before .before .before .before .decide .ensures .1 (c .if1 .left) .0) (omega (arith, few-at c))
+    ∙ turns-kept (contentsAt (a .file .now) (a .head)) (a .roles .now) (c .before .before .before .before .before .before .before .before .before .before .before .pre .1) (omega (arith, few-at c, c .before .before .before .before .before .before .before .before .before .before .before .pre .2)) (replicate 1025 0) t (tables-at c .0) (omega (arith, few-at c))
 
 slice-aggregate-decide : tie.Need-slice-aggregate-decide
 slice-aggregate-decide c = search needs
@@ -85,7 +93,7 @@ put-file-requires c κs =
     let a = c .before .before .before .before .before .before .before .before .before .before .before .before .before .before .args in
     let C = contentsAt (a .file .now) (a .head) in
     let d = c .before .before .before .before .before .before .before .before .decide in
-    let tables = d .ensures .1 (c .before .before .before .if1 .left) in
+    let tables = tables-at (c .before .before .before) in
     let nodes : d .result .sums .nodes ≡ sizesOf (turnsFor C) = ap (λ (x : Sums). x .nodes) (sums-at (c .before .before .before)) in (
       entered-fine (a .file .now) (a .head) (c .before .before .before .before .before .before .before .before .before .before .before .before .before .before .pre .0) .0,
       head-version (a .file .now) (a .head) (c .before .before .before .before .before .before .before .before .before .before .before .before .before .before .pre .0),
@@ -121,7 +129,7 @@ returns-2 c =
     let size : c .narrow .result ≡ lengthFor (a .head .at .nodes) (sizesOf ts) =
     c .narrow .ensures ∙ c .before .length-for .ensures .0 ∙ ap (λ (x : Sums). lengthFor (a .head .at .nodes) (x .nodes)) sums in
     let placed = ap (λ l. placedContents C l s) (turns-at (c .before .before .before .before .before .before .before .before))
-    ∙ starts-kept C (a .roles .now) (c .before .before .before .before .before .before .before .before .before .before .before .before .before .before .before .before .before .before .before .pre .1) (omega (arith, few-at (c .before .before .before .before .before .before .before .before), c .before .before .before .before .before .before .before .before .before .before .before .before .before .before .before .before .before .before .before .pre .2)) s (few-at (c .before .before .before .before .before .before .before .before)) (c .before .before .before .before .before .before .before .before .before .before .before .before .before .decide .ensures .1 (c .before .before .before .before .before .before .before .before .if1 .left) .1) in (
+    ∙ starts-kept C (a .roles .now) (c .before .before .before .before .before .before .before .before .before .before .before .before .before .before .before .before .before .before .before .pre .1) (omega (arith, few-at (c .before .before .before .before .before .before .before .before), c .before .before .before .before .before .before .before .before .before .before .before .before .before .before .before .before .before .before .before .pre .2)) s (few-at (c .before .before .before .before .before .before .before .before)) (tables-at (c .before .before .before .before .before .before .before .before) .1) in (
       ap₂ (λ i j. answer i j) size (ap (λ (x : Sums). x .«on_steps») sums) ∙ placed-here (a .file .now) (a .head) e ∙ sym (placing-placed (a .file .now) (length (a .out .now)) (c .before .before .before .before .before .before .before .before .before .before .before .before .before .before .before .before .before .before .before .pre .3) out),
       c .before .before .before .before .put-file .ensures ∙ ap (λ D. sets (a .out .now) 0 (encoded D)) placed ∙ ap (sets (a .out .now) 0) (bytes-here (a .file .now) (a .head) e) ∙ sym (over-placed (a .file .now) (a .out .now) (c .before .before .before .before .before .before .before .before .before .before .before .before .before .before .before .before .before .before .before .pre .3) out),
     )

@@ -18,7 +18,7 @@ list-words-requires : tie.Need-list-words-requires
 list-words-requires c κs = search needs
 
 array-share-prefix-words : tie.Need-array-share-prefix-words
-array-share-prefix-words c = omega arith
+array-share-prefix-words c = search needs
 
 slice-aggregate-run : tie.Need-slice-aggregate-run
 slice-aggregate-run c = sym (length-take-le _ _ (omega arith))
@@ -29,17 +29,23 @@ slice-aggregate-run-2 c = search needs
 run-requires : tie.Need-run-requires
 run-requires c κs = search needs
 
-write-refused-requires : tie.Need-write-refused-requires
-write-refused-requires c κs = search needs
+slice-aggregate-has-state : tie.Need-slice-aggregate-has-state
+slice-aggregate-has-state c = search needs
 
-returns : tie.Need-returns
-returns c = search needs
+has-state-requires : tie.Need-has-state-requires
+has-state-requires c κs = search needs
 
 slice-aggregate-write-state : tie.Need-slice-aggregate-write-state
 slice-aggregate-write-state c = search needs
 
 write-state-requires : tie.Need-write-state-requires
 write-state-requires c κs = search needs
+
+write-refused-requires : tie.Need-write-refused-requires
+write-refused-requires c κs = search needs
+
+returns : tie.Need-returns
+returns c = search needs
 
 returns-2 : tie.Need-returns-2
 returns-2 c = search needs
@@ -56,8 +62,10 @@ run-through-spec =
     slice-aggregate-run
     slice-aggregate-run-2
     run-requires
-    write-refused-requires
-    returns
+    slice-aggregate-has-state
+    has-state-requires
     slice-aggregate-write-state
     write-state-requires
+    write-refused-requires
+    returns
     returns-2)

@@ -55,8 +55,8 @@ returns-2 c = cc
 returns-3 : tie.Need-returns-3
 unfolding recordFits
 returns-3 c =
-    let a = c .before .before .before .before .before .args in
-    rw (c .before .before .enum-told3 .given .1, kinds-held (a .file .now) (a .head)) (ap (λ x. leb x (a .head .count .kinds)) (c .before .carries .ensures))
+    let a = c .before .before .before .before .before .before .args in
+    rw (c .before .before .before .enum-told3 .given .1, kinds-held (a .file .now) (a .head)) (ap (λ x. leb x (a .head .count .kinds)) (c .before .before .carries .ensures))
 
 returns-4 : tie.Need-returns-4
 returns-4 c = cc

@@ -6,6 +6,8 @@ use crate::draft::*;
 pub fn all() -> Vec<(&'static str, Vec<u8>)> {
     let mut all = vec![
         ("booking.clinic", booking().bytes()),
+        ("overlap.clinic", overlap().bytes()),
+        ("overlap-placed.clinic", placed_overlap().bytes()),
         ("transfer.clinic", transfer().bytes()),
         ("spring/bare.clinic", spring(&READ_AND_WRITE, false).bytes()),
         ("spring/cut.clinic", spring(&READ_CUT_WRITE, true).bytes()),
@@ -31,6 +33,46 @@ fn booking_of(nodes: &[[u16; 3]]) -> Draft {
         .kind(0)
         .channel(2, 1)
         .channel(2, 2)
+        .session(1, nodes)
+}
+
+/// User 1's three sends, permitted by role 1, by both roles, and by role 2.
+pub fn overlap() -> Draft {
+    overlap_of(&[
+        send(channel(1), 2),
+        send(channel(2), 2),
+        send(channel(3), 2),
+        END,
+    ])
+}
+
+/// As placed: the cut is behind the second send, though role 2 permits it as
+/// well as the third.
+fn placed_overlap() -> Draft {
+    overlap_of(&[
+        on(1),
+        send(channel(1), 2),
+        send(channel(2), 2),
+        off(1),
+        on(2),
+        send(channel(3), 2),
+        off(2),
+        END,
+    ])
+}
+
+fn overlap_of(nodes: &[[u16; 3]]) -> Draft {
+    Draft::default()
+        .user(&[1, 2])
+        .user(&[])
+        .role(&[1, 2], &[])
+        .role(&[2, 3], &[])
+        .kind(0)
+        .kind(0)
+        .kind(0)
+        .channel(2, 1)
+        .channel(2, 2)
+        .channel(2, 3)
         .session(1, nodes)
 }
 

@@ -82,10 +82,31 @@ fn a_file_that_cannot_be_written() {
     assert!(answer.err.contains("can't be written: it is a folder"));
 }
 
+/// Of two placements with as few on steps the one with the smaller states is
+/// taken, and it cuts between two sends that role 2 permits.
+#[test]
+fn sends_that_roles_share() {
+    let file = example("overlap.clinic");
+    let answer = pilzdamo(&["place", &file]);
+    assert_eq!(
+        (answer.status, answer.out),
+        (0, example_bytes("overlap-placed.clinic"))
+    );
+    assert_eq!(
+        answer.err,
+        format!("{file}: placed, 2 on steps, 118 bytes\n")
+    );
+}
+
 /// What is placed passes, and is refused by 14 if it is to be placed again.
 #[test]
 fn what_is_placed_passes() {
-    for name in ["booking.clinic", "transfer.clinic", "spring/bare.clinic"] {
+    for name in [
+        "booking.clinic",
+        "overlap.clinic",
+        "transfer.clinic",
+        "spring/bare.clinic",
+    ] {
         let placed = pilzdamo(&["place", &example(name)]).out;
         assert_eq!(pilzdamo_fed(&["check", "-"], &placed).status, 0, "{name}");
         let again = pilzdamo_fed(&["place", "-"], &placed);

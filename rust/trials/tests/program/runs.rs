@@ -1,8 +1,8 @@
-//! The program `run`: the final state as lines, or the line of the refusal.
+//! The program `run`: the state as lines, and the line of the refusal.
 //!
 //! `run FILE CHOICES` takes the names of two files: the clinic file, and the
 //! choices as words, low byte first, two for each choice. It writes, if the run
-//! goes to the end of the list, these lines and no others:
+//! goes to the end of the list or is halted at a choice, these lines:
 //!
 //! ```text
 //! done N
@@ -17,7 +17,8 @@
 //! fields are separated by one space, and each line ends with a newline. R.. are
 //! the numbers of the roles in the mask, the lowest first, or `-` if there are
 //! none; all eight variables are there, 0 where nothing is bound. A run that is
-//! refused or halted writes the line `refused N P` and nothing else.
+//! halted has the line `refused N P` behind its state, the one before the choice;
+//! a run that is refused before its first choice has that line and nothing else.
 //!
 //! A list whose length in bytes is no multiple of 4 is an odd list, 17, a lone
 //! byte at its end included. Both files may have any length.
@@ -74,10 +75,14 @@ impl Files {
     fn assert_lines(&self, file: &[u8], choices: &[u16], what: &str) -> u16 {
         let mut out = [0; RUN_ROOM];
         let verdict = second::run(file, choices, &mut out);
-        let due = match verdict.number {
-            0 => lines(&out).into_bytes(),
-            number => refused(number, verdict.place),
-        };
+        let halted = word_at(&out, 1) != 0;
+        let mut due = Vec::new();
+        if verdict.number == 0 || halted {
+            due.extend(lines(&out).into_bytes());
+        }
+        if verdict.number != 0 {
+            due.extend(refused(verdict.number, verdict.place));
+        }
         self.assert_writes(file, &to_bytes(choices), &due, what);
         verdict.number
     }
@@ -139,6 +144,11 @@ fn a_state_as_lines() {
                thread 4 user 2 node 12 roles 1 2 variables 386 0 0 0 0 0 0 0\n";
     let choices = to_bytes(&case.choices);
     files.assert_writes(&case.file, &choices, due.as_bytes(), case.name);
+    let halted = to_bytes(&[&case.choices[..], &[9, 0, 1, 0]].concat());
+    let due = due.to_string() + "refused 18 6\n";
+    files.assert_writes(&case.file, &halted, due.as_bytes(), "halted at a choice");
+    let due = b"refused 17 0\n";
+    files.assert_writes(&case.file, &halted[2..], due, "an odd list");
     let none = Draft::default().bytes();
     let due = b"done 0\nthreads 0\nchannels 0\n";
     files.assert_writes(&none, &[], due, "no sessions");

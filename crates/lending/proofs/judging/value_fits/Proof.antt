@@ -30,10 +30,10 @@ kind-held-requires c κs = search needs
 
 returns-2 : tie.Need-returns-2
 returns-2 c =
-    let a = c .before .before .before .before .before .before .args in
+    let a = c .before .before .before .before .before .before .before .before .args in
     let n = getD (a .beside .now) 1 0 in
-    let e = sym (c .before .before .is-value .ensures (a .file .now) (madeIn (a .beside .now) 2 n) (length-made (a .beside .now) 2 n ∙ sym (c .before .before .before .made-count .ensures))) ∙ not-false _ (c .before .if1 .left) in
-    rw (e, ← c .kind-held .ensures)
+    let e = sym (c .before .before .before .before .is-value .ensures (a .file .now) (madeIn (a .beside .now) 2 n) (length-made (a .beside .now) 2 n ∙ sym (c .before .before .before .before .before .made-count .ensures))) ∙ not-false _ (c .before .before .before .if1 .left) in
+    rw (e, ← c .before .before .kind-held .ensures)
 
 pub value-fits-spec : {M : Type 1} → statement M
 value-fits-spec =

@@ -53,7 +53,7 @@ returns c =
     let a = c .before .before .before .before .before .before .before .before .before .args in
     let l = c .before .before .before .before .before .loop in
     let long : length (a .t5) ≡ 8 = search needs in
-    λ x e narrow. sym (vars-bound (schemaOf (contentsAt (a .file .now) (a .head))) (madeIn (a .beside .now) 2 (getD (a .beside .now) 1 0)) (a .t5) x (a .w) e narrow (l .k) false (c .before .value-fits .result) (c .before .before .kind-at .result) (omega arith) (omega arith) (c .before .before .kind-at .ensures) (c .before .value-fits .ensures) (not-true _ (c .if2 .taken))) ∙ l .inv .1 x e narrow
+    λ x e narrow. sym (vars-bound (schemaOf (contentsAt (a .file .now) (a .head))) (madeIn (a .beside .now) 2 (getD (a .beside .now) 1 0)) (a .t5) x (a .w) e narrow (l .k) false (c .before .value-fits .result) (c .before .before .kind-at .result .0) (omega arith) (omega arith) (c .before .before .kind-at .ensures) (c .before .value-fits .ensures) (not-true _ (c .if2 .taken))) ∙ l .inv .1 x e narrow
 
 returns-2 : tie.Need-returns-2 Inv-loop μ-loop
 returns-2 c =
@@ -75,7 +75,7 @@ loop-again c =
     let long : length (a .t5) ≡ 8 = search needs in (
       omega arith,
       λ x e narrow. ⊎-elim
-          (λ m. sym (vars-bound (schemaOf (contentsAt (a .file .now) (a .head))) (madeIn (a .beside .now) 2 (getD (a .beside .now) 1 0)) (a .t5) x (a .w) e narrow (l .k) true (m .2 .result) (m .1 .result) (omega (arith, m .0 .taken)) (omega arith) (m .1 .ensures) (m .2 .ensures) (not-false _ (m .3 .left))) ∙ l .inv .1 x e narrow)
+          (λ m. sym (vars-bound (schemaOf (contentsAt (a .file .now) (a .head))) (madeIn (a .beside .now) 2 (getD (a .beside .now) 1 0)) (a .t5) x (a .w) e narrow (l .k) true (m .2 .result) (m .1 .result .0) (omega (arith, m .0 .taken)) (omega arith) (m .1 .ensures) (m .2 .ensures) (not-false _ (m .3 .left))) ∙ l .inv .1 x e narrow)
           (λ m. sym (vars-free (schemaOf (contentsAt (a .file .now) (a .head))) (madeIn (a .beside .now) 2 (getD (a .beside .now) 1 0)) (a .t5) x (a .w) e narrow (l .k) true (omega (arith, m .0 .left)) (omega arith) (eq-eqb _ 0 (m .1 .left))) ∙ l .inv .1 x e narrow)
           (c .if1 .came),
     )

@@ -5,9 +5,9 @@ use Rattle.format.specs.Contents.{contentsAt}
 use Rattle.format.specs.declared.Verdict.{Verdict}
 use Rattle.format.proofs.AnswerLaws.{NoRefusal}
 use Rattle.states.specs.States.{Label, turnsOf}
-use Rattle.placing.specs.Placing.{turnsFor, placeable, settling, decided, noSums, Settled}
+use Rattle.placing.specs.Placing.{turnsFor, placeable, settling, decided, noSums, unsettled, Settled}
 use Rattle.placing.specs.declared.Decision.{Decision}
-use Rattle.placing.proofs.DecideLaws.{decided-loud, bare-loud, bare-quiet, bare as of-bare}
+use Rattle.placing.proofs.DecideLaws.{decided-loud, settled-before, bare-number, bare-loud, bare-quiet, bare as of-bare}
 use borrow.Author.Needs.{needs}
 use Rattle.placing.proofs.decide.decide.Statement.{statement}
 use Rattle.placing.proofs.decide.decide.Tie as tie
@@ -32,7 +32,8 @@ returns c =
       c .refused .ensures
           ∙ ap (λ (x : Verdict). record { verdict = x; sums = noSums }) (c .before .before .before .bare .ensures ∙ sym e)
           ∙ sym (decided-loud (placeable C) (turnsFor C) (λ q. loud (subst NoRefusal e q))),
-      λ z. absurd (c .before .if1 .taken (sym (ap (λ (d : Decision). d .verdict .number) (c .refused .ensures)) ∙ z)),
+      settled-before (c .refused .result .verdict .number) (turnsFor C) (a .turns .now) (a .starts .now)
+          (ap unsettled (ap (λ (d : Decision). d .verdict .number) (c .refused .ensures) ∙ ap (λ (x : Verdict). x .number) (c .before .before .before .bare .ensures) ∙ bare-number C loud)),
     )
 
 settle-requires : tie.Need-settle-requires
@@ -54,7 +55,7 @@ returns-2 c =
     let t : List ℕ = s .last .1 .1 .1 .0 in
     let u : List ℕ = s .last .1 .1 .1 .1 .0 in (
       subst (λ (l : List Label). s .result ≡ decided (settling l) (turnsOf l)) kept (s .ensures .0) ∙ ap (λ v. decided v (turnsFor C)) (sym (bare-quiet C quiet)),
-      subst (λ (l : List Label). s .result .verdict .number ≡ 0 → Settled (turnsOf l) (a .turns .now) t (a .starts .now) u) kept (s .ensures .1),
+      subst (λ (l : List Label). Settled (s .result .verdict .number) (turnsOf l) (a .turns .now) t (a .starts .now) u) kept (s .ensures .1),
     )
 
 pub decide-spec : {M : Type 1} → statement M

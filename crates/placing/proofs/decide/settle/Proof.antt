@@ -12,9 +12,9 @@ use Rattle.format.proofs.ContentsLaws.{nodes-held}
 use Rattle.states.specs.States.{Label, labelled, turnsOf}
 use Rattle.groups.specs.Groups.{startsFrom, turnsIn}
 use Rattle.groups.specs.declared.Sums.{Sums}
-use Rattle.placing.specs.Placing.{unservedFrom, settling, noSums, summed}
+use Rattle.placing.specs.Placing.{unservedFrom, settling, noSums, summed, unsettled}
 use Rattle.placing.specs.declared.Decision.{Decision}
-use Rattle.placing.proofs.DecideLaws.{decided-loud, decided-quiet, unserved-loud, too-large, not-too-large, turns-written}
+use Rattle.placing.proofs.DecideLaws.{decided-loud, decided-quiet, settled-before, settled-after, unserved-number, unserved-loud, too-large, not-too-large, turns-written}
 use Rattle.placing.proofs.ServedLaws.{all-served}
 use borrow.Author.Needs.{needs}
 use Rattle.placing.proofs.decide.settle.Statement.{statement}
@@ -45,7 +45,8 @@ returns c =
       c .refused .ensures
           ∙ ap (λ (x : Verdict). record { verdict = x; sums = noSums }) (e ∙ sym s)
           ∙ sym (decided-loud (settling ls) (turnsOf ls) (λ q. loud (subst NoRefusal s q))),
-      λ z. absurd (c .before .if1 .taken (sym (ap (λ (d : Decision). d .verdict .number) (c .refused .ensures)) ∙ z)),
+      settled-before (c .refused .result .verdict .number) (turnsOf ls) (a .turns .now) (a .starts .now)
+          (ap unsettled (ap (λ (d : Decision). d .verdict .number) (c .refused .ensures) ∙ ap (λ (x : Verdict). x .number) e ∙ unserved-number 1 ls loud)),
     )
 
 turns-requires : tie.Need-turns-requires
@@ -84,7 +85,9 @@ returns-2 c =
       c .refused2 .ensures
           ∙ ap (λ (x : Verdict). record { verdict = x; sums = noSums }) (sym s)
           ∙ sym (decided-loud (settling ls) (turnsOf ls) loud),
-      λ z. let no-way : ⊥ = omega (arith, sym (ap (λ (d : Decision). d .verdict .number) (c .refused2 .ensures)) ∙ z) in absurd no-way,
+      settled-after (c .refused2 .result .verdict .number) (turnsOf ls) (a .turns .now) t (a .starts .now) _ (ap unsettled (ap (λ (d : Decision). d .verdict .number) (c .refused2 .ensures)))
+          (c .before .before .before .before .before .before .before .before .before .before .turns .ensures)
+          (c .before .before .before .before .before .starts .ensures .1 ∙ ap (λ l. sets (a .starts .now) 1 (startsFrom 1 l)) written),
     )
 
 same-length-3 : tie.Need-same-length-3
@@ -106,7 +109,7 @@ returns-3 c =
     let sums : c .before .before .before .before .starts .result ≡ summed (turnsOf ls) = c .before .before .before .before .starts .ensures .0 ∙ ap summed written in
     let s : settling ls ≡ fine = not-too-large ls quiet (omega (arith, c .if2 .left, ap (λ (x : Sums). x .nodes) sums)) in (
       ap₂ (λ v k. decision v k) (sym s) sums ∙ sym (decided-quiet (settling ls) (turnsOf ls) (ap (λ (x : Verdict). x .number) s)),
-      λ z. (c .before .before .before .before .before .before .before .before .before .turns .ensures, c .before .before .before .before .starts .ensures .1 ∙ ap (λ l. sets (a .starts .now) 1 (startsFrom 1 l)) written),
+      (c .before .before .before .before .before .before .before .before .before .turns .ensures, c .before .before .before .before .starts .ensures .1 ∙ ap (λ l. sets (a .starts .now) 1 (startsFrom 1 l)) written),
     )
 
 pub settle-spec : {M : Type 1} → statement M

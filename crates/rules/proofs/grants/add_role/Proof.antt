@@ -61,7 +61,7 @@ loop-again c =
     let a = c .before .before .before .before .before .before .before .args in
     let l = c .before .before .before .before .before .loop in
     let can : c .before .role-permits .result ≡ has (granted (a .way) (a .it)) (l .k - 1) =
-    c .before .role-permits .ensures
+    c .before .role-permits .ensures .0
     ∙ ap (has (granted (a .way) (a .it))) (c .before .before .before .narrow .ensures) in
     let old = getD (l .table) (l .k - 1) 0 in
     let its = c .with-if .ensures ∙ ap (λ b. cond b (with old (a .role .0)) old) can in

@@ -1,5 +1,6 @@
 use mathlib.Core.Path.{ap, _∙_}
 use Rattle.masks.specs.Mask.{has}
+use Rattle.rules.specs.Schema.{permits}
 use borrow.Author.Needs.{needs}
 use Rattle.rules.proofs.grants.role_permits.Statement.{statement}
 use Rattle.rules.proofs.grants.role_permits.Tie as tie
@@ -15,7 +16,11 @@ has-kind-requires : tie.Need-has-kind-requires
 has-kind-requires c κs = search needs
 
 returns : tie.Need-returns
-returns c = let a = c .before .before .args in c .has-kind .ensures ∙ ap (λ g. has g (a .kind .0)) (c .before .granted-by .ensures)
+unfolding permits
+returns c =
+    let a = c .before .before .args in
+    let its = c .has-kind .ensures ∙ ap (λ g. has g (a .kind .0)) (c .before .granted-by .ensures) in
+    (its, λ D e. its ∙ ap (λ g. has g (a .kind .0)) e)
 
 pub role-permits-spec : {M : Type 1} → statement M
 role-permits-spec = tie.close (tie.spec granted-by-requires has-kind-requires returns)

@@ -2,7 +2,8 @@ use borrow.Author.Needs.{needs}
 use Prim.Native.Nat.{_+_, _-_, _≤_, _<_}
 use mathlib.Core.Path.{_≡_, refl, sym, ap, subst, _∙_}
 use native.Mathlib.Omega.{arith}
-use lib.ListN.{length, length-set}
+use lib.ListN.{length, drop, length-set}
+use lib.Seq.{drop-set-lt}
 use Rattle.format.specs.Contents.{contentsAt}
 use Rattle.format.specs.declared.Channel.{Channel}
 use Rattle.rules.specs.Schema.{schemaOf}
@@ -17,19 +18,19 @@ use Rattle.format.proofs.words.paired.Reads as paired-reads
 use Rattle.format.proofs.words.wide.Reads as wide-reads
 
 abbrev Inv-loop : tie.InvT-loop
-Inv-loop file head names₀ n₀ names n = (n ≤ head .count .users) × (length names ≡ length names₀) × NameTable (schemaOf (contentsAt file head)) n 0 names
+Inv-loop file head names₀ n₀ names n = (n ≤ head .count .users) × (length names ≡ length names₀) × NameTable (schemaOf (contentsAt file head)) n 0 names × (drop 512 names ≡ drop 512 names₀)
 
 abbrev μ-loop : tie.MeasureT-loop
 μ-loop file head names₀ n₀ names n = head .count .users - n
 
 abbrev Inv-loop2 : tie.InvT-loop2
-Inv-loop2 file head names₀ n c₀ names c = (c ≤ head .count .channels) × (length names ≡ length names₀) × NameTable (schemaOf (contentsAt file head)) (head .count .users) c names
+Inv-loop2 file head names₀ n c₀ names c = (c ≤ head .count .channels) × (length names ≡ length names₀) × NameTable (schemaOf (contentsAt file head)) (head .count .users) c names × (drop 512 names ≡ drop 512 names₀)
 
 abbrev μ-loop2 : tie.MeasureT-loop2
 μ-loop2 file head names₀ n c₀ names c = head .count .channels - c
 
 loop-holds : tie.Need-loop-holds Inv-loop μ-loop Inv-loop2 μ-loop2
-loop-holds c = let a = c .before .before .args in (omega arith, refl, named-none (schemaOf (contentsAt (a .file .now) (a .head))) (a .names .now) (c .before .before .pre .3))
+loop-holds c = let a = c .before .before .args in (omega arith, refl, named-none (schemaOf (contentsAt (a .file .now) (a .head))) (a .names .now) (c .before .before .pre .3), refl)
 
 add-n : tie.Need-add-n Inv-loop μ-loop Inv-loop2 μ-loop2
 add-n c = search needs
@@ -57,13 +58,14 @@ loop-again c =
       omega arith,
       simp length-set (l .inv .1),
       rw (at, c .before .paired .ensures) (users-more (schemaOf (contentsAt (a .file .now) (a .head))) (l .n) (l .n + 1) (l .names) refl (omega arith) (l .inv .2)),
+      drop-set-lt 512 (l .names) (c .wide .result) (c .before .paired .result) (omega (arith, at, c .before .before .before .before .before .before .before .pre .0 .users)) ∙ l .inv .3,
     )
 
 loop2-holds : tie.Need-loop2-holds Inv-loop μ-loop Inv-loop2 μ-loop2
 loop2-holds c =
     let l = c .before .before .loop in
     let all : l .n ≡ c .before .before .before .before .before .args .head .count .users = omega arith in
-    (omega arith, refl, rw all at (l .inv .2))
+    (omega arith, refl, rw all at (l .inv .2), refl)
 
 add-c : tie.Need-add-c Inv-loop μ-loop Inv-loop2 μ-loop2
 add-c c = search needs
@@ -105,6 +107,7 @@ loop2-again c =
       rw (at, c .before .paired2 .ensures)
           (channels-more (schemaOf (contentsAt (a .file .now) (a .head))) (a .head .count .users) (l .c) (l .c + 1) (it .result .kind .0) (it .result .owner + 2) (l .names) refl
           (c .before .before .before .before .before .before .before .before .before .before .before .before .pre .0 .users) (omega arith) (ap (λ (x : Channel). x .kind .0) (it .ensures)) (ap (λ (x : Channel). x .owner + 2) (it .ensures)) (omega (arith, c .before .before .before .before .before .before .before .before .before .before .before .before .pre .0 .channels)) (l .inv .2)),
+      drop-set-lt 512 (l .names) (256 + c .wide2 .result) (c .before .paired2 .result) (omega (arith, at, c .before .before .before .before .before .before .before .before .before .before .before .before .pre .0 .channels)) ∙ l .inv .3,
     )
 
 same-length : tie.Need-same-length Inv-loop μ-loop Inv-loop2 μ-loop2
@@ -114,7 +117,7 @@ returns : tie.Need-returns Inv-loop μ-loop Inv-loop2 μ-loop2
 returns c =
     let l = c .before .before .loop2 in
     let all : l .c ≡ c .before .before .before .before .before .before .before .before .args .head .count .channels = omega arith in
-    (l .inv .1 ∙ c .before .before .before .before .before .loop .inv .1, rw all at (l .inv .2))
+    (l .inv .1 ∙ c .before .before .before .before .before .loop .inv .1, rw all at (l .inv .2), l .inv .3 ∙ c .before .before .before .before .before .loop .inv .3)
 
 pub name-all-spec : {M : Type 1} → statement M
 name-all-spec =

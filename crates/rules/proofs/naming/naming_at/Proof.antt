@@ -134,20 +134,20 @@ returns-2 c =
 
 returns-3 : tie.Need-returns-3
 returns-3 c =
-    let a = c .before .before .before .before .before .before .before .before .before .before .before .args in
+    let a = c .before .before .before .before .before .before .before .before .before .before .before .before .before .args in
     let D = schemaOf (contentsAt (a .file .now) (a .head)) in
-    let law = step-compare D (a .names .now) (barePoint D (a .user) (a .bound)) (a .it) (c .before .before .before .before .before .before .before .before .match .keys3) in (
+    let law = step-compare D (a .names .now) (barePoint D (a .user) (a .bound)) (a .it) (c .before .before .before .before .before .before .before .before .before .before .match .keys3) in (
       c .staying2 .ensures
           ∙ rw (
             c .before .graded2 .ensures,
-            c .before .before .kind-of2 .ensures,
-            c .before .before .before .kind-of .ensures,
-            c .before .before .before .before .owner-of2 .ensures,
-            c .before .before .before .before .before .owner-of .ensures,
-            c .before .before .before .before .before .before .look-up2 .ensures,
-            c .before .before .before .before .before .before .before .look-up .ensures,
+            c .before .before .before .before .kind-of2 .ensures,
+            c .before .before .before .before .before .kind-of .ensures,
+            c .before .before .before .before .before .before .owner-of2 .ensures,
+            c .before .before .before .before .before .before .before .owner-of .ensures,
+            c .before .before .before .before .before .before .before .before .look-up2 .ensures,
+            c .before .before .before .before .before .before .before .before .before .look-up .ensures,
           ) (ap namingFrom law),
-      λ z. let no : ⊥ = omega (arith, c .before .before .before .before .before .before .before .before .match .keys3, z) in absurd no,
+      λ z. let no : ⊥ = omega (arith, c .before .before .before .before .before .before .before .before .before .before .match .keys3, z) in absurd no,
     )
 
 returns-4 : tie.Need-returns-4
@@ -161,21 +161,21 @@ returns-4 c =
 
 returns-5 : tie.Need-returns-5
 returns-5 c =
-    let a = c .before .before .before .before .before .before .before .before .before .before .before .before .args in
+    let a = c .before .before .before .before .before .before .before .before .before .before .before .before .before .before .before .args in
     let D = schemaOf (contentsAt (a .file .now) (a .head)) in
-    let law = step-send D (a .names .now) (barePoint D (a .user) (a .bound)) (a .it) (c .before .before .before .before .before .before .before .before .before .match .keys5) in (
+    let law = step-send D (a .names .now) (barePoint D (a .user) (a .bound)) (a .it) (c .before .before .before .before .before .before .before .before .before .before .before .before .match .keys5) in (
       c .staying3 .ensures
           ∙ rw (
             c .before .graded4 .ensures,
-            c .before .before .carries2 .ensures,
-            c .before .before .before .kind-of5 .ensures,
-            c .before .before .before .before .owner-of5 .ensures,
-            c .before .before .before .before .before .owner-of4 .ensures,
-            c .before .before .before .before .before .before .kind-of4 .ensures,
-            c .before .before .before .before .before .before .before .look-up5 .ensures,
-            c .before .before .before .before .before .before .before .before .look-up4 .ensures,
+            c .before .before .before .before .carries2 .ensures,
+            c .before .before .before .before .before .kind-of5 .ensures,
+            c .before .before .before .before .before .before .before .owner-of5 .ensures,
+            c .before .before .before .before .before .before .before .before .owner-of4 .ensures,
+            c .before .before .before .before .before .before .before .before .before .kind-of4 .ensures,
+            c .before .before .before .before .before .before .before .before .before .before .look-up5 .ensures,
+            c .before .before .before .before .before .before .before .before .before .before .before .look-up4 .ensures,
           ) (ap namingFrom law),
-      λ z. let no : ⊥ = omega (arith, c .before .before .before .before .before .before .before .before .before .match .keys5, z) in absurd no,
+      λ z. let no : ⊥ = omega (arith, c .before .before .before .before .before .before .before .before .before .before .before .before .match .keys5, z) in absurd no,
     )
 
 returns-6 : tie.Need-returns-6

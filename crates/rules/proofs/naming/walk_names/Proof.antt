@@ -34,9 +34,9 @@ use Rattle.rules.proofs.naming.walk_names.Lts as lts
 use Rattle.format.proofs.sections.node.Reads as node-reads
 use Rattle.format.proofs.words.paired.Reads as paired-reads
 use Rattle.format.proofs.words.wide.Reads as wide-reads
-use Rattle.rules.proofs.names.kind_of.Reads as kind-of-reads
+use Rattle.rules.proofs.naming.user_in.Reads as user-in-reads
 use Rattle.rules.proofs.names.name_all.Reads as name-all-reads
-use Rattle.rules.proofs.names.owner_of.Reads as owner-of-reads
+use Rattle.rules.proofs.naming.bound_with.Reads as bound-with-reads
 use Rattle.rules.proofs.naming.naming_at.Reads as naming-at-reads
 use Rattle.rules.proofs.naming.open_users.Reads as open-users-reads
 use Rattle.rules.proofs.scopes.keep.Reads as keep-reads
@@ -103,11 +103,11 @@ mul-top c = search needs
 slice-read-top : tie.Need-slice-read-top Inv-loop μ-loop
 slice-read-top c = search needs
 
-kind-of-requires : tie.Need-kind-of-requires Inv-loop μ-loop
-kind-of-requires c κs = search needs
+user-in-requires : tie.Need-user-in-requires Inv-loop μ-loop
+user-in-requires c κs = search needs
 
-owner-of-requires : tie.Need-owner-of-requires Inv-loop μ-loop
-owner-of-requires c κs = search needs
+bound-with-requires : tie.Need-bound-with-requires Inv-loop μ-loop
+bound-with-requires c κs = search needs
 
 mul-here : tie.Need-mul-here Inv-loop μ-loop
 mul-here c = search needs
@@ -126,10 +126,10 @@ loop-holds c =
     let stack = os .last .1 .1 .0 in
     let waits = os .last .1 .1 .1 .0 in
     let r = os .result in
-    let p = barePoint D (c .before .before .kind-of .result) (c .before .owner-of .result) in
+    let p = barePoint D (c .before .before .user-in .result) (c .before .bound-with .result) in
     let pos : 0 < r = omega arith in
     let top : queued D stack r ≡ p ∷ queued D stack (r - 1) =
-    read-top 0 (unpaired D) stack r pos ∙ ap (λ (q : Point). q ∷ queued D stack (r - 1)) (ap₂ (barePoint D) (sym (c .before .before .kind-of .ensures)) (sym (c .before .owner-of .ensures))) in
+    read-top 0 (unpaired D) stack r pos ∙ ap (λ (q : Point). q ∷ queued D stack (r - 1)) (ap₂ (barePoint D) (sym (c .before .before .user-in .ensures)) (sym (c .before .bound-with .ensures))) in
     let w : Waits Ownable 0 (p ∷ queued D stack (r - 1)) = subst (λ (ps : List Point). Waits Ownable 0 ps) top (os .ensures .1) in
     let st : contextOf t p ∷ map (contextOf t) (queued D stack (r - 1)) ≡ map unmasked (openings C) =
     ap (map (contextOf t)) (sym top) ∙ contexts-bare Ownable t (queued D stack r) (os .ensures .1) ∙ os .ensures .2 in
@@ -196,11 +196,11 @@ mul-next c = let l = c .before .before .before .before .before .before .before .
 slice-read-next : tie.Need-slice-read-next Inv-loop μ-loop
 slice-read-next c = search needs
 
-kind-of-requires-2 : tie.Need-kind-of-requires-2 Inv-loop μ-loop
-kind-of-requires-2 c κs = search needs
+user-in-requires-2 : tie.Need-user-in-requires-2 Inv-loop μ-loop
+user-in-requires-2 c κs = search needs
 
-owner-of-requires-2 : tie.Need-owner-of-requires-2 Inv-loop μ-loop
-owner-of-requires-2 c κs = search needs
+bound-with-requires-2 : tie.Need-bound-with-requires-2 Inv-loop μ-loop
+bound-with-requires-2 c κs = search needs
 
 mul-here-2 : tie.Need-mul-here-2 Inv-loop μ-loop
 mul-here-2 c = let l = c .before .before .before .before .before .before .before .before .before .before .before .before .loop in omega (arith, l .inv .4, c .before .before .before .before .before .before .before .before .before .before .before .loop-test .taken, c .before .before .before .before .before .before .before .before .before .before .before .before .before .before .before .before .before .before .before .before .before .before .before .before .before .before .before .before .before .before .before .before .before .before .pre .0 .sessions, c .before .before .before .before .before .before .before .before .before .before .before .before .before .before .before .before .before .before .before .before .before .before .before .before .before .before .before .before .before .before .before .before .before .before .pre .0 .nodes)
@@ -218,10 +218,10 @@ loop-again c =
     let n = c .before .before .before .before .before .before .before .before .before .before .before .node in
     let C = contentsAt (a .file .now) (a .head) in
     let D = schemaOf C in
-    let p = barePoint D (c .before .before .kind-of2 .result) (c .before .owner-of2 .result) in
+    let p = barePoint D (c .before .before .user-in2 .result) (c .before .bound-with2 .result) in
     let pos : 0 < l .depth = omega arith in
     let top : queued D (l .stack) (l .depth) ≡ p ∷ queued D (l .stack) (l .depth - 1) =
-    read-top 0 (unpaired D) (l .stack) (l .depth) pos ∙ ap (λ (q : Point). q ∷ queued D (l .stack) (l .depth - 1)) (ap₂ (barePoint D) (sym (c .before .before .kind-of2 .ensures)) (sym (c .before .owner-of2 .ensures))) in
+    read-top 0 (unpaired D) (l .stack) (l .depth) pos ∙ ap (λ (q : Point). q ∷ queued D (l .stack) (l .depth - 1)) (ap₂ (barePoint D) (sym (c .before .before .user-in2 .ensures)) (sym (c .before .bound-with2 .ensures))) in
     let w : Waits Ownable (l .bound) (p ∷ queued D (l .stack) (l .depth - 1)) = subst (λ (ps : List Point). Waits Ownable (l .bound) ps) top (l .inv .9) in
     let left = scoping-tree C (a .scopes .now) (l .i) (contextOf (l .names) (barePoint D (l .user) (l .bound))) _ (l .scopes) (n .result) (l .inv .0) (omega (arith, nodes-held (a .file .now) (a .head), c .before .before .before .before .before .before .before .before .before .before .before .before .loop-test .taken)) (n .ensures) (l .inv .10) (c .before .before .before .before .before .before .before .before .wide .result) (l .here) (c .before .before .before .before .before .before .before .before .wide .ensures .0) (l .inv .12) (c .before .before .before .before .before .before .before .before .before .before .match .keys1) in
     let long : length (set (l .scopes) (c .before .before .before .before .before .before .before .before .wide .result) (l .here)) ≡ length (l .scopes) = length-set (l .scopes) (c .before .before .before .before .before .before .before .before .wide .result) (l .here) in
@@ -433,8 +433,8 @@ walk-names-spec =
     sub-depth
     mul-top
     slice-read-top
-    kind-of-requires
-    owner-of-requires
+    user-in-requires
+    bound-with-requires
     mul-here
     slice-read-here
     loop-holds
@@ -450,8 +450,8 @@ walk-names-spec =
     sub-depth-2
     mul-next
     slice-read-next
-    kind-of-requires-2
-    owner-of-requires-2
+    user-in-requires-2
+    bound-with-requires-2
     mul-here-2
     slice-read-here-2
     loop-less

@@ -28,20 +28,20 @@ shl-result c = search needs
 
 add-result-3 : tie.Need-add-result-3
 add-result-3 c =
-    let k = c .before .before .args .kind % 64 in
-    let b = c .before .bound-in .result in
-    omega (arith, digit-low k b (omega arith) (c .if1 .taken), digit-kept k b (omega arith) (c .if1 .taken))
+    let k = c .before .before .before .args .kind .0 % 64 in
+    let b = c .before .before .bound-in .result in
+    omega (arith, digit-low k b (omega arith) (c .before .if1 .taken), digit-kept k b (omega arith) (c .before .if1 .taken))
 
 returns : tie.Need-returns
 returns c =
-    let a = c .before .before .args in
-    let b = c .before .bound-in .result in
-    binds (a .w) (a .kind) b _ (c .before .bound-in .ensures) (c .if1 .taken) (digit-kept (a .kind % 64) b (omega arith) (c .if1 .taken))
+    let a = c .before .before .before .args in
+    let b = c .before .before .bound-in .result in
+    binds (a .w) (a .kind .0) b _ (c .before .before .bound-in .ensures) (c .before .if1 .taken) (digit-kept (a .kind .0 % 64) b (omega arith) (c .before .if1 .taken))
 
 returns-2 : tie.Need-returns-2
 returns-2 c =
     let a = c .before .before .args in
-    binds-none (a .w) (a .kind) (c .before .bound-in .result) (c .before .bound-in .ensures) (c .if1 .left)
+    binds-none (a .w) (a .kind .0) (c .before .bound-in .result) (c .before .bound-in .ensures) (c .if1 .left)
 
 pub bind-spec : {M : Type 1} → statement M
 bind-spec =

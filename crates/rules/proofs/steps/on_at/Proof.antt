@@ -30,7 +30,7 @@ unless-requires : tie.Need-unless-requires
 unless-requires c κs = search needs
 
 with-role-requires : tie.Need-with-role-requires
-with-role-requires c κs = let a = c .before .before .before .before .args in omega (arith, between 0 (a .head .count .roles) (a .role) (sym (c .before .before .before .in-count .ensures) ∙ not-false (c .before .before .before .in-count .result) (c .before .before .if1 .left)) .1, c .before .before .before .before .pre)
+with-role-requires c κs = let a = c .before .before .before .before .args in omega (arith, between 0 (a .head .count .roles) (a .role .0) (sym (c .before .before .before .in-count .ensures) ∙ not-false (c .before .before .before .in-count .result) (c .before .before .if1 .left)) .1, c .before .before .before .before .pre)
 
 turning-requires : tie.Need-turning-requires
 turning-requires c κs = search needs

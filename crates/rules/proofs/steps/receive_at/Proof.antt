@@ -5,14 +5,14 @@ use Rattle.rules.proofs.steps.receive_at.Statement.{statement}
 use Rattle.rules.proofs.steps.receive_at.Tie as tie
 use Rattle.rules.proofs.steps.receive_at.Reads as reads
 use Rattle.rules.proofs.steps.receive_at.Lts as lts
-use Rattle.rules.proofs.grants.grant_of.Reads as grant-of-reads
 use Rattle.format.proofs.sections.carries.Reads as carries-reads
 use Rattle.format.proofs.words.paired.Reads as paired-reads
+use Rattle.rules.proofs.grants.may.Reads as may-reads
+use Rattle.rules.proofs.grants.permitting.Reads as permitting-reads
 use Rattle.rules.proofs.names.kind_of.Reads as kind-of-reads
 use Rattle.rules.proofs.names.owner_of.Reads as owner-of-reads
 use Rattle.rules.proofs.steps.binding.Reads as binding-reads
 use Rattle.rules.proofs.steps.graded.Reads as graded-reads
-use Rattle.rules.proofs.steps.is_able.Reads as is-able-reads
 use Rattle.rules.proofs.steps.unless.Reads as unless-reads
 
 kind-of-requires : tie.Need-kind-of-requires
@@ -21,20 +21,20 @@ kind-of-requires c κs = search needs
 owner-of-requires : tie.Need-owner-of-requires
 owner-of-requires c κs = search needs
 
-grant-of-requires : tie.Need-grant-of-requires
-grant-of-requires c κs = search needs
-
 add-graded : tie.Need-add-graded
 add-graded c = search needs
 
 graded-requires : tie.Need-graded-requires
 graded-requires c κs = search needs
 
-is-able-requires : tie.Need-is-able-requires
-is-able-requires c κs = search needs
+may-requires : tie.Need-may-requires
+may-requires c κs = search needs
 
 unless-requires : tie.Need-unless-requires
 unless-requires c κs = search needs
+
+permitting-requires : tie.Need-permitting-requires
+permitting-requires c κs = search needs
 
 carries-requires : tie.Need-carries-requires
 carries-requires c κs = search needs
@@ -47,18 +47,19 @@ binding-requires c κs = search needs
 
 returns : tie.Need-returns
 returns c =
-    let k = c .before .before .before .before .before .before .before .before .before .before .kind-of in
-    let g = c .before .before .before .before .before .before .before .before .grant-of in
+    let k = c .before .before .before .before .before .before .before .before .before .kind-of in
+    let g = c .before .before .before .before .before .before .before .before .before .before .before .before .pre .3 (k .result .0) in
     let carried = c .before .before .carries in (
       c .binding .ensures
           ∙ rw (
             c .before .paired .ensures,
             carried .ensures,
+            c .before .before .before .permitting .ensures .0,
             c .before .before .before .before .unless .ensures,
-            c .before .before .before .before .before .is-able .ensures,
+            c .before .before .before .before .before .may .ensures .0,
             c .before .before .before .before .before .before .graded .ensures,
-            c .before .before .before .before .before .before .before .before .before .owner-of .ensures,
-            g .ensures ∙ c .before .before .before .before .before .before .before .before .before .before .before .before .before .pre .3 (k .result),
+            c .before .before .before .before .before .before .before .before .owner-of .ensures,
+            g,
             k .ensures,
           ),
       rw (← k .ensures) (omega (arith, carried .ensures)),
@@ -70,11 +71,11 @@ receive-at-spec =
     (tie.spec
     kind-of-requires
     owner-of-requires
-    grant-of-requires
     add-graded
     graded-requires
-    is-able-requires
+    may-requires
     unless-requires
+    permitting-requires
     carries-requires
     paired-requires
     binding-requires

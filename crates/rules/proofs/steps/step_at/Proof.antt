@@ -102,20 +102,20 @@ returns-2 c =
 
 returns-3 : tie.Need-returns-3
 returns-3 c =
-    let a = c .before .before .before .before .before .before .before .before .before .before .before .before .before .args in
+    let a = c .before .before .before .before .before .before .before .before .before .before .before .before .before .before .before .args in
     let D = schemaOf (contentsAt (a .file .now) (a .head)) in
     let law = step-compare D (a .names .now) (a .here) (a .it) in (
       c .staying2 .ensures
           ∙ rw (
             c .before .graded .ensures,
-            c .before .before .kind-of2 .ensures,
-            c .before .before .before .kind-of .ensures,
-            c .before .before .before .before .owner-of2 .ensures,
-            c .before .before .before .before .before .owner-of .ensures,
-            c .before .before .before .before .before .before .look-up2 .ensures,
-            c .before .before .before .before .before .before .before .look-up .ensures,
-          ) (law (c .before .before .before .before .before .before .before .before .match .keys3)),
-      λ z. let no : ⊥ = omega (arith, c .before .before .before .before .before .before .before .before .match .keys3, z) in absurd no,
+            c .before .before .before .before .kind-of2 .ensures,
+            c .before .before .before .before .before .kind-of .ensures,
+            c .before .before .before .before .before .before .owner-of2 .ensures,
+            c .before .before .before .before .before .before .before .owner-of .ensures,
+            c .before .before .before .before .before .before .before .before .look-up2 .ensures,
+            c .before .before .before .before .before .before .before .before .before .look-up .ensures,
+          ) (law (c .before .before .before .before .before .before .before .before .before .before .match .keys3)),
+      λ z. let no : ⊥ = omega (arith, c .before .before .before .before .before .before .before .before .before .before .match .keys3, z) in absurd no,
     )
 
 returns-4 : tie.Need-returns-4

@@ -1,9 +1,13 @@
 -- What is kept stays within the buffer, whose length does not change; the measure is the number of turns that are left.
-use Prim.Native.Nat.{_≤_}
+use Prim.Native.Nat.{_-_, _≤_}
 use mathlib.Core.Path.{_≡_, sym}
+use mir.Syntax.{w64}
+use mir.Val.{toZ, ofZ}
 use lib.ListN.{length}
 use lib.Seq.{length-take-le}
 use native.Mathlib.Omega.{arith}
+use borrow.Author.Needs.{needs}
+use Rattle.streams.proofs.KeptLaws.{moved-count}
 use Rattle.run.proofs.list.read_choices.Statement.{statement}
 use Rattle.run.proofs.list.read_choices.Tie as tie
 
@@ -28,11 +32,13 @@ returns c = ((omega arith, sym (length-take-le _ _ (omega arith))), omega arith)
 count-requires : tie.Need-count-requires Inv-loop μ-loop
 count-requires c κs = tt
 
-add-enough : tie.Need-add-enough Inv-loop μ-loop
-add-enough c = omega arith
-
-enough-requires : tie.Need-enough-requires Inv-loop μ-loop
-enough-requires c κs = tt
+keep-requires : tie.Need-keep-requires Inv-loop μ-loop
+keep-requires c κs =
+    let l = c .before .before .before .before .before .before .before .before .before .loop in
+    let r = c .before .before .before .before .before .before .read-behind in
+    let n = c .before .count in
+    let same : toZ w64 (ofZ w64 (r .result)) ≡ r .result = search needs in
+    omega (arith, moved-count (r .result) (toZ w64 (ofZ w64 (r .result))) (length (l .buffer) - l .kept) (length (r .last .1 .0)) (n .result) same (r .ensures .0) (n .ensures .1))
 
 sub-turns : tie.Need-sub-turns Inv-loop μ-loop
 sub-turns c = omega arith
@@ -60,8 +66,7 @@ read-choices-spec =
     same-length
     returns
     count-requires
-    add-enough
-    enough-requires
+    keep-requires
     sub-turns
     loop-less
     loop-again

@@ -10,7 +10,7 @@ use Rattle.running.proofs.pairs.works_on.Tie as tie
 use Rattle.running.proofs.pairs.works_on.Reads as reads
 use Rattle.running.proofs.pairs.works_on.Lts as lts
 use Rattle.steps.proofs.Thread.value.Reads as value-reads
-use Rattle.steps.proofs.act.is_able.Reads as is-able-reads
+use Rattle.rules.proofs.grants.may.Reads as may-reads
 use Rattle.steps.proofs.act.kind_held.Reads as kind-held-reads
 
 value-requires : tie.Need-value-requires
@@ -19,25 +19,25 @@ value-requires c κs = search needs
 kind-held-requires : tie.Need-kind-held-requires
 kind-held-requires c κs = search needs
 
-is-able-requires : tie.Need-is-able-requires
-is-able-requires c κs = search needs
+may-requires : tie.Need-may-requires
+may-requires c κs = search needs
 
 returns : tie.Need-returns
 returns c =
     let a = c .before .before .before .before .before .before .before .args in
     let v = c .before .before .before .value in
     let k = c .before .before .kind-held in
-    let p = c .before .is-able in
-    worked-on (schemaOf (contentsAt (a .file .now) (a .head))) (madeOf (a .beside .now)) (a .table .now) (a .t .mask) (k .result) (v .result) (value (a .t) (a .x)) (p .result) true (v .ensures) (k .ensures) (p .ensures) (c .if1 .taken)
+    let p = c .before .may in
+    worked-on (schemaOf (contentsAt (a .file .now) (a .head))) (madeOf (a .beside .now)) (a .table .now) (a .t .mask) (k .result .0) (v .result) (value (a .t) (a .x)) (p .result) true (v .ensures) (k .ensures) (p .ensures .0) (c .if1 .taken)
 
 returns-2 : tie.Need-returns-2
 returns-2 c =
     let a = c .before .before .before .before .before .before .before .args in
     let v = c .before .before .before .value in
     let k = c .before .before .kind-held in
-    let p = c .before .is-able in
-    worked-on (schemaOf (contentsAt (a .file .now) (a .head))) (madeOf (a .beside .now)) (a .table .now) (a .t .mask) (k .result) (v .result) (value (a .t) (a .x)) (p .result) false (v .ensures) (k .ensures) (p .ensures) (c .if1 .left)
+    let p = c .before .may in
+    worked-on (schemaOf (contentsAt (a .file .now) (a .head))) (madeOf (a .beside .now)) (a .table .now) (a .t .mask) (k .result .0) (v .result) (value (a .t) (a .x)) (p .result) false (v .ensures) (k .ensures) (p .ensures .0) (c .if1 .left)
 
 pub works-on-spec : {M : Type 1} → statement M
 works-on-spec =
-    tie.close (tie.spec value-requires kind-held-requires is-able-requires returns returns-2)
+    tie.close (tie.spec value-requires kind-held-requires may-requires returns returns-2)

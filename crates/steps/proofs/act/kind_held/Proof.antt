@@ -29,9 +29,9 @@ channel-requires c κs = search needs
 
 returns-2 : tie.Need-returns-2
 returns-2 c =
-    let a = c .before .before .before .before .before .args in
-    ap (λ (y : Channel). y .kind .0) (c .channel .ensures)
-    ∙ kind-channel (schemaOf (contentsAt (now (a .file)) (a .head))) (now (a .beside)) (getD (now (a .beside)) 1 0) (a .v) (c .before .before .if1 .left) (c .before .if2 .taken)
+    let a = c .before .before .before .before .before .before .args in
+    ap (λ (y : Channel). y .kind .0) (c .before .channel .ensures)
+    ∙ kind-channel (schemaOf (contentsAt (now (a .file)) (a .head))) (now (a .beside)) (getD (now (a .beside)) 1 0) (a .v) (c .before .before .before .if1 .left) (c .before .before .if2 .taken)
 
 wide-requires : tie.Need-wide-requires
 wide-requires c κs = search needs
@@ -49,10 +49,10 @@ made-at-requires c κs =
 
 returns-3 : tie.Need-returns-3
 returns-3 c =
-    let w = c .before .before .before .before in
+    let w = c .before .before .before .before .before in
     let a = w .before .before .before .before .before .args in
-    kind-of-made (schemaOf (contentsAt (now (a .file)) (a .head))) (now (a .beside)) (getD (now (a .beside)) 1 0) (a .v) (w .wide .result) (c .made-at .result) (w .before .if2 .left) (w .wide .ensures .0)
-    (omega (arith, c .before .if3 .taken, c .before .before .wide2 .ensures .0, c .before .before .before .made-count .ensures)) (c .made-at .ensures)
+    kind-of-made (schemaOf (contentsAt (now (a .file)) (a .head))) (now (a .beside)) (getD (now (a .beside)) 1 0) (a .v) (w .wide .result) (c .before .made-at .result) (w .before .if2 .left) (w .wide .ensures .0)
+    (omega (arith, c .before .before .if3 .taken, c .before .before .before .wide2 .ensures .0, c .before .before .before .before .made-count .ensures)) (c .before .made-at .ensures)
 
 returns-4 : tie.Need-returns-4
 returns-4 c =

@@ -20,31 +20,31 @@ use Rattle.steps.proofs.act.meets.Lts as lts
 use Rattle.steps.proofs.Thread.bound.Reads as bound-reads
 use Rattle.steps.proofs.Thread.onward.Reads as onward-reads
 use Rattle.steps.proofs.Thread.value.Reads as value-reads
-use Rattle.steps.proofs.act.is_able.Reads as is-able-reads
+use Rattle.rules.proofs.grants.may.Reads as may-reads
 use Rattle.steps.proofs.act.kind_held.Reads as kind-held-reads
 use Rattle.steps.proofs.act.refused.Reads as refused-reads
 
 -- what a test says of rule 6: for the sender; for the receiver on a channel of its own; for the receiver on the sender's channel
-sent : (c : tie.After-is-able) {b : Bool} → c .is-able .result ≡ b
+sent : (c : tie.After-may) {b : Bool} → c .may .result ≡ b
     → let a = c .before .before .before .before .before .before .before .args in isAllowed (clinicOf (contentsAt (a .file .now) (a .head))) (madeIn (a .beside .now) 2 (getD (a .beside .now) 1 0)) (a .own) Sends (a .it .f1) ≡ b
 sent c h =
     let a = c .before .before .before .before .before .before .before .args in
-    able-by (schemaOf (contentsAt (a .file .now) (a .head))) Sends (a .sends .now) (a .own .mask) (madeIn (a .beside .now) 2 (getD (a .beside .now) 1 0)) (c .before .kind-held .result) (c .before .before .value .result) (value (a .own) (a .it .f1)) (c .is-able .result) _ (c .before .before .before .before .before .before .before .pre .3) (c .before .kind-held .ensures) (c .before .before .value .ensures) (c .is-able .ensures) h
+    able-by (schemaOf (contentsAt (a .file .now) (a .head))) Sends (a .sends .now) (a .own .mask) (madeIn (a .beside .now) 2 (getD (a .beside .now) 1 0)) (c .before .kind-held .result .0) (c .before .before .value .result) (value (a .own) (a .it .f1)) (c .may .result) _ (c .before .before .before .before .before .before .before .pre .3) (c .before .kind-held .ensures) (c .before .before .value .ensures) (c .may .ensures .0) h
 
-apart : (c : tie.After-is-able2) {b : Bool} → c .is-able2 .result ≡ b
+apart : (c : tie.After-may2) {b : Bool} → c .may2 .result ≡ b
     → let a = c .before .before .before .before .before .before .before .before .before .before .before .before .args in isAllowed (clinicOf (contentsAt (a .file .now) (a .head))) (madeIn (a .beside .now) 2 (getD (a .beside .now) 1 0)) (a .other) Receives (a .theirs .f1) ≡ b
 apart c h =
     let a = c .before .before .before .before .before .before .before .before .before .before .before .before .args in
-    able-by (schemaOf (contentsAt (a .file .now) (a .head))) Receives (a .receives .now) (a .other .mask) (madeIn (a .beside .now) 2 (getD (a .beside .now) 1 0)) (c .before .kind-held2 .result) (c .before .before .before .value2 .result) (value (a .other) (a .theirs .f1)) (c .is-able2 .result) _ (c .before .before .before .before .before .before .before .before .before .before .before .before .pre .4) (c .before .kind-held2 .ensures) (c .before .before .before .value2 .ensures) (c .is-able2 .ensures) h
+    able-by (schemaOf (contentsAt (a .file .now) (a .head))) Receives (a .receives .now) (a .other .mask) (madeIn (a .beside .now) 2 (getD (a .beside .now) 1 0)) (c .before .kind-held2 .result .0) (c .before .before .before .value2 .result) (value (a .other) (a .theirs .f1)) (c .may2 .result) _ (c .before .before .before .before .before .before .before .before .before .before .before .before .pre .4) (c .before .kind-held2 .ensures) (c .before .before .before .value2 .ensures) (c .may2 .ensures .0) h
 
 same : (c : tie.Else2) → let a = c .before .before .before .before .before .before .before .before .before .before .args in value (a .own) (a .it .f1) ≡ value (a .other) (a .theirs .f1)
 same c = sym (c .before .before .before .before .before .value .ensures) ∙ c .if2 .left ∙ c .before .value2 .ensures
 
-received : (c : tie.After-is-able3) {b : Bool} → c .is-able3 .result ≡ b
+received : (c : tie.After-may3) {b : Bool} → c .may3 .result ≡ b
     → let a = c .before .before .before .before .before .before .before .before .before .before .before .args in isAllowed (clinicOf (contentsAt (a .file .now) (a .head))) (madeIn (a .beside .now) 2 (getD (a .beside .now) 1 0)) (a .other) Receives (a .theirs .f1) ≡ b
 received c h =
     let a = c .before .before .before .before .before .before .before .before .before .before .before .args in
-    able-by (schemaOf (contentsAt (a .file .now) (a .head))) Receives (a .receives .now) (a .other .mask) (madeIn (a .beside .now) 2 (getD (a .beside .now) 1 0)) (c .before .before .before .before .before .kind-held .result) (c .before .before .before .before .before .before .value .result) (value (a .other) (a .theirs .f1)) (c .is-able3 .result) _ (c .before .before .before .before .before .before .before .before .before .before .before .pre .4) (c .before .before .before .before .before .kind-held .ensures) (c .before .before .before .before .before .before .value .ensures ∙ same (c .before)) (c .is-able3 .ensures) h
+    able-by (schemaOf (contentsAt (a .file .now) (a .head))) Receives (a .receives .now) (a .other .mask) (madeIn (a .beside .now) 2 (getD (a .beside .now) 1 0)) (c .before .before .before .before .before .kind-held .result .0) (c .before .before .before .before .before .before .value .result) (value (a .other) (a .theirs .f1)) (c .may3 .result) _ (c .before .before .before .before .before .before .before .before .before .before .before .pre .4) (c .before .before .before .before .before .kind-held .ensures) (c .before .before .before .before .before .before .value .ensures ∙ same (c .before)) (c .may3 .ensures .0) h
 
 value-requires : tie.Need-value-requires
 value-requires c κs = search needs
@@ -52,8 +52,8 @@ value-requires c κs = search needs
 kind-held-requires : tie.Need-kind-held-requires
 kind-held-requires c κs = search needs
 
-is-able-requires : tie.Need-is-able-requires
-is-able-requires c κs = search needs
+may-requires : tie.Need-may-requires
+may-requires c κs = search needs
 
 refused-requires : tie.Need-refused-requires
 refused-requires c κs = search needs
@@ -69,8 +69,8 @@ value-requires-2 c κs = search needs
 kind-held-requires-2 : tie.Need-kind-held-requires-2
 kind-held-requires-2 c κs = search needs
 
-is-able-requires-2 : tie.Need-is-able-requires-2
-is-able-requires-2 c κs = search needs
+may-requires-2 : tie.Need-may-requires-2
+may-requires-2 c κs = search needs
 
 refused-requires-2 : tie.Need-refused-requires-2
 refused-requires-2 c κs = search needs
@@ -88,8 +88,8 @@ returns-3 c =
     let a = c .before .before .before .before .before .before .before .before .before .before .before .before .before .before .args in
     answered (meeting-receiver (clinicOf (contentsAt (a .file .now) (a .head))) (madeIn (a .beside .now) 2 (getD (a .beside .now) 1 0)) (a .own) (a .it) (a .other) (a .theirs) (sent (c .before .before .before .before .before .before .before) (not-false _ (c .before .before .before .before .before .before .if1 .left))) (apart (c .before .before) (c .before .if3 .left))) (c .refused3 .ensures)
 
-is-able-requires-3 : tie.Need-is-able-requires-3
-is-able-requires-3 c κs = search needs
+may-requires-3 : tie.Need-may-requires-3
+may-requires-3 c κs = search needs
 
 refused-requires-4 : tie.Need-refused-requires-4
 refused-requires-4 c κs = search needs
@@ -119,17 +119,17 @@ meets-spec =
     (tie.spec
     value-requires
     kind-held-requires
-    is-able-requires
+    may-requires
     refused-requires
     returns
     value-requires-2
     kind-held-requires-2
-    is-able-requires-2
+    may-requires-2
     refused-requires-2
     returns-2
     refused-requires-3
     returns-3
-    is-able-requires-3
+    may-requires-3
     refused-requires-4
     returns-4
     onward-requires

@@ -4,6 +4,8 @@ use lib.ListN.{replicate}
 use Prim.Native.Nat.{_+_}
 use native.Mathlib.Omega.{arith}
 use borrow.Author.Needs.{needs}
+use borrow.Author.Tests.{eqb-true}
+use Rattle.trees.proofs.SoundExact.{answer-quiet}
 use Rattle.trees.proofs.shape.shape.Statement.{statement}
 use Rattle.trees.proofs.shape.shape.Tie as tie
 use Rattle.trees.proofs.shape.shape.Reads as reads
@@ -16,7 +18,7 @@ sound-shape-requires : tie.Need-sound-shape-requires
 sound-shape-requires c κs = search needs
 
 returns : tie.Need-returns
-returns c = sym (c .before .sound-shape .ensures (c .if1 .taken))
+returns c = sym (answer-quiet _ (eqb-true _ 0 (sym (c .before .sound-shape .ensures) ∙ c .if1 .taken)))
 
 wide-requires : tie.Need-wide-requires
 wide-requires c κs = search needs

@@ -1,20 +1,20 @@
 use Prim.Native.Nat.{_+_, _-_, _≤_, _<_}
 use mathlib.Core.Path.{_≡_, refl, sym, ap, _∙_}
-use mathlib.Core.Bool.{Bool, true, false, not, _&&_, false≢true, and-eq-true-iff}
-use mathlib.Core.List.{_∷_, map}
+use mathlib.Core.Bool.{Bool, true, false, not, _&&_, and-eq-true-iff}
+use mathlib.Core.List.{[], _∷_, map}
 use native.Mathlib.Omega.{arith}
 use borrow.Author.Needs.{needs}
-use borrow.Author.Tests.{not-false, eqb-true}
+use borrow.Author.Tests.{not-false, not-true, eqb-true, eq-eqb, ne-eqb}
 use lib.ListN.{length, getD, set, drop, length-set}
 use lib.Dec.{eqb}
 use Rattle.format.specs.Contents.{contentsAt, item, noSession}
-use Rattle.format.specs.Answers.{fine}
 use Rattle.format.proofs.ContentsLaws.{sessions-held, nodes-held, none-past}
 use Rattle.format.specs.Stacks.{stacked}
-use Rattle.format.proofs.StackLaws.{stacked-more, read-top}
+use Rattle.format.proofs.StackLaws.{stacked-more, read-none, read-top}
 use Rattle.format.specs.declared.Session.{Session}
 use Rattle.trees.specs.Shape.{shapeAnswer}
-use Rattle.trees.proofs.SoundLaws.{waiting, unpack, held, held-push, accepts, waits, waits-push, starts, on-end, on-fork, on-other, has-room, on-last}
+use Rattle.trees.proofs.SoundLaws.{waiting, unpack, held, held-push, accepts, waits, waits-push, on-end, off-fields, off-none, off-number, on-fork, off-fork, on-other, off-other, has-room, on-last}
+use Rattle.trees.proofs.SoundExact.{look-exact}
 use Rattle.trees.proofs.sound.sound_by.Statement.{statement}
 use Rattle.trees.proofs.sound.sound_by.Tie as tie
 use Rattle.trees.proofs.sound.sound_by.Reads as reads
@@ -40,7 +40,7 @@ abbrev μ-loop : tie.MeasureT-loop
 abbrev Inv-loop2 : tie.InvT-loop2
 Inv-loop2 file head stack₀ nodes sessions depth₀ bound₀ i₀ stack depth bound i =
     (1 ≤ i) × (i ≤ nodes + 1) × (length stack ≡ length stack₀) × (depth + 1 ≤ sessions + i)
-    × (accepts i (drop (i - 1) (contentsAt file head .nodes)) bound (held stack depth) ≡ true → shapeAnswer (contentsAt file head) ≡ fine)
+    × (accepts i (drop (i - 1) (contentsAt file head .nodes)) bound (held stack depth) ≡ eqb (shapeAnswer (contentsAt file head) .number) 0)
 
 abbrev μ-loop2 : tie.MeasureT-loop2
 μ-loop2 file head stack₀ nodes sessions depth₀ bound₀ i₀ stack depth bound i = nodes + 1 - i
@@ -132,7 +132,18 @@ same-length : tie.Need-same-length Inv-loop μ-loop Inv-loop2 μ-loop2
 same-length c = omega (arith, kept (c .before .before .before .before))
 
 returns : tie.Need-returns Inv-loop μ-loop Inv-loop2 μ-loop2
-returns c = λ e. absurd (false≢true e)
+unfolding shapeAnswer
+returns c =
+    let a = c .before .before .before .before .before .before .before .before .before .args in
+    let l = c .before .before .before .before .loop in
+    let C = contentsAt (a .file .now) (a .head) in
+    let n = a .head .count .nodes in
+    let top = unpack (getD (l .stack) (l .depth) 0) in
+    let none : c .before .before .before .before .before .before .wide .result - l .depth ≡ 0 = omega arith in
+    let st : top ∷ held (l .stack) (l .depth) ≡ waits (C .sessions) (n + 1) =
+    sym (ap (map unpack) (stacked-more 0 (l .stack) (l .depth))) ∙ l .inv .2 ∙ ap (λ k. waits (drop k (C .sessions)) (n + 1)) none in
+    let look = look-exact (C .sessions) (n + 1) (C .nodes) top (held (l .stack) (l .depth)) st (omega (arith, nodes-held (a .file .now) (a .head))) in
+    rw (ne-eqb (top .number) 1 (λ e. c .if1 .taken (c .before .named .ensures ∙ e))) at look
 
 loop2-holds : tie.Need-loop2-holds Inv-loop μ-loop Inv-loop2 μ-loop2
 unfolding shapeAnswer
@@ -145,12 +156,13 @@ loop2-holds c =
     let none : c .before .before .before .before .before .before .wide .result - l .depth ≡ 0 = omega arith in
     let st : top ∷ held (l .stack) (l .depth) ≡ waits (C .sessions) (n + 1) =
     sym (ap (map unpack) (stacked-more 0 (l .stack) (l .depth))) ∙ l .inv .2 ∙ ap (λ k. waits (drop k (C .sessions)) (n + 1)) none in
+    let look = look-exact (C .sessions) (n + 1) (C .nodes) top (held (l .stack) (l .depth)) st (omega (arith, nodes-held (a .file .now) (a .head))) in
     let one : top .number ≡ 1 = sym (c .before .named .ensures) ∙ c .if1 .left in (
       omega arith,
       omega arith,
       refl,
       omega arith,
-      starts (C .sessions) (n + 1) (C .nodes) top (held (l .stack) (l .depth)) st one (omega (arith, nodes-held (a .file .now) (a .head))),
+      rw (eq-eqb (top .number) 1 one) at look,
     )
 
 node-requires : tie.Need-node-requires Inv-loop μ-loop Inv-loop2 μ-loop2
@@ -163,13 +175,25 @@ same-length-2 : tie.Need-same-length-2 Inv-loop μ-loop Inv-loop2 μ-loop2
 same-length-2 c = omega (arith, kept2 (c .before .before .before .before .before .before))
 
 returns-2 : tie.Need-returns-2 Inv-loop μ-loop Inv-loop2 μ-loop2
-returns-2 c = λ e. absurd (false≢true e)
+returns-2 c =
+    let a = c .before .before .before .before .before .before .before .before .before .before .before .before .before .before .before .before .args in
+    let l = c .before .before .before .before .before .before .loop2 in
+    let node = c .before .before .before .before .node .result in
+    let ns = contentsAt (a .file .now) (a .head) .nodes in
+    sym (off-fields ns (l .i) (omega arith) (omega (arith, nodes-held (a .file .now) (a .head))) node (c .before .before .before .before .node .ensures) (l .bound) (held (l .stack) (l .depth)) (c .before .before .before .match .keys1) (not-true (eqb (node .f1) 0 && eqb (node .f2) 0) (c .if2 .taken))) ∙ l .inv .4
 
 same-length-3 : tie.Need-same-length-3 Inv-loop μ-loop Inv-loop2 μ-loop2
 same-length-3 c = omega (arith, kept2 (c .before .before .before .before .before .before .before))
 
 returns-3 : tie.Need-returns-3 Inv-loop μ-loop Inv-loop2 μ-loop2
-returns-3 c = λ e. absurd (false≢true e)
+returns-3 c =
+    let a = c .before .before .before .before .before .before .before .before .before .before .before .before .before .before .before .before .before .args in
+    let l = c .before .before .before .before .before .before .before .loop2 in
+    let node = c .before .before .before .before .before .node .result in
+    let ns = contentsAt (a .file .now) (a .head) .nodes in
+    let zeros = both (eqb (node .f1) 0) (eqb (node .f2) 0) (c .before .if2 .left) in
+    let empty : held (l .stack) (l .depth) ≡ [] = ap (held (l .stack)) (c .if3 .taken) ∙ read-none 0 unpack (l .stack) in
+    sym (ap (accepts (l .i) (drop (l .i - 1) ns) (l .bound)) empty ∙ off-none ns (l .i) (omega arith) (omega (arith, nodes-held (a .file .now) (a .head))) node (c .before .before .before .before .before .node .ensures) (l .bound) (c .before .before .before .before .match .keys1) (eqb-true _ _ (zeros .0)) (eqb-true _ _ (zeros .1))) ∙ l .inv .4
 
 sub-depth : tie.Need-sub-depth Inv-loop μ-loop Inv-loop2 μ-loop2
 sub-depth c = omega arith
@@ -187,7 +211,16 @@ same-length-4 : tie.Need-same-length-4 Inv-loop μ-loop Inv-loop2 μ-loop2
 same-length-4 c = omega (arith, kept2 (c .before .before .before .before .before .before .before .before .before .before))
 
 returns-4 : tie.Need-returns-4 Inv-loop μ-loop Inv-loop2 μ-loop2
-returns-4 c = λ e. absurd (false≢true e)
+returns-4 c =
+    let a = c .before .before .before .before .before .before .before .before .before .before .before .before .before .before .before .before .before .before .before .before .args in
+    let l = c .before .before .before .before .before .before .before .before .before .before .loop2 in
+    let node = c .before .before .before .before .before .before .before .before .node .result in
+    let ns = contentsAt (a .file .now) (a .head) .nodes in
+    let zeros = both (eqb (node .f1) 0) (eqb (node .f2) 0) (c .before .before .before .before .if2 .left) in
+    let w = unpack (getD (l .stack) (l .depth - 1) 0) in
+    let pos : 0 < l .depth = omega arith in
+    sym (ap (accepts (l .i) (drop (l .i - 1) ns) (l .bound)) (read-top 0 unpack (l .stack) (l .depth) pos)
+    ∙ off-number ns (l .i) (omega arith) (omega (arith, nodes-held (a .file .now) (a .head))) node (c .before .before .before .before .before .before .before .before .node .ensures) (l .bound) w (held (l .stack) (l .depth - 1)) (c .before .before .before .before .before .before .before .match .keys1) (eqb-true _ _ (zeros .0)) (eqb-true _ _ (zeros .1)) (λ e. c .if4 .taken (c .before .named2 .ensures ∙ e))) ∙ l .inv .4
 
 bound-above-requires : tie.Need-bound-above-requires Inv-loop μ-loop Inv-loop2 μ-loop2
 bound-above-requires c κs = omega arith
@@ -209,15 +242,21 @@ loop2-again c =
       omega arith,
       l .inv .2,
       omega arith,
-      λ h. l .inv .4 (rw (read-top 0 unpack (l .stack) (l .depth) pos)
-          (law (l .bound) w (held (l .stack) (l .depth - 1)) (c .before .before .before .before .before .before .before .before .match .keys1) (eqb-true _ _ (zeros .0)) (eqb-true _ _ (zeros .1)) number (rw (c .bound-above .ensures) at h))),
+      rw (c .bound-above .ensures)
+          (law (l .bound) w (held (l .stack) (l .depth - 1)) (c .before .before .before .before .before .before .before .before .match .keys1) (eqb-true _ _ (zeros .0)) (eqb-true _ _ (zeros .1)) number
+          ∙ sym (ap (accepts (l .i) (drop (l .i - 1) (contentsAt (a .file .now) (a .head) .nodes)) (l .bound)) (read-top 0 unpack (l .stack) (l .depth) pos)) ∙ l .inv .4),
     )
 
 same-length-5 : tie.Need-same-length-5 Inv-loop μ-loop Inv-loop2 μ-loop2
 same-length-5 c = omega (arith, kept2 (c .before .before .before .before .before))
 
 returns-5 : tie.Need-returns-5 Inv-loop μ-loop Inv-loop2 μ-loop2
-returns-5 c = λ e. absurd (false≢true e)
+returns-5 c =
+    let a = c .before .before .before .before .before .before .before .before .before .before .before .before .before .before .before .args in
+    let l = c .before .before .before .before .before .loop2 in
+    let node = c .before .before .before .node .result in
+    let ns = contentsAt (a .file .now) (a .head) .nodes in
+    sym (off-fork ns (l .i) (omega arith) (omega (arith, nodes-held (a .file .now) (a .head))) node (c .before .before .before .node .ensures) (l .bound) (held (l .stack) (l .depth)) (c .before .before .match .keys2) (c .if5 .taken)) ∙ l .inv .4
 
 paired-requires-3 : tie.Need-paired-requires-3 Inv-loop μ-loop Inv-loop2 μ-loop2
 paired-requires-3 c κs = omega arith
@@ -247,7 +286,7 @@ loop2-again-2 c =
       omega arith,
       simp length-set (l .inv .2),
       omega arith,
-      λ h. l .inv .4 (law (l .bound) (held (l .stack) (l .depth)) (c .before .before .before .match .keys2) (c .before .if5 .left) (rw pushed at h)),
+      rw pushed (law (l .bound) (held (l .stack) (l .depth)) (c .before .before .before .match .keys2) (c .before .if5 .left) ∙ l .inv .4),
     )
 
 goes-on-requires : tie.Need-goes-on-requires Inv-loop μ-loop Inv-loop2 μ-loop2
@@ -257,7 +296,13 @@ same-length-6 : tie.Need-same-length-6 Inv-loop μ-loop Inv-loop2 μ-loop2
 same-length-6 c = omega (arith, kept2 (c .before .before .before .before .before))
 
 returns-6 : tie.Need-returns-6 Inv-loop μ-loop Inv-loop2 μ-loop2
-returns-6 c = λ e. absurd (false≢true e)
+returns-6 c =
+    let a = c .before .before .before .before .before .before .before .before .before .before .before .before .before .before .before .args in
+    let l = c .before .before .before .before .before .loop2 in
+    let node = c .before .before .before .node .result in
+    let ns = contentsAt (a .file .now) (a .head) .nodes in
+    let m = c .before .before .match .rest in
+    sym (off-other ns (l .i) (omega arith) (omega (arith, nodes-held (a .file .now) (a .head))) node (c .before .before .before .node .ensures) (l .bound) (held (l .stack) (l .depth)) (m .0 .1) (m .1) (sym (c .before .goes-on .ensures) ∙ not-true (c .before .goes-on .result) (c .if6 .taken))) ∙ l .inv .4
 
 bound-below-requires : tie.Need-bound-below-requires Inv-loop μ-loop Inv-loop2 μ-loop2
 bound-below-requires c κs =
@@ -281,19 +326,19 @@ loop2-again-3 c =
       omega arith,
       l .inv .2,
       omega arith,
-      λ h. l .inv .4 (law (l .bound) (held (l .stack) (l .depth)) (m .0 .1) (m .1)
-          (sym (c .before .before .goes-on .ensures) ∙ not-false (c .before .before .goes-on .result) (c .before .if6 .left)) (rw (c .bound-below .ensures) at h)),
+      rw (c .bound-below .ensures)
+          (law (l .bound) (held (l .stack) (l .depth)) (m .0 .1) (m .1)
+          (sym (c .before .before .goes-on .ensures) ∙ not-false (c .before .before .goes-on .result) (c .before .if6 .left)) ∙ l .inv .4),
     )
 
 same-length-7 : tie.Need-same-length-7 Inv-loop μ-loop Inv-loop2 μ-loop2
 same-length-7 c = omega (arith, kept2 (c .before))
 
 returns-7 : tie.Need-returns-7 Inv-loop μ-loop Inv-loop2 μ-loop2
-unfolding stacked
 returns-7 c =
-    λ e. let a = c .before .before .before .before .before .before .before .before .before .before .before .args in
+    let a = c .before .before .before .before .before .before .before .before .before .before .before .args in
     let l = c .before .loop2 in
-    l .inv .4 (rw (eqb-true (l .depth) 0 e) (on-last (contentsAt (a .file .now) (a .head) .nodes) (l .i) (l .bound) (omega (arith, nodes-held (a .file .now) (a .head)))))
+    on-last (contentsAt (a .file .now) (a .head) .nodes) (l .i) (l .bound) (l .stack) (l .depth) (omega (arith, nodes-held (a .file .now) (a .head))) ∙ l .inv .4
 
 pub sound-by-spec : {M : Type 1} → statement M
 sound-by-spec =

@@ -1,0 +1,104 @@
+-- What is kept of a long input, as many bytes of it as `enough` says, is answered as the whole is, to every caller.
+use Prim.Native.Nat.{ℕ}
+use mathlib.Core.Path.{_≡_, refl}
+use mathlib.Core.Bool.{Bool, true, false, cond}
+use mathlib.Core.List.{List}
+use native.Mathlib.Omega.{arith}
+use lib.Dec.{eqb}
+use lib.ListN.{length, take}
+use borrow.Author.Tests.{ne-eqb}
+use Rattle.format.specs.Answers.{refused, orElse}
+use Rattle.format.specs.Contents.{contentsOf}
+use Rattle.format.specs.Header.{headOf}
+use Rattle.format.specs.declared.Verdict.{Verdict}
+use Rattle.format.specs.declared.HeadAnswer.the-variants.{Refused}
+use Rattle.format.proofs.HeadLaws.{head-number}
+use Rattle.reading.specs.Long.{enough}
+use Rattle.reading.proofs.LongLaws.{StandsFor, start-stands, stands-judged}
+use Rattle.checking.specs.Check.{readingNames}
+use Rattle.checking.proofs.CheckLaws.{names-refused, stands-check}
+use Rattle.placing.proofs.PlaceLaws.{stands-placed, stands-over}
+use Rattle.steps.specs.declared.Thread.{Thread}
+use Rattle.steps.specs.Choice.{clinicOf}
+use Rattle.choices.specs.Choices.{ranOf}
+use Rattle.running.specs.Run.{listed, stopped, unready, readyPair, readyOf, ready}
+use Rattle.running.specs.declared.Ready.{Ready}
+use Rattle.running.proofs.StandLaws.{stands-run, stands-over as stands-ran}
+use Rattle.lending.specs.Lent.{lending, choosing, recordsOver, besideOver}
+use Rattle.lending.specs.Starting.{starting, recordsStarted, besideStarted}
+use Rattle.engine.specs.Alike.{Alike}
+
+-- no pair, for a refusal
+abbrev noPair : Verdict → Ready
+noPair v = record { number = v .number; place = v .place; sender = 0; receiver = 0 }
+
+module _ (f : List ℕ) (n : ℕ) (e : headOf f ≡ Refused n) where
+  loud : eqb n 0 ≡ false
+  loud = ne-eqb n 0 (λ (z : n ≡ 0). omega (arith, z, head-number f n e))
+
+  pair-refused : (ws : List ℕ) → ready f ws ≡ noPair (cond (listed (length ws)) (refused n 0) (refused 17 0))
+  unfolding ready
+  pair-refused ws = go (listed (length ws))
+    where
+      go : (b : Bool) → readyOf (orElse (unready b f) (stopped (ranOf f ws))) (readyPair (clinicOf (contentsOf f)) (ranOf f ws .state)) ≡ noPair (cond b (refused n 0) (refused 17 0))
+      go true = rw (names-refused f n e, loud) (rw loud)
+      go false = refl
+
+  module _ (l : List Thread) (b : List ℕ) where
+    lending-refused : lending f l b ≡ refused n 0
+    unfolding lending
+    lending-refused = rw (names-refused f n e, loud)
+
+    module _ (i p : ℕ) where
+      choose-refused : choosing f l b i p ≡ refused n 0
+      unfolding choosing
+      choose-refused = rw (lending-refused, loud)
+
+      records-kept : recordsOver f l b i p ≡ l
+      unfolding recordsOver
+      records-kept = rw (lending-refused, loud)
+
+      beside-kept : besideOver f l b i p ≡ b
+      unfolding besideOver
+      beside-kept = rw (lending-refused, loud)
+
+  start-refused : (records words : ℕ) → starting f records words ≡ refused n 0
+  unfolding starting
+  start-refused records words = rw (names-refused f n e, loud)
+
+  module _ (l : List Thread) (b : List ℕ) where
+    started-kept : recordsStarted f l b ≡ l
+    unfolding recordsStarted
+    started-kept = rw (start-refused (length l) (length b), loud)
+
+    counts-kept : besideStarted f l b ≡ b
+    unfolding besideStarted
+    counts-kept = rw (start-refused (length l) (length b), loud)
+
+-- whoever judges by the head first
+judged : {A : Type 0} (refusal : ℕ → A) (judge : List ℕ → A) → ((f : List ℕ) (n : ℕ) → headOf f ≡ Refused n → judge f ≡ refusal n) → (f : List ℕ)
+    → judge (take (enough (length f)) f) ≡ judge f
+judged refusal judge by-head f = stands-judged refusal judge by-head (take (enough (length f)) f) f (start-stands f)
+
+pub kept-alike : (f : List ℕ) → Alike (take (enough (length f)) f) f
+kept-alike f = record {
+  read = judged (λ n. refused n 0) readingNames names-refused f;
+  check = stands-check kept f stands;
+  place = λ room. stands-placed room kept f stands;
+  placed = λ out. stands-over out kept f stands;
+  run = λ ws room. stands-run ws room kept f stands;
+  ran = λ ws out. stands-ran ws out kept f stands;
+  pair = λ ws. judged (λ n. noPair (cond (listed (length ws)) (refused n 0) (refused 17 0))) (λ g. ready g ws) (λ g n e. pair-refused g n e ws) f;
+  choose = λ l b i p. judged (λ n. refused n 0) (λ g. choosing g l b i p) (λ g n e. choose-refused g n e l b i p) f;
+  records = λ l b i p. judged (λ n. l) (λ g. recordsOver g l b i p) (λ g n e. records-kept g n e l b i p) f;
+  beside = λ l b i p. judged (λ n. b) (λ g. besideOver g l b i p) (λ g n e. beside-kept g n e l b i p) f;
+  start = λ records words. judged (λ n. refused n 0) (λ g. starting g records words) (λ g n e. start-refused g n e records words) f;
+  started = λ l b. judged (λ n. l) (λ g. recordsStarted g l b) (λ g n e. started-kept g n e l b) f;
+  counts = λ l b. judged (λ n. b) (λ g. besideStarted g l b) (λ g n e. counts-kept g n e l b) f;
+}
+  where
+    kept : List ℕ
+    kept = take (enough (length f)) f
+
+    stands : StandsFor kept f
+    stands = start-stands f

@@ -1,0 +1,83 @@
+-- Runs in literal words: a file, a list of choices, what is answered and what is written.
+use Prim.Native.Nat.{ℕ, _*_, _-_}
+use mathlib.Core.Path.{_≡_}
+use mathlib.Core.List.{List, [], _∷_, _++_}
+use lib.ListN.{length, replicate}
+use Rattle.format.specs.Words.{bytesOf}
+use Rattle.format.specs.Answers.{fine, refused}
+use Rattle.format.specs.declared.Verdict.{Verdict}
+use Rattle.running.specs.declared.Ready.{Ready}
+use Rattle.running.specs.Run.{running, runOver, ready}
+
+-- a file's words, a list of choices, and what is said of them
+pub data Case : Type 0 where
+  -- the answer and the words of the output
+  runs : List ℕ → List ℕ → Verdict → List ℕ → Case
+  -- the refusal with an output of so many bytes, where nothing is written
+  refuses : List ℕ → List ℕ → ℕ → Verdict → Case
+  -- the ready pair after the list
+  readies : List ℕ → List ℕ → Ready → Case
+
+-- an output that held 7 in each of so many bytes
+abbrev sevens : ℕ → List ℕ
+sevens n = replicate n 7
+
+abbrev pub Shown : Case → Type 0
+Shown (runs ws cs v xs) =
+    (running (bytesOf ws) cs 1802 ≡ v) × (runOver (bytesOf ws) cs (sevens 1802) ≡ bytesOf xs ++ sevens (1802 - 2 * length xs))
+Shown (refuses ws cs n v) = (running (bytesOf ws) cs n ≡ v) × (runOver (bytesOf ws) cs (sevens n) ≡ sevens n)
+Shown (readies ws cs r) = ready (bytesOf ws) cs ≡ r
+
+-- user 1 has role 1, user 2 roles 1 and 2; role 1 may send on kind 1, role 2 may receive; kind 2 carries channels of kind 1; channel 1 of user 2 has kind 1, channel 2 of user 1 kind 2.
+-- Session 1, of user 1 with role 1 active: a fork; the one branch sends user 2 on channel 1, the other makes a channel of kind 2 and compares it with channel 2.
+-- Session 2, of user 2 with role 1 active: a repeat of: role 2 on, receive on channel 1.
+abbrev desk : List ℕ
+desk =
+    1 ∷ 2 ∷ 2 ∷ 2 ∷ 2 ∷ 2 ∷ 10 ∷ 13 ∷ 15 ∷ 23 ∷ 25 ∷ 29 ∷ 35
+    ∷ 1 ∷ 3
+    ∷ 1 ∷ 0 ∷ 0 ∷ 0 ∷ 0 ∷ 0 ∷ 1 ∷ 0
+    ∷ 0 ∷ 1
+    ∷ 2 ∷ 1 ∷ 1 ∷ 2
+    ∷ 1 ∷ 1 ∷ 1 ∷ 2 ∷ 1 ∷ 7
+    ∷ 1 ∷ 4 ∷ 0 ∷ 6 ∷ 257 ∷ 2 ∷ 0 ∷ 0 ∷ 0 ∷ 3 ∷ 2 ∷ 0 ∷ 4 ∷ 512 ∷ 258 ∷ 0 ∷ 0 ∷ 0
+    ∷ 2 ∷ 0 ∷ 0 ∷ 7 ∷ 2 ∷ 0 ∷ 5 ∷ 257 ∷ 0 ∷ 0 ∷ 0 ∷ 0 ∷ []
+
+-- three users, the last two with role 1 assigned and active, each with a session that ends
+abbrev three : List ℕ
+three =
+    1 ∷ 3 ∷ 1 ∷ 0 ∷ 0 ∷ 3 ∷ 3 ∷ 13 ∷ 16 ∷ 20 ∷ 20 ∷ 20 ∷ 29
+    ∷ 0 ∷ 1 ∷ 1
+    ∷ 0 ∷ 0 ∷ 0 ∷ 0
+    ∷ 1 ∷ 0 ∷ 1 ∷ 2 ∷ 1 ∷ 2 ∷ 3 ∷ 1 ∷ 3
+    ∷ 0 ∷ 0 ∷ 0 ∷ 0 ∷ 0 ∷ 0 ∷ 0 ∷ 0 ∷ 0 ∷ []
+
+-- a thread's words: user, node, mask, number of roles, the first variable and seven that are 0
+abbrev shows : ℕ → ℕ → ℕ → ℕ → ℕ → List ℕ
+shows user node mask roles v = user ∷ node ∷ mask ∷ roles ∷ v ∷ 0 ∷ 0 ∷ 0 ∷ 0 ∷ 0 ∷ 0 ∷ 0 ∷ []
+
+abbrev pub cases : List Case
+cases =
+    -- fork, repeat, on, new, a meeting; the compare is unequal: the sixth choice halts with 19, and the state before it is written
+    runs desk (1 ∷ 0 ∷ 2 ∷ 0 ∷ 4 ∷ 0 ∷ 3 ∷ 0 ∷ 1 ∷ 4 ∷ 3 ∷ 0 ∷ []) (refused 19 6)
+    (5 ∷ 19 ∷ 4 ∷ 1 ∷ 1 ∷ 2 ∷ shows 1 3 1 1 0 ++ shows 2 7 1 1 0 ++ shows 1 5 1 1 385 ++ shows 2 10 3 2 2)
+    -- without the compare: all five are done
+    ∷ runs desk (1 ∷ 0 ∷ 2 ∷ 0 ∷ 4 ∷ 0 ∷ 3 ∷ 0 ∷ 1 ∷ 4 ∷ []) fine
+    (5 ∷ 0 ∷ 4 ∷ 1 ∷ 1 ∷ 2 ∷ shows 1 3 1 1 0 ++ shows 2 7 1 1 0 ++ shows 1 5 1 1 385 ++ shows 2 10 3 2 2)
+    -- after the meeting the receiver ends, third of four, then the sender: the two that are left keep their order
+    ∷ runs desk (2 ∷ 0 ∷ 3 ∷ 0 ∷ 1 ∷ 0 ∷ 1 ∷ 3 ∷ 3 ∷ 0 ∷ 1 ∷ 0 ∷ []) fine (6 ∷ 0 ∷ 2 ∷ 0 ∷ shows 2 7 1 1 0 ++ shows 1 4 1 1 0)
+    -- a fork with a partner, first of all: nothing is done
+    ∷ runs desk (1 ∷ 2 ∷ []) (refused 18 1) (0 ∷ 18 ∷ 2 ∷ 0 ∷ shows 1 1 1 1 0 ++ shows 2 7 1 1 0)
+    -- three threads, and the middle one ends
+    ∷ runs three [] fine (0 ∷ 0 ∷ 3 ∷ 0 ∷ shows 1 1 0 0 0 ++ shows 2 2 1 1 0 ++ shows 3 3 1 1 0)
+    ∷ runs three (2 ∷ 0 ∷ []) fine (1 ∷ 0 ∷ 2 ∷ 0 ∷ shows 1 1 0 0 0 ++ shows 3 3 1 1 0)
+    -- an odd list, too little room, and what is no file
+    ∷ refuses desk (1 ∷ []) 1802 (refused 17 0)
+    ∷ refuses desk [] 1799 (refused 17 0)
+    ∷ refuses [] (1 ∷ 0 ∷ []) 1802 (refused 1 0)
+    -- sender 1 and receiver 4; none at the start; a halted list, an odd one, and what is no file
+    ∷ readies desk (1 ∷ 0 ∷ 2 ∷ 0 ∷ 4 ∷ 0 ∷ []) (record { number = 0; place = 0; sender = 1; receiver = 4 })
+    ∷ readies desk [] (record { number = 0; place = 0; sender = 0; receiver = 0 })
+    ∷ readies desk (1 ∷ 0 ∷ 2 ∷ 0 ∷ 4 ∷ 0 ∷ 1 ∷ 0 ∷ []) (record { number = 18; place = 4; sender = 0; receiver = 0 })
+    ∷ readies desk (1 ∷ []) (record { number = 17; place = 0; sender = 0; receiver = 0 })
+    ∷ readies [] [] (record { number = 1; place = 0; sender = 0; receiver = 0 })
+    ∷ []
