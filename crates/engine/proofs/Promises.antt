@@ -37,7 +37,8 @@ use Rattle.placing_exact.specs.Cases.{Shown, cases}
 use Rattle.format.specs.declared.Node.{Node}
 use Rattle.rules.specs.Rules.{Context, childOf}
 use Rattle.steps.specs.declared.Thread.{Thread}
-use Rattle.steps.specs.Threads.{noThread, firstFree}
+use Rattle.steps.specs.Threads.{noThread, firstFree, value}
+use Rattle.steps.specs.Beside.{threadCount, madeCount}
 use Rattle.steps.specs.Choice.{Clinic, clinicOf, State, threadAt, choice, halts, goes}
 use Rattle.choices.specs.Choices.{start, run, ranOf}
 use Rattle.running.specs.Run.{listed, running, runOver, readyPair, ready}
@@ -61,6 +62,7 @@ use Rattle.placing_exact.proofs.PlacingFirst.{placing-first}
 use Rattle.placing_exact.proofs.OneRole.{one-role-written}
 use Rattle.placing_exact.proofs.RivalsByRoles.{rivals-all, fewest-of-all, none-at-all}
 use Rattle.placing_exact.proofs.StarredCases.{starred}
+use Rattle.running_exact.proofs.Operands.{stands-for}
 use Rattle.running_exact.proofs.Agree.{agree, one-result, refused-first, done-free}
 use Rattle.running_exact.proofs.StepEffects.{step-effect}
 use Rattle.running_exact.proofs.RunChain.{run-chain, run-stopped, run-whole}
@@ -263,6 +265,10 @@ start-of-a-run = start-seats
 pub choice-is-a-step : (C : Clinic) (s : State) (i p : ℕ) (s′ : State) → (choice C s i p ≡ goes s′) ↔ Steps C s i p s′
 choice-is-a-step = agree
 
+-- "512 to 519 the variable bound first to eighth": what an operand stands for in a thread, for steps and choices alike.
+pub operands-stand-for : (t : Thread) (x : ℕ) → (x < 512 → value t x ≡ x) × ((i : ℕ) → value t (512 + i) ≡ getD (t .vars) i 0)
+operands-stand-for = stands-for
+
 pub one-step : (C : Clinic) (s : State) (i p : ℕ) (s′ s″ : State) → Steps C s i p s′ → Steps C s i p s″ → s′ ≡ s″
 one-step = one-result
 
@@ -459,8 +465,8 @@ pub refused-leaves-all : (f : List ℕ) (l : List Thread) (b : List ℕ) (i p : 
 refused-leaves-all = refused-unchanged
 
 pub past-the-count : (f : List ℕ) (l : List Thread) (b : List ℕ) (i p : ℕ)
-    → (drop (getD (besideOver f l b i p) 0 0) (recordsOver f l b i p) ≡ drop (getD (besideOver f l b i p) 0 0) l)
-    × (drop (2 + 2 * getD (besideOver f l b i p) 1 0) (besideOver f l b i p) ≡ drop (2 + 2 * getD (besideOver f l b i p) 1 0) b)
+    → (drop (threadCount (besideOver f l b i p)) (recordsOver f l b i p) ≡ drop (threadCount (besideOver f l b i p)) l)
+    × (drop (2 + 2 * madeCount (besideOver f l b i p)) (besideOver f l b i p) ≡ drop (2 + 2 * madeCount (besideOver f l b i p)) b)
 past-the-count = past-kept
 
 -- "Starred cases belong to the proved set .. shown on the definitions through one theorem about their list."

@@ -1,6 +1,7 @@
 -- one choice: function and relation
 pub mod ChoiceSteps
 pub mod StepsChosen
+pub mod Operands
 pub mod Agree
 pub mod StepEffects
 -- lists of choices
