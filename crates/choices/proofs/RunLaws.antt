@@ -19,7 +19,7 @@ use Rattle.steps.specs.Choice.{Clinic, State, Chosen, goes, done, outcome, choi
 use Rattle.choices.specs.Choices.{threadsFrom, start, Ran, follow, run}
 use Rattle.steps.specs.Records.{threadsIn}
 use Rattle.steps.specs.Beside.{madeIn, startWords}
-use Rattle.steps.specs.Kept.{stateIn, Sized, stateAfter}
+use Rattle.steps.specs.Kept.{stateIn, Sized, stateLeft}
 use Rattle.steps.specs.Records.{stored}
 use Rattle.choices.proofs.StateLaws.{threads-add}
 
@@ -53,16 +53,16 @@ Refuses (answers.Makes m) = ⊥
 Refuses answers.Ends = ⊥
 Refuses answers.Meets = ⊥
 
-abbrev refusalOf : Answer → ℕ
-refusalOf (answers.Refused n) = n
-refusalOf answers.Moves = 0
-refusalOf answers.Adds = 0
-refusalOf (answers.Makes m) = 0
-refusalOf answers.Ends = 0
-refusalOf answers.Meets = 0
+abbrev numberOf : Answer → ℕ
+numberOf (answers.Refused n) = n
+numberOf answers.Moves = 0
+numberOf answers.Adds = 0
+numberOf (answers.Makes m) = 0
+numberOf answers.Ends = 0
+numberOf answers.Meets = 0
 
 pub refused-by : (o : Outcome) (n : ℕ) → answers.Refused n ≡ actedOf o .answer → o ≡ Refused n
-refused-by (Refused k) n e = ap Refused (sym (ap refusalOf e))
+refused-by (Refused k) n e = ap Refused (sym (ap numberOf e))
 refused-by (Moves t) n e = absurd (subst Refuses e tt)
 refused-by (Adds q) n e = absurd (subst Refuses e tt)
 refused-by (Makes q) n e = absurd (subst Refuses e tt)
@@ -71,7 +71,7 @@ refused-by (Meets q) n e = absurd (subst Refuses e tt)
 
 module _ (C : Clinic) (s : State) (ws : List ℕ) (k : ℕ) (now now′ : State) (lt : k < length ws / 2) (left : Left C s ws k now)
     (o : Outcome) (is : o ≡ outcome C now (getD ws (2 * k) 0) (getD ws (2 * k + 1) 0))
-    (kept : now′ ≡ stateAfter now (done now (getD ws (2 * k) 0) (getD ws (2 * k + 1) 0) o)) where
+    (kept : now′ ≡ stateLeft now (done now (getD ws (2 * k) 0) (getD ws (2 * k + 1) 0) o)) where
   abbrev chosen : Outcome → Chosen
   chosen x = done now (getD ws (2 * k) 0) (getD ws (2 * k + 1) 0) x
 
@@ -86,7 +86,7 @@ module _ (C : Clinic) (s : State) (ws : List ℕ) (k : ℕ) (now now′ : State)
   left-halts n e =
       let f : o ≡ Refused n = refused-by o n e in
       let z : k + 0 ≡ k = omega arith in
-      let stays : now′ ≡ now = kept ∙ ap (λ (x : Outcome). stateAfter now (chosen x)) f in
+      let stays : now′ ≡ now = kept ∙ ap (λ (x : Outcome). stateLeft now (chosen x)) f in
       here ∙ ap (λ (x : Outcome). after k (follow now (chosen x) (λ y. run C y (drop (2 * (k + 1)) ws)))) f
       ∙ (λ j. record { count = z j; refusal = n; state = sym stays j })
 
@@ -100,7 +100,7 @@ module _ (C : Clinic) (s : State) (ws : List ℕ) (k : ℕ) (now now′ : State)
           let z : k + suc (R .count) ≡ k + 1 + R .count = omega arith in
           h ∙ ap (λ (n : ℕ). record { count = n; refusal = R .refusal; state = R .state }) z ∙ ap (λ (x : State). after (k + 1) (run C x (drop (2 * (k + 1)) ws))) (sym q)
 
-      go : (x : Outcome) → (Refuses (actedOf x .answer) → ⊥) → now′ ≡ stateAfter now (chosen x)
+      go : (x : Outcome) → (Refuses (actedOf x .answer) → ⊥) → now′ ≡ stateLeft now (chosen x)
           → run C s ws ≡ after k (follow now (chosen x) (λ y. run C y (drop (2 * (k + 1)) ws))) → Left C s ws (k + 1) now′
       go (Refused n) f q h = absurd (f tt)
       go (Moves t) f q h = on _ q h

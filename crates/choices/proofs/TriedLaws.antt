@@ -10,7 +10,7 @@ use Rattle.steps.specs.declared.Answer.{Answer}
 use Rattle.steps.specs.declared.Answer.the-variants as answers
 use Rattle.steps.specs.Acted.{actedOf}
 use Rattle.steps.specs.Choice.{Clinic, State, Chosen, done, outcome, choice}
-use Rattle.steps.specs.Kept.{stateIn, Sized, stateAfter}
+use Rattle.steps.specs.Kept.{stateIn, Sized, stateLeft}
 use Rattle.choices.specs.Choices.{Ran, follow, run}
 use Rattle.choices.specs.Stored.{Tried, untried, triedBy, onFrom, tried, Chose, Gone, Through}
 use Rattle.choices.specs.declared.Went.{Went}
@@ -22,7 +22,7 @@ LeftTried C s t₀ ws k now t = tried C s t₀ ws ≡ tried C now t (drop (2 * k
 
 module _ (C : Clinic) (s : State) (t₀ : Tried) (ws : List ℕ) (k : ℕ) (now now′ : State) (t t′ : Tried) (lt : k < length ws / 2) (left : LeftTried C s t₀ ws k now t)
     (o : Outcome) (is : o ≡ outcome C now (getD ws (2 * k) 0) (getD ws (2 * k + 1) 0))
-    (kept : now′ ≡ stateAfter now (done now (getD ws (2 * k) 0) (getD ws (2 * k + 1) 0) o)) (told : t′ ≡ triedBy (t .beside) o) where
+    (kept : now′ ≡ stateLeft now (done now (getD ws (2 * k) 0) (getD ws (2 * k + 1) 0) o)) (told : t′ ≡ triedBy (t .beside) o) where
   abbrev chosen : Outcome → Chosen
   chosen x = done now (getD ws (2 * k) 0) (getD ws (2 * k + 1) 0) x
 
@@ -44,7 +44,7 @@ module _ (C : Clinic) (s : State) (t₀ : Tried) (ws : List ℕ) (k : ℕ) (now 
   unfolding done
   tried-goes none = go o none kept here
     where
-      go : (x : Outcome) → (Refuses (actedOf x .answer) → ⊥) → now′ ≡ stateAfter now (chosen x) → tried C s t₀ ws ≡ onFrom (chosen x) t′ (rest t′) → LeftTried C s t₀ ws (k + 1) now′ t′
+      go : (x : Outcome) → (Refuses (actedOf x .answer) → ⊥) → now′ ≡ stateLeft now (chosen x) → tried C s t₀ ws ≡ onFrom (chosen x) t′ (rest t′) → LeftTried C s t₀ ws (k + 1) now′ t′
       go (Refused n) f q h = absurd (f tt)
       go (Moves u) f q h = h ∙ ap (rest t′) (sym q)
       go (Adds u) f q h = h ∙ ap (rest t′) (sym q)
@@ -85,11 +85,11 @@ one-chosen C s b i p = go (outcome C s i p)
     go Ends = refl
     go (Meets q) = refl
 
-pub one-state : (C : Clinic) (s : State) (i p : ℕ) → run C s (i ∷ p ∷ []) .state ≡ stateAfter s (done s i p (outcome C s i p))
+pub one-state : (C : Clinic) (s : State) (i p : ℕ) → run C s (i ∷ p ∷ []) .state ≡ stateLeft s (done s i p (outcome C s i p))
 unfolding run choice done
 one-state C s i p = go (outcome C s i p)
   where
-    go : (o : Outcome) → follow s (done s i p o) (λ x. run C x []) .state ≡ stateAfter s (done s i p o)
+    go : (o : Outcome) → follow s (done s i p o) (λ x. run C x []) .state ≡ stateLeft s (done s i p o)
     go (Refused n) = refl
     go (Moves t) = refl
     go (Adds q) = refl

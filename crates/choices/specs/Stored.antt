@@ -2,7 +2,7 @@
 use Prim.Native.Nat.{ℕ, _≤_, _<_}
 use mathlib.Core.Path.{_≡_}
 use mathlib.Core.List.{List, [], _∷_}
-use Rattle.choices.specs.declared.Counted.{Counted}
+use Rattle.choices.specs.declared.Progress.{Progress}
 use Rattle.choices.specs.declared.Went.{Went}
 use Rattle.steps.specs.declared.Answer.{Answer}
 use Rattle.steps.specs.declared.Answer.the-variants as answers
@@ -11,7 +11,7 @@ use Rattle.steps.specs.declared.Outcome.{Outcome}
 use Rattle.steps.specs.Acted.{actedOf}
 use Rattle.steps.specs.Beside.{besideBy}
 use Rattle.steps.specs.Choice.{Clinic, State, Chosen, halts, goes, done, outcome}
-use Rattle.steps.specs.Kept.{stateIn, Sized, stateAfter}
+use Rattle.steps.specs.Kept.{stateIn, Sized, stateLeft}
 
 -- there is room for what an answer adds to so many threads and made channels, and the partner that it moves is a thread
 abbrev pub HasRoom : ℕ → ℕ → ℕ → Answer → Type 0
@@ -25,10 +25,10 @@ HasRoom threads made p answers.Meets = (0 < p) × (p ≤ threads)
 -- a choice of thread i with partner p, carried out in the tables: what it comes to is answered, and what it leaves stands in them
 abbrev pub Chose : Outcome → ℕ → ℕ → Answer → List ℕ → List ℕ → List ℕ → List ℕ → Type 0
 Chose o i p r w b w′ b′ =
-    (r ≡ actedOf o .answer) × (stateIn w′ b′ ≡ stateAfter (stateIn w b) (done (stateIn w b) i p o)) × (b′ ≡ besideBy b o) × Sized w′ b′
+    (r ≡ actedOf o .answer) × (stateIn w′ b′ ≡ stateLeft (stateIn w b) (done (stateIn w b) i p o)) × (b′ ≡ besideBy b o) × Sized w′ b′
 
 -- a run gone through: what it answers, and the state that it leaves in the tables
-abbrev pub Gone : Ran → Counted → List ℕ → List ℕ → Type 0
+abbrev pub Gone : Ran → Progress → List ℕ → List ℕ → Type 0
 Gone R r w b = (r ≡ record { count = R .count; refusal = R .refusal }) × (stateIn w b ≡ R .state) × Sized w b
 
 -- the words beside the threads after a list of choices, and the answer of the last that was tried; before the first a refusal 0

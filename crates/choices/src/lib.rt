@@ -5,7 +5,7 @@ pub mod state;
 use steps::Answer;
 
 // How many choices were done, and the refusal of the next, 0 if none.
-pub struct Counted {
+pub struct Progress {
     pub count: u16,
     pub refusal: u16,
 }

@@ -1,5 +1,5 @@
 // A list of choices, each carried out in the tables that keep the state.
-use super::Counted;
+use super::Progress;
 use super::Went;
 use super::state::add_thread;
 use super::state::remove_thread;
@@ -33,7 +33,7 @@ ghost use Rattle.choices.specs.Choices.{start, run};
 ghost use Rattle.steps.specs.Kept.{stateIn, Sized};
 ghost use Rattle.steps.specs.Acted.{outcomeOf};
 ghost use Rattle.choices.specs.Stored.{HasRoom, Chose, untried, tried, Gone, Through};
-ghost use Rattle.steps.specs.Records.{tableWords};
+ghost use Rattle.steps.specs.Records.{threadTableWords};
 ghost use Rattle.steps.specs.Beside.{threadCount, madeCount, besideWords};
 
 // What a choice of thread i with partner p comes to is stored in place. A refused one stores nothing.
@@ -169,7 +169,7 @@ pub fn opening(file: &[u8], head: Head, k: u16) -> Thread
 
 // One thread for each session, in order, and no channel made.
 fn open_threads(file: &[u8], head: Head, threads: &mut [u16], beside: &mut [u16])
-    requires { ⌜ Laid (now file) head × (length (now threads) ≡ tableWords) × (length (now beside) ≡ besideWords) ⌝ }
+    requires { ⌜ Laid (now file) head × (length (now threads) ≡ threadTableWords) × (length (now beside) ≡ besideWords) ⌝ }
     ensures { λ r. ⌜ (stateIn (now (threads .exit)) (now (beside .exit)) ≡ start (contentsAt (now (file .entry)) head)) × Sized (now (threads .exit)) (now (beside .exit)) ⌝ }
 {
     let sessions = head.count.sessions;
@@ -191,16 +191,16 @@ pub fn run_by(
     choices: &[u16],
     threads: &mut [u16],
     beside: &mut [u16],
-) -> Counted
+) -> Progress
     requires { ⌜ Laid (now file) head × (length (now sends) ≡ 33) × (length (now receives) ≡ 33) × (now sends ≡ replicate (length (now sends)) 0) × (now receives ≡ replicate (length (now receives)) 0)
-        × (length (now choices) ≤ 131070) × (length (now threads) ≡ tableWords) × (length (now beside) ≡ besideWords) ⌝ }
+        × (length (now choices) ≤ 131070) × (length (now threads) ≡ threadTableWords) × (length (now beside) ≡ besideWords) ⌝ }
     ensures { λ r. ⌜ Gone (run (clinicOf (contentsAt (now (file .entry)) head)) (start (contentsAt (now (file .entry)) head)) (now (choices .entry))) r (now (threads .exit)) (now (beside .exit))
         × Granting (schemaOf (contentsAt (now (file .entry)) head)) Sends (now (sends .exit)) × Granting (schemaOf (contentsAt (now (file .entry)) head)) Receives (now (receives .exit)) ⌝ }
 {
     fill_grants(file, head, sends, receives);
     open_threads(file, head, threads, beside);
     let went = go_through(file, head, sends, receives, choices, threads, beside);
-    Counted {
+    Progress {
         count: went.count,
         refusal: went.refusal,
     }
@@ -213,8 +213,8 @@ pub fn run_list(
     choices: &[u16],
     threads: &mut [u16],
     beside: &mut [u16],
-) -> Counted
-    requires { ⌜ Laid (now file) head × (length (now choices) ≤ 131070) × (length (now threads) ≡ tableWords) × (length (now beside) ≡ besideWords) ⌝ }
+) -> Progress
+    requires { ⌜ Laid (now file) head × (length (now choices) ≤ 131070) × (length (now threads) ≡ threadTableWords) × (length (now beside) ≡ besideWords) ⌝ }
     ensures { λ r. ⌜ Gone (run (clinicOf (contentsAt (now (file .entry)) head)) (start (contentsAt (now (file .entry)) head)) (now (choices .entry))) r (now (threads .exit)) (now (beside .exit)) ⌝ }
 {
     let mut sends = [0u16; 33];

@@ -47,7 +47,7 @@ use Rattle.running_exact.specs.Conditions.{Condition, FirstRefusal}
 use Rattle.running_exact.specs.Effects.{Effect}
 use Rattle.running_exact.specs.Runs.{Seated, Refuses, Unlisted, Unfit, Listed, Fit, noPair}
 use Rattle.running_exact.specs.Output.{Written}
-use Rattle.running_exact.specs.RunCases.{Shown as RunShown, cases as run-cases}
+use Rattle.running_exact.specs.RunCases.{RunShown, runCases}
 use Rattle.running_exact.specs.Keeps.{Reaches, Kept}
 use Rattle.lending.specs.Lent.{stateOf, lending, choosing, recordsOver, besideOver}
 use Rattle.lending.specs.Starting.{starting, recordsStarted, besideStarted}
@@ -320,7 +320,7 @@ pub run-writes : (f ws out : List ℕ) → Fit ws (length out) → readingNames 
 run-writes = run-written
 
 -- Runs and ready pairs in literal words: a fork, a repeat, a made channel, a meeting, ends and halts.
-pub runs-in-words : All RunShown run-cases
+pub runs-in-words : All RunShown runCases
 runs-in-words = runs-shown
 
 -- In every state of a run of a file that 1 to 10 let through each thread's node is in count, its user that of its session, its mask the active set of rule 5 at that node and within the

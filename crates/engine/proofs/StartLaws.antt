@@ -13,7 +13,7 @@ use Rattle.reading.specs.declared.Opened.{Opened}
 use Rattle.reading.specs.declared.Opened.the-variants.{Fine, Refused}
 use Rattle.steps.specs.declared.Thread.{Thread}
 use Rattle.choices.specs.Choices.{start}
-use Rattle.lending.specs.Walk.{refusalOf}
+use Rattle.lending.specs.Walk.{verdictOf}
 use Rattle.lending.specs.Starting.{starting, recordsStarted, sessionsOf}
 use Rattle.lending.proofs.StartingLaws.{started-fine, started-refused}
 
@@ -33,7 +33,7 @@ module _ (f : List ℕ) (l : List Thread) (b : List ℕ) where
   Begins it = it ≡ withHead (headAt f) (starting f (length l) (length b))
 
   -- it is the answer
-  pub refusal-started : (it : Opened) → Begins it → refusalOf it ≡ starting f (length l) (length b)
+  pub refusal-started : (it : Opened) → Begins it → verdictOf it ≡ starting f (length l) (length b)
   refusal-started (Fine h) e = sym (started-fine f l b h (sym e) .1)
   refusal-started (Refused v) e = sym (started-refused f l b v (sym e) .0)
 

@@ -5,7 +5,7 @@ use format::Head;
 use format::Verdict;
 use format::words::wide;
 use lending::answer_of;
-use lending::place_of;
+use lending::index_of;
 use lending::stepping::stepped;
 use lending::unlendable;
 use steps::Thread;
@@ -37,8 +37,8 @@ pub fn choose_by(
     if !records_fit(&mut *list, n, file, head, table, &*beside) {
         return unlendable();
     }
-    let own = list[place_of(count, i)];
-    let other = list[place_of(count, p)];
+    let own = list[index_of(count, i)];
+    let other = list[index_of(count, p)];
     let it = stepped(file, head, &mut *beside, i, own, p, other);
     store(&mut *list, n, wide(i), wide(p), it);
     answer_of(it)

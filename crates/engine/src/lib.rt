@@ -9,9 +9,9 @@ use format::Verdict;
 use lending::admit;
 use lending::head_of;
 use lending::is_refused;
-use lending::refusal_of;
 use lending::starting::begin;
 use lending::starting::sessions_of;
+use lending::verdict_of;
 use placing::Placed;
 use running::Ready;
 use starting::start_records;
@@ -85,7 +85,7 @@ pub extern "C" fn pilzdamo_choose(
     let mut table = [0u64; 1025];
     let it = admit(file, threads.len(), &*beside, &mut table);
     if is_refused(it) {
-        return refusal_of(it);
+        return verdict_of(it);
     }
     choose_by(
         &mut *threads,
@@ -108,5 +108,5 @@ pub extern "C" fn pilzdamo_start(file: &[u8], threads: &mut [Thread], beside: &m
 {
     let it = begin(file, threads.len(), &mut *beside);
     start_records(&mut *threads, file, head_of(it), sessions_of(it));
-    refusal_of(it)
+    verdict_of(it)
 }

@@ -24,11 +24,11 @@ use Rattle.steps.specs.Choice.{Clinic, State, threadAt, partnerAt, changed, sen
 use Rattle.steps.specs.Acted.{partnerOf, actedOf, outcomeBy}
 use Rattle.steps.specs.Beside.{threadCount, madeCount, madeOf, besideBy}
 use Rattle.steps.specs.Records.{threadIn, threadsIn, stored}
-use Rattle.steps.specs.Kept.{stateIn, stateAfter, Sized}
+use Rattle.steps.specs.Kept.{stateIn, stateLeft, Sized}
 use Rattle.steps.proofs.TableLaws.{threads-length, thread-get, thread-same, stored-same, stored-other, stored-length}
 use Rattle.choices.specs.Stored.{HasRoom, Chose}
 use Rattle.choices.proofs.ChoiceLaws.{acted-placed, looked}
-use Rattle.lending.specs.Walk.{stepOf, secondAt}
+use Rattle.lending.specs.Walk.{outcomeOn, secondAt}
 
 -- two choices that agree where a test holds
 agree : {A : Type 0} (x : Bool) (a c r : A) → (x ≡ true → a ≡ c) → cond x a r ≡ cond x c r
@@ -56,8 +56,8 @@ module _ (C : Clinic) (b : List ℕ) (ts : List Thread) (i p : ℕ) (own other :
       go false false e q = refl
       go false true e q = ap With (theirs (rw (lt-ltb 0 p (positive p (eqb-false p 0 e)), q)))
 
-  pub outcome-is : outcome C s i p ≡ stepOf C b i own p other
-  unfolding outcome stepOf
+  pub outcome-is : outcome C s i p ≡ outcomeOn C b i own p other
+  unfolding outcome outcomeOn
   outcome-is =
       ap (λ (k : ℕ). cond (inCount k i) (acting C k (s .made) (threadAt s i) (partnerAt s p)) (Refused 18)) long
       ∙ agree (inCount n i) (acting C n (s .made) (threadAt s i) (partnerAt s p)) (acting C n (s .made) own (partnerOf n p other)) (Refused 18)
@@ -129,7 +129,7 @@ module _ (ts : List Thread) (ms : List Made) (n m i p at to : ℕ) (long : lengt
   abbrev found : Answer → Outcome
   found a = outcomeBy a (threadIn w (11 * at)) (threadIn w (11 * secondAt n to a))
 
-  pub left-is : (x : Outcome) → HasRoom n m p (actedOf x .answer) → (p ≡ i → Unmet x) → stateIn w b ≡ stateAfter before (done before i p x) → found (actedOf x .answer) ≡ x
+  pub left-is : (x : Outcome) → HasRoom n m p (actedOf x .answer) → (p ≡ i → Unmet x) → stateIn w b ≡ stateLeft before (done before i p x) → found (actedOf x .answer) ≡ x
   unfolding done
   left-is (Refused k) room apart e = refl
   left-is (Moves t) room apart e = ap Moves (own-read t (ap (λ (y : State). y .threads) e))
@@ -163,7 +163,7 @@ module _ (C : Clinic) (w v u b : List ℕ) (size : Sized w b) (i p q at to : ℕ
   c = threadCount b
 
   abbrev x : Outcome
-  x = stepOf C b i own p other
+  x = outcomeOn C b i own p other
 
   bounds : (1 ≤ i) × (i ≤ c)
   bounds = in-count c i inside
@@ -210,7 +210,7 @@ module _ (C : Clinic) (w v u b : List ℕ) (size : Sized w b) (i p q at to : ℕ
   chosen = outcome-is C b (threadsIn u 0 c) i p own other (threads-length u 0 c) (λ e. own-there) other-there
 
   step-of : x ≡ acting C c (madeOf b) own (partnerOf c p other)
-  unfolding stepOf
+  unfolding outcomeOn
   step-of = rw inside refl
 
   room : HasRoom c (madeCount b) p (actedOf x .answer)
@@ -243,6 +243,6 @@ module _ (C : Clinic) (w v u b : List ℕ) (size : Sized w b) (i p q at to : ℕ
 
 -- no thread i: nothing is done
 pub step-none : (C : Clinic) (b : List ℕ) (i p : ℕ) (own other : Thread) (it : Acted) → inCount (threadCount b) i ≡ false → it ≡ actedOf (Refused 18)
-    → (it ≡ actedOf (stepOf C b i own p other)) × (b ≡ besideBy b (stepOf C b i own p other))
-unfolding stepOf
+    → (it ≡ actedOf (outcomeOn C b i own p other)) × (b ≡ besideBy b (outcomeOn C b i own p other))
+unfolding outcomeOn
 step-none C b i p own other it outside e = rw outside (e, refl)

@@ -21,7 +21,7 @@ use Rattle.steps.proofs.ActLaws.{outcome-acted}
 use Rattle.choices.specs.Stored.{HasRoom}
 use Rattle.choices.proofs.ChoiceLaws.{acted-placed}
 use Rattle.lending.specs.Lent.{stateOf, chosenAnswer, recordsAfter, besideAfter}
-use Rattle.lending.specs.Walk.{Fitting, threadsFit, judgedAnswer, judgedRecords, judgedBeside, stepOf, storedIn, placeOf, Storable, answerOf}
+use Rattle.lending.specs.Walk.{Fitting, threadsFit, judgedAnswer, judgedRecords, judgedBeside, outcomeOn, storedIn, indexOf, Storable, answerOf}
 use Rattle.lending.proofs.StepLaws.{outcome-is}
 use Rattle.lending.proofs.StoredLaws.{one-set, two-set, set-and-last, without-long, one-removed, words-are, threads-told, made-told}
 
@@ -33,13 +33,13 @@ module _ (C : Clinic) (l : List Thread) (b : List ℕ) (fit : Fitting (length l)
   s = stateOf l b
 
   abbrev own : Thread
-  own = getD l (placeOf n i) noThread
+  own = getD l (indexOf n i) noThread
 
   abbrev other : Thread
-  other = getD l (placeOf n p) noThread
+  other = getD l (indexOf n p) noThread
 
   abbrev o : Outcome
-  o = stepOf C b i own p other
+  o = outcomeOn C b i own p other
 
   within-list : n ≤ length l
   within-list = omega (arith, fit .list, fit .threads)
@@ -48,7 +48,7 @@ module _ (C : Clinic) (l : List Thread) (b : List ℕ) (fit : Fitting (length l)
   counted = length-take-le n l within-list
 
   -- the records that are looked at are the state's threads
-  read-at : (j : ℕ) → inCount n j ≡ true → getD l (placeOf n j) noThread ≡ threadAt s j
+  read-at : (j : ℕ) → inCount n j ≡ true → getD l (indexOf n j) noThread ≡ threadAt s j
   read-at j e =
       let (pos, le) = in-count n j e in
       ap (λ (x : Bool). getD l (cond x (j - 1) 0) noThread) e ∙ sym (getD-take n l (j - 1) noThread (omega (arith, pos, le)))
@@ -60,11 +60,11 @@ module _ (C : Clinic) (l : List Thread) (b : List ℕ) (fit : Fitting (length l)
 
   -- where there is no thread i, it is refused; and else there is room for what it adds
   no-step : inCount n i ≡ false → o ≡ Refused 18
-  unfolding stepOf
+  unfolding outcomeOn
   no-step e = rw e
 
   room : inCount n i ≡ true → HasRoom n (madeCount b) p (actedOf o .answer)
-  unfolding stepOf
+  unfolding outcomeOn
   room e =
       let is : o ≡ acting C n (s .made) own (partnerOf n p other) = rw e in
       acted-placed C b p own other (actedOf o) (ap actedOf is)
@@ -134,15 +134,15 @@ module _ (C : Clinic) (l : List Thread) (b : List ℕ) (fit : Fitting (length l)
 
 -- a list whose counted records are as their nodes ask: what the step comes to is stored and answered as the choice
 module _ (C : Contents) (l : List Thread) (b : List ℕ) (fit : Fitting (length l) b) (i p : ℕ) where
-  pub judged : threadsFit C l b ≡ true → (t u : Thread) → t ≡ getD l (placeOf (threadCount b) i) noThread → u ≡ getD l (placeOf (threadCount b) p) noThread
-      → (it : Acted) → it ≡ actedOf (stepOf (clinicOf C) b i t p u)
+  pub judged : threadsFit C l b ≡ true → (t u : Thread) → t ≡ getD l (indexOf (threadCount b) i) noThread → u ≡ getD l (indexOf (threadCount b) p) noThread
+      → (it : Acted) → it ≡ actedOf (outcomeOn (clinicOf C) b i t p u)
       → Storable (length l) (threadCount b) i p (it .answer)
       × (answerOf (it .answer) ≡ judgedAnswer C l b i p)
       × (storedIn l (threadCount b) i p (outcomeOf it) ≡ judgedRecords C l b i p)
-      × (besideBy b (stepOf (clinicOf C) b i t p u) ≡ judgedBeside C l b i p)
+      × (besideBy b (outcomeOn (clinicOf C) b i t p u) ≡ judgedBeside C l b i p)
   judged fits t u et eu it e =
       let x : Outcome = o (clinicOf C) l b fit i p in
-      let same : stepOf (clinicOf C) b i t p u ≡ x = ap₂ (λ (y z : Thread). stepOf (clinicOf C) b i y p z) et eu in
+      let same : outcomeOn (clinicOf C) b i t p u ≡ x = ap₂ (λ (y z : Thread). outcomeOn (clinicOf C) b i y p z) et eu in
       let is : it ≡ actedOf x = e ∙ ap actedOf same in
       let chosen : done (stateOf l b) i p x ≡ choice (clinicOf C) (stateOf l b) i p = sym (choice-is (clinicOf C) l b fit i p) in (
         subst (λ (y : Acted). Storable (length l) (threadCount b) i p (y .answer)) (sym is) (storable (clinicOf C) l b fit i p),
@@ -152,15 +152,15 @@ module _ (C : Contents) (l : List Thread) (b : List ℕ) (fit : Fitting (length 
       )
 
   -- the partner that is the thread itself has its record
-  pub same-record : (t u : Thread) → t ≡ getD l (placeOf (threadCount b) i) noThread → u ≡ getD l (placeOf (threadCount b) p) noThread → p ≡ i → u ≡ t
-  same-record t u et eu e = eu ∙ ap (λ (k : ℕ). getD l (placeOf (threadCount b) k) noThread) e ∙ sym et
+  pub same-record : (t u : Thread) → t ≡ getD l (indexOf (threadCount b) i) noThread → u ≡ getD l (indexOf (threadCount b) p) noThread → p ≡ i → u ≡ t
+  same-record t u et eu e = eu ∙ ap (λ (k : ℕ). getD l (indexOf (threadCount b) k) noThread) e ∙ sym et
 
   -- one that has a record that is not: nothing is done
   pub misjudged : threadsFit C l b ≡ false → (refused 18 0 ≡ judgedAnswer C l b i p) × (l ≡ judgedRecords C l b i p) × (b ≡ judgedBeside C l b i p)
   misjudged unfit = (rw unfit refl, rw unfit refl, rw unfit refl)
 
 -- where the records that are looked at stand
-pub place-within : (l : List Thread) (b : List ℕ) → Fitting (length l) b → (j : ℕ) → placeOf (threadCount b) j < length l
+pub place-within : (l : List Thread) (b : List ℕ) → Fitting (length l) b → (j : ℕ) → indexOf (threadCount b) j < length l
 place-within l b fit j = go (inCount (threadCount b) j) refl
   where
     go : (x : Bool) → inCount (threadCount b) j ≡ x → cond x (j - 1) 0 < length l

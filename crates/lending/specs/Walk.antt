@@ -48,9 +48,9 @@ abbrev pub isRefused : Opened → Bool
 isRefused (opened.Fine h) = false
 isRefused (opened.Refused v) = true
 
-abbrev pub refusalOf : Opened → Verdict
-refusalOf (opened.Fine h) = fine
-refusalOf (opened.Refused v) = v
+abbrev pub verdictOf : Opened → Verdict
+verdictOf (opened.Fine h) = fine
+verdictOf (opened.Refused v) = v
 
 -- every counted record is as its node asks
 abbrev pub threadsFit : Contents → List Thread → List ℕ → Bool
@@ -71,8 +71,8 @@ abbrev pub judgedBeside : Contents → List Thread → List ℕ → ℕ → ℕ 
 judgedBeside C l b i p = cond (threadsFit C l b) (besideAfter b (chosenOf C l b i p)) b
 
 -- the step by value: thread i is `own`, the partner p is `other` where it is a thread; 18 where there is no thread i
-unfoldable pub stepOf : Clinic → List ℕ → ℕ → Thread → ℕ → Thread → Outcome
-stepOf C b i own p other =
+unfoldable pub outcomeOn : Clinic → List ℕ → ℕ → Thread → ℕ → Thread → Outcome
+outcomeOn C b i own p other =
     cond (inCount (threadCount b) i) (acting C (threadCount b) (madeOf b) own (partnerOf (threadCount b) p other)) (Refused 18)
 
 -- where code finds the second of the threads that an answer leaves: the new last one of n, or the partner's
@@ -94,8 +94,8 @@ storedIn l n i p Ends = paste l (i - 1) (drop i l) (n - i)
 storedIn l n i p (Meets q) = set (set l (i - 1) (q .first)) (p - 1) (q .second)
 
 -- where the record of a thread of so many stands, from 0 on; the first for no thread
-abbrev pub placeOf : ℕ → ℕ → ℕ
-placeOf n i = cond (inCount n i) (i - 1) 0
+abbrev pub indexOf : ℕ → ℕ → ℕ
+indexOf n i = cond (inCount n i) (i - 1) 0
 
 -- what is stored lies in a list of so many records, of which n are threads
 abbrev pub Storable : ℕ → ℕ → ℕ → ℕ → Answer → Type 0

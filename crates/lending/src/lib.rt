@@ -24,7 +24,7 @@ ghost use Rattle.format.specs.Answers.{refused};
 ghost use Rattle.format.specs.declared.Head.{Head};
 ghost use Rattle.reading.specs.declared.Opened.the-variants as opened;
 ghost use Rattle.lending.specs.Lent.{sizesFit};
-ghost use Rattle.lending.specs.Walk.{admitted, Admits, isRefused, refusalOf, placeOf, answerOf};
+ghost use Rattle.lending.specs.Walk.{admitted, Admits, isRefused, verdictOf, indexOf, answerOf};
 
 // The sizes are right: so many records, the words beside them, counts of at most 64.
 fn sizes_fit(records: usize, beside: &[u16]) -> bool
@@ -76,8 +76,8 @@ pub fn is_refused(it: Opened) -> bool
 }
 
 // What is refused, 0 and 0 where nothing is.
-pub fn refusal_of(it: Opened) -> Verdict
-    ensures { λ r. ⌜ r ≡ refusalOf it ⌝ }
+pub fn verdict_of(it: Opened) -> Verdict
+    ensures { λ r. ⌜ r ≡ verdictOf it ⌝ }
 {
     match it {
         Opened::Refused(first) => first,
@@ -114,8 +114,8 @@ pub fn head_of(it: Opened) -> Head
 }
 
 // Where the record of a thread stands; the first for no thread.
-pub fn place_of(count: u16, i: u16) -> usize
-    ensures { λ r. ⌜ r ≡ placeOf count i ⌝ }
+pub fn index_of(count: u16, i: u16) -> usize
+    ensures { λ r. ⌜ r ≡ indexOf count i ⌝ }
 {
     if in_count(count, i) {
         return wide(i - 1);

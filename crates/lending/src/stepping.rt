@@ -24,11 +24,11 @@ ghost use Rattle.rules.specs.declared.Way.the-variants.{Sends, Receives};
 ghost use Rattle.steps.specs.declared.Outcome.the-variants.{Refused};
 ghost use Rattle.steps.specs.Acted.{actedOf, outcomeBy};
 ghost use Rattle.steps.specs.Beside.{threadCount, madeCount, besideWords, besideBy};
-ghost use Rattle.steps.specs.Records.{threadIn, recordAt, tableWords};
+ghost use Rattle.steps.specs.Records.{threadIn, recordAt, threadTableWords};
 ghost use Rattle.steps.specs.Choice.{clinicOf};
 ghost use Rattle.steps.specs.Kept.{Sized};
 ghost use Rattle.steps.specs.Threads.{noThread};
-ghost use Rattle.lending.specs.Walk.{stepOf, secondAt};
+ghost use Rattle.lending.specs.Walk.{outcomeOn, secondAt};
 
 fn no_thread() -> Thread
     ensures { λ r. ⌜ r ≡ noThread ⌝ }
@@ -43,7 +43,7 @@ fn no_thread() -> Thread
 
 // An answer with the threads that it leaves, as they stand in a table.
 fn read_back(words: &[u16], count: usize, at: usize, to: usize, answer: Answer) -> Acted
-    requires { ⌜ (length (now words) ≡ tableWords) × (at < 64) × (secondAt count to answer < 64) ⌝ }
+    requires { ⌜ (length (now words) ≡ threadTableWords) × (at < 64) × (secondAt count to answer < 64) ⌝ }
     ensures { λ r. ⌜ r ≡ actedOf (outcomeBy answer (threadIn (now (words .entry)) (recordAt at)) (threadIn (now (words .entry)) (recordAt (secondAt count to answer)))) ⌝ }
 {
     let none = no_thread();
@@ -112,8 +112,8 @@ fn step_in(
 ) -> Acted
     requires { ⌜ Laid (now file) head × Granting (schemaOf (contentsAt (now file) head)) Sends (now sends) × Granting (schemaOf (contentsAt (now file) head)) Receives (now receives)
         × Sized (now words) (now beside) × (p ≡ i → other ≡ own) ⌝ }
-    ensures { λ r. ⌜ (r ≡ actedOf (stepOf (clinicOf (contentsAt (now (file .entry)) head)) (now (beside .entry)) i own p other))
-        × (now (beside .exit) ≡ besideBy (now (beside .entry)) (stepOf (clinicOf (contentsAt (now (file .entry)) head)) (now (beside .entry)) i own p other)) ⌝ }
+    ensures { λ r. ⌜ (r ≡ actedOf (outcomeOn (clinicOf (contentsAt (now (file .entry)) head)) (now (beside .entry)) i own p other))
+        × (now (beside .exit) ≡ besideBy (now (beside .entry)) (outcomeOn (clinicOf (contentsAt (now (file .entry)) head)) (now (beside .entry)) i own p other)) ⌝ }
 {
     let count = thread_count(beside);
     if !in_count(count, i) {
@@ -149,9 +149,9 @@ fn step_with(
     other: Thread,
 ) -> Acted
     requires { ⌜ Laid (now file) head × (length (now sends) ≡ 33) × (length (now receives) ≡ 33) × (now sends ≡ replicate (length (now sends)) 0) × (now receives ≡ replicate (length (now receives)) 0)
-        × (length (now words) ≡ tableWords) × (length (now beside) ≡ besideWords) × (threadCount (now beside) ≤ 64) × (madeCount (now beside) ≤ 64) × (p ≡ i → other ≡ own) ⌝ }
-    ensures { λ r. ⌜ (r ≡ actedOf (stepOf (clinicOf (contentsAt (now (file .entry)) head)) (now (beside .entry)) i own p other))
-        × (now (beside .exit) ≡ besideBy (now (beside .entry)) (stepOf (clinicOf (contentsAt (now (file .entry)) head)) (now (beside .entry)) i own p other)) ⌝ }
+        × (length (now words) ≡ threadTableWords) × (length (now beside) ≡ besideWords) × (threadCount (now beside) ≤ 64) × (madeCount (now beside) ≤ 64) × (p ≡ i → other ≡ own) ⌝ }
+    ensures { λ r. ⌜ (r ≡ actedOf (outcomeOn (clinicOf (contentsAt (now (file .entry)) head)) (now (beside .entry)) i own p other))
+        × (now (beside .exit) ≡ besideBy (now (beside .entry)) (outcomeOn (clinicOf (contentsAt (now (file .entry)) head)) (now (beside .entry)) i own p other)) ⌝ }
 {
     fill_grants(file, head, sends, receives);
     step_in(file, head, sends, receives, words, beside, i, own, p, other)
@@ -168,8 +168,8 @@ pub fn stepped(
     other: Thread,
 ) -> Acted
     requires { ⌜ Laid (now file) head × (length (now beside) ≡ besideWords) × (threadCount (now beside) ≤ 64) × (madeCount (now beside) ≤ 64) × (p ≡ i → other ≡ own) ⌝ }
-    ensures { λ r. ⌜ (r ≡ actedOf (stepOf (clinicOf (contentsAt (now (file .entry)) head)) (now (beside .entry)) i own p other))
-        × (now (beside .exit) ≡ besideBy (now (beside .entry)) (stepOf (clinicOf (contentsAt (now (file .entry)) head)) (now (beside .entry)) i own p other)) ⌝ }
+    ensures { λ r. ⌜ (r ≡ actedOf (outcomeOn (clinicOf (contentsAt (now (file .entry)) head)) (now (beside .entry)) i own p other))
+        × (now (beside .exit) ≡ besideBy (now (beside .entry)) (outcomeOn (clinicOf (contentsAt (now (file .entry)) head)) (now (beside .entry)) i own p other)) ⌝ }
 {
     let mut sends = [0u16; 33];
     let mut receives = [0u16; 33];

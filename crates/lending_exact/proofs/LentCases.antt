@@ -27,7 +27,7 @@ use Rattle.running.specs.Run.{madeWords}
 use Rattle.lending.specs.Lent.{isValue, varsFit, threadFits, madeFits, every, mayBeLent, lending, choosing, recordsOver, besideOver}
 
 -- a choice in what is lent: the answer, and what is left
-pub record Case : Type 0 where
+pub record LentCase : Type 0 where
   pub file : List ℕ
   pub records : List Thread
   pub beside : List ℕ
@@ -37,18 +37,18 @@ pub record Case : Type 0 where
   pub left : List Thread
   pub besides : List ℕ
 
-abbrev pub Shown : Case → Type 0
-Shown c =
+abbrev pub LentShown : LentCase → Type 0
+LentShown c =
     let f : List ℕ = bytesOf (c .file) in
     (choosing f (c .records) (c .beside) (c .thread) (c .partner) ≡ c .answer)
     × (recordsOver f (c .records) (c .beside) (c .thread) (c .partner) ≡ c .left)
     × (besideOver f (c .records) (c .beside) (c .thread) (c .partner) ≡ c .besides)
 
 -- carried out, and refused: nothing changes
-abbrev carried : List ℕ → List Thread → List ℕ → ℕ → ℕ → List Thread → List ℕ → Case
+abbrev carried : List ℕ → List Thread → List ℕ → ℕ → ℕ → List Thread → List ℕ → LentCase
 carried f l b i p l′ b′ = record { file = f; records = l; beside = b; thread = i; partner = p; answer = fine; left = l′; besides = b′ }
 
-abbrev refusing : List ℕ → List Thread → List ℕ → ℕ → ℕ → Verdict → Case
+abbrev refusing : List ℕ → List Thread → List ℕ → ℕ → ℕ → Verdict → LentCase
 refusing f l b i p v = record { file = f; records = l; beside = b; thread = i; partner = p; answer = v; left = l; besides = b }
 
 -- role 1 may send on kind 1, role 2 may receive; user 1 has role 1, user 2 has role 2 and channel 1; each has a session in which its role is active:
@@ -74,8 +74,8 @@ two t r = t ∷ r ∷ replicate 62 (at 9 9 9 9)
 abbrev counts : ℕ → ℕ → List ℕ
 counts threads made = threads ∷ made ∷ replicate 128 7
 
-abbrev pub cases : List Case
-cases =
+abbrev pub lentCases : List LentCase
+lentCases =
     -- thread 1 sends to thread 2, which holds what is sent: records 1 and 2 change
     carried meet (two (at 1 1 1 0) (at 2 3 2 0)) (counts 2 0) 1 2 (two (at 1 2 1 0) (at 2 4 2 1)) (counts 2 0)
     -- thread 1 ends, and thread 2 is thread 1: record 2 keeps what it held
@@ -104,6 +104,6 @@ cases =
     ∷ refusing [] [] [] 1 0 (refused 1 0)
     ∷ []
 
-pub lent-cases : All Shown cases
+pub lent-cases : All LentShown lentCases
 unfolding has with namesOnly within bytesOf firstOf from2 from3 from4 from5 headOf tabled item contentsAt recordFits sectionAnswer recordsAnswer following nodeFits shapeFrom roots shapeAnswer reading permits permittingTo named kindOf mine namesFit kindsFit able wrong childOf reached openingsFrom firstBy namesAnswer readingNames value firstFree kindHeld meeting sending lone aloneOnly acting done outcome choice madeIn madeWords isValue varsFit threadFits madeFits every mayBeLent lending choosing recordsOver besideOver
 lent-cases = ((refl, refl, refl), ((refl, refl, refl), ((refl, refl, refl), ((refl, refl, refl), ((refl, refl, refl), ((refl, refl, refl), ((refl, refl, refl), ((refl, refl, refl), ((refl, refl, refl), ((refl, refl, refl), ((refl, refl, refl), ((refl, refl, refl), ((refl, refl, refl), ((refl, refl, refl), ((refl, refl, refl), ((refl, refl, refl), ((refl, refl, refl), tt)))))))))))))))))

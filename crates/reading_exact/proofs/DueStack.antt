@@ -6,7 +6,7 @@ use native.Mathlib.Omega.{arith}
 use lib.ListN.{length, getD, drop, length-map, List·getD-map}
 use Rattle.trees.specs.Shape.{boundOf, boundBelow}
 use Rattle.trees.specs.declared.Due.{Due}
-use Rattle.trees.specs.declared.Due.the-variants.{Root, Below}
+use Rattle.trees.specs.declared.Due.the-variants.{Root, Child}
 use Rattle.reading_exact.specs.File.{InCount}
 use Rattle.reading_exact.proofs.FollowedEnds.{from-get}
 use Rattle.reading_exact.proofs.ReachedStack.{Pass}
@@ -22,8 +22,8 @@ module _ (roots : List ℕ) where
     waiting = map Root roots;
     sessions = length roots;
     start = λ k. Root (getD roots (k - 1) 0);
-    branch = λ d n. Below (boundBelow (n .tag) (boundOf d));
-    only = λ d n. Below (boundBelow (n .tag) (boundOf d));
+    branch = λ d n. Child (boundBelow (n .tag) (boundOf d));
+    only = λ d n. Child (boundBelow (n .tag) (boundOf d));
     of = boundOf;
     below = λ b n. boundBelow (n .tag) b;
     held = length-map roots Root;

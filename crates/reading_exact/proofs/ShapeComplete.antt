@@ -10,7 +10,7 @@ use Rattle.trees.specs.Ends.{following}
 use Rattle.trees.specs.Shape.{boundOf, rootFits, shapeFrom}
 use Rattle.format.specs.declared.Node.{Node}
 use Rattle.trees.specs.declared.Due.{Due}
-use Rattle.trees.specs.declared.Due.the-variants.{Root, Below}
+use Rattle.trees.specs.declared.Due.the-variants.{Root, Child}
 use Rattle.trees.proofs.FitsLaws.{passed, second-iff}
 use Rattle.reading_exact.specs.Lists.{All}
 use Rattle.reading_exact.specs.Tree.{Tree, end, fork, step, switch, stepNode, switchNode, past, write, flatten, binders, height}
@@ -30,16 +30,16 @@ written i (fork a b) ns d st r l =
     let e : k ≡ top (following (suc i) ms) = sym (ap top (following-write (suc i) a (write k b ns))) in
     let l′ : 0 < top (following (suc i) ms) = omega (arith, past-more (suc i) a) in
     passed i (nodeOf k forks) ms d st (r, omega arith, refl, second-iff (nodeOf k forks) (top (following (suc i) ms)) refl l′ .1 e, refl)
-    ∙ written (suc i) a (write k b ns) (Below (boundOf d)) (Below (boundOf d) ∷ st) refl (omega arith)
-    ∙ written k b ns (Below (boundOf d)) st refl (omega arith)
+    ∙ written (suc i) a (write k b ns) (Child (boundOf d)) (Child (boundOf d) ∷ st) refl (omega arith)
+    ∙ written k b ns (Child (boundOf d)) st refl (omega arith)
 written i (step s t) ns d st r l =
     passed i (stepNode s) (write (suc i) t ns) d st (step-fits i s d (top (following (suc i) (write (suc i) t ns))) r (omega arith))
     ∙ ap (shapeFrom (suc i) (write (suc i) t ns)) (step-onward s d st)
-    ∙ written (suc i) t ns (Below (boundOf d + binders s)) st refl (omega arith)
+    ∙ written (suc i) t ns (Child (boundOf d + binders s)) st refl (omega arith)
 written i (switch w q t) ns d st r l =
     passed i (switchNode w q) (write (suc i) t ns) d st (switch-fits i w q d (top (following (suc i) (write (suc i) t ns))) r)
     ∙ ap (shapeFrom (suc i) (write (suc i) t ns)) (switch-onward w q d st)
-    ∙ written (suc i) t ns (Below (boundOf d)) st refl l
+    ∙ written (suc i) t ns (Child (boundOf d)) st refl l
 
 all-written : (i : ℕ) (st : List Due) (ts : List Tree) → DueTrees i st ts → shapeFrom i (flatten i ts) st ≡ fine
 unfolding shapeFrom flatten

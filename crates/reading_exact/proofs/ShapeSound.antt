@@ -11,7 +11,7 @@ use Rattle.trees.specs.Shape.{boundOf, rootFits, secondFits, variableFits, node
 use Rattle.format.specs.declared.Verdict.{Verdict}
 use Rattle.format.specs.declared.Node.{Node}
 use Rattle.trees.specs.declared.Due.{Due}
-use Rattle.trees.specs.declared.Due.the-variants.{Root, Below}
+use Rattle.trees.specs.declared.Due.the-variants.{Root, Child}
 use Rattle.trees.proofs.FitsLaws.{Fitting, fits-apart, second-iff}
 use Rattle.reading_exact.specs.Lists.{All}
 use Rattle.reading_exact.specs.Tree.{Step, Switch, Tree, end, fork, step, switch, stepNode, switchNode, past, write, flatten, binders, height}
@@ -30,11 +30,11 @@ unfolding flatten write past height
 due-end i d ns st r h = (end ∷ h .0, ap (nodeOf 0 ends ∷_) (h .1), (r, omega arith, h .2))
 
 due-fork : (i k : ℕ) (d : Due) (ns : List Node) (st : List Due) → rootFits i d ≡ true → secondFits (nodeOf k forks) (top (following (suc i) ns)) ≡ true
-    → TreesDue (suc i) ns (Below (boundOf d) ∷ Below (boundOf d) ∷ st) → TreesDue i (nodeOf k forks ∷ ns) (d ∷ st)
+    → TreesDue (suc i) ns (Child (boundOf d) ∷ Child (boundOf d) ∷ st) → TreesDue i (nodeOf k forks ∷ ns) (d ∷ st)
 unfolding flatten write past height
 due-fork i k d ns st r s h = go (h .0) (h .1) (h .2)
   where
-    go : (ts : List Tree) → ns ≡ flatten (suc i) ts → DueTrees (suc i) (Below (boundOf d) ∷ Below (boundOf d) ∷ st) ts → TreesDue i (nodeOf k forks ∷ ns) (d ∷ st)
+    go : (ts : List Tree) → ns ≡ flatten (suc i) ts → DueTrees (suc i) (Child (boundOf d) ∷ Child (boundOf d) ∷ st) ts → TreesDue i (nodeOf k forks ∷ ns) (d ∷ st)
     go [] e q = absurd q
     go (a ∷ []) e q = absurd (q .2)
     go (a ∷ b ∷ ts) e q =
@@ -44,20 +44,20 @@ due-fork i k d ns st r s h = go (h .0) (h .1) (h .2)
         (fork a b ∷ ts, ap₂ (λ (x : ℕ) (m : List Node). nodeOf x forks ∷ m) k′ e, (r, omega arith, q .2 .2))
 
 due-step : (i : ℕ) (o : Step) (d : Due) (ns : List Node) (st : List Due) → rootFits i d ≡ true → variableFits (stepNode o) d ≡ true
-    → TreesDue (suc i) ns (Below (boundOf d + binders o) ∷ st) → TreesDue i (stepNode o ∷ ns) (d ∷ st)
+    → TreesDue (suc i) ns (Child (boundOf d + binders o) ∷ st) → TreesDue i (stepNode o ∷ ns) (d ∷ st)
 unfolding flatten write past height
 due-step i o d ns st r m h = go (h .0) (h .1) (h .2)
   where
-    go : (ts : List Tree) → ns ≡ flatten (suc i) ts → DueTrees (suc i) (Below (boundOf d + binders o) ∷ st) ts → TreesDue i (stepNode o ∷ ns) (d ∷ st)
+    go : (ts : List Tree) → ns ≡ flatten (suc i) ts → DueTrees (suc i) (Child (boundOf d + binders o) ∷ st) ts → TreesDue i (stepNode o ∷ ns) (d ∷ st)
     go [] e q = absurd q
     go (t ∷ ts) e q = (step o t ∷ ts, ap (stepNode o ∷_) e, (r, step-room o d (height t) m (q .1), q .2))
 
 due-switch : (i : ℕ) (w : Switch) (x : ℕ) (d : Due) (ns : List Node) (st : List Due) → rootFits i d ≡ true
-    → TreesDue (suc i) ns (Below (boundOf d) ∷ st) → TreesDue i (switchNode w x ∷ ns) (d ∷ st)
+    → TreesDue (suc i) ns (Child (boundOf d) ∷ st) → TreesDue i (switchNode w x ∷ ns) (d ∷ st)
 unfolding flatten write past height
 due-switch i w x d ns st r h = go (h .0) (h .1) (h .2)
   where
-    go : (ts : List Tree) → ns ≡ flatten (suc i) ts → DueTrees (suc i) (Below (boundOf d) ∷ st) ts → TreesDue i (switchNode w x ∷ ns) (d ∷ st)
+    go : (ts : List Tree) → ns ≡ flatten (suc i) ts → DueTrees (suc i) (Child (boundOf d) ∷ st) ts → TreesDue i (switchNode w x ∷ ns) (d ∷ st)
     go [] e q = absurd q
     go (t ∷ ts) e q = (switch w x t ∷ ts, ap (switchNode w x ∷_) e, (r, q .1, q .2))
 

@@ -8,7 +8,7 @@ use native.Mathlib.Nat.{add-zero}
 use borrow.Author.Tests.{ltb-true, lt-ltb}
 use Rattle.trees.specs.Shape.{boundOf, rootFits, variableFits, dueAfter}
 use Rattle.trees.specs.declared.Due.{Due}
-use Rattle.trees.specs.declared.Due.the-variants.{Below}
+use Rattle.trees.specs.declared.Due.the-variants.{Child}
 use Rattle.trees.proofs.FitsLaws.{Fitting}
 use Rattle.reading_exact.specs.Tree.{Step, repeat, new, compare, receive, send, Switch, on, off, stepNode, switchNode, binders}
 
@@ -28,7 +28,7 @@ step-room (compare a b) d h r l = omega arith
 step-room (receive c) d h r l = omega (arith, ltb-true (boundOf d) 8 r)
 step-room (send c v) d h r l = omega arith
 
-pub step-onward : (s : Step) (d : Due) (st : List Due) → dueAfter (stepNode s) d st ≡ Below (boundOf d + binders s) ∷ st
+pub step-onward : (s : Step) (d : Due) (st : List Due) → dueAfter (stepNode s) d st ≡ Child (boundOf d + binders s) ∷ st
 step-onward repeat d st = rw (add-zero (boundOf d))
 step-onward (new k) d st = refl
 step-onward (compare a b) d st = rw (add-zero (boundOf d))
@@ -41,6 +41,6 @@ pub switch-fits : (i : ℕ) (w : Switch) (r : ℕ) (d : Due) (e : ℕ) → rootF
 switch-fits i on r d e h = (h, omega arith, refl, refl, refl)
 switch-fits i off r d e h = (h, omega arith, refl, refl, refl)
 
-pub switch-onward : (w : Switch) (r : ℕ) (d : Due) (st : List Due) → dueAfter (switchNode w r) d st ≡ Below (boundOf d) ∷ st
+pub switch-onward : (w : Switch) (r : ℕ) (d : Due) (st : List Due) → dueAfter (switchNode w r) d st ≡ Child (boundOf d) ∷ st
 switch-onward on r d st = refl
 switch-onward off r d st = refl

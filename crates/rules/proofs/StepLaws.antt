@@ -11,7 +11,7 @@ use Rattle.masks.specs.Mask.{has, with, without}
 use Rattle.format.specs.Contents.{inCount}
 use Rattle.format.specs.declared.Node.{Node}
 use Rattle.rules.specs.declared.Point.{Point}
-use Rattle.rules.specs.declared.Step.{Step}
+use Rattle.rules.specs.declared.RuleStep.{RuleStep}
 use Rattle.rules.specs.declared.NameStep.{NameStep}
 use Rattle.rules.specs.Schema.{Schema}
 use Rattle.rules.specs.Names.{Bound, named, kindOf, mine}
@@ -87,7 +87,7 @@ same-context : {u x m y : ℕ} {vs ws : List Bound} → u ≡ x → m ≡ y → 
 same-context a b c = rw (a, b, c)
 
 -- a node whose names are not refused: its refusal for roles, its candidates, and its child's context
-pub record Goes (D : Schema) (t : List ℕ) (p : Point) (n : Node) (s : Step) : Type 0 where
+pub record Goes (D : Schema) (t : List ℕ) (p : Point) (n : Node) (s : RuleStep) : Type 0 where
   pub barred : s .barred ≡ barred D (contextOf t p) n
   pub roles : s .roles ≡ candidates D (contextOf t p) n
   pub child : contextOf (set t (512 + p .bound) (s .binding)) (s .child) ≡ childOf D (contextOf t p) n
@@ -97,7 +97,7 @@ pub record Goes (D : Schema) (t : List ℕ) (p : Point) (n : Node) (s : Step) : 
   pub most : s .child .bound ≤ p .bound + 1
   pub held : Held (set t (512 + p .bound) (s .binding)) (s .child .bound)
 
-pub record Right (D : Schema) (t : List ℕ) (p : Point) (n : Node) (s : Step) : Type 0 where
+pub record Right (D : Schema) (t : List ℕ) (p : Point) (n : Node) (s : RuleStep) : Type 0 where
   pub wrong : s .wrong ≡ wrong D (contextOf t p) n
   pub goes : s .wrong ≡ 0 → Goes D t p n s
 
@@ -263,8 +263,8 @@ module _ (D : Schema) (t : List ℕ) (p : Point) (n : Node) (users : D .users �
   pub step-right : (n .tag ≡ 0 → ⊥) → (n .tag ≡ 1 → ⊥) → n .f1 < 65536 → (n .tag ≡ 5 → D .carries (kindIn (look t (p .bound) (n .f1))) < 65536) → Right D t p n (stepOf D t p n)
   step-right a b small carried = go2 (eqb (n .tag) 2) refl
     where
-      moved : (s : Step) → s ≡ stepOf D t p n → Right D t p n s → Done
-      moved s e r = subst (λ (x : Step). Right D t p n x) e r
+      moved : (s : RuleStep) → s ≡ stepOf D t p n → Right D t p n s → Done
+      moved s e r = subst (λ (x : RuleStep). Right D t p n x) e r
 
       go8 : (n .tag ≡ 2 → ⊥) → (n .tag ≡ 3 → ⊥) → (n .tag ≡ 4 → ⊥) → (n .tag ≡ 5 → ⊥) → (n .tag ≡ 6 → ⊥) → (n .tag ≡ 7 → ⊥) → (q : Bool) → eqb (n .tag) 8 ≡ q → Done
       go8 x2 x3 x4 x5 x6 x7 true e = let y = eqb-true (n .tag) 8 e in moved _ (step-off D t p n refl y) (on-off y)
@@ -306,7 +306,7 @@ pub record NamesJudged (D : Schema) (t : List ℕ) (u b : ℕ) (n : Node) (s : N
 
 pub told : (D : Schema) (t : List ℕ) (u b : ℕ) (n : Node) → Right D t (barePoint D u b) n (stepOf D t (barePoint D u b) n) → NamesJudged D t u b n (namingOf D t u b n)
 told D t u b n r =
-    let s : Step = stepOf D t (barePoint D u b) n in
+    let s : RuleStep = stepOf D t (barePoint D u b) n in
     let q : List ℕ = set t (512 + b) (s .binding) in
     record {
       wrong = r .wrong;

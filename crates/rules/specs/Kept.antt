@@ -15,7 +15,7 @@ use Rattle.format.specs.declared.Node.{Node}
 use Rattle.rules.specs.declared.Way.{Way}
 use Rattle.rules.specs.declared.Way.the-variants.{Sends, Receives}
 use Rattle.rules.specs.declared.Point.{Point}
-use Rattle.rules.specs.declared.Step.{Step}
+use Rattle.rules.specs.declared.RuleStep.{RuleStep}
 use Rattle.rules.specs.declared.NameStep.{NameStep}
 use Rattle.rules.specs.Schema.{Schema, permittingTo, permitting}
 use Rattle.rules.specs.Names.{Bound}
@@ -112,10 +112,10 @@ abbrev pub something : ℕ → Bool
 something e = not (eqb (ownerIn e) 0)
 
 -- what a node comes to: the child has the same context, one variable more, or another active set
-abbrev pub staying : Point → ℕ → ℕ → ℕ → Step
+abbrev pub staying : Point → ℕ → ℕ → ℕ → RuleStep
 staying p w b r = record { wrong = w; barred = b; roles = r; binding = 0; child = p }
 
-abbrev pub binding : Point → ℕ → ℕ → ℕ → ℕ → Step
+abbrev pub binding : Point → ℕ → ℕ → ℕ → ℕ → RuleStep
 binding p w b r v = record {
   wrong = w;
   barred = b;
@@ -124,7 +124,7 @@ binding p w b r v = record {
   child = record { user = p .user; assigned = p .assigned; mask = p .mask; bound = p .bound + 1 };
 }
 
-abbrev pub turning : Point → ℕ → ℕ → Step
+abbrev pub turning : Point → ℕ → ℕ → RuleStep
 turning p b m = record {
   wrong = 0;
   barred = b;
@@ -134,32 +134,32 @@ turning p b m = record {
 }
 
 -- the same tag by tag, from what the operands name
-abbrev pub newStep : ℕ → Point → ℕ → Step
+abbrev pub newStep : ℕ → Point → ℕ → RuleStep
 newStep kinds p x = binding p (graded (inCount kinds x) true) 0 (p .assigned) (entry x (p .user + 2))
 
-abbrev pub compareStep : Point → ℕ → ℕ → Step
+abbrev pub compareStep : Point → ℕ → ℕ → RuleStep
 compareStep p d e = staying p (graded (something d && something e) (eqb (kindIn d) (kindIn e))) 0 (p .assigned)
 
-abbrev pub receiveStep : Schema → Point → ℕ → Step
+abbrev pub receiveStep : Schema → Point → ℕ → RuleStep
 receiveStep D p d =
     binding p (graded (something d) (eqb (ownerIn d) (p .user + 2))) (cond (not (eqb (bitAnd (p .mask) (permitting D Receives (kindIn d))) 0)) 0 13)
     (bitAnd (p .assigned) (permitting D Receives (kindIn d)))
     (entry (D .carries (kindIn d)) 1)
 
-abbrev pub sendStep : Schema → Point → ℕ → ℕ → Step
+abbrev pub sendStep : Schema → Point → ℕ → ℕ → RuleStep
 sendStep D p d e =
     staying p (graded (something d && something e) (ltb 0 (kindIn d) && eqb (kindIn e) (D .carries (kindIn d))))
     (cond (not (eqb (bitAnd (p .mask) (permitting D Sends (kindIn d))) 0)) 0 13)
     (bitAnd (p .assigned) (permitting D Sends (kindIn d)))
 
-abbrev pub onAt : ℕ → Point → ℕ → Step
+abbrev pub onAt : ℕ → Point → ℕ → RuleStep
 onAt roles p x = cond (inCount roles x) (turning p (cond (has (p .assigned) x) 0 11) (with (p .mask) x)) (staying p 9 0 0)
 
-abbrev pub offAt : ℕ → Point → ℕ → Step
+abbrev pub offAt : ℕ → Point → ℕ → RuleStep
 offAt roles p x = cond (inCount roles x) (turning p (cond (has (p .mask) x) 0 12) (without (p .mask) x)) (staying p 9 0 0)
 
 -- a node that is no end and no fork
-unfoldable pub stepOf : Schema → List ℕ → Point → Node → Step
+unfoldable pub stepOf : Schema → List ℕ → Point → Node → RuleStep
 stepOf D t p n =
     cond (eqb (n .tag) 2) (staying p 0 0 (p .assigned))
     (cond (eqb (n .tag) 3) (newStep (D .kinds) p (n .f1))
@@ -186,7 +186,7 @@ queued D a d = map (unpaired D) (stacked 0 a d)
 abbrev pub Owned : Contents → Type 0
 Owned C = ((c : ℕ) → item noChannel (C .channels) c .owner < 65534) × ((s : ℕ) → item noSession (C .sessions) s .user < 65534)
 
-abbrev pub namingFrom : Step → NameStep
+abbrev pub namingFrom : RuleStep → NameStep
 namingFrom s = record { wrong = s .wrong; binding = s .binding; bound = s .child .bound }
 
 abbrev pub namingOf : Schema → List ℕ → ℕ → ℕ → Node → NameStep

@@ -31,7 +31,7 @@ pub struct Point {
 
 // What a node comes to: its refusals for names and for roles, 0 where there is none, the roles that it may be given by placing, and the variable
 // and the context that it leaves to its child.
-pub struct Step {
+pub struct RuleStep {
     pub wrong: u16,
     pub barred: u16,
     pub roles: u16,

@@ -1,6 +1,6 @@
 // The rules at one node, in its context: its refusal for names, its refusal for roles, its candidates, and what it leaves to its child.
 use super::Point;
-use super::Step;
+use super::RuleStep;
 use super::grants::may;
 use super::grants::permitting;
 use super::names::kind_of;
@@ -49,10 +49,10 @@ fn unless(fits: bool, number: u16) -> u16
 }
 
 // The child has the same context.
-fn staying(here: Point, wrong: u16, barred: u16, roles: u16) -> Step
+fn staying(here: Point, wrong: u16, barred: u16, roles: u16) -> RuleStep
     ensures { λ r. ⌜ r ≡ staying here wrong barred roles ⌝ }
 {
-    Step {
+    RuleStep {
         wrong,
         barred,
         roles,
@@ -62,11 +62,11 @@ fn staying(here: Point, wrong: u16, barred: u16, roles: u16) -> Step
 }
 
 // The child has one variable more.
-fn binding(here: Point, wrong: u16, barred: u16, roles: u16, variable: u32) -> Step
+fn binding(here: Point, wrong: u16, barred: u16, roles: u16, variable: u32) -> RuleStep
     requires { ⌜ here .bound < 65535 ⌝ }
     ensures { λ r. ⌜ r ≡ binding here wrong barred roles variable ⌝ }
 {
-    Step {
+    RuleStep {
         wrong,
         barred,
         roles,
@@ -81,10 +81,10 @@ fn binding(here: Point, wrong: u16, barred: u16, roles: u16, variable: u32) -> S
 }
 
 // The child has another active set.
-fn turning(here: Point, barred: u16, mask: u16) -> Step
+fn turning(here: Point, barred: u16, mask: u16) -> RuleStep
     ensures { λ r. ⌜ r ≡ turning here barred mask ⌝ }
 {
-    Step {
+    RuleStep {
         wrong: 0,
         barred,
         roles: here.assigned,
@@ -98,7 +98,7 @@ fn turning(here: Point, barred: u16, mask: u16) -> Step
     }
 }
 
-fn new_at(head: Head, here: Point, kind: ChannelKind) -> Step
+fn new_at(head: Head, here: Point, kind: ChannelKind) -> RuleStep
     requires { ⌜ (here .user < 65534) × (here .bound < 65535) ⌝ }
     ensures { λ r. ⌜ r ≡ newStep (head .count .kinds) here (kind .0) ⌝ }
 {
@@ -111,7 +111,7 @@ fn new_at(head: Head, here: Point, kind: ChannelKind) -> Step
     )
 }
 
-fn receive_at(file: &[u8], head: Head, receives: &[u16], here: Point, on: u32) -> Step
+fn receive_at(file: &[u8], head: Head, receives: &[u16], here: Point, on: u32) -> RuleStep
     requires { ⌜ Laid (now file) head × (here .user < 65534) × (here .bound < 65535) × Granting (schemaOf (contentsAt (now file) head)) Receives (now receives) ⌝ }
     ensures { λ r. ⌜ (r ≡ receiveStep (schemaOf (contentsAt (now (file .entry)) head)) here on) × (schemaOf (contentsAt (now (file .entry)) head) .carries (kindIn on) < 65536) ⌝ }
 {
@@ -126,7 +126,7 @@ fn receive_at(file: &[u8], head: Head, receives: &[u16], here: Point, on: u32) -
     )
 }
 
-fn send_at(file: &[u8], head: Head, sends: &[u16], here: Point, on: u32, value: u32) -> Step
+fn send_at(file: &[u8], head: Head, sends: &[u16], here: Point, on: u32, value: u32) -> RuleStep
     requires { ⌜ Laid (now file) head × Granting (schemaOf (contentsAt (now file) head)) Sends (now sends) ⌝ }
     ensures { λ r. ⌜ r ≡ sendStep (schemaOf (contentsAt (now (file .entry)) head)) here on value ⌝ }
 {
@@ -142,7 +142,7 @@ fn send_at(file: &[u8], head: Head, sends: &[u16], here: Point, on: u32, value: 
     )
 }
 
-fn on_at(head: Head, here: Point, role: UserRole) -> Step
+fn on_at(head: Head, here: Point, role: UserRole) -> RuleStep
     requires { ⌜ head .count .roles ≤ 16 ⌝ }
     ensures { λ r. ⌜ r ≡ onAt (head .count .roles) here (role .0) ⌝ }
 {
@@ -156,7 +156,7 @@ fn on_at(head: Head, here: Point, role: UserRole) -> Step
     )
 }
 
-fn off_at(head: Head, here: Point, role: UserRole) -> Step
+fn off_at(head: Head, here: Point, role: UserRole) -> RuleStep
     ensures { λ r. ⌜ r ≡ offAt (head .count .roles) here (role .0) ⌝ }
 {
     if !in_count(head.count.roles, role.0) {
@@ -178,7 +178,7 @@ pub fn step_at(
     names: &[u32],
     here: Point,
     it: Node,
-) -> Step
+) -> RuleStep
     requires { ⌜ Laid (now file) head × (here .user < 65534) × (here .bound < 65535) × (512 + here .bound ≤ length (now names)) × Granting (schemaOf (contentsAt (now file) head)) Sends (now sends) × Granting (schemaOf (contentsAt (now file) head)) Receives (now receives) ⌝ }
     ensures { λ r. ⌜ (r ≡ stepOf (schemaOf (contentsAt (now (file .entry)) head)) (now (names .entry)) here it)
         × (it .tag ≡ 5 → schemaOf (contentsAt (now (file .entry)) head) .carries (kindIn (look (now (names .entry)) (here .bound) (it .f1))) < 65536) ⌝ }

@@ -17,7 +17,7 @@ use Rattle.reading.specs.declared.Opened.the-variants.{Fine, Refused}
 use Rattle.checking.specs.Check.{readingNames, entered}
 use Rattle.checking.proofs.CheckLaws.{entered-fine, entered-refused}
 use Rattle.running.specs.declared.Ready.{Ready}
-use Rattle.choices.specs.declared.Counted.{Counted}
+use Rattle.choices.specs.declared.Progress.{Progress}
 use Rattle.running.specs.declared.Two.{Two}
 use Rattle.steps.specs.Choice.{Clinic, clinicOf, State, Chosen, halts, goes, choice}
 use Rattle.choices.specs.Choices.{start, Ran, follow, run}
@@ -38,24 +38,24 @@ run-counts C s (i ∷ p ∷ ws) = go (choice C s i p) (λ s′. run-counts C s�
     go (goes s′) later = let (a, b) = later s′ in (omega (arith, a), λ x. omega (arith, b x))
 
 -- what code counts of a run
-abbrev countedOf : Ran → Counted
-countedOf r = record { count = r .count; refusal = r .refusal }
+abbrev progressOf : Ran → Progress
+progressOf r = record { count = r .count; refusal = r .refusal }
 
 -- the choice's number is a word
-pub place-word : (C : Clinic) (s : State) (ws : List ℕ) (k : Counted) → k ≡ countedOf (run C s ws) → length ws ≤ 131070 → (k .refusal ≡ 0 → ⊥) → k .count < 65535
+pub place-word : (C : Clinic) (s : State) (ws : List ℕ) (k : Progress) → k ≡ progressOf (run C s ws) → length ws ≤ 131070 → (k .refusal ≡ 0 → ⊥) → k .count < 65535
 place-word C s ws k e h n =
-    let count : k .count ≡ run C s ws .count = ap (λ (x : Counted). x .count) e in
-    let refusal : k .refusal ≡ run C s ws .refusal = ap (λ (x : Counted). x .refusal) e in
+    let count : k .count ≡ run C s ws .count = ap (λ (x : Progress). x .count) e in
+    let refusal : k .refusal ≡ run C s ws .refusal = ap (λ (x : Progress). x .refusal) e in
     omega (arith, h, count, run-counts C s ws .1 (λ z. n (refusal ∙ z)))
 
 -- a run's answer and its output, from what code counts of it and the state that it is left with
-module _ (r : Ran) (k : Counted) (e : k ≡ countedOf r) where
+module _ (r : Ran) (k : Progress) (e : k ≡ progressOf r) where
   pub stopped-by : (v : Verdict) → v ≡ cond (eqb (k .refusal) 0) fine (refused (k .refusal) (k .count + 1)) → v ≡ stopped r
-  stopped-by v q = q ∙ ap (λ (x : Counted). cond (eqb (x .refusal) 0) fine (refused (x .refusal) (x .count + 1))) e
+  stopped-by v q = q ∙ ap (λ (x : Progress). cond (eqb (x .refusal) 0) fine (refused (x .refusal) (x .count + 1))) e
 
   pub put-by : (s : State) (l m : List ℕ) → s ≡ r .state → m ≡ sets l 0 (bytesOf (ranWords (record { count = k .count; refusal = k .refusal; state = s })))
       → m ≡ sets l 0 (bytesOf (ranWords r))
-  put-by s l m es q = q ∙ ap₂ (λ (x : Counted) (y : State). sets l 0 (bytesOf (ranWords (record { count = x .count; refusal = x .refusal; state = y })))) e es
+  put-by s l m es q = q ∙ ap₂ (λ (x : Progress) (y : State). sets l 0 (bytesOf (ranWords (record { count = x .count; refusal = x .refusal; state = y })))) e es
 
 -- a refusal in place of a pair
 abbrev noPair : Verdict → Ready

@@ -3,7 +3,7 @@ mod out;
 mod pairs;
 
 use checking::enter;
-use choices::Counted;
+use choices::Progress;
 use choices::list::run_by;
 use choices::list::run_list;
 use format::Head;
@@ -50,19 +50,19 @@ fn is_listed(words: usize) -> bool
 }
 
 // A run halted at a choice has the choice's number as place.
-fn stopped_at(counted: Counted) -> Verdict
-    requires { ⌜ ((counted .refusal ≡ 0 → ⊥) → counted .count < 65535) ⌝ }
-    ensures { λ r. ⌜ r ≡ cond (eqb (counted .refusal) 0) fine (refused (counted .refusal) (counted .count + 1)) ⌝ }
+fn stopped_at(progress: Progress) -> Verdict
+    requires { ⌜ ((progress .refusal ≡ 0 → ⊥) → progress .count < 65535) ⌝ }
+    ensures { λ r. ⌜ r ≡ cond (eqb (progress .refusal) 0) fine (refused (progress .refusal) (progress .count + 1)) ⌝ }
 {
-    if counted.refusal == 0 {
+    if progress.refusal == 0 {
         return Verdict {
             number: 0,
             place: 0,
         };
     }
     Verdict {
-        number: counted.refusal,
-        place: counted.count + 1,
+        number: progress.refusal,
+        place: progress.count + 1,
     }
 }
 
@@ -74,9 +74,9 @@ fn run_into(file: &[u8], head: Head, choices: &[u16], out: &mut [u8]) -> Verdict
 {
     let mut threads = [0u16; TABLE];
     let mut beside = [0u16; BESIDE];
-    let counted = run_list(file, head, choices, &mut threads, &mut beside);
-    put_state(&threads, &beside, counted, out);
-    stopped_at(counted)
+    let progress = run_list(file, head, choices, &mut threads, &mut beside);
+    put_state(&threads, &beside, progress, out);
+    stopped_at(progress)
 }
 
 // The run of a file through a list of choices, and the state that it leaves.
@@ -119,7 +119,7 @@ fn ready_in(file: &[u8], head: Head, choices: &[u16]) -> Ready
     let mut receives = [0u16; 33];
     let mut threads = [0u16; TABLE];
     let mut beside = [0u16; BESIDE];
-    let counted = run_by(
+    let progress = run_by(
         file,
         head,
         &mut sends,
@@ -128,7 +128,7 @@ fn ready_in(file: &[u8], head: Head, choices: &[u16]) -> Ready
         &mut threads,
         &mut beside,
     );
-    let verdict = stopped_at(counted);
+    let verdict = stopped_at(progress);
     if verdict.number != 0 {
         return no_pair(verdict);
     }

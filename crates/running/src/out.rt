@@ -1,5 +1,5 @@
 // The output of a run: choices done, the refusal, and the state.
-use choices::Counted;
+use choices::Progress;
 use format::words::put_word;
 use format::words::wide;
 use masks::role_count;
@@ -16,7 +16,7 @@ ghost use lib.Seq.{sets};
 ghost use Rattle.format.specs.Words.{bytesOf};
 ghost use Rattle.running.specs.Run.{madeWords, threadWords, ranWords};
 ghost use Rattle.steps.specs.Kept.{stateIn, Sized};
-ghost use Rattle.steps.specs.Records.{threadsIn, tableWords};
+ghost use Rattle.steps.specs.Records.{threadsIn, threadTableWords};
 ghost use Rattle.steps.specs.Beside.{madeTo, besideWords};
 
 // Two words: a made channel's owner and kind.
@@ -63,7 +63,7 @@ fn put_made(beside: &[u16], made: usize, out: &mut [u8])
 
 // The threads, from a place on.
 fn put_threads(threads: &[u16], count: usize, out: &mut [u8], base: usize)
-    requires { ⌜ (count ≤ 64) × (length (now threads) ≡ tableWords) × (2 * (base + 12 * count) ≤ length (now out)) ⌝ }
+    requires { ⌜ (count ≤ 64) × (length (now threads) ≡ threadTableWords) × (2 * (base + 12 * count) ≤ length (now out)) ⌝ }
     ensures { λ r. ⌜ now (out .exit) ≡ sets (now (out .entry)) (2 * base) (bytesOf (threadWords (threadsIn (now (threads .entry)) 0 count))) ⌝ }
 {
     let mut i: usize = 0;
@@ -74,17 +74,17 @@ fn put_threads(threads: &[u16], count: usize, out: &mut [u8], base: usize)
 }
 
 // Choices done, refusal, threads, made channels; then the made channels and the threads. Every other byte stays.
-pub fn put_state(threads: &[u16], beside: &[u16], counted: Counted, out: &mut [u8])
+pub fn put_state(threads: &[u16], beside: &[u16], progress: Progress, out: &mut [u8])
     requires { ⌜ Sized (now threads) (now beside) × (1800 ≤ length (now out)) ⌝ }
     ensures { λ r. ⌜ now (out .exit) ≡ sets (now (out .entry)) 0 (bytesOf (ranWords (record {
-      count = counted .count;
-      refusal = counted .refusal;
+      count = progress .count;
+      refusal = progress .refusal;
       state = stateIn (now (threads .entry)) (now (beside .entry));
     }))) ⌝ }
 {
     let count = thread_count(beside);
     let made = made_count(beside);
-    put_four(out, 0, counted.count, counted.refusal, count, made);
+    put_four(out, 0, progress.count, progress.refusal, count, made);
     put_made(beside, wide(made), out);
     put_threads(threads, wide(count), out, 4 + 2 * wide(made));
 }

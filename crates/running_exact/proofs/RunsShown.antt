@@ -19,8 +19,8 @@ use Rattle.steps.specs.Choice.{kindHeld, meeting, sending, lone, aloneOnly, act
 use Rattle.choices.specs.Choices.{threadsFrom, run}
 use Rattle.running.specs.Run.{madeWords, threadWords, ranWords, running, runOver, receiverFrom, pairFrom, readyPair, ready}
 use Rattle.reading_exact.specs.Lists.{All}
-use Rattle.running_exact.specs.RunCases.{Shown, cases}
+use Rattle.running_exact.specs.RunCases.{RunShown, runCases}
 
-pub runs-shown : All Shown cases
+pub runs-shown : All RunShown runCases
 unfolding has with without held namesOnly within bytesOf firstOf from2 from3 from4 from5 headOf tabled item contentsAt recordFits sectionAnswer recordsAnswer following nodeFits shapeFrom roots shapeAnswer reading permits permittingTo named kindOf mine namesFit kindsFit able wrong childOf reached openingsFrom firstBy namesAnswer readingNames value firstFree kindHeld meeting sending lone aloneOnly acting done outcome choice threadsFrom run madeWords threadWords ranWords running runOver receiverFrom pairFrom readyPair ready
 runs-shown = ((refl, refl), ((refl, refl), ((refl, refl), ((refl, refl), ((refl, refl), ((refl, refl), ((refl, refl), ((refl, refl), ((refl, refl), (refl, (refl, (refl, (refl, (refl, tt))))))))))))))

@@ -13,7 +13,7 @@ use Rattle.steps.specs.Threads.{noThread, noMade, bound}
 use Rattle.steps.specs.Choice.{Clinic, State, threadAt, changed, added, withMade, removed}
 use Rattle.reading_exact.specs.File.{InCount}
 use Rattle.running_exact.specs.Steps.{StandsAt, Steps, on, off, fork, repeat, new, compare, end, meet}
-use Rattle.running_exact.specs.Effects.{thread, Changes, Adds, Makes, Removes, Meets, holding, Effect, turned-on, turned-off, forked, repeated, made, compared, ended, met}
+use Rattle.running_exact.specs.Effects.{thread, Changes, AddsThread, AddsChannel, Removes, ChangesBoth, holding, Effect, turned-on, turned-off, forked, repeated, made, compared, ended, met}
 
 -- a list with one element set, with one put last, and with one taken out
 module _ {A : Type 0} (z : A) where
@@ -58,7 +58,7 @@ module _ (s : State) (i : ℕ) (n : InCount (length (s .threads)) i) where
     made = refl;
   }
 
-  added-by : (t u : Thread) → Adds s (added s i t u) i t u
+  added-by : (t u : Thread) → AddsThread s (added s i t u) i t u
   added-by t u =
       let l : List Thread = set ts (i - 1) t in
       let long : length l ≡ length ts = length-set ts (i - 1) t in
@@ -70,7 +70,7 @@ module _ (s : State) (i : ℕ) (n : InCount (length (s .threads)) i) where
         made = refl;
       }
 
-  made-by : (t : Thread) (m : Made) → Makes s (withMade s i t m) i t m
+  made-by : (t : Thread) (m : Made) → AddsChannel s (withMade s i t m) i t m
   made-by t m = record {
     count = length-set ts (i - 1) t;
     changed = set-here noThread ts i t n;
@@ -93,7 +93,7 @@ module _ (s : State) (i : ℕ) (n : InCount (length (s .threads)) i) where
         made = refl;
       }
 
-  met-by : (p : ℕ) → InCount (length (s .threads)) p → i ≢ p → (t u : Thread) → Meets s (changed (changed s i t) p u) i p t u
+  met-by : (p : ℕ) → InCount (length (s .threads)) p → i ≢ p → (t u : Thread) → ChangesBoth s (changed (changed s i t) p u) i p t u
   met-by p c d t u =
       let l : List Thread = set ts (i - 1) t in
       let long : length l ≡ length ts = length-set ts (i - 1) t in
@@ -125,7 +125,7 @@ module _ (C : Clinic) (s : State) where
       let v : 385 + length (s .made) ≡ 384 + (length (s .made) + 1) = omega arith in
       let m : Made = record { owner = threadAt s i .user; kind = record { 0 = n .f1 } } in
       let t : Thread = bound (threadAt s i) (385 + length (s .made)) in
-      made n st e refl (subst (λ (x : ℕ). Makes s (withMade s i t m) i (holding (thread s i) x) m) v (made-by s i (st .0) t m))
+      made n st e refl (subst (λ (x : ℕ). AddsChannel s (withMade s i t m) i (holding (thread s i) x) m) v (made-by s i (st .0) t m))
   step-effect j p s′ (compare i n st e h) = compared n st e refl (changed-by s i (st .0) _)
   step-effect j p s′ (end i n st e) = ended n st e refl (removed-by s i (st .0))
   step-effect j q s′ (meet i p n m st six at five x y z) = met n m st six at five (met-by s i (st .0) p (at .0) (two-threads i p n m st six at five) _ _)

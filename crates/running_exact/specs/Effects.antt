@@ -28,7 +28,7 @@ pub record Changes (s s′ : State) (i : ℕ) (t : Thread) : Type 0 where
   pub made : s′ .made ≡ s .made
 
 -- thread i is now t, and u a new last thread
-pub record Adds (s s′ : State) (i : ℕ) (t u : Thread) : Type 0 where
+pub record AddsThread (s s′ : State) (i : ℕ) (t u : Thread) : Type 0 where
   pub count : length (s′ .threads) ≡ length (s .threads) + 1
   pub changed : thread s′ i ≡ t
   pub last : thread s′ (length (s .threads) + 1) ≡ u
@@ -36,7 +36,7 @@ pub record Adds (s s′ : State) (i : ℕ) (t u : Thread) : Type 0 where
   pub made : s′ .made ≡ s .made
 
 -- thread i is now t, and m a new last made channel
-pub record Makes (s s′ : State) (i : ℕ) (t : Thread) (m : Made) : Type 0 where
+pub record AddsChannel (s s′ : State) (i : ℕ) (t : Thread) (m : Made) : Type 0 where
   pub count : length (s′ .threads) ≡ length (s .threads)
   pub changed : thread s′ i ≡ t
   pub others : OthersKept s s′ i i
@@ -52,7 +52,7 @@ pub record Removes (s s′ : State) (i : ℕ) : Type 0 where
   pub made : s′ .made ≡ s .made
 
 -- thread i is now t, thread p is now u
-pub record Meets (s s′ : State) (i p : ℕ) (t u : Thread) : Type 0 where
+pub record ChangesBoth (s s′ : State) (i p : ℕ) (t u : Thread) : Type 0 where
   pub count : length (s′ .threads) ≡ length (s .threads)
   pub apart : i ≢ p
   pub sender : thread s′ i ≡ t
@@ -75,16 +75,16 @@ pub data Effect (C : Clinic) (s s′ : State) (i p : ℕ) : Type 0 where
       → Changes s s′ i (gone (thread s i) (thread s i .node + 1) (without (thread s i .mask) (n .f1))) → Effect C s s′ i p
   -- the thread takes the first child, a new last thread the second
   forked : (n : Node) → StandsAt C s i n → n .tag ≡ 1 → p ≡ 0
-      → Adds s s′ i (gone (thread s i) (thread s i .node + 1) (thread s i .mask)) (gone (thread s i) (n .f1) (thread s i .mask)) → Effect C s s′ i p
+      → AddsThread s s′ i (gone (thread s i) (thread s i .node + 1) (thread s i .mask)) (gone (thread s i) (n .f1) (thread s i .mask)) → Effect C s s′ i p
   -- the thread stays, a new last thread takes the child
   repeated : (n : Node) → StandsAt C s i n → n .tag ≡ 2 → p ≡ 0
-      → Adds s s′ i (thread s i) (gone (thread s i) (thread s i .node + 1) (thread s i .mask)) → Effect C s s′ i p
+      → AddsThread s s′ i (thread s i) (gone (thread s i) (thread s i .node + 1) (thread s i .mask)) → Effect C s s′ i p
   -- made channel c has value 384 + c, the thread's user as owner, and kind f1
   made : (n : Node) → StandsAt C s i n → n .tag ≡ 3 → p ≡ 0
-      → Makes s s′ i (holding (thread s i) (384 + (length (s .made) + 1))) (record { owner = thread s i .user; kind = record { 0 = n .f1 } }) → Effect C s s′ i p
+      → AddsChannel s s′ i (holding (thread s i) (384 + (length (s .made) + 1))) (record { owner = thread s i .user; kind = record { 0 = n .f1 } }) → Effect C s s′ i p
   compared : (n : Node) → StandsAt C s i n → n .tag ≡ 4 → p ≡ 0
       → Changes s s′ i (gone (thread s i) (thread s i .node + 1) (thread s i .mask)) → Effect C s s′ i p
   ended : (n : Node) → StandsAt C s i n → n .tag ≡ 0 → p ≡ 0 → Removes s s′ i → Effect C s s′ i p
   -- both move, and the receive's variable takes the value sent
   met : (n m : Node) → StandsAt C s i n → n .tag ≡ 6 → StandsAt C s p m → m .tag ≡ 5
-      → Meets s s′ i p (gone (thread s i) (thread s i .node + 1) (thread s i .mask)) (holding (thread s p) (value (thread s i) (n .f2))) → Effect C s s′ i p
+      → ChangesBoth s s′ i p (gone (thread s i) (thread s i .node + 1) (thread s i .mask)) (holding (thread s p) (value (thread s i) (n .f2))) → Effect C s s′ i p

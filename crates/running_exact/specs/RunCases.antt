@@ -10,23 +10,23 @@ use Rattle.running.specs.declared.Ready.{Ready}
 use Rattle.running.specs.Run.{running, runOver, ready}
 
 -- a file's words, a list of choices, and what is said of them
-pub data Case : Type 0 where
+pub data RunCase : Type 0 where
   -- the answer and the words of the output
-  runs : List ℕ → List ℕ → Verdict → List ℕ → Case
+  runs : List ℕ → List ℕ → Verdict → List ℕ → RunCase
   -- the refusal with an output of so many bytes, where nothing is written
-  refuses : List ℕ → List ℕ → ℕ → Verdict → Case
+  writesNothing : List ℕ → List ℕ → ℕ → Verdict → RunCase
   -- the ready pair after the list
-  readies : List ℕ → List ℕ → Ready → Case
+  readies : List ℕ → List ℕ → Ready → RunCase
 
 -- an output that held 7 in each of so many bytes
 abbrev sevens : ℕ → List ℕ
 sevens n = replicate n 7
 
-abbrev pub Shown : Case → Type 0
-Shown (runs ws cs v xs) =
+abbrev pub RunShown : RunCase → Type 0
+RunShown (runs ws cs v xs) =
     (running (bytesOf ws) cs 1802 ≡ v) × (runOver (bytesOf ws) cs (sevens 1802) ≡ bytesOf xs ++ sevens (1802 - 2 * length xs))
-Shown (refuses ws cs n v) = (running (bytesOf ws) cs n ≡ v) × (runOver (bytesOf ws) cs (sevens n) ≡ sevens n)
-Shown (readies ws cs r) = ready (bytesOf ws) cs ≡ r
+RunShown (writesNothing ws cs n v) = (running (bytesOf ws) cs n ≡ v) × (runOver (bytesOf ws) cs (sevens n) ≡ sevens n)
+RunShown (readies ws cs r) = ready (bytesOf ws) cs ≡ r
 
 -- user 1 has role 1, user 2 roles 1 and 2; role 1 may send on kind 1, role 2 may receive; kind 2 carries channels of kind 1; channel 1 of user 2 has kind 1, channel 2 of user 1 kind 2.
 -- Session 1, of user 1 with role 1 active: a fork; the one branch sends user 2 on channel 1, the other makes a channel of kind 2 and compares it with channel 2.
@@ -55,8 +55,8 @@ three =
 abbrev shows : ℕ → ℕ → ℕ → ℕ → ℕ → List ℕ
 shows user node mask roles v = user ∷ node ∷ mask ∷ roles ∷ v ∷ 0 ∷ 0 ∷ 0 ∷ 0 ∷ 0 ∷ 0 ∷ 0 ∷ []
 
-abbrev pub cases : List Case
-cases =
+abbrev pub runCases : List RunCase
+runCases =
     -- fork, repeat, on, new, a meeting; the compare is unequal: the sixth choice halts with 19, and the state before it is written
     runs desk (1 ∷ 0 ∷ 2 ∷ 0 ∷ 4 ∷ 0 ∷ 3 ∷ 0 ∷ 1 ∷ 4 ∷ 3 ∷ 0 ∷ []) (refused 19 6)
     (5 ∷ 19 ∷ 4 ∷ 1 ∷ 1 ∷ 2 ∷ shows 1 3 1 1 0 ++ shows 2 7 1 1 0 ++ shows 1 5 1 1 385 ++ shows 2 10 3 2 2)
@@ -71,9 +71,9 @@ cases =
     ∷ runs three [] fine (0 ∷ 0 ∷ 3 ∷ 0 ∷ shows 1 1 0 0 0 ++ shows 2 2 1 1 0 ++ shows 3 3 1 1 0)
     ∷ runs three (2 ∷ 0 ∷ []) fine (1 ∷ 0 ∷ 2 ∷ 0 ∷ shows 1 1 0 0 0 ++ shows 3 3 1 1 0)
     -- an odd list, too little room, and what is no file
-    ∷ refuses desk (1 ∷ []) 1802 (refused 17 0)
-    ∷ refuses desk [] 1799 (refused 17 0)
-    ∷ refuses [] (1 ∷ 0 ∷ []) 1802 (refused 1 0)
+    ∷ writesNothing desk (1 ∷ []) 1802 (refused 17 0)
+    ∷ writesNothing desk [] 1799 (refused 17 0)
+    ∷ writesNothing [] (1 ∷ 0 ∷ []) 1802 (refused 1 0)
     -- sender 1 and receiver 4; none at the start; a halted list, an odd one, and what is no file
     ∷ readies desk (1 ∷ 0 ∷ 2 ∷ 0 ∷ 4 ∷ 0 ∷ []) (record { number = 0; place = 0; sender = 1; receiver = 4 })
     ∷ readies desk [] (record { number = 0; place = 0; sender = 0; receiver = 0 })

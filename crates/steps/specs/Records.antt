@@ -8,8 +8,8 @@ abbrev pub recordWords : ℕ
 recordWords = 11
 
 -- a table of 64 threads
-abbrev pub tableWords : ℕ
-tableWords = 704
+abbrev pub threadTableWords : ℕ
+threadTableWords = 704
 
 -- where the words of the thread of an index begin, from 0 on
 abbrev pub recordAt : ℕ → ℕ

@@ -9,7 +9,7 @@ use lib.Seq.{length-take-le, take-add, take-take}
 use Rattle.libc.specs.Io.{Moved}
 use Rattle.io.specs.Counts.{clamped}
 use Rattle.reading.proofs.LongLaws.{StandsFor, start-stands, stands-on}
-use Rattle.streams.specs.Kept.{keptBy, keptOf, keptAll}
+use Rattle.streams.specs.Kept.{keptBy, keptOf, keptOfPieces}
 
 -- a piece that stands behind what is kept
 pub keeps : (most : ℕ → ℕ) (b : List ℕ) (kept piece r : ℕ) → kept + piece ≤ length b → r ≡ most (kept + piece) → r ≤ kept + piece
@@ -27,12 +27,12 @@ moved-count z z′ room most n same m e = subst (λ (k : ℕ). k ≤ room) (sym 
     go (pos k) h = omega (arith, h)
     go (negsuc k) h = omega arith
 
-stands-behind : (ps : List (List ℕ)) (kept input : List ℕ) → StandsFor kept input → StandsFor (keptAll kept ps) (input ++ flatten ps)
-unfolding keptAll flatten
+stands-behind : (ps : List (List ℕ)) (kept input : List ℕ) → StandsFor kept input → StandsFor (keptOfPieces kept ps) (input ++ flatten ps)
+unfolding keptOfPieces flatten
 stands-behind [] kept input s = rw (append-nil input) s
 stands-behind (p ∷ ps) kept input s =
-    subst (λ (whole : List ℕ). StandsFor (keptAll (keptOf kept p) ps) whole) (append-assoc input p (flatten ps)) (stands-behind ps (keptOf kept p) (input ++ p) (stands-on kept input p s))
+    subst (λ (whole : List ℕ). StandsFor (keptOfPieces (keptOf kept p) ps) whole) (append-assoc input p (flatten ps)) (stands-behind ps (keptOf kept p) (input ++ p) (stands-on kept input p s))
 
 -- the pieces one after the other are the input
-pub pieces-stand : (ps : List (List ℕ)) → StandsFor (keptAll [] ps) (flatten ps)
+pub pieces-stand : (ps : List (List ℕ)) → StandsFor (keptOfPieces [] ps) (flatten ps)
 pieces-stand ps = stands-behind ps [] [] (start-stands [])

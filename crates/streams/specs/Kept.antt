@@ -13,6 +13,6 @@ abbrev pub keptOf : List ℕ → List ℕ → List ℕ
 keptOf kept piece = keptBy enough kept piece
 
 -- after all pieces, in order
-unfoldable pub keptAll : List ℕ → List (List ℕ) → List ℕ
-keptAll kept [] = kept
-keptAll kept (p ∷ ps) = keptAll (keptOf kept p) ps
+unfoldable pub keptOfPieces : List ℕ → List (List ℕ) → List ℕ
+keptOfPieces kept [] = kept
+keptOfPieces kept (p ∷ ps) = keptOfPieces (keptOf kept p) ps

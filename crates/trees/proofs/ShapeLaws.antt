@@ -16,7 +16,7 @@ use Rattle.format.specs.declared.Verdict.{Verdict}
 use Rattle.format.specs.declared.Session.{Session}
 use Rattle.format.specs.declared.Node.{Node}
 use Rattle.trees.specs.declared.Due.{Due}
-use Rattle.trees.specs.declared.Due.the-variants.{Root, Below}
+use Rattle.trees.specs.declared.Due.the-variants.{Root, Child}
 use Rattle.format.proofs.ContentsLaws.{from-item, from-node, none-past}
 use Rattle.format.proofs.StackLaws.{stacked-push, stacked-spread}
 use Rattle.trees.proofs.EndsLaws.{table-head, table-length}
@@ -36,9 +36,9 @@ roots-push ss s d a all h l e =
 
 -- what is due after a node, in the array
 pub due-after : (n : Node) (a : List Due) (d : ℕ) (x : Due) → 0 < d → d < length a
-    → stacked blank (set (set a (d - 1) (Below (boundBelow (n .tag) (boundOf x)))) d (Below (boundBelow (n .tag) (boundOf x)))) (depthAfter (n .tag) d)
+    → stacked blank (set (set a (d - 1) (Child (boundBelow (n .tag) (boundOf x)))) d (Child (boundBelow (n .tag) (boundOf x)))) (depthAfter (n .tag) d)
     ≡ dueAfter n x (stacked blank a (d - 1))
-due-after n a d x pos h = stacked-spread blank a d (Below (boundBelow (n .tag) (boundOf x))) (eqb (n .tag) 0) (eqb (n .tag) 1) pos h
+due-after n a d x pos h = stacked-spread blank a d (Child (boundBelow (n .tag) (boundOf x))) (eqb (n .tag) 0) (eqb (n .tag) 1) pos h
 
 pub depth-most : (tag d : ℕ) → depthAfter tag d ≤ d + 1
 depth-most tag d = go (eqb tag 0) (eqb tag 1)

@@ -16,7 +16,7 @@ use Rattle.format.specs.declared.Node.{Node}
 use Rattle.trees.specs.Ends.{following}
 use Rattle.trees.specs.Shape.{boundOf, rootFits, binds, unusedFit, nodeFits, boundBelow, dueAfter, shapeFrom, roots, shapeAnswer}
 use Rattle.trees.specs.declared.Due.{Due}
-use Rattle.trees.specs.declared.Due.the-variants.{Root, Below}
+use Rattle.trees.specs.declared.Due.the-variants.{Root, Child}
 use Rattle.trees.proofs.FitsLaws.{Fitting, fits-apart, second-iff}
 use Rattle.trees.proofs.SoundLaws.{Waiting, waiting, resumed, accepts, waits, same-head, starts}
 
@@ -68,7 +68,7 @@ shape-ranked t i (n ∷ ns) (d ∷ ds) pos l h =
     (pos, g .0 .0, go (eqb (n .tag) 0) (eqb (n .tag) 1) (leb (n .tag) 8) (le-leb (n .tag) 8 (g .0 .1)) (following (suc i) ns) (shape-ranked t (suc i) ns (dueAfter n d ds) (omega arith) (omega (arith, l)) (g .1)))
   where
     child : Due
-    child = Below (boundBelow (n .tag) (boundOf d))
+    child = Child (boundBelow (n .tag) (boundOf d))
 
     go : (x y z : Bool) → z ≡ true → (es : List ℕ) → Ranked t (suc i ∷ es) (cond x ds (cond y (child ∷ child ∷ ds) (child ∷ ds)))
         → Ranked t (cond x (suc i ∷ es) (cond y (rest es) (cond z es []))) ds
@@ -106,7 +106,7 @@ shape-accepts t i (n ∷ ns) b st d ds l bd h m =
     )
   where
     child : Due
-    child = Below (boundBelow (n .tag) (boundOf d))
+    child = Child (boundBelow (n .tag) (boundOf d))
 
     next : suc i + length ns ≡ t
     next = omega (arith, l)

@@ -16,7 +16,7 @@ use Rattle.format.specs.Stacks.{stacked, top, rest}
 use Rattle.trees.specs.Ends.{following}
 use Rattle.trees.specs.Shape.{boundOf, rootFits, binds, unusedFit, secondFits, boundBelow, dueAfter, shapeFrom, roots}
 use Rattle.trees.specs.declared.Due.{Due}
-use Rattle.trees.specs.declared.Due.the-variants.{Root, Below}
+use Rattle.trees.specs.declared.Due.the-variants.{Root, Child}
 use Rattle.format.proofs.ContentsLaws.{from-item, from-node, none-past}
 use Rattle.format.proofs.StackLaws.{read-push}
 use Rattle.trees.proofs.FitsLaws.{Fitting, passed}
@@ -148,14 +148,14 @@ module _ (t : ℕ) where
       go false x true e st ds m lt u a ih =
           let tag : n .tag ≡ 1 = eqb-true (n .tag) 1 e in
           let bound : boundBelow (n .tag) (boundOf d) ≡ b = rw tag bd in
-          let child : Due = Below (boundBelow (n .tag) (boundOf d)) in
+          let child : Due = Child (boundBelow (n .tag) (boundOf d)) in
           let two : n .f1 ≡ top (following (suc i) ns) = sym (ap top (accepts-follows (suc i) ns b (waiting (n .f1) b ∷ st) a)) in
           let left : shapeFrom (suc i) ns (dueAfter n d ds) ≡ fine = rw (x, e) (ih b (waiting (n .f1) b ∷ st) child (child ∷ ds) next (bound, refl, m) bound refl a) in
           passed i n ns d ds (r, leb-true (n .tag) 8 lt, u, second n e′ two, not-binder (n .tag) (ltb (boundOf d) 8) (rw tag)) ∙ left
       go false x false e st ds m lt u a ih =
           let p = and-eq-true-iff (not (binds (n .tag) && leb 8 b)) (accepts (suc i) ns (boundBelow (n .tag) b) st) .0 a in
           let left : shapeFrom (suc i) ns (dueAfter n d ds) ≡ fine =
-          rw (x, e) (ih (boundBelow (n .tag) b) st (Below (boundBelow (n .tag) (boundOf d))) ds next m (ap (boundBelow (n .tag)) bd) refl (p .1)) in
+          rw (x, e) (ih (boundBelow (n .tag) b) st (Child (boundBelow (n .tag) (boundOf d))) ds next m (ap (boundBelow (n .tag)) bd) refl (p .1)) in
           passed i n ns d ds (r, leb-true (n .tag) 8 lt, u, not-fork n e′ (eqb-false (n .tag) 1 e), rw bd (room b (binds (n .tag)) (p .0))) ∙ left
 
 -- the sessions' trees wait in order, and below them is the number after the last node

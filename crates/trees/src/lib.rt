@@ -6,5 +6,5 @@ mod sound;
 // A tree that is still to be read: a session's, with its root word, or one below a node, with the number of variables bound above it.
 pub enum Due {
     Root(u16),
-    Below(u16),
+    Child(u16),
 }

@@ -24,7 +24,7 @@ fn bound_of(d: Due) -> u16
 {
     match d {
         Due::Root(_) => 0,
-        Due::Below(b) => b,
+        Due::Child(b) => b,
     }
 }
 
@@ -34,7 +34,7 @@ fn root_fits(i: u16, d: Due) -> bool
 {
     match d {
         Due::Root(root) => root == i,
-        Due::Below(_) => true,
+        Due::Child(_) => true,
     }
 }
 
@@ -112,7 +112,7 @@ fn walk(file: &[u8], head: Head, ends: &[u16]) -> Verdict
     requires { ⌜ Laid (now file) head × (now ends ≡ tableOf (contentsAt (now file) head .nodes)) ⌝ }
     ensures { λ r. ⌜ r ≡ shapeAnswer (contentsAt (now (file .entry)) head) ⌝ }
 {
-    let mut stack = [Due::Below(0); 1057];
+    let mut stack = [Due::Child(0); 1057];
     let sessions = wide(head.count.sessions);
     let mut depth: usize = 0;
     while depth < sessions {
@@ -137,7 +137,7 @@ fn walk(file: &[u8], head: Head, ends: &[u16]) -> Verdict
                 place: i,
             };
         }
-        let child = Due::Below(bound_below(it.tag, bound_of(due)));
+        let child = Due::Child(bound_below(it.tag, bound_of(due)));
         stack[depth - 1] = child;
         stack[depth] = child;
         depth = depth_after(it.tag, depth);

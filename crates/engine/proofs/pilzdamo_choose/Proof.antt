@@ -56,7 +56,7 @@ use Rattle.reading.proofs.Opened.Laws as O′
 use Rattle.steps.specs.declared.Thread.{Thread}
 use Rattle.lending.specs.Lent.{choosing, recordsOver, besideOver}
 use Rattle.lending.specs.Scopes.{Scoped}
-use Rattle.lending.specs.Walk.{admitted, Admits, Fitting, isRefused, refusalOf, judgedAnswer, judgedRecords, judgedBeside}
+use Rattle.lending.specs.Walk.{admitted, Admits, Fitting, isRefused, verdictOf, judgedAnswer, judgedRecords, judgedBeside}
 use Rattle.lending.proofs.AdmitLaws.{admitted-fine, admitted-refused}
 use Rattle.lending.proofs.admit as am
 use Rattle.lending.proofs.admit.Symbol as am-def
@@ -69,9 +69,9 @@ use Rattle.lending.proofs.head_of as hd
 use Rattle.lending.proofs.head_of.Symbol as hd-def
 use Rattle.lending.proofs.head_of.Symbol.{name as #head}
 use Rattle.lending.proofs.head_of.Met as hd-thm
-use Rattle.lending.proofs.refusal_of.Symbol as rf-def
-use Rattle.lending.proofs.refusal_of.Symbol.{name as #refusal}
-use Rattle.lending.proofs.refusal_of.Met as rf-thm
+use Rattle.lending.proofs.verdict_of.Symbol as rf-def
+use Rattle.lending.proofs.verdict_of.Symbol.{name as #refusal}
+use Rattle.lending.proofs.verdict_of.Met as rf-thm
 use Rattle.engine.proofs.choosing.choose_by as cb
 use Rattle.engine.proofs.choosing.choose_by.Symbol as cb-def
 use Rattle.engine.proofs.choosing.choose_by.Symbol.{name as #choose-by}
@@ -128,7 +128,7 @@ headed (opened.Refused v) passes = absurd passes
 record Cites {M : Type 1} (𝓤 : URA M) (H : Heap 𝓤) (A : Atoms 𝓤) (mem : Memory → SProp 𝓤) (run : Routine → Fun 𝓤) (C : Calls 𝓤 H) : Type 2 where
   admit : Triple 𝓤 (C #admit) (tripleOf 𝓤 H A am.signature (am.spec 𝓤 H A mem run))
   refused : Triple 𝓤 (C #is-refused) (PartOf RO bool isRefused 𝓤 H A)
-  refusal : Triple 𝓤 (C #refusal) (PartOf RO RV refusalOf 𝓤 H A)
+  refusal : Triple 𝓤 (C #refusal) (PartOf RO RV verdictOf 𝓤 H A)
   head : Triple 𝓤 (C #head) (tripleOf 𝓤 H A hd.signature (hd.spec 𝓤 H A mem run))
   choose : Triple 𝓤 (C #choose-by) (tripleOf 𝓤 H A cb.signature (cb.spec 𝓤 H A mem run))
 
@@ -201,7 +201,7 @@ module _ {M : Type 1} (𝓤 : URA M) (H : Heap 𝓤) (A : Atoms 𝓤) (W : Given
       move ! (4 ∷ []) $ drop ! $ move ! (3 ∷ 4 ∷ 2 ∷ 0 ∷ 1 ∷ []) $ by ! (exits r bs ys v is refl refl e)
 
   -- what is refused at the way in
-  left : (it : Opened) → it ≡ admitted (now file) (length ys) bs → Holds (isRefused it) → Answered (refusalOf it) ys bs
+  left : (it : Opened) → it ≡ admitted (now file) (length ys) bs → Holds (isRefused it) → Answered (verdictOf it) ys bs
   left (opened.Fine h) e bars = absurd bars
   left (opened.Refused v) e bars = let (r, l, w) = admitted-refused (now file) ys bs i p v (sym e) in (sym r, sym l, sym w)
 
@@ -258,12 +258,12 @@ module _ {M : Type 1} (𝓤 : URA M) (H : Heap 𝓤) (A : Atoms 𝓤) (W : Given
           branching : Sq W At9 (runs (𝓣 .C) (𝓣 .Λ) En mirs.t-9 (atRet En Post))
           branching =
               first ! $ branches ! (of-local ! 21 refl)
-              (λ bars. asks RO RV refusalOf ! 𝓣 (EL.makes O.the-type O′.the-plain 𝓤 H A) (known .refusal) it iv is-it (and-then ! (of-local ! 33 refl) (no-more !)) (λ rv is-r.
-              land ! (from ! (stop !)) (init ! 46 refl (LL.lawful VV.the-type VV′.the-laws 𝓤 H A W .typed (refusalOf it) _ is-r .0)) $
+              (λ bars. asks RO RV verdictOf ! 𝓣 (EL.makes O.the-type O′.the-plain 𝓤 H A) (known .refusal) it iv is-it (and-then ! (of-local ! 33 refl) (no-more !)) (λ rv is-r.
+              land ! (from ! (stop !)) (init ! 46 refl (LL.lawful VV.the-type VV′.the-laws 𝓤 H A W .typed (verdictOf it) _ is-r .0)) $
               returns-within ! Post refl (look ! 46 refl) $ forget ! 21 refl $ forget ! 33 refl $ forget ! 36 refl $ forget ! 38 refl $ forget ! 40 refl $ forget ! 42 refl $ forget ! 44 refl $ forget ! 46 refl $ move ! (6 ∷ []) $ clears 1025 l6 ! xs long $
               move ! (46 ∷ 47 ∷ 44 ∷ 45 ∷ 42 ∷ 43 ∷ 40 ∷ 41 ∷ 38 ∷ 39 ∷ 36 ∷ 37 ∷ 0 ∷ 35 ∷ 33 ∷ 34 ∷ 31 ∷ 32 ∷ 29 ∷ 30 ∷ 27 ∷ 28 ∷ 25 ∷ 26 ∷ 23 ∷ 24 ∷ 21 ∷ 22 ∷ 19 ∷ 20 ∷ 17 ∷ 18 ∷ 15 ∷ 16 ∷ 13 ∷ 14 ∷ 11 ∷ 12 ∷ 9 ∷ 10 ∷ 7 ∷ 8 ∷ []) $
               free1 ! $ free1 ! $ free1 ! $ free1 ! $ free1 ! $ free1 ! $ free1 ! $ free1 ! $ free1 ! $ free1 ! $ free1 ! $ free1 ! $ free1 ! $ free1 ! $ free1 ! $ free1 ! $ free1 ! $ free1 ! $ free1 ! $ free1 ! $ free1 ! $ free0 ! $
-              by ! (refuses (refusalOf it) rv is-r (left it it-is bars))))
+              by ! (refuses (verdictOf it) rv is-r (left it it-is bars))))
               (λ passes. skips ! $ exec ! (𝓣 .C) (𝓣 .Λ) En mirs.t-10 (atRet En Post) $ forget ! 21 refl $ chooses (headed it passes .0) (headed it passes .1))
 
       module _ (zs : List ℕ) (long₀ : length zs ≡ 1025) where
@@ -330,7 +330,7 @@ pilzdamo-choose-spec 𝓤 H 𝓜 𝓖 𝓡 =
     (meets 𝓤 H (𝓖 .A) (givenOf 𝓤 H 𝓜 𝓖) (𝓜 .mem) (𝓡 .run) (tablesOf 𝓤 H 𝓜 (tables 𝓤 H 𝓜 𝓡 code.env)) (record {
       admit = cited 𝓤 H (tripleOf 𝓤 H (𝓖 .A) am.signature (am.spec 𝓤 H (𝓖 .A) (𝓜 .mem) (𝓡 .run))) 𝓜 𝓡 code.env #admit am-def.routine code.calls-lending·admit (am-thm.met 𝓤 H 𝓜 𝓖 𝓡);
       refused = cited 𝓤 H (PartOf RO bool isRefused 𝓤 H (𝓖 .A)) 𝓜 𝓡 code.env #is-refused ir-def.routine code.calls-lending·is-refused (ir-thm.met 𝓤 H 𝓜 𝓖 𝓡);
-      refusal = cited 𝓤 H (PartOf RO RV refusalOf 𝓤 H (𝓖 .A)) 𝓜 𝓡 code.env #refusal rf-def.routine code.calls-lending·refusal-of (rf-thm.met 𝓤 H 𝓜 𝓖 𝓡);
+      refusal = cited 𝓤 H (PartOf RO RV verdictOf 𝓤 H (𝓖 .A)) 𝓜 𝓡 code.env #refusal rf-def.routine code.calls-lending·verdict-of (rf-thm.met 𝓤 H 𝓜 𝓖 𝓡);
       head = cited 𝓤 H (tripleOf 𝓤 H (𝓖 .A) hd.signature (hd.spec 𝓤 H (𝓖 .A) (𝓜 .mem) (𝓡 .run))) 𝓜 𝓡 code.env #head hd-def.routine code.calls-lending·head-of (hd-thm.met 𝓤 H 𝓜 𝓖 𝓡);
       choose = cited 𝓤 H (tripleOf 𝓤 H (𝓖 .A) cb.signature (cb.spec 𝓤 H (𝓖 .A) (𝓜 .mem) (𝓡 .run))) 𝓜 𝓡 code.env #choose-by cb-def.routine code.calls-engine·choosing·choose-by (cb-thm.met 𝓤 H 𝓜 𝓖 𝓡);
     }))

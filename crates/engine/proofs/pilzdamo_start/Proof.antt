@@ -49,15 +49,15 @@ use Rattle.reading.proofs.Opened as O
 use Rattle.reading.proofs.Opened.Laws as O′
 use Rattle.steps.specs.declared.Thread.{Thread}
 use Rattle.choices.specs.Choices.{start}
-use Rattle.lending.specs.Walk.{refusalOf}
+use Rattle.lending.specs.Walk.{verdictOf}
 use Rattle.lending.specs.Starting.{starting, recordsStarted, besideStarted, sessionsOf}
 use Rattle.lending.proofs.head_of as hd
 use Rattle.lending.proofs.head_of.Symbol as hd-def
 use Rattle.lending.proofs.head_of.Symbol.{name as #head}
 use Rattle.lending.proofs.head_of.Met as hd-thm
-use Rattle.lending.proofs.refusal_of.Symbol as rf-def
-use Rattle.lending.proofs.refusal_of.Symbol.{name as #refusal}
-use Rattle.lending.proofs.refusal_of.Met as rf-thm
+use Rattle.lending.proofs.verdict_of.Symbol as rf-def
+use Rattle.lending.proofs.verdict_of.Symbol.{name as #refusal}
+use Rattle.lending.proofs.verdict_of.Met as rf-thm
 use Rattle.lending.proofs.starting.begin as bg
 use Rattle.lending.proofs.starting.begin.Symbol as bg-def
 use Rattle.lending.proofs.starting.begin.Symbol.{name as #begin}
@@ -98,7 +98,7 @@ record Cites {M : Type 1} (𝓤 : URA M) (H : Heap 𝓤) (A : Atoms 𝓤) (mem :
   head : Triple 𝓤 (C #head) (tripleOf 𝓤 H A hd.signature (hd.spec 𝓤 H A mem run))
   sessions : Triple 𝓤 (C #sessions) (PartOf RO usize sessionsOf 𝓤 H A)
   records : Triple 𝓤 (C #records) (tripleOf 𝓤 H A sr.signature (sr.spec 𝓤 H A mem run))
-  refusal : Triple 𝓤 (C #refusal) (PartOf RO RV refusalOf 𝓤 H A)
+  refusal : Triple 𝓤 (C #refusal) (PartOf RO RV verdictOf 𝓤 H A)
 
 module _ {M : Type 1} (𝓤 : URA M) (H : Heap 𝓤) (A : Atoms 𝓤) (W : Given 𝓤 H A) (mem : Memory → SProp 𝓤) (run : Routine → Fun 𝓤) (κ₀ κ₁ κ₂ : Lft) (q₀ q₁ q₂ : Share)
     (file : RefT (List ℕ)) (b₁ o₁ : ℕ) (γ₁ : GName) (ys : List Thread) (b₂ o₂ : ℕ) (γ₂ : GName) (bs : List ℕ)
@@ -189,12 +189,12 @@ module _ {M : Type 1} (𝓤 : URA M) (H : Heap 𝓤) (A : Atoms 𝓤) (W : Given
         fsplit ! $ fsplit ! $ move ! (1 ∷ []) $ feqL ! (λ long₁. move ! (1 ∷ []) $ drop ! $ move ! (1 ∷ []) $ split ! $ move ! (1 ∷ []) $ split ! $ move ! (1 ∷ []) $ drop ! $
         -- [file's token; threads' token; the last list; beside's token; the last words; _11; …]
         land ! (from ! (stop !)) (init ! 11 refl (nothing-lawful 𝓤 H A W .typed r _ ist .0)) $
-        asks RO RV refusalOf ! 𝓣 plain-it (known .refusal) it v is (and-then ! (of-local ! 19 refl) (no-more !)) (λ x is-x.
-        land ! (from ! (stop !)) (init ! 27 refl (LL.lawful VV.the-type VV′.the-laws 𝓤 H A W .typed (refusalOf it) _ is-x .0)) $
+        asks RO RV verdictOf ! 𝓣 plain-it (known .refusal) it v is (and-then ! (of-local ! 19 refl) (no-more !)) (λ x is-x.
+        land ! (from ! (stop !)) (init ! 27 refl (LL.lawful VV.the-type VV′.the-laws 𝓤 H A W .typed (verdictOf it) _ is-x .0)) $
         returns ! (look ! 27 refl) $ forget ! 5 refl $ forget ! 7 refl $ forget ! 9 refl $ forget ! 11 refl $ forget ! 13 refl $ forget ! 15 refl $ forget ! 17 refl $ forget ! 19 refl $ forget ! 21 refl $ forget ! 23 refl $ forget ! 25 refl $ forget ! 27 refl $
         move ! (27 ∷ 28 ∷ 25 ∷ 26 ∷ 23 ∷ 24 ∷ 21 ∷ 22 ∷ 19 ∷ 20 ∷ 17 ∷ 18 ∷ 15 ∷ 16 ∷ 13 ∷ 14 ∷ 11 ∷ 12 ∷ 9 ∷ 10 ∷ 7 ∷ 8 ∷ 5 ∷ 6 ∷ []) $
         free1 ! $ free1 ! $ free1 ! $ free1 ! $ free1 ! $ free1 ! $ free1 ! $ free1 ! $ free1 ! $ free1 ! $ free1 ! $ free1 ! $ free0 ! $
-        by ! (exits (refusalOf it) (ws .1 .1 .0) (zs .0) x is-x long₁ long₂ (refusal-started (now file) ys bs it (begun .0), stored ∙ records-started (now file) ys bs it (begun .0) head same, begun .1 ys refl)))))))))))))))))))))
+        by ! (exits (verdictOf it) (ws .1 .1 .0) (zs .0) x is-x long₁ long₂ (refusal-started (now file) ys bs it (begun .0), stored ∙ records-started (now file) ys bs it (begun .0) head same, begun .1 ys refl)))))))))))))))))))))
       where
         plain-it : Makes 𝓤 H A RO (Is RO)
         plain-it = EL.makes O.the-type O′.the-plain 𝓤 H A
@@ -222,5 +222,5 @@ pilzdamo-start-spec 𝓤 H 𝓜 𝓖 𝓡 =
       head = cited 𝓤 H (tripleOf 𝓤 H (𝓖 .A) hd.signature (hd.spec 𝓤 H (𝓖 .A) (𝓜 .mem) (𝓡 .run))) 𝓜 𝓡 code.env #head hd-def.routine code.calls-lending·head-of (hd-thm.met 𝓤 H 𝓜 𝓖 𝓡);
       sessions = cited 𝓤 H (PartOf RO usize sessionsOf 𝓤 H (𝓖 .A)) 𝓜 𝓡 code.env #sessions ss-def.routine code.calls-lending·starting·sessions-of (ss-thm.met 𝓤 H 𝓜 𝓖 𝓡);
       records = cited 𝓤 H (tripleOf 𝓤 H (𝓖 .A) sr.signature (sr.spec 𝓤 H (𝓖 .A) (𝓜 .mem) (𝓡 .run))) 𝓜 𝓡 code.env #records sr-def.routine code.calls-engine·starting·start-records (sr-thm.met 𝓤 H 𝓜 𝓖 𝓡);
-      refusal = cited 𝓤 H (PartOf RO RV refusalOf 𝓤 H (𝓖 .A)) 𝓜 𝓡 code.env #refusal rf-def.routine code.calls-lending·refusal-of (rf-thm.met 𝓤 H 𝓜 𝓖 𝓡);
+      refusal = cited 𝓤 H (PartOf RO RV verdictOf 𝓤 H (𝓖 .A)) 𝓜 𝓡 code.env #refusal rf-def.routine code.calls-lending·verdict-of (rf-thm.met 𝓤 H 𝓜 𝓖 𝓡);
     }))

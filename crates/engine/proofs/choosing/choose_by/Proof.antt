@@ -64,16 +64,16 @@ use Rattle.steps.proofs.Thread.Laws as T′
 use Rattle.steps.proofs.Acted as AA
 use Rattle.steps.proofs.Acted.Laws as AA′
 use Rattle.lending.specs.Scopes.{Scoped}
-use Rattle.lending.specs.Walk.{Fitting, threadsFit, stepOf, storedIn, placeOf, Storable, answerOf, judgedAnswer, judgedRecords, judgedBeside}
+use Rattle.lending.specs.Walk.{Fitting, threadsFit, outcomeOn, storedIn, indexOf, Storable, answerOf, judgedAnswer, judgedRecords, judgedBeside}
 use Rattle.lending.proofs.WalkLaws.{judged, same-record, misjudged, place-within}
 use Rattle.lending.proofs.unlendable as ul
 use Rattle.lending.proofs.unlendable.Symbol as ul-def
 use Rattle.lending.proofs.unlendable.Symbol.{name as #unlendable}
 use Rattle.lending.proofs.unlendable.Met as ul-thm
-use Rattle.lending.proofs.place_of as pl
-use Rattle.lending.proofs.place_of.Symbol as pl-def
-use Rattle.lending.proofs.place_of.Symbol.{name as #place}
-use Rattle.lending.proofs.place_of.Met as pl-thm
+use Rattle.lending.proofs.index_of as pl
+use Rattle.lending.proofs.index_of.Symbol as pl-def
+use Rattle.lending.proofs.index_of.Symbol.{name as #place}
+use Rattle.lending.proofs.index_of.Met as pl-thm
 use Rattle.lending.proofs.answer_of.Symbol as an-def
 use Rattle.lending.proofs.answer_of.Symbol.{name as #answer}
 use Rattle.lending.proofs.answer_of.Met as an-thm
@@ -248,13 +248,13 @@ module _ {M : Type 1} (𝓤 : URA M) (H : Heap 𝓤) (A : Atoms 𝓤) (W : Given
       -- [the words; the list; list's token; beside's token; the file; its token; table's token]
       move ! (4 ∷ []) $ drop ! $ move ! (2 ∷ 1 ∷ 3 ∷ 4 ∷ 0 ∷ 5 ∷ []) $ by ! (exits r bs ys v is refl refl e)
 
-  within : (k : ℕ) {j : ℕ} → j ≡ placeOf n k → j < length ys
+  within : (k : ℕ) {j : ℕ} → j ≡ indexOf n k → j < length ys
   within k e = subst (λ (x : ℕ). x < length ys) (sym e) (place-within ys bs fit k)
 
   -- what the step comes to
   abbrev Judged : Acted → Thread → Thread → Type 0
   Judged it t u = Storable (length ys) n i p (it .answer) × (answerOf (it .answer) ≡ judgedAnswer C ys bs i p) × (storedIn ys n i p (outcomeOf it) ≡ judgedRecords C ys bs i p)
-      × (besideBy bs (stepOf (clinicOf C) bs i t p u) ≡ judgedBeside C ys bs i p)
+      × (besideBy bs (outcomeOn (clinicOf C) bs i t p u) ≡ judgedBeside C ys bs i p)
 
   module _ (𝓣 : Tables 𝓤 H) (known : Cites 𝓤 H A mem run (𝓣 .C)) where
     module _ (l0 l1 l2 l3 l4 l5 l6 l7 l8 l9 l10 l11 l12 l13 l14 l15 l16 l17 l18 l19 l20 l21 l22 l23 l24 l25 l26 l27 l28 l29 l30 : ℕ) where
@@ -269,7 +269,7 @@ module _ {M : Type 1} (𝓤 : URA M) (H : Heap 𝓤) (A : Atoms 𝓤) (W : Given
       High rest = ‵ (froom (sliceTy record-ref) l30 0) ∷ ‵ (fdies (sliceTy record-ref) l30) ∷ ‵ (froom record-ref l29 0) ∷ ‵ (fdies record-ref l29) ∷ ‵ (froom tyUnit l28 0) ∷ ‵ (fdies tyUnit l28) ∷ ‵ (froom (sliceTy (tyRef erased mut half)) l27 0) ∷ ‵ (fdies (sliceTy (tyRef erased mut half)) l27) ∷ ‵ (froom (tyRef erased mut half) l26 0) ∷ ‵ (fdies (tyRef erased mut half) l26) ∷ ‵ (froom tyPtr l25 0) ∷ ‵ (fdies tyPtr l25) ∷ ‵ (froom T′.mir l24 0) ∷ ‵ (fdies T′.mir l24) ∷ ‵ (froom tyPtr l23 0) ∷ ‵ (fdies tyPtr l23) ∷ ‵ (froom word l22 0) ∷ ‵ (fdies word l22) ∷ ‵ (froom word l21 0) ∷ ‵ (fdies word l21) ∷ ‵ (froom tyBool l20 0) ∷ ‵ (fdies tyBool l20) ∷ ‵ (froom (sliceTy (tyRef erased imm half)) l19 0) ∷ ‵ (fdies (sliceTy (tyRef erased imm half)) l19) ∷ ‵ (froom (tyRef erased imm half) l18 0) ∷ ‵ (fdies (tyRef erased imm half) l18) ∷ ‵ (froom (sliceTy record-ref) l17 0) ∷ ‵ (fdies (sliceTy record-ref) l17) ∷ ‵ (froom record-ref l16 0) ∷ ‵ (fdies record-ref l16) ∷ ‵ (froom tyBool l15 0) ∷ ‵ (fdies tyBool l15) ∷ ‵ (froom (sliceTy (tyRef erased imm half)) l14 0) ∷ ‵ (fdies (sliceTy (tyRef erased imm half)) l14) ∷ ‵ (froom (tyRef erased imm half) l13 0) ∷ ‵ (fdies (tyRef erased imm half) l13) ∷ rest
 
       module _ (cv nv : Val) (is-c : Is u16 n (cv ∷ [])) (is-n : Is usize n (nv ∷ [])) where
-        module _ (it : Acted) (ws : List ℕ) (t u : Thread) (ws-are : ws ≡ besideBy bs (stepOf (clinicOf C) bs i t p u)) (long-ws : length ws ≡ length bs) (judge : Judged it t u) where
+        module _ (it : Acted) (ws : List ℕ) (t u : Thread) (ws-are : ws ≡ besideBy bs (outcomeOn (clinicOf C) bs i t p u)) (long-ws : length ws ≡ length bs) (judge : Judged it t u) where
           abbrev At25 : Val → List (Item 𝓤)
           At25 av = ‵ (flft κ₃ q₃) ∷ ‵ (flft κ₁ q₁) ∷ ‵ (finally u16 γ₃ ws) ∷ ‵ owned-list ∷ ‵ (flft κ₀ q₀) ∷ ‵ (flft κ₂ q₂)
               ∷ High (‵ (fat fullShare AA′.mir l12 0 av) ∷ ‵ (fdies AA′.mir l12) ∷ ‵ (froom T′.mir l11 0) ∷ ‵ (fdies T′.mir l11) ∷ ‵ (froom T′.mir l10 0) ∷ ‵ (fdies T′.mir l10) ∷ Tail cv nv)
@@ -310,7 +310,7 @@ module _ {M : Type 1} (𝓤 : URA M) (H : Heap 𝓤) (A : Atoms 𝓤) (W : Given
         steps fits =
             opens-row ! tt ys b₀ o₀ $
             calls-plain (pl.signature .params) (pl.signature .result) (pl.ended .kept) 𝓤 H A (pl.clauses 𝓤 H A mem run) (n, (i, tt)) (cv ∷ [], (vint w16 i ∷ [], tt)) tt ! 𝓣 (known .place) ((uint-makes 𝓤 H A W w16), ((uint-makes 𝓤 H A W w16), tt)) (is-c, ((refl, i-fits), tt)) (id⊢ 𝓤 (emp 𝓤))
-            (λ r. r ≡ placeOf n i) (λ r ws. id⊢ 𝓤 _) (and-then ! (of-local ! 51 refl) (and-then ! (of-local ! 55 refl) (no-more !))) (λ jv j j-is is-j.
+            (λ r. r ≡ indexOf n i) (λ r ws. id⊢ 𝓤 _) (and-then ! (of-local ! 51 refl) (and-then ! (of-local ! 55 refl) (no-more !))) (λ jv j j-is is-j.
             land ! (from ! (stop !)) (init ! 25 refl (uint-lawful 𝓤 H A W w64 .typed j _ is-j .0)) $ rewrite ! 25 (λ (u : Val). ‵ (fat fullShare word l21 0 u)) (ap only (is-j .0)) refl $
             to-local ! (bin ! (of-local ! 25 refl) (lit ! tt) (record { fits = scaled room₀ (within i j-is) })) (init ! 23 refl (tt, record { fits = scaled room₀ (within i j-is) })) $
             to-local ! (bin ! (load ! (from ! (fld ! refl (stop !))) (look-in ! 65 (sub ! 0 refl (whole !)))) (of-local ! 23 refl) tt) (init ! 21 refl (tt, tt)) $
@@ -320,7 +320,7 @@ module _ {M : Type 1} (𝓤 : URA M) (H : Heap 𝓤) (A : Atoms 𝓤) (W : Given
             elem-back ! R fullShare ys j noThread (thread-val (getD ys j noThread) ∷ []) b₀ o₀ (within i j-is) $
             to-local ! (of-opd ! (of-local ! 19 refl)) (init ! 47 refl (thread-typed 𝓤 H A W (getD ys j noThread) is-j-t)) $
             calls-plain (pl.signature .params) (pl.signature .result) (pl.ended .kept) 𝓤 H A (pl.clauses 𝓤 H A mem run) (n, (p, tt)) (cv ∷ [], (vint w16 p ∷ [], tt)) tt ! 𝓣 (known .place) ((uint-makes 𝓤 H A W w16), ((uint-makes 𝓤 H A W w16), tt)) (is-c, ((refl, p-fits), tt)) (id⊢ 𝓤 (emp 𝓤))
-            (λ r. r ≡ placeOf n p) (λ r ws. id⊢ 𝓤 _) (and-then ! (of-local ! 51 refl) (and-then ! (of-local ! 53 refl) (no-more !))) (λ kv k k-is is-k.
+            (λ r. r ≡ indexOf n p) (λ r ws. id⊢ 𝓤 _) (and-then ! (of-local ! 51 refl) (and-then ! (of-local ! 53 refl) (no-more !))) (λ kv k k-is is-k.
             land ! (from ! (stop !)) (store ! 25 refl (uint-lawful 𝓤 H A W w64 .typed k _ is-k .0)) $ rewrite ! 25 (λ (u : Val). ‵ (fat fullShare word l21 0 u)) (ap only (is-k .0)) refl $
             to-local ! (bin ! (of-local ! 25 refl) (lit ! tt) (record { fits = scaled room₀ (within p k-is) })) (store ! 23 refl (tt, record { fits = scaled room₀ (within p k-is) })) $
             to-local ! (bin ! (load ! (from ! (fld ! refl (stop !))) (look-in ! 65 (sub ! 0 refl (whole !)))) (of-local ! 23 refl) tt) (init ! 17 refl (tt, tt)) $
@@ -338,7 +338,7 @@ module _ {M : Type 1} (𝓤 : URA M) (H : Heap 𝓤) (A : Atoms 𝓤) (W : Given
             calls-any 𝓤 H A sp.ended (sp.clauses 𝓤 H A mem run) ((κ₁, (κ₃, tt)), (q₁, (q₃, tt)), tt, (file, (head, (beside, (i, (getD ys j noThread, (p, (getD ys k noThread, tt))))))), (fv ∷ [], (hv ∷ [], (bv ∷ [], (vint w16 i ∷ [], (thread-val (getD ys j noThread) ∷ [], (vint w16 p ∷ [], (thread-val (getD ys k noThread) ∷ [], tt)))))))) tt ! 𝓣 (known .step) refl
             (factI 𝓤 (Laid (now file) head × (length bs ≡ besideWords) × (threadCount bs ≤ 64) × (madeCount bs ≤ 64) × (p ≡ i → getD ys k noThread ≡ getD ys j noThread)) (emp 𝓤)
             (laid, fit .beside, fit .threads, fit .made, same-record C ys bs fit i p (getD ys j noThread) (getD ys k noThread) (ap (λ (x : ℕ). getD ys x noThread) j-is) (ap (λ (x : ℕ). getD ys x noThread) k-is)))
-            (λ r ws. (r ≡ actedOf (stepOf (clinicOf C) bs i (getD ys j noThread) p (getD ys k noThread))) × (ws .1 .1 .0 ≡ besideBy bs (stepOf (clinicOf C) bs i (getD ys j noThread) p (getD ys k noThread)))) (λ r ws. id⊢ 𝓤 _)
+            (λ r ws. (r ≡ actedOf (outcomeOn (clinicOf C) bs i (getD ys j noThread) p (getD ys k noThread))) × (ws .1 .1 .0 ≡ besideBy bs (outcomeOn (clinicOf C) bs i (getD ys j noThread) p (getD ys k noThread)))) (λ r ws. id⊢ 𝓤 _)
             (and-then ! (of-local ! 60 refl) (and-then ! (of-local ! 58 refl) (and-then ! (of-local ! 10 refl) (and-then ! (of-local ! 52 refl) (and-then ! (of-local ! 44 refl) (and-then ! (of-local ! 50 refl) (and-then ! (of-local ! 42 refl) (no-more !)))))))) (λ av it ws made is-it.
             fsplit ! $ move ! (1 ∷ []) $ fsplit ! $ move ! (1 ∷ []) $ fsplit ! $ fsplit ! $ move ! (1 ∷ []) $ feqL ! (λ long.
             move ! (1 ∷ 2 ∷ 3 ∷ []) $ drop ! $ drop ! $ drop ! $ move ! (1 ∷ []) $ split ! $ move ! (1 ∷ []) $ split ! $ move ! (1 ∷ []) $ drop ! $
@@ -457,7 +457,7 @@ choose-by-spec 𝓤 H 𝓜 𝓖 𝓡 =
       wide = cited 𝓤 H (tripleOf 𝓤 H (𝓖 .A) wd.signature (wd.spec 𝓤 H (𝓖 .A) (𝓜 .mem) (𝓡 .run))) 𝓜 𝓡 code.env #wide wd-def.routine code.calls-format·words·wide (wd-thm.met 𝓤 H 𝓜 𝓖 𝓡);
       fits = cited 𝓤 H (tripleOf 𝓤 H (𝓖 .A) rf.signature (rf.spec 𝓤 H (𝓖 .A) (𝓜 .mem) (𝓡 .run))) 𝓜 𝓡 code.env #fits rf-def.routine code.calls-engine·walk·records-fit (rf-thm.met 𝓤 H 𝓜 𝓖 𝓡);
       unfit = cited 𝓤 H (tripleOf 𝓤 H (𝓖 .A) ul.signature (ul.spec 𝓤 H (𝓖 .A) (𝓜 .mem) (𝓡 .run))) 𝓜 𝓡 code.env #unlendable ul-def.routine code.calls-lending·unlendable (ul-thm.met 𝓤 H 𝓜 𝓖 𝓡);
-      place = cited 𝓤 H (tripleOf 𝓤 H (𝓖 .A) pl.signature (pl.spec 𝓤 H (𝓖 .A) (𝓜 .mem) (𝓡 .run))) 𝓜 𝓡 code.env #place pl-def.routine code.calls-lending·place-of (pl-thm.met 𝓤 H 𝓜 𝓖 𝓡);
+      place = cited 𝓤 H (tripleOf 𝓤 H (𝓖 .A) pl.signature (pl.spec 𝓤 H (𝓖 .A) (𝓜 .mem) (𝓡 .run))) 𝓜 𝓡 code.env #place pl-def.routine code.calls-lending·index-of (pl-thm.met 𝓤 H 𝓜 𝓖 𝓡);
       step = cited 𝓤 H (tripleOf 𝓤 H (𝓖 .A) sp.signature (sp.spec 𝓤 H (𝓖 .A) (𝓜 .mem) (𝓡 .run))) 𝓜 𝓡 code.env #stepped sp-def.routine code.calls-lending·stepping·stepped (sp-thm.met 𝓤 H 𝓜 𝓖 𝓡);
       stored = cited 𝓤 H (tripleOf 𝓤 H (𝓖 .A) st.signature (st.spec 𝓤 H (𝓖 .A) (𝓜 .mem) (𝓡 .run))) 𝓜 𝓡 code.env #store st-def.routine code.calls-engine·walk·store (st-thm.met 𝓤 H 𝓜 𝓖 𝓡);
       answer = cited 𝓤 H (PartOf RA RV (λ x. answerOf (x .answer)) 𝓤 H (𝓖 .A)) 𝓜 𝓡 code.env #answer an-def.routine code.calls-lending·answer-of (an-thm.met 𝓤 H 𝓜 𝓖 𝓡);

@@ -11,7 +11,7 @@ use Rattle.format.specs.Answers.{fine, orElse}
 use Rattle.format.specs.declared.Verdict.{Verdict}
 use Rattle.format.proofs.ContentsLaws.{users-held, channels-held, nodes-held}
 use Rattle.rules.specs.declared.Point.{Point}
-use Rattle.rules.specs.declared.Step.{Step}
+use Rattle.rules.specs.declared.RuleStep.{RuleStep}
 use Rattle.rules.specs.Schema.{schemaOf}
 use Rattle.rules.specs.Rules.{Context}
 use Rattle.rules.specs.Checking.{openings}
@@ -57,7 +57,7 @@ right-at c =
     let users = users-held (a .file .now) (a .head) in
     let channels = channels-held (a .file .now) (a .head) in
     let named = subst (λ k. NameTable D k (D .channels) (l .names)) (sym users) (subst (λ k. NameTable D (a .head .count .users) k (l .names)) (sym channels) (l .inv .8)) in
-    subst (λ (s : Step). Right D (l .names) (l .here) n s) (sym (c .step-at .ensures .0))
+    subst (λ (s : RuleStep). Right D (l .names) (l .here) n s) (sym (c .step-at .ensures .0))
     (step-right D (l .names) (l .here) n (omega (arith, users, pre .0 .users)) (omega (arith, channels, pre .0 .channels)) named (omega (arith, few, l .inv .3)) (l .inv .9) (l .inv .7 .0) (c .before .before .match .rest .0 .1) (c .before .before .match .rest .1) (omega arith) (c .step-at .ensures .1))
 
 slice-aggregate-open-sessions : tie.Need-slice-aggregate-open-sessions Inv-loop μ-loop

@@ -64,7 +64,7 @@ returns c =
     let second = two .ensures ∙ ap (λ (m : ℕ). sets (one .last .0) 8 (bytesOf (madeWords (madeIn b 2 m)))) (c .before .before .before .before .before .before .before .before .before .before .wide .ensures .0) in
     let third = three .ensures
     ∙ ap₂ (λ (m n : ℕ). sets (two .last .1 .1 .0) (2 * (4 + 2 * m)) (bytesOf (threadWords (threadsIn w 0 n)))) (c .before .before .before .wide3 .ensures .0) (c .before .before .before .before .before .wide2 .ensures .0) in
-    state-put w b (a .out .now) (one .last .0) (two .last .1 .1 .0) (three .last .1 .1 .0) (a .counted .count) (a .counted .refusal)
+    state-put w b (a .out .now) (one .last .0) (two .last .1 .1 .0) (three .last .1 .1 .0) (a .progress .count) (a .progress .refusal)
     (made .result) (threads .result) (made .ensures) (threads .ensures) (one .ensures) second third
 
 pub put-state-spec : {M : Type 1} → statement M

@@ -12,7 +12,7 @@ use Rattle.format.proofs.ContentsLaws.{sessions-held, nodes-held, none-past}
 use Rattle.format.proofs.StackLaws.{stacked-top}
 use Rattle.trees.specs.Shape.{boundBelow, boundOf, dueAfter, shapeFrom, roots, shapeAnswer}
 use Rattle.format.specs.declared.Session.{Session}
-use Rattle.trees.specs.declared.Due.the-variants.{Root, Below}
+use Rattle.trees.specs.declared.Due.the-variants.{Root, Child}
 use Rattle.trees.proofs.FitsLaws.{fits-room}
 use Rattle.trees.proofs.ShapeLaws.{blank, roots-push, due-after, judged, over-empty, over-due, left-over, table-size, depth-most}
 use Rattle.trees.proofs.shape.walk.Statement.{statement}
@@ -208,7 +208,7 @@ loop2-again c =
       simp length-set (l .inv .2),
       omega (arith, c .depth-after .ensures, depth-most (n .tag) (l .depth)),
       ap (shapeFrom (l .i + 1) _)
-          (ap₂ (λ x k. stacked blank (set (set (l .stack) (l .depth - 1) (Below x)) (l .depth) (Below x)) k) bound (c .depth-after .ensures)
+          (ap₂ (λ x k. stacked blank (set (set (l .stack) (l .depth - 1) (Child x)) (l .depth) (Child x)) k) bound (c .depth-after .ensures)
           ∙ due-after n (l .stack) (l .depth) due pos room)
           ∙ (rw (not-false (c .before .before .before .before .node-fits .result) (c .before .before .before .if2 .left)) at left),
     )

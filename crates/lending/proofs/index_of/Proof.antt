@@ -4,10 +4,10 @@ use native.Mathlib.Omega.{arith}
 use Rattle.format.specs.Contents.{inCount}
 use Rattle.format.proofs.ContentsLaws.{in-count}
 use borrow.Author.Needs.{needs}
-use Rattle.lending.proofs.place_of.Statement.{statement}
-use Rattle.lending.proofs.place_of.Tie as tie
-use Rattle.lending.proofs.place_of.Reads as reads
-use Rattle.lending.proofs.place_of.Lts as lts
+use Rattle.lending.proofs.index_of.Statement.{statement}
+use Rattle.lending.proofs.index_of.Tie as tie
+use Rattle.lending.proofs.index_of.Reads as reads
+use Rattle.lending.proofs.index_of.Lts as lts
 use Rattle.format.proofs.sections.in_count.Reads as in-count-reads
 use Rattle.format.proofs.words.wide.Reads as wide-reads
 
@@ -29,5 +29,5 @@ returns c = rw (inside (c .before)) (c .wide .ensures .0)
 returns-2 : tie.Need-returns-2
 returns-2 c = rw (sym (c .before .in-count .ensures) ∙ c .if1 .left) refl
 
-pub place-of-spec : {M : Type 1} → statement M
-place-of-spec = tie.close (tie.spec in-count-requires sub-wide wide-requires returns returns-2)
+pub index-of-spec : {M : Type 1} → statement M
+index-of-spec = tie.close (tie.spec in-count-requires sub-wide wide-requires returns returns-2)
