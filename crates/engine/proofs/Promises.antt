@@ -38,7 +38,7 @@ use Rattle.format.specs.declared.Node.{Node}
 use Rattle.rules.specs.Rules.{Context, childOf}
 use Rattle.steps.specs.declared.Thread.{Thread}
 use Rattle.steps.specs.Threads.{noThread, firstFree, value}
-use Rattle.steps.specs.Beside.{threadCount, madeCount}
+use Rattle.steps.specs.Beside.{threadCount, madeCount, besideWords, countWords, usedWords}
 use Rattle.steps.specs.Choice.{Clinic, clinicOf, State, threadAt, choice, halts, goes}
 use Rattle.choices.specs.Choices.{start, run, ranOf}
 use Rattle.running.specs.Run.{listed, running, runOver, readyPair, ready}
@@ -437,10 +437,10 @@ run-in-turn = whole-run
 pub start-file-first : (f : List ℕ) (records words n q : ℕ) → 1 ≤ n → n ≤ 10 → (starting f records words ≡ refused n q) ↔ (readingNames f ≡ refused n q)
 start-file-first = start-ten
 
-pub start-sizes : (f : List ℕ) (records words : ℕ) → (starting f records words ≡ refused 18 0) ↔ ((readingNames f ≡ fine) × ((records ≢ 64) ⊎ (words ≢ 130)))
+pub start-sizes : (f : List ℕ) (records words : ℕ) → (starting f records words ≡ refused 18 0) ↔ ((readingNames f ≡ fine) × ((records ≢ 64) ⊎ (words ≢ besideWords)))
 start-sizes = start-eighteen
 
-pub start-otherwise : (f : List ℕ) (records words : ℕ) → (starting f records words ≡ fine) ↔ ((readingNames f ≡ fine) × (records ≡ 64) × (words ≡ 130))
+pub start-otherwise : (f : List ℕ) (records words : ℕ) → (starting f records words ≡ fine) ↔ ((readingNames f ≡ fine) × (records ≡ 64) × (words ≡ besideWords))
 start-otherwise = start-fine
 
 -- The list and the words beside it then hold the state that a run begins with, which may be lent; records past the sessions and words past the two counts keep what they held; and where it is refused, all stays.
@@ -449,7 +449,7 @@ pub start-is-the-runs : (f : List ℕ) (l : List Thread) (b : List ℕ) → star
 start-is-the-runs f l b quiet = (start-lends f l b quiet, start-lendable f l b quiet)
 
 pub start-keeps-the-rest : (f : List ℕ) (l : List Thread) (b : List ℕ) → starting f (length l) (length b) .number ≡ 0
-    → ((k : ℕ) (t : Thread) → length (contentsOf f .sessions) ≤ k → getD (recordsStarted f l b) k t ≡ getD l k t) × ((k : ℕ) → 2 ≤ k → getD (besideStarted f l b) k 0 ≡ getD b k 0)
+    → ((k : ℕ) (t : Thread) → length (contentsOf f .sessions) ≤ k → getD (recordsStarted f l b) k t ≡ getD l k t) × ((k : ℕ) → countWords ≤ k → getD (besideStarted f l b) k 0 ≡ getD b k 0)
 start-keeps-the-rest f l b quiet = (start-records-past f l b quiet, start-words-past f l b quiet)
 
 pub start-refused-leaves-all : (f : List ℕ) (l : List Thread) (b : List ℕ) → starting f (length l) (length b) .number ≢ 0 → (recordsStarted f l b ≡ l) × (besideStarted f l b ≡ b)
@@ -466,7 +466,7 @@ refused-leaves-all = refused-unchanged
 
 pub past-the-count : (f : List ℕ) (l : List Thread) (b : List ℕ) (i p : ℕ)
     → (drop (threadCount (besideOver f l b i p)) (recordsOver f l b i p) ≡ drop (threadCount (besideOver f l b i p)) l)
-    × (drop (2 + 2 * madeCount (besideOver f l b i p)) (besideOver f l b i p) ≡ drop (2 + 2 * madeCount (besideOver f l b i p)) b)
+    × (drop (usedWords (madeCount (besideOver f l b i p))) (besideOver f l b i p) ≡ drop (usedWords (madeCount (besideOver f l b i p))) b)
 past-the-count = past-kept
 
 -- "Starred cases belong to the proved set .. shown on the definitions through one theorem about their list."

@@ -24,10 +24,9 @@ use Rattle.checking.specs.Check.{readingNames, entered}
 use Rattle.checking.proofs.CheckLaws.{entered-fine, entered-refused, names-fine, names-headed}
 use Rattle.steps.specs.declared.Thread.{Thread}
 use Rattle.steps.specs.Threads.{noThread}
-use Rattle.steps.specs.Beside.{startWords}
+use Rattle.steps.specs.Beside.{startWords, madeWords}
 use Rattle.steps.specs.Choice.{goes}
 use Rattle.choices.specs.Choices.{threadsFrom, start}
-use Rattle.running.specs.Run.{madeWords}
 use Rattle.running_exact.proofs.StartKept.{threads-length}
 use Rattle.lending.specs.Lent.{recordsAfter}
 use Rattle.lending.specs.Starting.{starting, recordsStarted, besideStarted}

@@ -7,11 +7,10 @@ use lib.ListN.{length, getD, set, take, drop, replicate, length-replicate, lengt
 use lib.Seq.{sets, sets-eq, paste, length-take-le, take-take, take-add, drop-at, drop-cons, take-set-lt, drop-set-lt, set-append-left, getD-set-same, getD-set-other}
 use Rattle.steps.specs.declared.Made.{Made}
 use Rattle.steps.specs.Choice.{State, goes}
-use Rattle.steps.specs.Beside.{threadCount, madeCount, madeIn, madeOf, oneMade}
+use Rattle.steps.specs.Beside.{threadCount, madeCount, madeIn, madeOf, oneMade, madeWords}
 use Rattle.steps.specs.Kept.{Sized}
 use Rattle.steps.proofs.ActLaws.{length-made}
 use Rattle.choices.proofs.StateLaws.{mint-state}
-use Rattle.running.specs.Run.{madeWords}
 use Rattle.lending.specs.Lent.{besideAfter}
 
 module _ {A : Type 0} where

@@ -17,9 +17,8 @@ use Rattle.checking.specs.Check.{readingNames}
 use Rattle.steps.specs.declared.Thread.{Thread}
 use Rattle.steps.specs.declared.Made.{Made}
 use Rattle.steps.specs.Choice.{clinicOf, kindHeld, State, Chosen, halts, goes, choice}
-use Rattle.running.specs.Run.{madeWords}
 use Rattle.checking_exact.specs.Faults.{nowhere}
-use Rattle.steps.specs.Beside.{threadCount, madeCount, madeOf, besideWords}
+use Rattle.steps.specs.Beside.{threadCount, madeCount, madeOf, besideWords, besideOf}
 
 -- the context in which a node is reached
 abbrev pub contextAt : Contents → ℕ → Context
@@ -55,7 +54,7 @@ every test (x ∷ xs) = test x && every test xs
 abbrev pub stateOf : List Thread → List ℕ → State
 stateOf l b = record { threads = take (threadCount b) l; made = madeOf b }
 
--- 130 words beside 64 records, and no count above 64
+-- as many words as stand beside 64 records, and no count above 64
 abbrev pub sizesFit : ℕ → List ℕ → Bool
 sizesFit records b = eqb (length b) besideWords && ((eqb records 64 && leb (threadCount b) 64) && leb (madeCount b) 64)
 
@@ -88,7 +87,7 @@ recordsAfter l (goes s) = sets l 0 (s .threads)
 
 abbrev pub besideAfter : List ℕ → Chosen → List ℕ
 besideAfter b (halts n) = b
-besideAfter b (goes s) = sets b 0 (length (s .threads) ∷ length (s .made) ∷ madeWords (s .made))
+besideAfter b (goes s) = sets b 0 (besideOf (length (s .threads)) (s .made))
 
 unfoldable pub recordsOver : List ℕ → List Thread → List ℕ → ℕ → ℕ → List Thread
 recordsOver f l b i p = cond (eqb (lending f l b .number) 0) (recordsAfter l (chosenIn f l b i p)) l

@@ -13,6 +13,7 @@ use steps::beside::thread_count;
 use steps::records::TABLE;
 use steps::records::put_thread;
 use steps::records::thread_at;
+use steps::threads::no_thread;
 ghost use mathlib.Core.Path.{_≡_};
 ghost use Prim.Native.Nat.{_-_, _≤_, _<_};
 ghost use lib.ListN.{length, replicate};
@@ -27,19 +28,7 @@ ghost use Rattle.steps.specs.Beside.{threadCount, madeCount, besideWords, besid
 ghost use Rattle.steps.specs.Records.{threadIn, recordAt, threadTableWords};
 ghost use Rattle.steps.specs.Choice.{clinicOf};
 ghost use Rattle.steps.specs.Kept.{Sized};
-ghost use Rattle.steps.specs.Threads.{noThread};
 ghost use Rattle.lending.specs.Walk.{outcomeOn, secondAt};
-
-fn no_thread() -> Thread
-    ensures { λ r. ⌜ r ≡ noThread ⌝ }
-{
-    Thread {
-        user: 0,
-        node: 0,
-        mask: 0,
-        vars: [0; 8],
-    }
-}
 
 // An answer with the threads that it leaves, as they stand in a table.
 fn read_back(words: &[u16], count: usize, at: usize, to: usize, answer: Answer) -> Acted

@@ -22,8 +22,7 @@ use Rattle.checking.specs.Check.{readingNames}
 use Rattle.steps.specs.declared.Thread.{Thread}
 use Rattle.steps.specs.Threads.{value, firstFree}
 use Rattle.steps.specs.Choice.{kindHeld, meeting, sending, lone, aloneOnly, acting, done, outcome, choice}
-use Rattle.steps.specs.Beside.{madeIn}
-use Rattle.running.specs.Run.{madeWords}
+use Rattle.steps.specs.Beside.{madeIn, madeWords}
 use Rattle.lending.specs.Lent.{isValue, varsFit, threadFits, madeFits, every, mayBeLent, lending, choosing, recordsOver, besideOver}
 
 -- a choice in what is lent: the answer, and what is left

@@ -19,9 +19,8 @@ use Rattle.reading_exact.proofs.AllLaws.{all-map}
 use Rattle.steps.specs.declared.Thread.{Thread}
 use Rattle.steps.specs.declared.Made.{Made}
 use Rattle.steps.specs.Choice.{Clinic, clinicOf, State, Chosen, halts, goes, choice}
-use Rattle.steps.specs.Beside.{madeIn}
+use Rattle.steps.specs.Beside.{madeIn, madeWords}
 use Rattle.choices.specs.Choices.{start, Ran, follow, run, ranOf}
-use Rattle.running.specs.Run.{madeWords}
 use Rattle.steps.proofs.ActLaws.{length-made}
 use Rattle.running_exact.specs.Keeps.{Fits, Reaches, Formed, Kept}
 use Rattle.running_exact.proofs.Agree.{refused-positive}

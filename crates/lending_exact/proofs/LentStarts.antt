@@ -17,7 +17,7 @@ use Rattle.choices.specs.Choices.{start, run}
 use Rattle.steps.proofs.TableLaws.{sets-other}
 use Rattle.steps.specs.declared.Thread.{Thread}
 use Rattle.steps.specs.Choice.{goes}
-use Rattle.running.specs.Run.{madeWords}
+use Rattle.steps.specs.Beside.{madeWords}
 use Rattle.running_exact.proofs.FileNodes.{laid}
 use Rattle.lending.specs.Lent.{stateOf, lending, recordsAfter, besideAfter}
 use Rattle.lending.specs.Starting.{starting, recordsStarted, besideStarted}

@@ -11,7 +11,7 @@ use Rattle.format.specs.Contents.{contentsOf}
 use Rattle.format.specs.Answers.{fine}
 use Rattle.steps.specs.declared.Thread.{Thread}
 use Rattle.steps.specs.Choice.{State, goes}
-use Rattle.running.specs.Run.{madeWords}
+use Rattle.steps.specs.Beside.{madeWords}
 use Rattle.lending.specs.Lent.{sizesFit, mayBeLent, lending, chosenIn, choosing, recordsAfter, besideAfter, recordsOver, besideOver}
 use Rattle.lending.proofs.SizeLaws.{sizes-true}
 use Rattle.reading_exact.proofs.FirstLaws.{number-of}

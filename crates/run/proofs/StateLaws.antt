@@ -9,7 +9,8 @@ use lib.ListN.{length, getD, set, length-set}
 use lib.Seq.{sets, getD-set-same, getD-set-other}
 use Rattle.format.specs.Words.{wordAt, bytesOf}
 use Rattle.choices.specs.Choices.{Ran, ranOf}
-use Rattle.running.specs.Run.{madeWords, threadWords, ranWords, listed, unready, running, runOver}
+use Rattle.steps.specs.Beside.{madeWords}
+use Rattle.running.specs.Run.{threadWords, ranWords, listed, unready, running, runOver}
 use Rattle.run.specs.State.{hasState}
 
 -- a run of stores leaves what is before it

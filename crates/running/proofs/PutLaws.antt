@@ -12,9 +12,9 @@ use Rattle.steps.specs.declared.Thread.{Thread}
 use Rattle.steps.specs.declared.Made.{Made}
 use Rattle.steps.proofs.TableLaws.{eight, threads-length}
 use Rattle.steps.proofs.ActLaws.{length-made}
-use Rattle.running.specs.Run.{madeWords, threadWords, ranWords}
+use Rattle.running.specs.Run.{threadWords, ranWords}
 use Rattle.steps.specs.Records.{threadIn, threadsIn}
-use Rattle.steps.specs.Beside.{madeAt, madeIn}
+use Rattle.steps.specs.Beside.{madeAt, madeIn, madeWords}
 use Rattle.steps.specs.Kept.{stateIn}
 
 -- two words a made channel

@@ -13,18 +13,13 @@ use Rattle.format.specs.declared.Verdict.{Verdict}
 use Rattle.format.specs.declared.Head.{Head}
 use Rattle.checking.specs.Check.{readingNames}
 use Rattle.steps.specs.declared.Thread.{Thread}
-use Rattle.steps.specs.declared.Made.{Made}
 use Rattle.steps.specs.declared.Partner.the-variants.{With}
 use Rattle.steps.specs.declared.Outcome.{Outcome}
 use Rattle.steps.specs.declared.Outcome.the-variants.{Refused, Moves, Adds, Makes, Ends, Meets}
 use Rattle.running.specs.declared.Ready.{Ready}
 use Rattle.steps.specs.Choice.{Clinic, clinicOf, acting, State}
+use Rattle.steps.specs.Beside.{madeWords}
 use Rattle.choices.specs.Choices.{Ran, ranOf}
-
--- per made channel owner and kind
-unfoldable pub madeWords : List Made → List ℕ
-madeWords [] = []
-madeWords (m ∷ ms) = m .owner ∷ m .kind .0 ∷ madeWords ms
 
 -- per thread user, node, mask, the number of roles it holds, its eight variables
 unfoldable pub threadWords : List Thread → List ℕ

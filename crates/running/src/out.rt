@@ -14,10 +14,10 @@ ghost use Prim.Native.Nat.{_+_, _*_, _≤_};
 ghost use lib.ListN.{length};
 ghost use lib.Seq.{sets};
 ghost use Rattle.format.specs.Words.{bytesOf};
-ghost use Rattle.running.specs.Run.{madeWords, threadWords, ranWords};
+ghost use Rattle.running.specs.Run.{threadWords, ranWords};
 ghost use Rattle.steps.specs.Kept.{stateIn, Sized};
 ghost use Rattle.steps.specs.Records.{threadsIn, threadTableWords};
-ghost use Rattle.steps.specs.Beside.{madeTo, besideWords};
+ghost use Rattle.steps.specs.Beside.{madeTo, besideWords, madeWords};
 
 // Two words: a made channel's owner and kind.
 fn put_two(out: &mut [u8], at: usize, first: u16, second: u16)

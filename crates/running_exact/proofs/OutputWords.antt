@@ -13,7 +13,8 @@ use Rattle.steps.specs.declared.Thread.{Thread}
 use Rattle.steps.specs.declared.Made.{Made}
 use Rattle.steps.specs.Threads.{noThread, noMade}
 use Rattle.choices.specs.Choices.{Ran}
-use Rattle.running.specs.Run.{madeWords, threadWords, ranWords}
+use Rattle.steps.specs.Beside.{madeWords}
+use Rattle.running.specs.Run.{threadWords, ranWords}
 use Rattle.running.proofs.PutLaws.{made-words-length}
 use Rattle.reading_exact.specs.Lists.{All}
 use Rattle.reading_exact.specs.File.{InCount}

@@ -17,7 +17,8 @@ use Rattle.checking.specs.Check.{readingNames}
 use Rattle.steps.specs.Threads.{value, firstFree}
 use Rattle.steps.specs.Choice.{kindHeld, meeting, sending, lone, aloneOnly, acting, done, outcome, choice}
 use Rattle.choices.specs.Choices.{threadsFrom, run}
-use Rattle.running.specs.Run.{madeWords, threadWords, ranWords, running, runOver, receiverFrom, pairFrom, readyPair, ready}
+use Rattle.steps.specs.Beside.{madeWords}
+use Rattle.running.specs.Run.{threadWords, ranWords, running, runOver, receiverFrom, pairFrom, readyPair, ready}
 use Rattle.reading_exact.specs.Lists.{All}
 use Rattle.running_exact.specs.RunCases.{RunShown, runCases}
 

@@ -1,13 +1,20 @@
 -- The words beside a list of threads: how many threads there are, how many channels are made, then owner and kind of 64 made channels.
 use Prim.Native.Nat.{ℕ, zero, suc, _+_, _*_, _-_}
 use mathlib.Core.List.{List, [], _∷_}
-use lib.ListN.{getD, set}
+use lib.ListN.{length, getD, set}
 use Rattle.steps.specs.declared.Made.{Made}
 use Rattle.steps.specs.declared.Outcome.{Outcome}
 use Rattle.steps.specs.declared.Outcome.the-variants.{Refused, Moves, Adds, Makes, Ends, Meets}
 
 abbrev pub besideWords : ℕ
 besideWords = 130
+
+-- the counts stand first; so many of the words are used where so many channels are made
+abbrev pub countWords : ℕ
+countWords = 2
+
+abbrev pub usedWords : ℕ → ℕ
+usedWords made = countWords + 2 * made
 
 abbrev pub threadCount : List ℕ → ℕ
 threadCount b = getD b 0 0
@@ -30,6 +37,14 @@ madeTo b n = madeIn b 2 n
 
 abbrev pub madeOf : List ℕ → List Made
 madeOf b = madeTo b (madeCount b)
+
+-- per made channel owner and kind; and all words beside so many threads and these made channels
+unfoldable pub madeWords : List Made → List ℕ
+madeWords [] = []
+madeWords (m ∷ ms) = m .owner ∷ m .kind .0 ∷ madeWords ms
+
+abbrev pub besideOf : ℕ → List Made → List ℕ
+besideOf threads made = threads ∷ length made ∷ madeWords made
 
 -- with so many threads and no channel made; with another number of threads; with one made channel more
 abbrev pub startWords : List ℕ → ℕ → List ℕ

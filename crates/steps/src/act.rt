@@ -6,6 +6,7 @@ use super::Thread;
 use super::beside::made_at;
 use super::beside::made_count;
 use super::beside::thread_count;
+use super::threads::no_thread;
 use format::Head;
 use format::Node;
 use format::sections::channel;
@@ -52,17 +53,6 @@ pub fn kind_held(file: &[u8], head: Head, beside: &[u16], v: u16) -> ChannelKind
         return it.kind;
     }
     ChannelKind(0)
-}
-
-fn no_thread() -> Thread
-    ensures { λ r. ⌜ r ≡ noThread ⌝ }
-{
-    Thread {
-        user: 0,
-        node: 0,
-        mask: 0,
-        vars: [0; 8],
-    }
 }
 
 // An answer that leaves one thread at most.

@@ -2,7 +2,7 @@
 pub mod act;
 pub mod beside;
 pub mod records;
-mod threads;
+pub mod threads;
 
 use masks::ChannelKind;
 

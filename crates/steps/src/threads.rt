@@ -8,7 +8,19 @@ ghost use mathlib.Core.Path.{_≡_};
 ghost use mathlib.Core.Bool.{cond};
 ghost use Prim.Native.Nat.{_≤_, _<_};
 ghost use Rattle.masks.specs.Mask.{with, without};
-ghost use Rattle.steps.specs.Threads.{value, movedTo, onward, masked, bound};
+ghost use Rattle.steps.specs.Threads.{noThread, value, movedTo, onward, masked, bound};
+
+// What stands for no thread.
+pub fn no_thread() -> Thread
+    ensures { λ r. ⌜ r ≡ noThread ⌝ }
+{
+    Thread {
+        user: 0,
+        node: 0,
+        mask: 0,
+        vars: [0; 8],
+    }
+}
 
 fn either(first: bool, one: u16, other: u16) -> u16
     ensures { λ r. ⌜ r ≡ cond first one other ⌝ }

@@ -9,7 +9,7 @@ use Rattle.lending.proofs.stepping.read_back.Statement.{statement}
 use Rattle.lending.proofs.stepping.read_back.Tie as tie
 use Rattle.lending.proofs.stepping.read_back.Reads as reads
 use Rattle.lending.proofs.stepping.read_back.Lts as lts
-use Rattle.lending.proofs.stepping.no_thread.Reads as no-thread-reads
+use Rattle.steps.proofs.threads.no_thread.Reads as no-thread-reads
 use Rattle.steps.proofs.records.thread_at.Reads as thread-at-reads
 
 no-thread-requires : tie.Need-no-thread-requires

@@ -20,7 +20,7 @@ use Rattle.choices.proofs.list.go_through.Reads as go-through-reads
 use Rattle.choices.proofs.list.looked_at.Reads as looked-at-reads
 use Rattle.format.proofs.sections.in_count.Reads as in-count-reads
 use Rattle.format.proofs.words.wide.Reads as wide-reads
-use Rattle.lending.proofs.stepping.no_thread.Reads as no-thread-reads
+use Rattle.steps.proofs.threads.no_thread.Reads as no-thread-reads
 use Rattle.lending.proofs.stepping.read_back.Reads as read-back-reads
 use Rattle.steps.proofs.beside.thread_count.Reads as thread-count-reads
 use Rattle.steps.proofs.records.put_thread.Reads as put-thread-reads

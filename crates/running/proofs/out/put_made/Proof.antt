@@ -4,8 +4,7 @@ use mathlib.Core.Path.{_≡_, refl}
 use lib.ListN.{length}
 use lib.Seq.{sets}
 use Rattle.format.specs.Words.{bytesOf}
-use Rattle.running.specs.Run.{madeWords}
-use Rattle.steps.specs.Beside.{madeIn}
+use Rattle.steps.specs.Beside.{madeIn, madeWords}
 use Rattle.running.proofs.PutLaws.{made-begin, made-turn, made-end}
 use borrow.Author.Needs.{needs}
 use Rattle.running.proofs.out.put_made.Statement.{statement}

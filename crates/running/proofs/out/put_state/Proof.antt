@@ -2,9 +2,9 @@ use Prim.Native.Nat.{ℕ, _+_, _*_}
 use mathlib.Core.Path.{ap, ap₂, _∙_}
 use lib.Seq.{sets}
 use Rattle.format.specs.Words.{bytesOf}
-use Rattle.running.specs.Run.{madeWords, threadWords}
+use Rattle.running.specs.Run.{threadWords}
 use Rattle.steps.specs.Records.{threadsIn}
-use Rattle.steps.specs.Beside.{madeIn}
+use Rattle.steps.specs.Beside.{madeIn, madeWords}
 use Rattle.running.proofs.PutLaws.{state-put}
 use borrow.Author.Needs.{needs}
 use Rattle.running.proofs.out.put_state.Statement.{statement}

@@ -6,7 +6,7 @@ use Rattle.steps.proofs.act.refused.Statement.{statement}
 use Rattle.steps.proofs.act.refused.Tie as tie
 use Rattle.steps.proofs.act.refused.Reads as reads
 use Rattle.steps.proofs.act.refused.Lts as lts
-use Rattle.steps.proofs.act.no_thread.Reads as no-thread-reads
+use Rattle.steps.proofs.threads.no_thread.Reads as no-thread-reads
 use Rattle.steps.proofs.act.sole.Reads as sole-reads
 
 no-thread-requires : tie.Need-no-thread-requires

@@ -3,7 +3,7 @@ use Rattle.steps.proofs.act.sole.Statement.{statement}
 use Rattle.steps.proofs.act.sole.Tie as tie
 use Rattle.steps.proofs.act.sole.Reads as reads
 use Rattle.steps.proofs.act.sole.Lts as lts
-use Rattle.steps.proofs.act.no_thread.Reads as no-thread-reads
+use Rattle.steps.proofs.threads.no_thread.Reads as no-thread-reads
 
 no-thread-requires : tie.Need-no-thread-requires
 no-thread-requires c κs = search needs

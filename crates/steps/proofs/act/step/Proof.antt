@@ -16,7 +16,7 @@ use Rattle.steps.proofs.Thread.value.Reads as value-reads
 use Rattle.steps.proofs.act.adds.Reads as adds-reads
 use Rattle.steps.proofs.act.makes.Reads as makes-reads
 use Rattle.steps.proofs.act.moves_if.Reads as moves-if-reads
-use Rattle.steps.proofs.act.no_thread.Reads as no-thread-reads
+use Rattle.steps.proofs.threads.no_thread.Reads as no-thread-reads
 use Rattle.steps.proofs.act.refused.Reads as refused-reads
 use Rattle.steps.proofs.act.sole.Reads as sole-reads
 use Rattle.steps.proofs.act.switches_on.Reads as switches-on-reads
