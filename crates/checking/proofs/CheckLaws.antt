@@ -27,7 +27,7 @@ use Rattle.reading.proofs.ReadingLaws.{refused-by-head, by-body, head-given, re
 use Rattle.rules.specs.Schema.{schemaOf}
 use Rattle.rules.specs.Checking.{reachedIn, namesAnswer, rolesAnswer, judgement}
 use Rattle.rules.specs.Candidates.{candidatesIn}
-use Rattle.rules.specs.Scopes.{scopesIn}
+use Rattle.naming.specs.Scopes.{scopesIn}
 use Rattle.rules.specs.Rules.{wrong}
 use Rattle.rules.specs.Kept.{Owned}
 use Rattle.rules.proofs.PassLaws.{by-quiet}

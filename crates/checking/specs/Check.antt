@@ -12,7 +12,7 @@ use Rattle.reading.specs.Reading.{reading, withHead}
 use Rattle.reading.specs.declared.Opened.{Opened}
 use Rattle.rules.specs.Checking.{namesAnswer, rolesAnswer}
 use Rattle.rules.specs.Candidates.{candidatesIn}
-use Rattle.rules.specs.Scopes.{scopesIn}
+use Rattle.naming.specs.Scopes.{scopesIn}
 use Rattle.checking.specs.declared.Examined.{Examined}
 
 -- 1 to 10

@@ -1,10 +1,10 @@
 // The check of a clinic file: the refusals 1 to 8, then 9 and 10 together by node, then 11 to 13 by node.
 use format::Verdict;
+use naming::pass::judge_names;
 use reading::Opened;
 use reading::open;
 use reading::with_head;
 use rules::judge::judge;
-use rules::naming::judge_names;
 ghost use mathlib.Core.Path.{_≡_};
 ghost use lib.ListN.{length};
 ghost use Rattle.checking.specs.Check.{readingNames, checking, entered, scoped, examined, surveyed};

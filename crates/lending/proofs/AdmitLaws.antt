@@ -24,7 +24,7 @@ use Rattle.checking.proofs.CheckLaws.{entered-fine, entered-refused, names-fine
 use Rattle.steps.specs.declared.Thread.{Thread}
 use Rattle.steps.specs.Beside.{madeOf}
 use Rattle.lending.specs.Lent.{madeFits, every, sizesFit, mayBeLent, lending, chosenAnswer, chosenIn, choosing, recordsAfter, besideAfter, recordsOver, besideOver}
-use Rattle.rules.specs.Scopes.{scopesIn}
+use Rattle.naming.specs.Scopes.{scopesIn}
 use Rattle.lending.specs.Scopes.{Scoped}
 use Rattle.lending.specs.Walk.{admitted, Fitting, Admits, threadsFit, judgedAnswer, judgedRecords, judgedBeside}
 use Rattle.lending.proofs.SizeLaws.{sizes-true}

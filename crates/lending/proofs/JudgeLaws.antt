@@ -14,7 +14,7 @@ use Rattle.format.specs.Contents.{Contents, inCount}
 use Rattle.rules.specs.Schema.{Schema, schemaOf}
 use Rattle.rules.specs.Names.{unbound}
 use Rattle.rules.specs.Rules.{Context}
-use Rattle.rules.specs.Scopes.{userIn, boundIn, kindAt, scopeOf}
+use Rattle.naming.specs.Scopes.{userIn, boundIn, kindAt, scopeOf}
 use Rattle.steps.specs.declared.Thread.{Thread}
 use Rattle.steps.specs.declared.Made.{Made}
 use Rattle.steps.specs.Threads.{noMade}

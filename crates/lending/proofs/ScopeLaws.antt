@@ -9,7 +9,7 @@ use lib.Pow.{shr-shr, pow-add, pow-mono}
 use borrow.Author.Tests.{lt-ltb}
 use Rattle.rules.specs.Names.{Bound, unbound}
 use Rattle.rules.specs.Rules.{Context}
-use Rattle.rules.specs.Scopes.{userIn, boundIn, kindAt, bindScope, scopeFrom, scopeOf}
+use Rattle.naming.specs.Scopes.{userIn, boundIn, kindAt, bindScope, scopeFrom, scopeOf}
 use Rattle.reading_exact.specs.Lists.{All}
 use Rattle.reading_exact.proofs.AllLaws.{all-append}
 use Rattle.lending.specs.Scopes.{Narrow}

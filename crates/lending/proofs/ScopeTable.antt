@@ -19,7 +19,7 @@ use Rattle.reading.specs.declared.Opened.the-variants.{Fine}
 use Rattle.rules.specs.Schema.{schemaOf}
 use Rattle.rules.specs.Rules.{Context}
 use Rattle.rules.specs.Checking.{reachedIn, namesAnswer}
-use Rattle.rules.specs.Scopes.{scopeFrom, scopeOf, scopesIn}
+use Rattle.naming.specs.Scopes.{scopeFrom, scopeOf, scopesIn}
 use Rattle.rules.proofs.PassLaws.{all-right}
 use Rattle.checking.specs.Check.{readingNames, entered, scoped}
 use Rattle.checking.proofs.CheckLaws.{names-parts, entered-fine}

@@ -7,7 +7,7 @@ use lib.ListN.{length, getD}
 use Rattle.format.specs.Contents.{Contents, inCount}
 use Rattle.rules.specs.Names.{Bound}
 use Rattle.rules.specs.Rules.{Context}
-use Rattle.rules.specs.Scopes.{scopeOf}
+use Rattle.naming.specs.Scopes.{scopeOf}
 use Rattle.reading_exact.specs.Lists.{All}
 use Rattle.lending.specs.Lent.{contextAt}
 

@@ -3,6 +3,4 @@ pub mod PermittedRoles
 pub mod NameLaws
 pub mod StepLaws
 pub mod StackLaws
-pub mod ScopeLaws
 pub mod PassLaws
-pub mod ScopePass

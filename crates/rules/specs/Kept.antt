@@ -16,7 +16,6 @@ use Rattle.rules.specs.declared.Way.{Way}
 use Rattle.rules.specs.declared.Way.the-variants.{Sends, Receives}
 use Rattle.rules.specs.declared.Point.{Point}
 use Rattle.rules.specs.declared.RuleStep.{RuleStep}
-use Rattle.rules.specs.declared.NameStep.{NameStep}
 use Rattle.rules.specs.Schema.{Schema, permittingTo, permitting}
 use Rattle.rules.specs.Names.{Bound}
 use Rattle.rules.specs.Rules.{Context}
@@ -169,28 +168,13 @@ stepOf D t p n =
     (cond (eqb (n .tag) 7) (onAt (D .roles) p (n .f1))
     (cond (eqb (n .tag) 8) (offAt (D .roles) p (n .f1)) (staying p (graded (inCount (D .roles) (n .f1)) true) 0 (p .assigned))))))))
 
--- 9 and 10 alone: the active set plays no part, and of a context only its user and its variables are kept
-abbrev pub barePoint : Schema → ℕ → ℕ → Point
-barePoint D u b = record { user = u; assigned = D .assigned u; mask = 0; bound = b }
-
+-- a context without its active set, which plays no part in 9 and 10
 abbrev pub unmasked : Context → Context
 unmasked c = record { user = c .user; mask = 0; vars = c .vars }
-
-abbrev pub unpaired : Schema → ℕ → Point
-unpaired D w = barePoint D (kindIn w) (ownerIn w)
-
-abbrev pub queued : Schema → List ℕ → ℕ → List Point
-queued D a d = map (unpaired D) (stacked 0 a d)
 
 -- as 6 and 7 leave it: 2 more than each channel's owner, and than each session's user, is still a word
 abbrev pub Owned : Contents → Type 0
 Owned C = ((c : ℕ) → item noChannel (C .channels) c .owner < 65534) × ((s : ℕ) → item noSession (C .sessions) s .user < 65534)
-
-abbrev pub namingFrom : RuleStep → NameStep
-namingFrom s = record { wrong = s .wrong; binding = s .binding; bound = s .child .bound }
-
-abbrev pub namingOf : Schema → List ℕ → ℕ → ℕ → Node → NameStep
-namingOf D t u b n = namingFrom (stepOf D t (barePoint D u b) n)
 
 -- a node's refusal as an answer; 0 refuses nothing
 abbrev pub answerAt : ℕ → ℕ → Verdict

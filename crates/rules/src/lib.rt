@@ -1,10 +1,7 @@
-// The rules of the check: grants, operands, the rules at one node, the pass over the nodes that finds 9 to 13, and a shorter one for 9 and 10,
-// which also tells what each node is reached with.
+// The rules of the check: grants, operands, the rules at one node, and the pass over the nodes that finds 9 to 13.
 pub mod grants;
 pub mod judge;
 pub mod names;
-pub mod naming;
-pub mod scopes;
 mod steps;
 
 use format::Verdict;
@@ -37,11 +34,4 @@ pub struct RuleStep {
     pub roles: u16,
     pub binding: u32,
     pub child: Point,
-}
-
-// The same for names alone: its refusal, 0 where there is none, its variable, and how many variables its child has.
-pub struct NameStep {
-    pub wrong: u16,
-    pub binding: u32,
-    pub bound: u16,
 }

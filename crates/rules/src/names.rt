@@ -10,7 +10,7 @@ ghost use lib.ListN.{length, drop, replicate};
 ghost use Rattle.format.specs.Header.{Laid};
 ghost use Rattle.format.specs.Contents.{contentsAt};
 ghost use Rattle.rules.specs.Schema.{schemaOf};
-ghost use Rattle.rules.specs.Kept.{kindIn, ownerIn, look, NameTable, Owned};
+ghost use Rattle.rules.specs.Kept.{kindIn, ownerIn, look, NameTable, Owned, graded};
 
 pub fn kind_of(e: u32) -> ChannelKind
     ensures { λ r. ⌜ r .0 ≡ kindIn e ⌝ }
@@ -54,4 +54,17 @@ pub fn name_all(file: &[u8], head: Head, names: &mut [u32])
         let it = channel(file, head, c);
         names[256 + wide(c)] = paired(it.kind.0, it.owner + 2);
     }
+}
+
+// 9 before 10.
+pub fn graded(names: bool, kinds: bool) -> u16
+    ensures { λ r. ⌜ r ≡ graded names kinds ⌝ }
+{
+    if !names {
+        return 9;
+    }
+    if !kinds {
+        return 10;
+    }
+    0
 }

@@ -3,6 +3,7 @@ use super::Point;
 use super::RuleStep;
 use super::grants::may;
 use super::grants::permitting;
+use super::names::graded;
 use super::names::kind_of;
 use super::names::look_up;
 use super::names::owner_of;
@@ -25,19 +26,6 @@ ghost use Rattle.format.specs.Contents.{contentsAt};
 ghost use Rattle.rules.specs.Schema.{schemaOf};
 ghost use Rattle.rules.specs.Kept.{Granting, kindIn, look, graded, staying, binding, turning, newStep, receiveStep, sendStep, onAt, offAt, stepOf};
 ghost use Rattle.rules.specs.declared.Way.the-variants.{Sends, Receives};
-
-// 9 before 10.
-pub fn graded(names: bool, kinds: bool) -> u16
-    ensures { λ r. ⌜ r ≡ graded names kinds ⌝ }
-{
-    if !names {
-        return 9;
-    }
-    if !kinds {
-        return 10;
-    }
-    0
-}
 
 fn unless(fits: bool, number: u16) -> u16
     ensures { λ r. ⌜ r ≡ cond fits 0 number ⌝ }

@@ -11,7 +11,7 @@ use Rattle.checking.proofs.enter_scoped.Reads as reads
 use Rattle.checking.proofs.enter_scoped.Lts as lts
 use Rattle.reading.proofs.open.Reads as open-reads
 use Rattle.reading.proofs.with_head.Reads as with-head-reads
-use Rattle.rules.proofs.naming.judge_names.Reads as judge-names-reads
+use Rattle.naming.proofs.pass.judge_names.Reads as judge-names-reads
 
 -- the head that was read
 told : (c : tie.After-known-told2) → opened (now (c .before .before .before .before .before .before .args .file)) ≡ Fine (c .before .answer2 .given .0 .0)

@@ -10,7 +10,7 @@ use Rattle.format.specs.Contents.{contentsAt}
 use Rattle.rules.specs.Rules.{Context}
 use Rattle.rules.specs.Schema.{schemaOf}
 use Rattle.steps.specs.Beside.{madeIn}
-use Rattle.rules.specs.Scopes.{scopeOf}
+use Rattle.naming.specs.Scopes.{scopeOf}
 use Rattle.lending.specs.Scopes.{Narrow}
 use Rattle.lending.specs.Lent.{varsFit}
 use Rattle.lending.proofs.JudgeLaws.{vars-bound, vars-free, vars-done}
@@ -19,8 +19,8 @@ use Rattle.lending.proofs.judging.vars_fit.Tie as tie
 use Rattle.lending.proofs.judging.vars_fit.Reads as reads
 use Rattle.lending.proofs.judging.vars_fit.Lts as lts
 use Rattle.lending.proofs.judging.value_fits.Reads as value-fits-reads
-use Rattle.rules.proofs.scopes.bound_in.Reads as bound-in-reads
-use Rattle.rules.proofs.scopes.kind_at.Reads as kind-at-reads
+use Rattle.naming.proofs.scopes.bound_in.Reads as bound-in-reads
+use Rattle.naming.proofs.scopes.kind_at.Reads as kind-at-reads
 
 abbrev Inv-loop : tie.InvT-loop
 Inv-loop file head beside w vars bound k₀ k =

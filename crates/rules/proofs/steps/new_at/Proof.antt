@@ -7,7 +7,7 @@ use Rattle.rules.proofs.steps.new_at.Lts as lts
 use Rattle.format.proofs.sections.in_count.Reads as in-count-reads
 use Rattle.format.proofs.words.paired.Reads as paired-reads
 use Rattle.rules.proofs.steps.binding.Reads as binding-reads
-use Rattle.rules.proofs.steps.graded.Reads as graded-reads
+use Rattle.rules.proofs.names.graded.Reads as graded-reads
 
 in-count-requires : tie.Need-in-count-requires
 in-count-requires c κs = search needs

@@ -12,7 +12,7 @@ use Rattle.rules.proofs.grants.permitting.Reads as permitting-reads
 use Rattle.rules.proofs.names.kind_of.Reads as kind-of-reads
 use Rattle.rules.proofs.names.owner_of.Reads as owner-of-reads
 use Rattle.rules.proofs.steps.binding.Reads as binding-reads
-use Rattle.rules.proofs.steps.graded.Reads as graded-reads
+use Rattle.rules.proofs.names.graded.Reads as graded-reads
 use Rattle.rules.proofs.steps.unless.Reads as unless-reads
 
 kind-of-requires : tie.Need-kind-of-requires

@@ -9,7 +9,7 @@ use Rattle.rules.proofs.grants.may.Reads as may-reads
 use Rattle.rules.proofs.grants.permitting.Reads as permitting-reads
 use Rattle.rules.proofs.names.kind_of.Reads as kind-of-reads
 use Rattle.rules.proofs.names.owner_of.Reads as owner-of-reads
-use Rattle.rules.proofs.steps.graded.Reads as graded-reads
+use Rattle.rules.proofs.names.graded.Reads as graded-reads
 use Rattle.rules.proofs.steps.staying.Reads as staying-reads
 use Rattle.rules.proofs.steps.unless.Reads as unless-reads
 

@@ -14,7 +14,7 @@ use Rattle.rules.proofs.names.owner_of.Reads as owner-of-reads
 use Rattle.format.proofs.sections.in_count.Reads as in-count-reads
 use Rattle.rules.proofs.names.kind_of.Reads as kind-of-reads
 use Rattle.rules.proofs.names.look_up.Reads as look-up-reads
-use Rattle.rules.proofs.steps.graded.Reads as graded-reads
+use Rattle.rules.proofs.names.graded.Reads as graded-reads
 use Rattle.rules.proofs.steps.new_at.Reads as new-at-reads
 use Rattle.rules.proofs.steps.off_at.Reads as off-at-reads
 use Rattle.rules.proofs.steps.on_at.Reads as on-at-reads

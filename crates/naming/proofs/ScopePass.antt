@@ -12,12 +12,12 @@ use Rattle.format.specs.Contents.{Contents, item, noNode}
 use Rattle.format.specs.Answers.{fine, refused}
 use Rattle.format.specs.declared.Verdict.{Verdict}
 use Rattle.format.specs.declared.Node.{Node}
 use Rattle.rules.specs.Schema.{Schema, schemaOf}
 use Rattle.rules.specs.Rules.{Context, namesFit, kindsFit, wrong, waitingAfter}
 use Rattle.rules.specs.Checking.{reached, rightly, openings, namesAnswer}
-use Rattle.rules.specs.Scopes.{scopeOf, scopesIn}
+use Rattle.naming.specs.Scopes.{scopeOf, scopesIn}
 use Rattle.rules.specs.Kept.{unmasked}
 use Rattle.rules.proofs.PassLaws.{bare-after, due, tells, tells-at, tells-none, none-told, none-waits, none-left, Names, names-begin, names-on, names-refused, names-out, names-end}
 
 -- a context as one number has no active set
 module _ (D : Schema) where

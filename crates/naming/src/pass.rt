@@ -1,12 +1,7 @@
 // The pass over the nodes that finds 9 and 10 alone: no grants, no roles, no candidates. Its tables are lent, sized by the file.
 use super::NameStep;
-use super::names::kind_of;
-use super::names::look_up;
-use super::names::name_all;
-use super::names::owner_of;
 use super::scopes::keep;
 use super::scopes::scope_after;
-use super::steps::graded;
 use format::Head;
 use format::Node;
 use format::Verdict;
@@ -18,6 +13,11 @@ use format::words::narrow;
 use format::words::paired;
 use format::words::wide;
 use masks::ChannelKind;
+use rules::names::graded;
+use rules::names::kind_of;
+use rules::names::look_up;
+use rules::names::name_all;
+use rules::names::owner_of;
 ghost use mathlib.Core.Path.{_≡_};
 ghost use mathlib.Core.List.{[], map};
 ghost use Prim.Native.Nat.{_+_, _/_, _%_, _≤_, _<_};
@@ -26,10 +26,11 @@ ghost use lib.Seq.{sets};
 ghost use Rattle.format.specs.Header.{Laid};
 ghost use Rattle.format.specs.Contents.{contentsAt};
 ghost use Rattle.format.specs.Stacks.{stacked};
 ghost use Rattle.rules.specs.Schema.{schemaOf};
 ghost use Rattle.rules.specs.Checking.{openings, namesAnswer};
-ghost use Rattle.rules.specs.Scopes.{scopeOf, scopesIn};
-ghost use Rattle.rules.specs.Kept.{kindIn, entry, look, contextOf, Waits, unmasked, queued, Ownable, Owned, namingOf};
+ghost use Rattle.naming.specs.Scopes.{scopeOf, scopesIn};
+ghost use Rattle.rules.specs.Kept.{kindIn, entry, look, contextOf, Waits, unmasked, Ownable, Owned};
+ghost use Rattle.naming.specs.Kept.{queued, namingOf};
 
 fn staying(wrong: u16, bound: u16) -> NameStep
     ensures { λ r. ⌜ r ≡ record { wrong = wrong; binding = 0; bound = bound } ⌝ }

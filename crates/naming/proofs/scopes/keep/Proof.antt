@@ -1,10 +1,10 @@
 use mathlib.Core.Path.{sym}
 use lib.Seq.{set-out}
 use borrow.Author.Needs.{needs}
-use Rattle.rules.proofs.scopes.keep.Statement.{statement}
-use Rattle.rules.proofs.scopes.keep.Tie as tie
-use Rattle.rules.proofs.scopes.keep.Reads as reads
-use Rattle.rules.proofs.scopes.keep.Lts as lts
+use Rattle.naming.proofs.scopes.keep.Statement.{statement}
+use Rattle.naming.proofs.scopes.keep.Tie as tie
+use Rattle.naming.proofs.scopes.keep.Reads as reads
+use Rattle.naming.proofs.scopes.keep.Lts as lts
 
 mul-scopes : tie.Need-mul-scopes
 mul-scopes c = search needs

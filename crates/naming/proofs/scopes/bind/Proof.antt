@@ -1,12 +1,12 @@
 use Prim.Native.Nat.{_%_}
 use native.Mathlib.Omega.{arith}
 use borrow.Author.Needs.{needs}
-use Rattle.rules.proofs.ScopeLaws.{digit-low, digit-kept, binds, binds-none}
-use Rattle.rules.proofs.scopes.bind.Statement.{statement}
-use Rattle.rules.proofs.scopes.bind.Tie as tie
-use Rattle.rules.proofs.scopes.bind.Reads as reads
-use Rattle.rules.proofs.scopes.bind.Lts as lts
-use Rattle.rules.proofs.scopes.bound_in.Reads as bound-in-reads
+use Rattle.naming.proofs.ScopeLaws.{digit-low, digit-kept, binds, binds-none}
+use Rattle.naming.proofs.scopes.bind.Statement.{statement}
+use Rattle.naming.proofs.scopes.bind.Tie as tie
+use Rattle.naming.proofs.scopes.bind.Reads as reads
+use Rattle.naming.proofs.scopes.bind.Lts as lts
+use Rattle.naming.proofs.scopes.bound_in.Reads as bound-in-reads
 
 bound-in-requires : tie.Need-bound-in-requires
 bound-in-requires c κs = search needs

@@ -1,10 +1,10 @@
 use Prim.Native.Nat.{_+_}
 use mathlib.Core.Path.{ap}
 use borrow.Author.Needs.{needs}
-use Rattle.rules.proofs.naming.binding.Statement.{statement}
-use Rattle.rules.proofs.naming.binding.Tie as tie
-use Rattle.rules.proofs.naming.binding.Reads as reads
-use Rattle.rules.proofs.naming.binding.Lts as lts
+use Rattle.naming.proofs.pass.binding.Statement.{statement}
+use Rattle.naming.proofs.pass.binding.Tie as tie
+use Rattle.naming.proofs.pass.binding.Reads as reads
+use Rattle.naming.proofs.pass.binding.Lts as lts
 use Rattle.format.proofs.words.paired.Reads as paired-reads
 
 paired-requires : tie.Need-paired-requires

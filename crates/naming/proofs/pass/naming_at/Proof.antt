@@ -2,22 +2,23 @@ use mathlib.Core.Path.{ap, _∙_}
 use native.Mathlib.Omega.{arith}
 use Rattle.format.specs.Contents.{contentsAt}
 use Rattle.format.proofs.ContentsLaws.{roles-held, kinds-held}
 use Rattle.rules.specs.Schema.{schemaOf}
-use Rattle.rules.specs.Kept.{barePoint, namingFrom}
-use Rattle.rules.proofs.StepLaws.{step-repeat, step-new, step-compare, step-receive, step-send, naming-other}
+use Rattle.naming.specs.Kept.{barePoint, namingFrom}
+use Rattle.rules.proofs.StepLaws.{step-repeat, step-new, step-compare, step-receive, step-send}
+use Rattle.naming.proofs.NamingLaws.{naming-other}
 use borrow.Author.Needs.{needs}
-use Rattle.rules.proofs.naming.naming_at.Statement.{statement}
-use Rattle.rules.proofs.naming.naming_at.Tie as tie
-use Rattle.rules.proofs.naming.naming_at.Reads as reads
-use Rattle.rules.proofs.naming.naming_at.Lts as lts
+use Rattle.naming.proofs.pass.naming_at.Statement.{statement}
+use Rattle.naming.proofs.pass.naming_at.Tie as tie
+use Rattle.naming.proofs.pass.naming_at.Reads as reads
+use Rattle.naming.proofs.pass.naming_at.Lts as lts
 use Rattle.format.proofs.sections.carries.Reads as carries-reads
 use Rattle.format.proofs.sections.in_count.Reads as in-count-reads
-use Rattle.rules.proofs.naming.binding.Reads as binding-reads
+use Rattle.naming.proofs.pass.binding.Reads as binding-reads
 use Rattle.rules.proofs.names.kind_of.Reads as kind-of-reads
 use Rattle.rules.proofs.names.look_up.Reads as look-up-reads
 use Rattle.rules.proofs.names.owner_of.Reads as owner-of-reads
-use Rattle.rules.proofs.naming.staying.Reads as staying-reads
-use Rattle.rules.proofs.steps.graded.Reads as graded-reads
+use Rattle.naming.proofs.pass.staying.Reads as staying-reads
+use Rattle.rules.proofs.names.graded.Reads as graded-reads
 
 staying-requires : tie.Need-staying-requires
 staying-requires c κs = search needs

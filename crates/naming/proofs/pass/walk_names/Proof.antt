@@ -13,34 +13,36 @@ use lib.ListN.{length, getD, set, length-set}
 use Rattle.format.specs.Contents.{contentsAt}
 use Rattle.format.specs.Stacks.{stacked}
 use Rattle.format.proofs.ContentsLaws.{users-held, channels-held, nodes-held}
-use Rattle.rules.specs.declared.NameStep.{NameStep}
+use Rattle.naming.specs.declared.NameStep.{NameStep}
 use Rattle.rules.specs.declared.Point.{Point}
 use Rattle.rules.specs.Schema.{schemaOf}
 use Rattle.rules.specs.Rules.{Context, waitingAfter}
 use Rattle.rules.specs.Checking.{openings}
-use Rattle.rules.specs.Scopes.{bindScope, scopeOf}
-use Rattle.rules.specs.Kept.{kindIn, NameTable, contextOf, Waits, barePoint, unmasked, unpaired, queued, Ownable}
+use Rattle.naming.specs.Scopes.{bindScope, scopeOf}
+use Rattle.rules.specs.Kept.{kindIn, NameTable, contextOf, Waits, unmasked, Ownable}
+use Rattle.naming.specs.Kept.{barePoint, unpaired, queued}
 use Rattle.rules.proofs.NameLaws.{Held, held-less, named-kept}
-use Rattle.rules.proofs.StepLaws.{NamesJudged, told, step-right}
+use Rattle.rules.proofs.StepLaws.{step-right}
+use Rattle.naming.proofs.NamingLaws.{NamesJudged, told}
 use Rattle.format.proofs.StackLaws.{read-none, read-top, read-push}
 use Rattle.rules.proofs.StackLaws.{waits-push, waits-more, contexts-kept, contexts-bare}
-use Rattle.rules.proofs.ScopeLaws.{scope-next, scope-pushed, scope-popped}
+use Rattle.naming.proofs.ScopeLaws.{scope-next, scope-pushed, scope-popped}
 use Rattle.rules.proofs.PassLaws.{after-step}
-use Rattle.rules.proofs.ScopePass.{Scoping, scoping-begins, scoping-out, scoping-ends, scoping-refused, scoping-on, scoping-tree, scoping-fork}
-use Rattle.rules.proofs.naming.walk_names.Statement.{statement}
-use Rattle.rules.proofs.naming.walk_names.Tie as tie
-use Rattle.rules.proofs.naming.walk_names.Reads as reads
-use Rattle.rules.proofs.naming.walk_names.Lts as lts
+use Rattle.naming.proofs.ScopePass.{Scoping, scoping-begins, scoping-out, scoping-ends, scoping-refused, scoping-on, scoping-tree, scoping-fork}
+use Rattle.naming.proofs.pass.walk_names.Statement.{statement}
+use Rattle.naming.proofs.pass.walk_names.Tie as tie
+use Rattle.naming.proofs.pass.walk_names.Reads as reads
+use Rattle.naming.proofs.pass.walk_names.Lts as lts
 use Rattle.format.proofs.sections.node.Reads as node-reads
 use Rattle.format.proofs.words.paired.Reads as paired-reads
 use Rattle.format.proofs.words.wide.Reads as wide-reads
-use Rattle.rules.proofs.naming.user_in.Reads as user-in-reads
+use Rattle.naming.proofs.pass.user_in.Reads as user-in-reads
 use Rattle.rules.proofs.names.name_all.Reads as name-all-reads
-use Rattle.rules.proofs.naming.bound_with.Reads as bound-with-reads
-use Rattle.rules.proofs.naming.naming_at.Reads as naming-at-reads
-use Rattle.rules.proofs.naming.open_users.Reads as open-users-reads
-use Rattle.rules.proofs.scopes.keep.Reads as keep-reads
-use Rattle.rules.proofs.scopes.scope_after.Reads as scope-after-reads
+use Rattle.naming.proofs.pass.bound_with.Reads as bound-with-reads
+use Rattle.naming.proofs.pass.naming_at.Reads as naming-at-reads
+use Rattle.naming.proofs.pass.open_users.Reads as open-users-reads
+use Rattle.naming.proofs.scopes.keep.Reads as keep-reads
+use Rattle.naming.proofs.scopes.scope_after.Reads as scope-after-reads
 
 abbrev Inv-loop : tie.InvT-loop
 Inv-loop file head names₀ stack₀ waits₀ scopes₀ fine depth₀ top user₀ bound₀ here₀ nodes i₀ names stack waits scopes depth user bound here i =

@@ -7,18 +7,19 @@ use lib.ListN.{length, drop, length-set}
 use Rattle.format.specs.Contents.{item, noSession, contentsAt}
 use Rattle.format.specs.declared.Session.{Session}
 use Rattle.format.proofs.ContentsLaws.{sessions-held, from-item, none-past}
 use Rattle.rules.specs.declared.Point.{Point}
 use Rattle.format.specs.Stacks.{stacked}
 use Rattle.rules.specs.Schema.{schemaOf}
 use Rattle.rules.specs.Checking.{openingsFrom}
-use Rattle.rules.specs.Scopes.{scopeFrom, scopeOf}
-use Rattle.rules.specs.Kept.{kindIn, ownerIn, contextOf, Waits, barePoint, unmasked, unpaired, queued, Ownable}
+use Rattle.naming.specs.Scopes.{scopeFrom, scopeOf}
+use Rattle.rules.specs.Kept.{kindIn, ownerIn, contextOf, Waits, unmasked, Ownable}
+use Rattle.naming.specs.Kept.{barePoint, unpaired, queued}
 use Rattle.rules.proofs.StackLaws.{contexts-push, waits-push, context-bare}
-use Rattle.rules.proofs.ScopeLaws.{scope-pushed}
-use Rattle.rules.proofs.naming.open_users.Statement.{statement}
-use Rattle.rules.proofs.naming.open_users.Tie as tie
-use Rattle.rules.proofs.naming.open_users.Reads as reads
-use Rattle.rules.proofs.naming.open_users.Lts as lts
+use Rattle.naming.proofs.ScopeLaws.{scope-pushed}
+use Rattle.naming.proofs.pass.open_users.Statement.{statement}
+use Rattle.naming.proofs.pass.open_users.Tie as tie
+use Rattle.naming.proofs.pass.open_users.Reads as reads
+use Rattle.naming.proofs.pass.open_users.Lts as lts
 use Rattle.format.proofs.sections.session.Reads as session-reads
 use Rattle.format.proofs.words.narrow.Reads as narrow-reads
 use Rattle.format.proofs.words.paired.Reads as paired-reads

@@ -1,14 +1,14 @@
 // What a node is reached with, as one number: the session's user, how many variables are bound, and their kinds.
 use super::NameStep;
-use super::names::kind_of;
 use masks::ChannelKind;
+use rules::names::kind_of;
 ghost use mathlib.Core.Path.{_≡_};
 ghost use mathlib.Core.Bool.{true, cond};
 ghost use Prim.Native.Nat.{_≤_};
 ghost use lib.Dec.{eqb};
 ghost use lib.ListN.{set};
 ghost use Rattle.rules.specs.Kept.{kindIn};
-ghost use Rattle.rules.specs.Scopes.{boundIn, kindAt, bindScope};
+ghost use Rattle.naming.specs.Scopes.{boundIn, kindAt, bindScope};
 
 // How many variables are bound.
 pub fn bound_in(w: u64) -> u64

@@ -1,14 +1,14 @@
 use mathlib.Core.Path.{_∙_, sym, ap}
 use mathlib.Core.Bool.{false≢true}
 use borrow.Author.Tests.{not-true, eq-eqb, ne-eqb}
-use Rattle.rules.specs.Scopes.{bindScope}
+use Rattle.naming.specs.Scopes.{bindScope}
 use borrow.Author.Needs.{needs}
-use Rattle.rules.proofs.scopes.scope_after.Statement.{statement}
-use Rattle.rules.proofs.scopes.scope_after.Tie as tie
-use Rattle.rules.proofs.scopes.scope_after.Reads as reads
-use Rattle.rules.proofs.scopes.scope_after.Lts as lts
+use Rattle.naming.proofs.scopes.scope_after.Statement.{statement}
+use Rattle.naming.proofs.scopes.scope_after.Tie as tie
+use Rattle.naming.proofs.scopes.scope_after.Reads as reads
+use Rattle.naming.proofs.scopes.scope_after.Lts as lts
 use Rattle.rules.proofs.names.kind_of.Reads as kind-of-reads
-use Rattle.rules.proofs.scopes.bind.Reads as bind-reads
+use Rattle.naming.proofs.scopes.bind.Reads as bind-reads
 
 returns : tie.Need-returns
 returns c = λ e. absurd (false≢true (sym (not-true _ (c .if1 .taken)) ∙ e))

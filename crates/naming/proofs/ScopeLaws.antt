@@ -11,12 +11,13 @@ use lib.Pow.{shl-lt, shl-exact, pow-mono}
 use borrow.Author.Tests.{eqb-true, eqb-false, lt-ltb, le-ltb}
 use Rattle.format.specs.Stacks.{stacked, top, rest}
 use Rattle.format.proofs.StackLaws.{stacked-top, stacked-push}
 use Rattle.rules.specs.Schema.{Schema}
 use Rattle.rules.specs.Names.{Bound}
 use Rattle.rules.specs.Rules.{Context, bind}
-use Rattle.rules.specs.Scopes.{boundIn, bindScope, scopeFrom, scopeOf}
-use Rattle.rules.specs.Kept.{kindIn, variable, varsOf, contextOf, barePoint}
+use Rattle.naming.specs.Scopes.{boundIn, bindScope, scopeFrom, scopeOf}
+use Rattle.rules.specs.Kept.{kindIn, variable, varsOf, contextOf}
+use Rattle.naming.specs.Kept.{barePoint}
 use Rattle.rules.proofs.NameLaws.{vars-kept, vars-more}
 
 -- a kind in one of the eight places keeps below the 58th bit, and is not cut off
 pub digit-low : (k b : ℕ) → k < 64 → b < 8 → k * 2 ^ (10 + 6 * b) < 2 ^ 58

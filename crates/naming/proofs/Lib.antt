@@ -1,0 +1,3 @@
+pub mod NamingLaws
+pub mod ScopeLaws
+pub mod ScopePass

@@ -1,0 +1,56 @@
+-- The rules at one node for names alone, from those of all rules.
+use Prim.Native.Nat.{ℕ, _+_, _≤_}
+use mathlib.Core.Path.{_≡_, refl, sym, ap, _∙_}
+use mathlib.Core.Bool.{Bool, true, false, cond}
+use mathlib.Core.List.{List}
+use lib.ListN.{set}
+use lib.Dec.{eqb}
+use borrow.Author.Tests.{eqb-true, eqb-false}
+use Rattle.format.specs.Contents.{inCount}
+use Rattle.format.specs.declared.Node.{Node}
+use Rattle.rules.specs.declared.Point.{Point}
+use Rattle.rules.specs.declared.RuleStep.{RuleStep}
+use Rattle.naming.specs.declared.NameStep.{NameStep}
+use Rattle.rules.specs.Schema.{Schema}
+use Rattle.rules.specs.Rules.{wrong, childOf}
+use Rattle.rules.specs.Kept.{varsOf, contextOf, graded, staying, turning, stepOf, unmasked}
+use Rattle.naming.specs.Kept.{barePoint, namingFrom, namingOf}
+use Rattle.rules.proofs.NameLaws.{Held}
+use Rattle.rules.proofs.StepLaws.{Right, step-on, step-off, step-other}
+
+-- where a role is turned on or off and at any further tag
+turned : (p : Point) (q : Bool) (b m : ℕ) → record { wrong = graded q true; binding = 0; bound = p .bound } ≡ namingFrom (cond q (turning p b m) (staying p 9 0 0))
+turned p true b m = refl
+turned p false b m = refl
+
+pub naming-other : (D : Schema) (t : List ℕ) (u b : ℕ) (n : Node) {k : ℕ} → D .roles ≡ k → (n .tag ≡ 2 → ⊥) → (n .tag ≡ 3 → ⊥) → (n .tag ≡ 4 → ⊥) → (n .tag ≡ 5 → ⊥) → (n .tag ≡ 6 → ⊥)
+    → record { wrong = graded (inCount k (n .f1)) true; binding = 0; bound = b } ≡ namingOf D t u b n
+naming-other D t u b n {k} m x2 x3 x4 x5 x6 = go7 (eqb (n .tag) 7) refl
+  where
+    go8 : (n .tag ≡ 7 → ⊥) → (q : Bool) → eqb (n .tag) 8 ≡ q → record { wrong = graded (inCount k (n .f1)) true; binding = 0; bound = b } ≡ namingOf D t u b n
+    go8 x7 true e = turned (barePoint D u b) (inCount k (n .f1)) _ _ ∙ ap namingFrom (step-off D t (barePoint D u b) n m (eqb-true (n .tag) 8 e))
+    go8 x7 false e = ap namingFrom (step-other D t (barePoint D u b) n m x2 x3 x4 x5 x6 x7 (eqb-false (n .tag) 8 e))
+
+    go7 : (q : Bool) → eqb (n .tag) 7 ≡ q → record { wrong = graded (inCount k (n .f1)) true; binding = 0; bound = b } ≡ namingOf D t u b n
+    go7 true e = turned (barePoint D u b) (inCount k (n .f1)) _ _ ∙ ap namingFrom (step-on D t (barePoint D u b) n m (eqb-true (n .tag) 7 e))
+    go7 false e = go8 (eqb-false (n .tag) 7 e) (eqb (n .tag) 8) refl
+
+-- what a node comes to
+pub record NamesJudged (D : Schema) (t : List ℕ) (u b : ℕ) (n : Node) (s : NameStep) : Type 0 where
+  pub wrong : s .wrong ≡ wrong D (contextOf t (barePoint D u b)) n
+  pub child : s .wrong ≡ 0 → unmasked (contextOf (set t (512 + b) (s .binding)) (barePoint D u (s .bound))) ≡ unmasked (childOf D (contextOf t (barePoint D u b)) n)
+  pub least : s .wrong ≡ 0 → b ≤ s .bound
+  pub most : s .wrong ≡ 0 → s .bound ≤ b + 1
+  pub held : s .wrong ≡ 0 → Held (set t (512 + b) (s .binding)) (s .bound)
+
+pub told : (D : Schema) (t : List ℕ) (u b : ℕ) (n : Node) → Right D t (barePoint D u b) n (stepOf D t (barePoint D u b) n) → NamesJudged D t u b n (namingOf D t u b n)
+told D t u b n r =
+    let s : RuleStep = stepOf D t (barePoint D u b) n in
+    let q : List ℕ = set t (512 + b) (s .binding) in
+    record {
+      wrong = r .wrong;
+      child = λ z. ap (λ k. record { user = k; mask = 0; vars = varsOf k q (s .child .bound) }) (sym (r .goes z .user)) ∙ ap unmasked (r .goes z .child);
+      least = λ z. r .goes z .least;
+      most = λ z. r .goes z .most;
+      held = λ z. r .goes z .held;
+    }

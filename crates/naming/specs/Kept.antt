@@ -1,0 +1,27 @@
+-- What the pass for 9 and 10 keeps: the active set plays no part, and of a context only its user and its variables are kept.
+use Prim.Native.Nat.{ℕ}
+use mathlib.Core.List.{List, map}
+use Rattle.format.specs.Stacks.{stacked}
+use Rattle.format.specs.declared.Node.{Node}
+use Rattle.rules.specs.declared.Point.{Point}
+use Rattle.rules.specs.declared.RuleStep.{RuleStep}
+use Rattle.naming.specs.declared.NameStep.{NameStep}
+use Rattle.rules.specs.Schema.{Schema}
+use Rattle.rules.specs.Kept.{kindIn, ownerIn, stepOf}
+
+abbrev pub barePoint : Schema → ℕ → ℕ → Point
+barePoint D u b = record { user = u; assigned = D .assigned u; mask = 0; bound = b }
+
+-- a tree that waits, as one number
+abbrev pub unpaired : Schema → ℕ → Point
+unpaired D w = barePoint D (kindIn w) (ownerIn w)
+
+abbrev pub queued : Schema → List ℕ → ℕ → List Point
+queued D a d = map (unpaired D) (stacked 0 a d)
+
+-- a node that is no end and no fork
+abbrev pub namingFrom : RuleStep → NameStep
+namingFrom s = record { wrong = s .wrong; binding = s .binding; bound = s .child .bound }
+
+abbrev pub namingOf : Schema → List ℕ → ℕ → ℕ → Node → NameStep
+namingOf D t u b n = namingFrom (stepOf D t (barePoint D u b) n)
