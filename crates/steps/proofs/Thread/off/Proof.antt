@@ -1,4 +1,6 @@
+use mathlib.Core.Path.{ap}
 use borrow.Author.Needs.{needs}
+use Rattle.steps.specs.Threads.{masked}
 use Rattle.steps.proofs.Thread.off.Statement.{statement}
 use Rattle.steps.proofs.Thread.off.Tie as tie
 use Rattle.steps.proofs.Thread.off.Reads as reads
@@ -12,7 +14,7 @@ add-self : tie.Need-add-self
 add-self c = search needs
 
 returns : tie.Need-returns
-returns c = cc
+returns c = ap (masked (c .before .before .args .self)) (c .before .without-role .ensures)
 
 pub off-spec : {M : Type 1} → statement M
 off-spec = tie.close (tie.spec without-role-requires add-self returns)
