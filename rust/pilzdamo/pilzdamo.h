@@ -15,10 +15,14 @@
  * pointer, allocates, or has a memory of the last one, so that calls may be made
  * from several threads at once.
  *
- * A refusal is a number from 1 to 20 and a place, which goes by the number: 0 for 1
- * to 5, 16 and 17; for 6 the first word of a record, from 0; for 7 a session, for 8
- * to 15 a node, from 1 (0 for a starting mask, with 14); for 18 to 20, and in a run
- * for 11 to 13 too, a choice, from 1. Where nothing is refused both are 0.
+ * A refusal is a number from 1 to 21 and a place, which goes by the number: 0 for 1
+ * to 5, 16 and 17; for 6 and 21 the first word of a record, from 0; for 7 a session,
+ * for 8 to 15 a node, from 1 (0 for a starting mask, with 14); for 18 to 20, and in a
+ * run for 11 to 13 too, a choice, from 1. Where nothing is refused both are 0.
+ *
+ * Files have version 1, or version 2, in which a role has a word of junior roles.
+ * Wherever refusals 1 to 10 are spoken of, 21 is among them, for a junior whose
+ * number isn't lower than its senior's: it has its turn behind 6 and before 7.
  */
 #ifndef PILZDAMO_H
 #define PILZDAMO_H
@@ -30,8 +34,11 @@
 extern "C" {
 #endif
 
-/* The least bytes of the output of pilzdamo_place: those of the largest file. */
-#define PILZDAMO_ROOM 6874
+/* The least bytes of the output of pilzdamo_place: those of the largest file of
+ * version 2 where the file's first word is 2, else those of the largest of version 1.
+ * PILZDAMO_ROOM will do for any file. */
+#define PILZDAMO_ROOM 6908
+#define PILZDAMO_ROOM_1 6874
 /* The least bytes of the output of pilzdamo_run: those of the largest state. */
 #define PILZDAMO_RUN_ROOM 1800
 /* The records that are lent to pilzdamo_start and pilzdamo_choose, no more and no
@@ -79,7 +86,8 @@ pilzdamo_verdict pilzdamo_check(const uint8_t *file, size_t file_len);
 /*
  * Places the roles of a clinic file: refusals 17, 1 to 10, 14 to 16. Where none is
  * answered the placed file is written at the start of out, and nothing past its
- * length; otherwise nothing is written. out has PILZDAMO_ROOM bytes or more.
+ * length; otherwise nothing is written. out has PILZDAMO_ROOM bytes or more; where
+ * the file's first word isn't 2, or it has none, PILZDAMO_ROOM_1 will do.
  */
 pilzdamo_placed pilzdamo_place(const uint8_t *file, size_t file_len,
                                uint8_t *out, size_t out_len);

@@ -1,4 +1,4 @@
--- The check of a file's bytes, whole: 1 to 8, then 9 and 10 together, then 11 to 13.
+-- The check of a file's bytes, whole: 1 to 8 (21 among them), then 9 and 10 together, then 11 to 13.
 use Prim.Native.Nat.{ℕ}
 use mathlib.Core.List.{List}
 use mathlib.Core.Bool.{cond}

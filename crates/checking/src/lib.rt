@@ -1,4 +1,4 @@
-// The check of a clinic file: the refusals 1 to 8, then 9 and 10 together by node, then 11 to 13 by node.
+// The check of a clinic file: the refusals 1 to 8 (21 among them), then 9 and 10 together by node, then 11 to 13 by node.
 use format::Verdict;
 use naming::pass::judge_names;
 use reading::Opened;

@@ -3,6 +3,7 @@ use Prim.Native.Nat.{ℕ, _≤_}
 use mathlib.Core.Path.{_≡_, refl, sym, subst, _∙_}
 use mathlib.Core.Logic.{_↔_, _⊎_, inl, inr, _≢_}
 use mathlib.Core.Bool.{Bool, true, false, not, _&&_, _||_, false≢true, not-eq-not}
+use mathlib.Core.List.{List}
 use native.Mathlib.Omega.{arith}
 use lib.Dec.{eqb}
 use borrow.Author.Tests.{eqb-true, eqb-false}
@@ -12,15 +13,19 @@ use Rattle.format.specs.Contents.{inCount}
 use Rattle.format.specs.declared.Node.{Node}
 use Rattle.format.proofs.ContentsLaws.{in-count, inCount-iff}
 use Rattle.rules.specs.Schema.{Schema}
-use Rattle.rules.specs.Names.{named, kindOf}
+use Rattle.rules.specs.Names.{Bound, named, kindOf}
 use Rattle.rules.specs.Rules.{Context, childOf}
-use Rattle.reading_exact.specs.Tree.{words}
+use Rattle.reading_exact.specs.Tree.{words, on, Tree, switch}
 use Rattle.reading_exact.specs.Refusals.{OneChild}
-use Rattle.checking_exact.specs.Typing.{HasKind}
+use Rattle.checking_exact.specs.Typing.{HasKind, ByRoles, r-on}
 use Rattle.checking_exact.specs.Faults.{Nameless, received, on-role}
 use Rattle.checking_exact.specs.Below.{Added, Removed, Below, repeats, makes, compares, receives, sends, turns-on, turns-off}
 use Rattle.checking_exact.proofs.OperandKinds.{Ranged, kind-at, named-kind}
 use Rattle.checking_exact.proofs.NameFaults.{by-tag, nothing-iff}
+
+-- what is switched on is assigned
+pub on-assigned : (D : Schema) (u : ℕ) (vs : List Bound) (m r : ℕ) (t : Tree) → ByRoles D u vs m (switch on r t) → has (D .assigned u) r ≡ true
+on-assigned D u vs m r t (r-on e h) = e
 
 pub with-adds : (m r : ℕ) → 1 ≤ r → Added m r (with m r)
 with-adds m r pos x = (λ h. to (eqb x r) refl (sym (has-with m r x pos) ∙ h), λ h. has-with m r x pos ∙ back (eqb x r) refl h)

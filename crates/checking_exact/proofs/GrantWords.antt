@@ -1,24 +1,33 @@
--- What the rules ask of a file is what its words say, and what a role may do what the bits of its record's words say.
+-- What the rules ask of a file is what its words say, and what a role may do what its record's words say, and its juniors', through any chain of them.
 use Prim.Native.Nat.{ℕ, zero, suc, _+_, _*_, _-_, _/_, _%_, _^_, _≤_, _<_}
 use mathlib.Core.Path.{_≡_, refl, sym, ap, _∙_}
 use mathlib.Core.Logic.{_↔_}
-use mathlib.Core.Bool.{true, false}
+use mathlib.Core.Bool.{Bool, true, false, cond}
 use mathlib.Core.List.{List}
 use native.Mathlib.Omega.{arith}
+use lib.Dec.{eqb, ltb}
+use lib.ListN.{length}
 use lib.Pow.{shr-shr, field, mod-mod-pow}
+use borrow.Author.Tests.{eqb-true, eqb-false, ltb-true, ltb-false}
 use Rattle.masks.specs.Mask.{has}
 use Rattle.format.specs.Words.{wordAt}
-use Rattle.format.specs.Contents.{item, noRole, contentsOf}
+use Rattle.format.specs.Contents.{Contents, contentsOf}
 use Rattle.format.specs.declared.Role.{Role}
 use Rattle.format.specs.declared.Channel.{Channel}
 use Rattle.format.proofs.BoolLaws.{eq-iff}
-use Rattle.rules.specs.Schema.{schemaOf, permits}
+use Rattle.rules.specs.declared.Way.{Way}
+use Rattle.rules.specs.declared.Way.the-variants.{Sends, Receives}
+use Rattle.rules.specs.Juniors.{Granted, Lower}
+use Rattle.rules.specs.Schema.{ownGrants, juniorsIn, schemaOf, permits}
+use Rattle.rules.proofs.ClosureLaws.{granted-same}
+use Rattle.rules.proofs.JuniorGrants.{grants-exactly, grants-own}
 use Rattle.reading_exact.specs.Lists.{All}
 use Rattle.reading_exact.specs.File.{InCount}
 use Rattle.reading_exact.specs.ByWords.{recordWord, CountedByWords, ByWords}
+use Rattle.reading_exact.specs.Refusals.{Refusable, misranked, junior}
 use Rattle.reading_exact.proofs.Bytes.{small-words}
 use Rattle.reading_exact.proofs.RecordWords.{counted-by-words, by-words}
-use Rattle.checking_exact.specs.ByWords.{TablesByWords, Bit, GrantedByWords}
+use Rattle.checking_exact.specs.ByWords.{TablesByWords, Bit, May, ownMask, juniorMask, GrantedByWords}
 
 pub tables-by-words : (f : List ℕ) → TablesByWords f (schemaOf (contentsOf f))
 tables-by-words f = record {
@@ -79,15 +88,65 @@ module _ (lo hi : ℕ) (small : lo < 65536) where
       let both = has-bit (lo + 65536 * hi) k (omega arith) in
       (λ h. sym same ∙ both .0 h, λ b. both .1 (same ∙ b))
 
-pub granted-by-words : (f : List ℕ) → All (λ b. b < 256) f → (r : ℕ) → InCount (wordAt f 2) r → GrantedByWords f r
-unfolding permits
-granted-by-words f bytes r within = record {
-  sends-low = λ k pos le. rw own (low-item (recordWord f 8 4 r 0) (recordWord f 8 4 r 1) (small-words f bytes _) k pos le);
-  sends-high = λ k pos le. rw own (high-item (recordWord f 8 4 r 0) (recordWord f 8 4 r 1) (small-words f bytes _) k pos le);
-  receives-low = λ k pos le. rw own (low-item (recordWord f 8 4 r 2) (recordWord f 8 4 r 3) (small-words f bytes _) k pos le);
-  receives-high = λ k pos le. rw own (high-item (recordWord f 8 4 r 2) (recordWord f 8 4 r 3) (small-words f bytes _) k pos le);
-}
-  where
-    own : item noRole (contentsOf f .roles) r
-        ≡ record { sends = recordWord f 8 4 r 0 + 65536 * recordWord f 8 4 r 1; receives = recordWord f 8 4 r 2 + 65536 * recordWord f 8 4 r 3 }
-    own = by-words f .role r within
+module _ (f : List ℕ) where
+  abbrev C : Contents
+  C = contentsOf f
+
+  -- roles in count, by the head's word
+  within : (r : ℕ) → r ≤ length (C .roles) → r ≤ wordAt f 2
+  within r le = omega (arith, le, counted-by-words f .roles)
+
+  own-words : (w : Way) (r : ℕ) → 1 ≤ r → r ≤ length (C .roles) → ownGrants C w r ≡ ownMask f w r
+  own-words Sends r pos le = ap (λ (x : Role). x .sends) (by-words f .role r (pos, within r le))
+  own-words Receives r pos le = ap (λ (x : Role). x .receives) (by-words f .role r (pos, within r le))
+
+  junior-words : (r : ℕ) → 1 ≤ r → r ≤ length (C .roles) → juniorsIn C r ≡ juniorMask f r
+  junior-words r pos le = go (eqb (wordAt f 0) 2) refl
+    where
+      go : (b : Bool) → eqb (wordAt f 0) 2 ≡ b → juniorsIn C r ≡ cond b (recordWord f 9 1 r 0) 0
+      go true e = by-words f .juniors r (pos, within r le) (eqb-true (wordAt f 0) 2 e)
+      go false e = by-words f .no-juniors r (pos, within r le) (eqb-false (wordAt f 0) 2 e)
+
+  -- where 21 objects to nothing, juniors have lower numbers
+  ranked : ((p : ℕ) → Refusable f 21 p → ⊥) → Lower (juniorsIn C) (length (C .roles))
+  ranked none r pos le s q = go (ltb s r) refl
+    where
+      go : (b : Bool) → ltb s r ≡ b → s < r
+      go true e = ltb-true s r e
+      go false e =
+          let n : CountedByWords f = counted-by-words f in
+          absurd (none _ (misranked refl (junior r s (pos, omega (arith, le, n .roles, n .juniors)) q (ltb-false s r e) refl)))
+
+  pub granted-exactly : ((p : ℕ) → Refusable f 21 p → ⊥) → (w : Way) (r k : ℕ) → InCount (wordAt f 2) r → May f w r k ↔ Granted (ownMask f w) (juniorMask f) k r
+  unfolding permits
+  granted-exactly none w r k (pos, le) = (λ h. to (both .0 h), λ g. both .1 (back g))
+    where
+      few : r ≤ length (C .roles)
+      few = omega (arith, le, counted-by-words f .roles)
+
+      both : (has (schemaOf C .grants w r) k ≡ true) ↔ Granted (ownGrants C w) (juniorsIn C) k r
+      both = grants-exactly C w (ranked none) k r pos few
+
+      to : Granted (ownGrants C w) (juniorsIn C) k r → Granted (ownMask f w) (juniorMask f) k r
+      to = granted-same (ownGrants C w) (juniorsIn C) (ownMask f w) (juniorMask f) k (length (C .roles)) (own-words w) junior-words (ranked none) r pos few
+
+      back : Granted (ownMask f w) (juniorMask f) k r → Granted (ownGrants C w) (juniorsIn C) k r
+      back =
+          granted-same (ownMask f w) (juniorMask f) (ownGrants C w) (juniorsIn C) k (length (C .roles))
+          (λ s a b. sym (own-words w s a b)) (λ s a b. sym (junior-words s a b))
+          (λ s a b x q. ranked none s a b x (ap (λ (m : ℕ). has m x) (junior-words s a b) ∙ q)) r pos few
+
+  pub granted-by-words : All (λ b. b < 256) f → (r : ℕ) → InCount (wordAt f 2) r → juniorMask f r ≡ 0 → GrantedByWords f r
+  unfolding permits
+  granted-by-words bytes r (pos, le) none = record {
+    sends-low = λ k a b. rw (own Sends) (low-item (recordWord f 8 4 r 0) (recordWord f 8 4 r 1) (small-words f bytes _) k a b);
+    sends-high = λ k a b. rw (own Sends) (high-item (recordWord f 8 4 r 0) (recordWord f 8 4 r 1) (small-words f bytes _) k a b);
+    receives-low = λ k a b. rw (own Receives) (low-item (recordWord f 8 4 r 2) (recordWord f 8 4 r 3) (small-words f bytes _) k a b);
+    receives-high = λ k a b. rw (own Receives) (high-item (recordWord f 8 4 r 2) (recordWord f 8 4 r 3) (small-words f bytes _) k a b);
+  }
+    where
+      few : r ≤ length (C .roles)
+      few = omega (arith, le, counted-by-words f .roles)
+
+      own : (w : Way) → schemaOf C .grants w r ≡ ownMask f w r
+      own w = grants-own C w r (junior-words r pos few ∙ none) pos few ∙ own-words w r pos few

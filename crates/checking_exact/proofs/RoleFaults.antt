@@ -70,7 +70,7 @@ module _ (D : Schema) (R : Ranged D) (c : Context) where
   fault-barred x n h l = bars (x .tag) (x .f1) (x .f2) n h l
 
 -- the numbers of faults
-pub fault-number : (D : Schema) (c : Context) (x : Node) (n : ℕ) → Fault D c x n → 9 ≤ n
+pub fault-number : (D : Schema) (c : Context) (x : Node) (n : ℕ) → Fault D c x n → (9 ≤ n) × (n ≤ 13)
 fault-number D c x n (nameless e h) = omega arith
 fault-number D c x n (mismatched e h) = omega arith
 fault-number D c x n (not-assigned e t h) = omega arith

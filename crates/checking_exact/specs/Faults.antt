@@ -15,7 +15,7 @@ use Rattle.rules.specs.Names.{Bound}
 use Rattle.rules.specs.Rules.{Context, childOf}
 use Rattle.rules.specs.Checking.{openings}
 use Rattle.reading_exact.specs.File.{InCount}
-use Rattle.reading_exact.specs.Order.{Order}
+use Rattle.reading_exact.specs.Order.{Order, inTurn}
 use Rattle.reading_exact.specs.Refusals.{nth, Reached, Refusable}
 pub use Rattle.reading_exact.specs.Refusals.{root, child, first-child, second-child}
 use Rattle.checking_exact.specs.Typing.{HasKind, Receivable}
@@ -64,12 +64,12 @@ pub data Fault (D : Schema) (c : Context) (x : Node) (n : ℕ) : Type 0 where
 
 -- a refusal's number and place hold of a file
 pub data Objection (f : List ℕ) (n p : ℕ) : Type 0 where
-  -- 1 to 8
+  -- 1 to 8 and 21
   of-file : Refusable f n p → Objection f n p
   -- 9 to 13; the place is the node
   of-node : (c : Context) → InContext (schemaOf (contentsOf f)) (contentsOf f .nodes) (openings (contentsOf f)) p c → InCount (length (contentsOf f .nodes)) p
       → Fault (schemaOf (contentsOf f)) c (nth (contentsOf f .nodes) p) n → Objection f n p
 
--- the order: 1 to 8 by number, then 9 and 10 together, then 11 to 13 together; at one place the lower number
+-- the order: 1 to 8 by number, 21 after 6, then 9 and 10 together, then 11 to 13 together; at one place the lower number
 abbrev pub checkOrder : Order
-checkOrder = record { stage = λ n. cond (leb n 8) n (cond (leb n 10) 9 11); turn = λ n. n }
+checkOrder = record { stage = λ n. cond (leb (inTurn n) 16) (inTurn n) (cond (leb n 10) 18 22); turn = λ n. n }

@@ -1,6 +1,6 @@
 -- What is kept of a long input, as many bytes of it as `enough` says, is answered as the whole is, to every caller.
 use Prim.Native.Nat.{ℕ}
-use mathlib.Core.Path.{_≡_, refl}
+use mathlib.Core.Path.{_≡_, refl, ap}
 use mathlib.Core.Bool.{Bool, true, false, cond}
 use mathlib.Core.List.{List}
 use native.Mathlib.Omega.{arith}
@@ -17,7 +17,8 @@ use Rattle.reading.specs.Long.{enough}
 use Rattle.reading.proofs.LongLaws.{StandsFor, start-stands, stands-judged}
 use Rattle.checking.specs.Check.{readingNames}
 use Rattle.checking.proofs.CheckLaws.{names-refused, stands-check}
-use Rattle.placing.proofs.PlaceLaws.{stands-placed, stands-over}
+use Rattle.placing.proofs.PlaceLaws.{stands-measured, stands-placed, stands-over}
+use Rattle.placing.specs.declared.Placed.{Placed}
 use Rattle.steps.specs.declared.Thread.{Thread}
 use Rattle.steps.specs.Choice.{clinicOf}
 use Rattle.choices.specs.Choices.{ranOf}
@@ -82,19 +83,24 @@ judged refusal judge by-head f = stands-judged refusal judge by-head (take (enou
 
 pub kept-alike : (f : List ℕ) → Alike (take (enough (length f)) f) f
 kept-alike f = record {
-  read = judged (λ n. refused n 0) readingNames names-refused f;
-  check = stands-check kept f stands;
+  answers = record {
+    read = judged (λ n. refused n 0) readingNames names-refused f;
+    check = stands-check kept f stands;
+    measured =
+        let same = stands-measured kept f stands in
+        (ap (λ (a : Placed). a .number) same, ap (λ (a : Placed). a .place) same, ap (λ (a : Placed). a .«on_steps») same);
+    run = λ ws room. stands-run ws room kept f stands;
+    ran = λ ws out. stands-ran ws out kept f stands;
+    pair = λ ws. judged (λ n. noPair (cond (listed (length ws)) (refused n 0) (refused 17 0))) (λ g. ready g ws) (λ g n e. pair-refused g n e ws) f;
+    choose = λ l b i p. judged (λ n. refused n 0) (λ g. choosing g l b i p) (λ g n e. choose-refused g n e l b i p) f;
+    records = λ l b i p. judged (λ n. l) (λ g. recordsOver g l b i p) (λ g n e. records-kept g n e l b i p) f;
+    beside = λ l b i p. judged (λ n. b) (λ g. besideOver g l b i p) (λ g n e. beside-kept g n e l b i p) f;
+    start = λ records words. judged (λ n. refused n 0) (λ g. starting g records words) (λ g n e. start-refused g n e records words) f;
+    started = λ l b. judged (λ n. l) (λ g. recordsStarted g l b) (λ g n e. started-kept g n e l b) f;
+    counts = λ l b. judged (λ n. b) (λ g. besideStarted g l b) (λ g n e. counts-kept g n e l b) f;
+  };
   place = λ room. stands-placed room kept f stands;
   placed = λ out. stands-over out kept f stands;
-  run = λ ws room. stands-run ws room kept f stands;
-  ran = λ ws out. stands-ran ws out kept f stands;
-  pair = λ ws. judged (λ n. noPair (cond (listed (length ws)) (refused n 0) (refused 17 0))) (λ g. ready g ws) (λ g n e. pair-refused g n e ws) f;
-  choose = λ l b i p. judged (λ n. refused n 0) (λ g. choosing g l b i p) (λ g n e. choose-refused g n e l b i p) f;
-  records = λ l b i p. judged (λ n. l) (λ g. recordsOver g l b i p) (λ g n e. records-kept g n e l b i p) f;
-  beside = λ l b i p. judged (λ n. b) (λ g. besideOver g l b i p) (λ g n e. beside-kept g n e l b i p) f;
-  start = λ records words. judged (λ n. refused n 0) (λ g. starting g records words) (λ g n e. start-refused g n e records words) f;
-  started = λ l b. judged (λ n. l) (λ g. recordsStarted g l b) (λ g n e. started-kept g n e l b) f;
-  counts = λ l b. judged (λ n. b) (λ g. besideStarted g l b) (λ g n e. counts-kept g n e l b) f;
 }
   where
     kept : List ℕ

@@ -1,4 +1,4 @@
--- What the engine promises, each promise under a sentence of the paper (01) or of the demands; nothing else stands here.
+-- What the engine promises, each promise under a sentence of the paper (01), of the demands or of a request (K1 ..); nothing else stands here. Where "1 to 8" or "1 to 10" is written, 21 is among them.
 -- What a caller gets is in the contracts of the exported functions (src/lib.rt): of any bytes handed over `pilzdamo_read` answers `readingNames`, the refusals 1 to 10,
 -- `pilzdamo_check` `checking`, the refusals 1 to 13, `pilzdamo_place` `placing`, with `placedOver` in the output, `pilzdamo_run`
 -- `running`, with `runOver` in the output, `pilzdamo_ready` `ready`, `pilzdamo_start` `starting`, with `recordsStarted` in the lent list and
@@ -15,25 +15,29 @@ use Rattle.masks.specs.Mask.{has, with, without}
 use Rattle.format.specs.Words.{wordAt, bytesOf}
 use Rattle.format.specs.Contents.{Contents, item, noSession, contentsOf}
 use Rattle.format.specs.Answers.{fine, refused}
-use Rattle.format.specs.Header.{roomFor}
+use Rattle.format.specs.Header.{Counted, versionAt, roomFor}
+use Rattle.format.specs.declared.Six.{Six}
 use Rattle.reading.specs.Reading.{reading}
 use Rattle.reading_exact.specs.Lists.{All}
-use Rattle.reading_exact.specs.File.{InCount, File, WellFormed, contentsFor, encode}
+use Rattle.reading_exact.specs.File.{InCount, File, WellFormed, asSecond, contentsFor, encode}
 use Rattle.reading_exact.specs.ByWords.{CountedByWords, ByWords}
-use Rattle.reading_exact.specs.Order.{First}
-use Rattle.reading_exact.specs.Refusals.{OneChild, Refusable, readingOrder}
+use Rattle.reading_exact.specs.Order.{OfFile, First}
+use Rattle.reading_exact.specs.Refusals.{OneChild, lengthOf, Refusable, readingOrder}
 use Rattle.checking.specs.Check.{readingNames, checking}
-use Rattle.checking_exact.specs.Typing.{WellKinded, Obeys}
+use Rattle.checking_exact.specs.Typing.{WellKinded, ByRoles, Obeys}
 use Rattle.checking_exact.specs.Faults.{Nameless, Objection, checkOrder}
-use Rattle.checking_exact.specs.ByWords.{TablesByWords, GrantedByWords}
+use Rattle.checking_exact.specs.ByWords.{TablesByWords, May, ownMask, juniorMask, GrantedByWords}
 use Rattle.checking_exact.specs.Below.{Added, Removed, Below}
-use Rattle.rules.specs.Schema.{Schema, schemaOf}
-use Rattle.reading_exact.specs.Tree.{Tree}
+use Rattle.rules.specs.declared.Way.{Way}
+use Rattle.rules.specs.Juniors.{Granted}
+use Rattle.rules.specs.Names.{Bound}
+use Rattle.rules.specs.Schema.{Schema, schemaOf, Permitted}
+use Rattle.reading_exact.specs.Tree.{on, Tree, switch}
 use Rattle.placing.specs.Placing.{placing, noPlace, placedBytes, placedOver}
 use Rattle.placing_exact.specs.Placement.{onSteps, onStepsOf, Placement, PlacementByRoles}
 use Rattle.placing_exact.specs.Causes.{SomeMask, IsSwitch, Unserved, PlacedWith, Cause, refusalIn, placingOrder}
 use Rattle.placing_exact.specs.Promised.{WellPlaced, Ruled, Clean, Lowest, Unrefused, NoPlacement, session, Covers}
-use Rattle.placing_exact.specs.Cases.{Shown, cases}
+use Rattle.placing_exact.specs.Cases.{Shown, cases, juniorCases}
 use Rattle.format.specs.declared.Node.{Node}
 use Rattle.rules.specs.Rules.{Context, childOf}
 use Rattle.steps.specs.declared.Thread.{Thread}
@@ -53,15 +57,16 @@ use Rattle.lending.specs.Lent.{stateOf, lending, choosing, recordsOver, besideO
 use Rattle.lending.specs.Starting.{starting, recordsStarted, besideStarted}
 use Rattle.lending_exact.specs.Lendable.{Lendable, Eight, Lends, inTurn}
 use Rattle.reading.specs.Long.{enough}
-use Rattle.checking_exact.proofs.GrantWords.{tables-by-words, has-bit, has-zero, granted-by-words}
-use Rattle.checking_exact.proofs.BelowLaws.{with-adds, without-removes, child-below}
+use Rattle.checking_exact.proofs.GrantWords.{tables-by-words, has-bit, has-zero, granted-by-words, granted-exactly}
+use Rattle.checking_exact.proofs.BelowLaws.{on-assigned, with-adds, without-removes, child-below}
 use Rattle.checking_exact.proofs.CheckExact.{check-exact, names-exact}
 use Rattle.checking_exact.proofs.CheckFirst.{check-first, names-first}
+use Rattle.placing.proofs.PlaceLaws.{room-by-word}
 use Rattle.placing_exact.proofs.PlacingExact.{placed-well, placed-exactly, ruled, fourteen-masks, fourteen-node, fifteen-exactly, fifteen-place, sixteen-exactly, seventeen-exactly, ten-exactly, out-kept, out-written}
 use Rattle.placing_exact.proofs.PlacingFirst.{placing-first}
 use Rattle.placing_exact.proofs.OneRole.{one-role-written}
 use Rattle.placing_exact.proofs.RivalsByRoles.{rivals-all, fewest-of-all, none-at-all}
-use Rattle.placing_exact.proofs.StarredCases.{starred}
+use Rattle.placing_exact.proofs.StarredCases.{starred, ranked}
 use Rattle.running_exact.proofs.Operands.{stands-for}
 use Rattle.running_exact.proofs.Agree.{agree, one-result, refused-first, done-free}
 use Rattle.running_exact.proofs.StepEffects.{step-effect}
@@ -78,15 +83,15 @@ use Rattle.lending_exact.proofs.LentSteps.{lent-free, lent-steps}
 use Rattle.lending_exact.proofs.Unchanged.{refused-unchanged, past-kept}
 use Rattle.lending_exact.proofs.LentStarts.{start-lends, start-lendable, start-records-past, start-words-past, refused-start}
 use Rattle.lending_exact.proofs.StartAnswers.{start-ten, start-eighteen, start-fine}
-use Rattle.engine.specs.Alike.{Alike}
-use Rattle.engine.proofs.SameContents.{alike}
+use Rattle.engine.specs.Alike.{AlikeBesideForm, Alike}
+use Rattle.engine.proofs.SameContents.{alike-beside-form, alike, second-alike}
 use Rattle.engine.proofs.LongInputs.{kept-alike}
 use Rattle.reading_exact.proofs.Bytes.{length-bytesOf, word-back, small-bytes}
 use Rattle.reading_exact.proofs.RecordWords.{counted-by-words, by-words, item-out}
 use Rattle.reading_exact.proofs.FileContents.{contents-back}
 use Rattle.reading_exact.proofs.Exact.{sound, complete, single}
 use Rattle.reading_exact.proofs.EncodedBytes.{encode-bytes}
-use Rattle.reading_exact.proofs.FirstRefusal.{first-refusal}
+use Rattle.reading_exact.proofs.FirstRefusal.{first-refusal, reading-fine}
 
 -- "The check passes a file exactly when it obeys the format and the role and channel rules": for all bytes, none of 1 to 13 is refused exactly when they are the encoding of a
 -- well formed file in which every session's tree is well typed.
@@ -134,9 +139,18 @@ no-such-item = item-out
 pub rules-by-words : (f : List ℕ) → TablesByWords f (schemaOf (contentsOf f))
 rules-by-words = tables-by-words
 
--- "mask of kinds it may send on (low word, high word), then of kinds it may receive on": what a role may do is a bit of its record's first two words for sending, of the other two for receiving.
-pub grants-by-words : (f : List ℕ) → All (λ b. b < 256) f → (r : ℕ) → InCount (wordAt f 2) r → GrantedByWords f r
+-- "mask of kinds it may send on (low word, high word), then of kinds it may receive on": what a role without juniors may do, in version 1 every role, is a bit of its record's first two words for sending, of the
+-- other two for receiving.
+pub grants-by-words : (f : List ℕ) → All (λ b. b < 256) f → (r : ℕ) → InCount (wordAt f 2) r → juniorMask f r ≡ 0 → GrantedByWords f r
 grants-by-words = granted-by-words
+
+-- "A role then permits what its own record permits and what its juniors permit, through any chain of juniors": of a file that 1 to 8 let through, by the words of the records and of the masks.
+pub grants-through-juniors : (f : List ℕ) → reading f ≡ fine → (w : Way) (r k : ℕ) → InCount (wordAt f 2) r → May f w r k ↔ Granted (ownMask f w) (juniorMask f) k r
+grants-through-juniors f e = granted-exactly f (λ p. reading-fine f .0 e 21 p)
+
+-- "A user doesn't become able to switch on a junior by this": what the check lets a session switch on is a role in its user's own mask; a run's 11 is by the same mask (`refused-in-order`, `rules-by-words`).
+pub only-assigned-on : (C : Contents) (u : ℕ) (vs : List Bound) (m r : ℕ) (t : Tree) → ByRoles (schemaOf C) u vs m (switch on r t) → has (item 0 (C .users) u) r ≡ true
+only-assigned-on C u vs m r t typed = on-assigned (schemaOf C) u vs m r t typed
 
 -- "a mask's bit i-1 stands for item i", and no item is 0.
 pub mask-bits : (m x : ℕ) → 1 ≤ x → (has m x ≡ true) ↔ (m / 2 ^ (x - 1) % 2 ≡ 1)
@@ -157,12 +171,12 @@ pub left-to-child : (D : Schema) → D .users ≤ 32 → D .channels ≤ 64 → 
     → (childOf D c n ≡ c′) ↔ Below D c n c′
 left-to-child D u k c = child-below D (record { users = omega (arith, u); channels = omega (arith, k) }) c
 
--- "Order: .. 1 to 8 by number, lowest place first. Then 9 and 10 together, by node, 9 first. Checking: 11 to 13 by node." The refusal answered is the first that the file gives
--- cause for, and none is answered where it gives none: of all of them, of 1 to 10, and of 1 to 8.
+-- "Order: .. 1 to 8 by number, lowest place first. Then 9 and 10 together, by node, 9 first. Checking: 11 to 13 by node", and 21 "directly after 6; "1 to 10" includes it". The refusal answered is the
+-- first that the file gives cause for, and none is answered where it gives none: of all of them, of 1 to 10, and of 1 to 8.
 pub first-of-check : (f : List ℕ) → First checkOrder (Objection f) (checking f)
 first-of-check = check-first
 
-pub first-of-names : (f : List ℕ) → First checkOrder (λ n p. Objection f n p × (n ≤ 10)) (readingNames f)
+pub first-of-names : (f : List ℕ) → First checkOrder (λ n p. Objection f n p × OfFile n) (readingNames f)
 first-of-names = names-first
 
 pub first-in-order : (f : List ℕ) → First readingOrder (Refusable f) (reading f)
@@ -172,7 +186,7 @@ first-in-order = first-refusal
 pub long-input : (f : List ℕ) → Alike (take (enough (length f)) f) f
 long-input = kept-alike
 
-pub little-kept : (n : ℕ) → enough n ≤ 6876
+pub little-kept : (n : ℕ) → enough n ≤ 6910
 little-kept n = omega arith
 
 -- Placing. "A placed file has its input's users, roles, kinds and channels, its sessions' users and starting masks, and is a placement of its input that passes the check, each
@@ -218,14 +232,14 @@ placed-otherwise = placed-exactly
 pub first-of-placing : (f : List ℕ) → All (λ b. b < 256) f → (room : ℕ) → First placingOrder (Cause f room) (refusalIn (placing f room))
 first-of-placing = placing-first
 
--- One by one: 17, 1 to 10, 14 at place 0 and at a node, 15 in words.
-pub room-wanted : (f : List ℕ) → roomFor f ≡ 6874
-room-wanted f = refl
+-- One by one: 17, 1 to 10, 14 at place 0 and at a node, 15 in words. "17 output under 6,874 bytes for placing", and "placing an input whose first word is 2 needs" 6,908: one of a single byte has no first word.
+pub room-wanted : (f : List ℕ) → ((2 ≤ length f) × (wordAt f 0 ≡ 2) → roomFor f ≡ 6908) × (((2 ≤ length f) × (wordAt f 0 ≡ 2) → ⊥) → roomFor f ≡ 6874)
+room-wanted = room-by-word
 
 pub no-room : (f : List ℕ) (room : ℕ) → (placing f room ≡ noPlace 17 0) ↔ (room < roomFor f)
 no-room = seventeen-exactly
 
-pub names-come-first : (f : List ℕ) (room n p : ℕ) → 1 ≤ n → n ≤ 10 → (placing f room ≡ noPlace n p) ↔ ((roomFor f ≤ room) × (readingNames f ≡ refused n p))
+pub names-come-first : (f : List ℕ) (room n p : ℕ) → OfFile n → (placing f room ≡ noPlace n p) ↔ ((roomFor f ≤ room) × (readingNames f ≡ refused n p))
 names-come-first = ten-exactly
 
 pub masks-before-nodes : (f : List ℕ) → All (λ b. b < 256) f → (room : ℕ) → (placing f room ≡ noPlace 14 0) ↔ (Clean f room × SomeMask (contentsOf f))
@@ -301,7 +315,7 @@ run-no-room = run-unfit
 pub run-seventeen-exactly : (f ws : List ℕ) (room : ℕ) → (running f ws room .number ≡ 17) ↔ Unfit ws room
 run-seventeen-exactly = run-seventeen
 
-pub run-names-next : (f ws : List ℕ) (room n p : ℕ) → 1 ≤ n → n ≤ 10 → (running f ws room ≡ refused n p) ↔ (Fit ws room × (readingNames f ≡ refused n p))
+pub run-names-next : (f ws : List ℕ) (room n p : ℕ) → OfFile n → (running f ws room ≡ refused n p) ↔ (Fit ws room × (readingNames f ≡ refused n p))
 run-names-next = run-names
 
 pub run-goes-through : (f ws : List ℕ) (room : ℕ) → Fit ws room → readingNames f ≡ fine → ranOf f ws .refusal ≡ 0 → running f ws room ≡ fine
@@ -375,7 +389,7 @@ ready-unfit = ready-unlisted
 pub ready-seventeen-exactly : (f ws : List ℕ) → (ready f ws .number ≡ 17) ↔ Unlisted ws
 ready-seventeen-exactly = ready-seventeen
 
-pub ready-names-next : (f ws : List ℕ) (n p : ℕ) → 1 ≤ n → n ≤ 10 → (ready f ws ≡ noPair n p) ↔ (Listed ws × (readingNames f ≡ refused n p))
+pub ready-names-next : (f ws : List ℕ) (n p : ℕ) → OfFile n → (ready f ws ≡ noPair n p) ↔ (Listed ws × (readingNames f ≡ refused n p))
 ready-names-next = ready-names
 
 pub ready-halts : (f ws : List ℕ) → Listed ws → readingNames f ≡ fine → ranOf f ws .refusal ≢ 0 → ready f ws ≡ noPair (ranOf f ws .refusal) (ranOf f ws .count + 1)
@@ -406,10 +420,10 @@ pub lent-exactly : (f : List ℕ) (l : List Thread) → All Eight l → (b : Lis
 lent-exactly = eighteen-zero
 
 -- "the file is judged by 1 to 10 first", and "the choice itself has place 1": what a choice in the state that is lent is refused with.
-pub file-first : (f : List ℕ) (l : List Thread) (b : List ℕ) (i p n q : ℕ) → 1 ≤ n → n ≤ 10 → (choosing f l b i p ≡ refused n q) ↔ (readingNames f ≡ refused n q)
+pub file-first : (f : List ℕ) (l : List Thread) (b : List ℕ) (i p n q : ℕ) → OfFile n → (choosing f l b i p ≡ refused n q) ↔ (readingNames f ≡ refused n q)
 file-first = ten-first
 
-pub choice-has-place-one : (f : List ℕ) (l : List Thread) (b : List ℕ) (i p n : ℕ) → 10 < n
+pub choice-has-place-one : (f : List ℕ) (l : List Thread) (b : List ℕ) (i p n : ℕ) → 10 < n → n ≢ 21
     → (choosing f l b i p ≡ refused n 1) ↔ ((lending f l b ≡ fine) × (choice (clinicOf (contentsOf f)) (stateOf l b) i p ≡ halts n))
 choice-has-place-one = past-ten-one
 
@@ -434,7 +448,7 @@ pub run-in-turn : (f : List ℕ) → readingNames f ≡ fine → (ws : List ℕ)
 run-in-turn = whole-run
 
 -- A desk begins with any 64 records and 130 words: the file is judged by 1 to 10 first, then another number of records or of words is 18 at place 0, and nothing else is refused.
-pub start-file-first : (f : List ℕ) (records words n q : ℕ) → 1 ≤ n → n ≤ 10 → (starting f records words ≡ refused n q) ↔ (readingNames f ≡ refused n q)
+pub start-file-first : (f : List ℕ) (records words n q : ℕ) → OfFile n → (starting f records words ≡ refused n q) ↔ (readingNames f ≡ refused n q)
 start-file-first = start-ten
 
 pub start-sizes : (f : List ℕ) (records words : ℕ) → (starting f records words ≡ refused 18 0) ↔ ((readingNames f ≡ fine) × ((records ≢ 64) ⊎ (words ≢ besideWords)))
@@ -473,6 +487,40 @@ past-the-count = past-kept
 pub starred-cases : All Shown cases
 starred-cases = starred
 
--- What a file holds decides: two files that 1 to 8 answer alike and that hold the same have the same answers and outputs, for every caller.
-pub same-contents : (f g : List ℕ) → reading f ≡ reading g → contentsOf f ≡ contentsOf g → Alike f g
+-- What a file holds decides: two files that 1 to 8 answer alike and that hold the same have the same answers, for every caller, and the same outputs but for the placed file's form;
+-- where placing wants as much output of both, they have that as well.
+pub same-answers : (f g : List ℕ) → reading f ≡ reading g → contentsOf f ≡ contentsOf g → AlikeBesideForm f g
+same-answers = alike-beside-form
+
+pub same-contents : (f g : List ℕ) → reading f ≡ reading g → contentsOf f ≡ contentsOf g → roomFor f ≡ roomFor g → Alike f g
 same-contents = alike
+
+-- Request K1, version 2. "Version 1 still reads, as if all masks were 0": a file of version 1 and the same in version 2 with all masks 0 hold the same, and are answered alike.
+pub first-as-second : (F : File) → WellFormed F → (contentsOf (encode (asSecond F)) ≡ contentsOf (encode F)) × AlikeBesideForm (encode (asSecond F)) (encode F)
+first-as-second = second-alike
+
+-- In literal words: a chain of juniors in the check and in placing, the placed file with its version and masks, 11 for on of a junior, and 21 at its places.
+pub junior-cases : All Shown juniorCases
+junior-cases = ranked
+
+-- "21 .. directly after 6": between 6 and 7 in every order.
+pub junior-turn : (readingOrder .stage 6 < readingOrder .stage 21) × (readingOrder .stage 21 < readingOrder .stage 7)
+    × (checkOrder .stage 6 < checkOrder .stage 21) × (checkOrder .stage 21 < checkOrder .stage 7)
+    × (placingOrder .stage 6 < placingOrder .stage 21) × (placingOrder .stage 21 < placingOrder .stage 7)
+junior-turn = (omega arith, omega arith, omega arith, omega arith, omega arith, omega arith)
+
+-- "the largest version 2 file has 6,908 bytes"; that of version 1 has 6,874, and both are reached.
+pub largest-files : (n : Six) → Counted n → (lengthOf 1 n ≤ 6874) × (lengthOf 2 n ≤ 6908)
+largest-files n c = (omega (arith, c), omega (arith, c))
+
+pub largest-reached : (lengthOf 1 (record { users = 32; roles = 16; kinds = 32; channels = 64; sessions = 32; nodes = 1024 }) ≡ 6874)
+    × (lengthOf 2 (record { users = 32; roles = 16; kinds = 32; channels = 64; sessions = 32; nodes = 1024 }) ≡ 6908)
+largest-reached = (refl, refl)
+
+-- "This holds for check, run and placing, the fewest on steps included": what a set of active roles permits is, for all of them, what some role of the set is granted by the words, its own or through any chain of juniors.
+pub rule-six-by-words : (f : List ℕ) → reading f ≡ fine → (m : ℕ) (w : Way) (k : ℕ)
+    → Permitted (schemaOf (contentsOf f)) m w k ↔ ((r : ℕ) × InCount (wordAt f 2) r × (has m r ≡ true) × Granted (ownMask f w) (juniorMask f) k r)
+rule-six-by-words f e m w k = (
+  λ (r, (low, high), held, may). let c : InCount (wordAt f 2) r = (low, omega (arith, high, counted-by-words f .roles)) in (r, c, held, grants-through-juniors f e w r k c .0 may),
+  λ (r, c, held, g). (r, (c .0, omega (arith, c .1, counted-by-words f .roles)), held, grants-through-juniors f e w r k c .1 g),
+)

@@ -3,17 +3,18 @@ use Prim.Native.Nat.{ℕ}
 use mathlib.Core.Path.{_≡_}
 use mathlib.Core.List.{List}
 use Rattle.checking.specs.Check.{readingNames, checking}
-use Rattle.placing.specs.Placing.{placing, placedOver}
+use Rattle.placing.specs.Placing.{measuring, placing, placedOver}
 use Rattle.steps.specs.declared.Thread.{Thread}
 use Rattle.running.specs.Run.{running, runOver, ready}
 use Rattle.lending.specs.Lent.{choosing, recordsOver, besideOver}
 use Rattle.lending.specs.Starting.{starting, recordsStarted, besideStarted}
 
-pub record Alike (f g : List ℕ) : Type 0 where
+-- in all but what goes by the form of a file: how much output is wanted, and the placed file's length and bytes
+pub record AlikeBesideForm (f g : List ℕ) : Type 0 where
   pub read : readingNames f ≡ readingNames g
   pub check : checking f ≡ checking g
-  pub place : (room : ℕ) → placing f room ≡ placing g room
-  pub placed : (out : List ℕ) → placedOver f out ≡ placedOver g out
+  -- the refusal of placing in an output long enough, and the on steps
+  pub measured : (measuring f .number ≡ measuring g .number) × (measuring f .place ≡ measuring g .place) × (measuring f .«on_steps» ≡ measuring g .«on_steps»)
   pub run : (ws : List ℕ) (room : ℕ) → running f ws room ≡ running g ws room
   pub ran : (ws out : List ℕ) → runOver f ws out ≡ runOver g ws out
   pub pair : (ws : List ℕ) → ready f ws ≡ ready g ws
@@ -23,3 +24,9 @@ pub record Alike (f g : List ℕ) : Type 0 where
   pub start : (records words : ℕ) → starting f records words ≡ starting g records words
   pub started : (l : List Thread) (b : List ℕ) → recordsStarted f l b ≡ recordsStarted g l b
   pub counts : (l : List Thread) (b : List ℕ) → besideStarted f l b ≡ besideStarted g l b
+
+-- and in all
+pub record Alike (f g : List ℕ) : Type 0 where
+  pub answers : AlikeBesideForm f g
+  pub place : (room : ℕ) → placing f room ≡ placing g room
+  pub placed : (out : List ℕ) → placedOver f out ≡ placedOver g out

@@ -9,7 +9,7 @@ use lib.Dec.{leb, ltb}
 use lib.ListN.{length, getD, take, drop, set, drop-of-length-le, List·getD-eq-default}
 use lib.Seq.{drop-cons, drop-at, set-split, length-take-le}
 use borrow.Author.Tests.{lt-ltb, lt-leb, ltb-true, ltb-false, leb-false}
-use Rattle.format.specs.Sections.{placeOf, userRoles, roleOf, carried, channelOf, sessionOf, nodeAt}
+use Rattle.format.specs.Sections.{placeOf, userRoles, roleOf, juniorsOf, carried, channelOf, sessionOf, nodeAt}
 use Rattle.format.specs.Contents.{Contents, tabled, inCount, item, noNode, contentsAt}
 use Rattle.format.specs.declared.Head.{Head}
 use Rattle.format.specs.declared.Node.{Node}
@@ -121,6 +121,10 @@ module _ (f : List ℕ) (h : Head) where
   pub roles-held : length (contentsAt f h .roles) ≡ h .count .roles
   unfolding contentsAt
   roles-held = tabled-length (roleOf f h) 1 (h .count .roles)
+
+  pub juniors-held : length (contentsAt f h .juniors) ≡ h .count .roles
+  unfolding contentsAt
+  juniors-held = tabled-length (juniorsOf f h) 1 (h .count .roles)
 
   pub kinds-held : length (contentsAt f h .kinds) ≡ h .count .kinds
   unfolding contentsAt

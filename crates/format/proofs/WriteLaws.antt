@@ -1,28 +1,58 @@
 -- Bytes that are copied are words as they are, a file's words before its sessions are its tables', and how many words a section has.
 use Prim.Native.Nat.{ℕ, zero, suc, _+_, _*_, _-_, _/_, _%_, _≤_, _<_}
 use mathlib.Core.Path.{_≡_, refl, ap, ap₂, _∙_}
+use mathlib.Core.Bool.{Bool, true, false, cond}
 use mathlib.Core.List.{List, [], _∷_, _++_}
 use native.Mathlib.Omega.{arith}
 use native.Mathlib.Numerals.{add-one}
+use lib.Dec.{eqb}
 use lib.ListN.{length, getD, take, drop, set, length-append}
 use lib.Seq.{sets, drop-cons}
 use Rattle.format.specs.Words.{wordAt, wideAt, bytesOf}
-use Rattle.format.specs.Header.{Laid, headWords}
-use Rattle.format.specs.Sections.{wordsFrom}
+use Rattle.format.specs.Header.{Laid, more, juniorRecords, sixWords, offsetWords, headWords}
+use Rattle.format.specs.Sections.{wordsFrom, placeOf, juniorsOf}
 use Rattle.format.specs.Contents.{Contents, tabled, contentsAt}
-use Rattle.format.specs.Writing.{roleWords, channelWords, sessionWords, nodeWords, tableWords}
+use Rattle.format.specs.Writing.{juniorWords, roleWords, channelWords, sessionWords, nodeWords, tableWords}
 use Rattle.format.specs.declared.Head.{Head}
+use Rattle.format.specs.declared.Seven.{Seven}
+use Rattle.format.specs.declared.Section.the-variants.{Juniors}
 use Rattle.format.specs.declared.Role.{Role}
 use Rattle.format.specs.declared.Channel.{Channel}
 use Rattle.format.specs.declared.Session.{Session}
 use Rattle.format.specs.declared.Node.{Node}
 
-pub head-put : (l l1 l2 l3 l4 l5 : List ℕ) (h : Head)
-    → l1 ≡ sets l 0 (bytesOf (h .version ∷ [])) → l2 ≡ sets l1 2 (bytesOf (h .count .users ∷ h .count .roles ∷ h .count .kinds ∷ []))
-    → l3 ≡ sets l2 8 (bytesOf (h .count .channels ∷ h .count .sessions ∷ h .count .nodes ∷ [])) → l4 ≡ sets l3 14 (bytesOf (h .at .users ∷ h .at .roles ∷ h .at .kinds ∷ []))
-    → l5 ≡ sets l4 20 (bytesOf (h .at .channels ∷ h .at .sessions ∷ h .at .nodes ∷ [])) → l5 ≡ sets l 0 (bytesOf (headWords h))
+pub offsets-put : (l l1 l2 l3 : List ℕ) (at : Seven)
+    → l1 ≡ sets l 14 (bytesOf (at .users ∷ at .roles ∷ at .juniors ∷ [])) → l2 ≡ sets l1 20 (bytesOf (at .kinds ∷ at .channels ∷ at .sessions ∷ []))
+    → l3 ≡ sets l2 26 (bytesOf (at .nodes ∷ []))
+    → l3 ≡ sets l 14 (bytesOf (at .users ∷ at .roles ∷ at .juniors ∷ at .kinds ∷ at .channels ∷ at .sessions ∷ at .nodes ∷ []))
 unfolding bytesOf
-head-put l l1 l2 l3 l4 l5 h e1 e2 e3 e4 e5 = rw (e5, e4, e3, e2, e1)
+offsets-put l l1 l2 l3 at e1 e2 e3 = rw (e3, e2, e1)
+
+pub offsets-put-first : (l l1 l2 : List ℕ) (at : Seven)
+    → l1 ≡ sets l 14 (bytesOf (at .users ∷ at .roles ∷ at .kinds ∷ [])) → l2 ≡ sets l1 20 (bytesOf (at .channels ∷ at .sessions ∷ at .nodes ∷ []))
+    → l2 ≡ sets l 14 (bytesOf (at .users ∷ at .roles ∷ at .kinds ∷ at .channels ∷ at .sessions ∷ at .nodes ∷ []))
+unfolding bytesOf
+offsets-put-first l l1 l2 at e1 e2 = rw (e2, e1)
+
+pub head-put : (l l1 l2 l3 l4 : List ℕ) (h : Head)
+    → l1 ≡ sets l 0 (bytesOf (h .version ∷ [])) → l2 ≡ sets l1 2 (bytesOf (h .count .users ∷ h .count .roles ∷ h .count .kinds ∷ []))
+    → l3 ≡ sets l2 8 (bytesOf (h .count .channels ∷ h .count .sessions ∷ h .count .nodes ∷ [])) → l4 ≡ sets l3 14 (bytesOf (offsetWords (h .version) (h .at)))
+    → l4 ≡ sets l 0 (bytesOf (headWords h))
+unfolding bytesOf
+head-put l l1 l2 l3 l4 h e1 e2 e3 e4 = rw (e4, e3, e2, e1)
+
+-- the words of a head, with a seventh offset or without
+pub head-length : (h : Head) → length (headWords h) ≡ 13 + more (h .version)
+head-length h = go (eqb (h .version) 2)
+  where
+    at : Seven
+    at = h .at
+
+    go : (b : Bool)
+        → length (h .version ∷ sixWords (h .count) ++ (at .users ∷ at .roles ∷ cond b (at .juniors ∷ []) [] ++ (at .kinds ∷ at .channels ∷ at .sessions ∷ at .nodes ∷ [])))
+        ≡ 13 + cond b 1 0
+    go true = refl
+    go false = refl
 
 -- what a slice of u8 holds
 abbrev pub Bytes : List ℕ → Type 0
@@ -103,19 +133,32 @@ words-joined f p (suc a) b =
     let y : p + suc a ≡ suc p + a = omega arith in
     rw (z, y) (ap {B = List ℕ} (λ l. wordAt f p ∷ l) (words-joined f (suc p) a b))
 
-pub tables-words : (f : List ℕ) (h : Head) → Laid f h → Bytes f → wordsFrom f (h .at .users) (h .at .sessions - h .at .users) ≡ tableWords (contentsAt f h)
+-- the masks of juniors, where the version has them
+juniors-words : (f : List ℕ) (h : Head) (q : ℕ) → q ≡ h .at .juniors
+    → wordsFrom f q (juniorRecords (h .version) (h .count .roles)) ≡ juniorWords (h .version) (tabled (juniorsOf f h) 1 (h .count .roles))
+unfolding wordsFrom
+juniors-words f h q e = go (eqb (h .version) 2)
+  where
+    go : (b : Bool) → wordsFrom f q (cond b (h .count .roles) 0) ≡ cond b (tabled (λ n. cond b (wordAt f (placeOf h Juniors n)) 0) 1 (h .count .roles)) []
+    go true = single-words f (h .at .juniors) q 0 (h .count .roles) (omega arith)
+    go false = refl
+
+pub tables-words : (f : List ℕ) (h : Head) → Laid f h → Bytes f
+    → wordsFrom f (h .at .users) (h .at .sessions - h .at .users) ≡ tableWords (h .version) (contentsAt f h)
 unfolding contentsAt tableWords
 tables-words f h l b =
     let u : ℕ = h .count .users in
     let r : ℕ = 4 * h .count .roles in
+    let j : ℕ = juniorRecords (h .version) (h .count .roles) in
     let k : ℕ = h .count .kinds in
     let c : ℕ = 2 * h .count .channels in
     let p : ℕ = h .at .users in
-    let all : h .at .sessions - p ≡ u + (r + (k + c)) = omega arith in
-    ap (wordsFrom f p) all ∙ words-joined f p u (r + (k + c))
-    ∙ ap₂ _++_ (single-words f p p 0 u (omega arith)) (words-joined f (p + u) r (k + c)
-    ∙ ap₂ _++_ (role-words f (h .at .roles) b (p + u) 0 (h .count .roles) (omega arith)) (words-joined f (p + u + r) k c
-    ∙ ap₂ _++_ (single-words f (h .at .kinds) (p + u + r) 0 k (omega arith)) (channel-words f (h .at .channels) (p + u + r + k) 0 (h .count .channels) (omega arith))))
+    let all : h .at .sessions - p ≡ u + (r + (j + (k + c))) = omega arith in
+    ap (wordsFrom f p) all ∙ words-joined f p u (r + (j + (k + c)))
+    ∙ ap₂ _++_ (single-words f p p 0 u (omega arith)) (words-joined f (p + u) r (j + (k + c))
+    ∙ ap₂ _++_ (role-words f (h .at .roles) b (p + u) 0 (h .count .roles) (omega arith)) (words-joined f (p + u + r) j (k + c)
+    ∙ ap₂ _++_ (juniors-words f h (p + u + r) (omega arith)) (words-joined f (p + u + r + j) k c
+    ∙ ap₂ _++_ (single-words f (h .at .kinds) (p + u + r + j) 0 k (omega arith)) (channel-words f (h .at .channels) (p + u + r + j + k) 0 (h .count .channels) (omega arith)))))
 
 -- how many words there are
 role-words-length : (rs : List Role) → length (roleWords rs) ≡ 4 * length rs
@@ -138,9 +181,18 @@ unfolding nodeWords
 node-words-length [] = refl
 node-words-length (n ∷ ns) = omega (arith, node-words-length ns)
 
-pub table-words-length : (C : Contents) → length (tableWords C) ≡ length (C .users) + 4 * length (C .roles) + length (C .kinds) + 2 * length (C .channels)
+pub junior-words-length : (v : ℕ) (js : List ℕ) → length (juniorWords v js) ≡ juniorRecords v (length js)
+junior-words-length v js = go (eqb v 2)
+  where
+    go : (b : Bool) → length (cond b js []) ≡ cond b (length js) 0
+    go true = refl
+    go false = refl
+
+pub table-words-length : (v : ℕ) (C : Contents)
+    → length (tableWords v C) ≡ length (C .users) + 4 * length (C .roles) + juniorRecords v (length (C .juniors)) + length (C .kinds) + 2 * length (C .channels)
 unfolding tableWords
-table-words-length C = simp length-append (omega (arith, role-words-length (C .roles), channel-words-length (C .channels)))
+table-words-length v C =
+    simp length-append (omega (arith, role-words-length (C .roles), channel-words-length (C .channels), junior-words-length v (C .juniors)))
 
 pub node-words-append : (ms ns : List Node) → nodeWords (ms ++ ns) ≡ nodeWords ms ++ nodeWords ns
 unfolding nodeWords

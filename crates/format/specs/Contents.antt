@@ -5,7 +5,7 @@ use mathlib.Core.List.{List, [], _∷_}
 use lib.Dec.{leb, ltb}
 use lib.ListN.{getD}
 use Rattle.format.specs.Header.{headAt}
-use Rattle.format.specs.Sections.{placeOf, userRoles, roleOf, carried, channelOf, sessionOf, nodeAt}
+use Rattle.format.specs.Sections.{placeOf, userRoles, roleOf, juniorsOf, carried, channelOf, sessionOf, nodeAt}
 use Rattle.format.specs.declared.Head.{Head}
 use Rattle.format.specs.declared.Section.the-variants.{Nodes}
 use Rattle.format.specs.declared.Role.{Role}
@@ -13,10 +13,11 @@ use Rattle.format.specs.declared.Channel.{Channel}
 use Rattle.format.specs.declared.Session.{Session}
 use Rattle.format.specs.declared.Node.{Node}
 
--- each user's mask of roles, the roles, what each kind carries, the channels, the sessions, the nodes
+-- each user's mask of roles, the roles, the mask of each role's juniors, what each kind carries, the channels, the sessions, the nodes
 pub record Contents : Type 0 where
   pub users : List ℕ
   pub roles : List Role
+  pub juniors : List ℕ
   pub kinds : List ℕ
   pub channels : List Channel
   pub sessions : List Session
@@ -53,6 +54,7 @@ unfoldable pub contentsAt : List ℕ → Head → Contents
 contentsAt f h = record {
   users = tabled (userRoles f h) 1 (h .count .users);
   roles = tabled (roleOf f h) 1 (h .count .roles);
+  juniors = tabled (juniorsOf f h) 1 (h .count .roles);
   kinds = tabled (carried f h) 1 (h .count .kinds);
   channels = tabled (channelOf f h) 1 (h .count .channels);
   sessions = tabled (sessionOf f h) 1 (h .count .sessions);

@@ -1,9 +1,11 @@
--- The words of a file that holds this: its head, then its sections, back to back.
+-- The words of a file of a version that holds this: its head, then its sections, back to back.
 use Prim.Native.Nat.{ℕ, _+_, _*_, _/_, _%_}
+use mathlib.Core.Bool.{cond}
 use mathlib.Core.List.{List, [], _∷_, _++_}
+use lib.Dec.{eqb}
 use lib.ListN.{length}
 use Rattle.format.specs.Words.{bytesOf}
-use Rattle.format.specs.Header.{headWords}
+use Rattle.format.specs.Header.{more, juniorRecords, headWords}
 use Rattle.format.specs.Contents.{Contents}
 use Rattle.format.specs.declared.Head.{Head}
 use Rattle.format.specs.declared.Role.{Role}
@@ -27,34 +29,41 @@ unfoldable pub nodeWords : List Node → List ℕ
 nodeWords [] = []
 nodeWords (n ∷ ns) = n .tag ∷ n .f1 ∷ n .f2 ∷ nodeWords ns
 
--- version 1, the six counts, and the offsets of the six sections, the first after the head and the others back to back
-abbrev pub headFor : Contents → Head
-headFor C =
+-- the masks of juniors are version 2's
+abbrev pub juniorWords : ℕ → List ℕ → List ℕ
+juniorWords version js = cond (eqb version 2) js []
+
+-- the version, the six counts, and the offsets of the sections, the first after the head and the others back to back
+abbrev pub headFor : ℕ → Contents → Head
+headFor version C =
     let u : ℕ = length (C .users) in
     let r : ℕ = length (C .roles) in
+    let j : ℕ = juniorRecords version r in
     let k : ℕ = length (C .kinds) in
     let c : ℕ = length (C .channels) in
     let s : ℕ = length (C .sessions) in
+    let first : ℕ = 13 + more version in
     record {
-      version = 1;
+      version = version;
       count = record { users = u; roles = r; kinds = k; channels = c; sessions = s; nodes = length (C .nodes) };
       at = record {
-        users = 13;
-        roles = 13 + u;
-        kinds = 13 + u + 4 * r;
-        channels = 13 + u + 4 * r + k;
-        sessions = 13 + u + 4 * r + k + 2 * c;
-        nodes = 13 + u + 4 * r + k + 2 * c + 3 * s;
+        users = first;
+        roles = first + u;
+        juniors = first + u + 4 * r;
+        kinds = first + u + 4 * r + j;
+        channels = first + u + 4 * r + j + k;
+        sessions = first + u + 4 * r + j + k + 2 * c;
+        nodes = first + u + 4 * r + j + k + 2 * c + 3 * s;
       };
     }
 
--- users, roles, kinds and channels
-unfoldable pub tableWords : Contents → List ℕ
-tableWords C = C .users ++ (roleWords (C .roles) ++ (C .kinds ++ channelWords (C .channels)))
+-- users, roles, juniors, kinds and channels
+unfoldable pub tableWords : ℕ → Contents → List ℕ
+tableWords version C = C .users ++ (roleWords (C .roles) ++ (juniorWords version (C .juniors) ++ (C .kinds ++ channelWords (C .channels))))
 
-unfoldable pub fileWords : Contents → List ℕ
-fileWords C = headWords (headFor C) ++ (tableWords C ++ (sessionWords (C .sessions) ++ nodeWords (C .nodes)))
+unfoldable pub fileWords : ℕ → Contents → List ℕ
+fileWords version C = headWords (headFor version C) ++ (tableWords version C ++ (sessionWords (C .sessions) ++ nodeWords (C .nodes)))
 
 -- each word low byte first
-unfoldable pub encoded : Contents → List ℕ
-encoded C = bytesOf (fileWords C)
+unfoldable pub encoded : ℕ → Contents → List ℕ
+encoded version C = bytesOf (fileWords version C)

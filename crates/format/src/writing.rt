@@ -3,6 +3,7 @@ use super::Head;
 use super::Node;
 use super::Section;
 use super::Session;
+use super::Seven;
 use super::sections::place_of;
 use super::words::put_word;
 use super::words::wide;
@@ -12,7 +13,7 @@ ghost use Prim.Native.Nat.{_+_, _*_, _-_, _≤_, _<_};
 ghost use lib.ListN.{length};
 ghost use lib.Seq.{sets};
 ghost use Rattle.format.specs.Words.{bytesOf};
-ghost use Rattle.format.specs.Header.{Laid, headWords};
+ghost use Rattle.format.specs.Header.{Laid, offsetWords, headWords};
 ghost use Rattle.format.specs.Sections.{placeOf, wordsFrom};
 ghost use Rattle.format.specs.Contents.{contentsAt};
 ghost use Rattle.format.specs.Writing.{tableWords, sessionWords, nodeWords};
@@ -28,8 +29,22 @@ fn put_three(out: &mut [u8], at: usize, first: u16, second: u16, third: u16)
     put_word(out, at + 2, third);
 }
 
+fn put_offsets(out: &mut [u8], version: u16, at: Seven)
+    requires { ⌜ 28 ≤ length (now out) ⌝ }
+    ensures { λ r. ⌜ now (out .exit) ≡ sets (now (out .entry)) 14 (bytesOf (offsetWords version at)) ⌝ }
+{
+    if version == 2 {
+        put_three(out, 7, at.users, at.roles, at.juniors);
+        put_three(out, 10, at.kinds, at.channels, at.sessions);
+        put_word(out, 13, at.nodes);
+        return;
+    }
+    put_three(out, 7, at.users, at.roles, at.kinds);
+    put_three(out, 10, at.channels, at.sessions, at.nodes);
+}
+
 pub fn put_head(out: &mut [u8], head: Head)
-    requires { ⌜ 26 ≤ length (now out) ⌝ }
+    requires { ⌜ 28 ≤ length (now out) ⌝ }
     ensures { λ r. ⌜ now (out .exit) ≡ sets (now (out .entry)) 0 (bytesOf (headWords head)) ⌝ }
 {
     let n = head.count;
@@ -37,8 +52,7 @@ pub fn put_head(out: &mut [u8], head: Head)
     put_word(out, 0, head.version);
     put_three(out, 1, n.users, n.roles, n.kinds);
     put_three(out, 4, n.channels, n.sessions, n.nodes);
-    put_three(out, 7, at.users, at.roles, at.kinds);
-    put_three(out, 10, at.channels, at.sessions, at.nodes);
+    put_offsets(out, head.version, at);
 }
 
 // The words between two places, as they are.
@@ -54,10 +68,10 @@ fn put_words(file: &[u8], from: usize, to: usize, out: &mut [u8])
     }
 }
 
-// The users, roles, kinds and channels of a file.
+// The users, roles, juniors, kinds and channels of a file.
 pub fn put_tables(file: &[u8], head: Head, out: &mut [u8])
     requires { ⌜ Laid (now file) head × (2 * head .at .sessions ≤ length (now out)) ⌝ }
-    ensures { λ r. ⌜ now (out .exit) ≡ sets (now (out .entry)) (2 * head .at .users) (bytesOf (tableWords (contentsAt (now (file .entry)) head))) ⌝ }
+    ensures { λ r. ⌜ now (out .exit) ≡ sets (now (out .entry)) (2 * head .at .users) (bytesOf (tableWords (head .version) (contentsAt (now (file .entry)) head))) ⌝ }
 {
     put_words(file, wide(head.at.users), wide(head.at.sessions), out);
 }

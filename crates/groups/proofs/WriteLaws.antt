@@ -10,16 +10,16 @@ use lib.Dec.{eqb, eqb·suc-zero}
 use lib.ListN.{length, getD, take, drop, set, length-append, length-drop, length-map}
 use lib.Seq.{sets, drop-cons, length-take-le}
 use Rattle.format.specs.Words.{bytesOf}
-use Rattle.format.specs.Header.{Laid, headWords}
+use Rattle.format.specs.Header.{juniorRecords, Laid, headWords}
 use Rattle.format.specs.Contents.{Contents, item, noSession, noNode, contentsAt}
 use Rattle.format.specs.Writing.{headFor, sessionWords, nodeWords, tableWords, fileWords, encoded}
 use Rattle.format.specs.declared.Six.{Six}
 use Rattle.format.specs.declared.Head.{Head}
 use Rattle.format.specs.declared.Session.{Session}
 use Rattle.format.specs.declared.Node.{Node}
-use Rattle.format.proofs.ContentsLaws.{next-item, none-past, users-held, roles-held, kinds-held, channels-held, sessions-held, nodes-held}
+use Rattle.format.proofs.ContentsLaws.{next-item, none-past, users-held, roles-held, juniors-held, kinds-held, channels-held, sessions-held, nodes-held}
 use Rattle.format.proofs.PutRuns.{puts-then, puts-turn}
-use Rattle.format.proofs.WriteLaws.{session-words-length, node-words-length, table-words-length, node-words-append}
+use Rattle.format.proofs.WriteLaws.{head-length, session-words-length, node-words-length, table-words-length, node-words-append}
 use Rattle.states.specs.declared.Turn.{Turn}
 use Rattle.states.specs.States.{unpacked}
 use Rattle.groups.specs.Groups.{switchTo, offs, ons, before, sizeOf, sizesOf, onOf, onsOf, startsFrom, moved, groupsFrom, rerooted, sessionsFrom, withNodes, placedContents, turnsIn}
@@ -197,47 +197,67 @@ pub sums-end : (turns : List ℕ) (i n : ℕ) → n ≤ i → (sizesOf (turnsAft
 unfolding sizesOf onsOf
 sums-end turns i n h = rw (turns-none turns i n h) (refl, refl)
 
--- a laid head of version 1 is the one that its contents have, and no offset depends on the nodes
+-- a laid head is the one that its contents have, and no offset depends on the nodes
 six : {a b c d e g a′ b′ c′ d′ e′ g′ : ℕ} → a ≡ a′ → b ≡ b′ → c ≡ c′ → d ≡ d′ → e ≡ e′ → g ≡ g′
     → _≡_ {A = Six} (record { users = a; roles = b; kinds = c; channels = d; sessions = e; nodes = g }) (record { users = a′; roles = b′; kinds = c′; channels = d′; sessions = e′; nodes = g′ })
-six ea eb ec ed ee eg = rw (ea, eb, ec, ed, ee, eg)
+six ea eb ec ed ee eg = λ i. record { users = ea i; roles = eb i; kinds = ec i; channels = ed i; sessions = ee i; nodes = eg i }
 
-head-placed : (f : List ℕ) (h : Head) (ts : List Turn) (starts : List ℕ) → Laid f h → h .version ≡ 1 → length ts ≡ h .count .nodes
-    → withNodes h (sizesOf ts) ≡ headFor (placedContents (contentsAt f h) ts starts)
-head-placed f h ts starts l v e =
+head-placed : (f : List ℕ) (h : Head) (ts : List Turn) (starts : List ℕ) → Laid f h → length ts ≡ h .count .nodes
+    → withNodes h (sizesOf ts) ≡ headFor (h .version) (placedContents (contentsAt f h) ts starts)
+head-placed f h ts starts l e =
     let C : Contents = contentsAt f h in
+    let H : Head = headFor (h .version) (placedContents C ts starts) in
     let u = users-held f h in
     let r = roles-held f h in
+    let j : juniorRecords (h .version) (length (C .roles)) ≡ juniorRecords (h .version) (h .count .roles) = ap (juniorRecords (h .version)) r in
     let k = kinds-held f h in
     let c = channels-held f h in
     let s : length (sessionsFrom starts (C .sessions)) ≡ h .count .sessions = sessions-length starts (C .sessions) ∙ sessions-held f h in
     let n : length (groupsFrom starts (C .nodes) ts) ≡ sizesOf ts = groups-length starts (C .nodes) ts (nodes-held f h ∙ sym e) in
-    whole v (six (sym u) (sym r) (sym k) (sym c) (sym s) (sym n))
-    (six (l .users-at) (omega (arith, u)) (omega (arith, u, r)) (omega (arith, u, r, k)) (omega (arith, u, r, k, c)) (omega (arith, u, r, k, c, s)))
-  where
-    whole : {x y : ℕ} {n m a b : Six} → x ≡ y → n ≡ m → a ≡ b → _≡_ {A = Head} (record { version = x; count = n; at = a }) (record { version = y; count = m; at = b })
-    whole ex en ea = rw (ex, en, ea)
+    let counts = six (sym u) (sym r) (sym k) (sym c) (sym s) (sym n) in
+    let at-roles : h .at .roles ≡ H .at .roles = omega (arith, u) in
+    let at-juniors : h .at .juniors ≡ H .at .juniors = omega (arith, u, r) in
+    let at-kinds : h .at .kinds ≡ H .at .kinds = omega (arith, u, r, j) in
+    let at-channels : h .at .channels ≡ H .at .channels = omega (arith, u, r, j, k) in
+    let at-sessions : h .at .sessions ≡ H .at .sessions = omega (arith, u, r, j, k, c) in
+    let at-nodes : h .at .nodes ≡ H .at .nodes = omega (arith, u, r, j, k, c, s) in
+    λ i. record {
+      version = h .version;
+      count = counts i;
+      at = record {
+        users = l .users-at i;
+        roles = at-roles i;
+        juniors = at-juniors i;
+        kinds = at-kinds i;
+        channels = at-channels i;
+        sessions = at-sessions i;
+        nodes = at-nodes i;
+      };
+    }
 
-pub file-put : (f : List ℕ) (h : Head) (ts : List Turn) (starts l l1 l2 l3 l4 : List ℕ) → Laid f h → h .version ≡ 1 → length ts ≡ h .count .nodes
-    → l1 ≡ sets l 0 (bytesOf (headWords (withNodes h (sizesOf ts)))) → l2 ≡ sets l1 (2 * h .at .users) (bytesOf (tableWords (contentsAt f h)))
+pub file-put : (f : List ℕ) (h : Head) (ts : List Turn) (starts l l1 l2 l3 l4 : List ℕ) → Laid f h → length ts ≡ h .count .nodes
+    → l1 ≡ sets l 0 (bytesOf (headWords (withNodes h (sizesOf ts)))) → l2 ≡ sets l1 (2 * h .at .users) (bytesOf (tableWords (h .version) (contentsAt f h)))
     → l3 ≡ sets l2 (2 * h .at .sessions) (bytesOf (sessionWords (sessionsFrom starts (contentsAt f h .sessions))))
     → l4 ≡ sets l3 (2 * h .at .nodes) (bytesOf (nodeWords (groupsFrom starts (contentsAt f h .nodes) ts)))
-    → l4 ≡ sets l 0 (encoded (placedContents (contentsAt f h) ts starts))
+    → l4 ≡ sets l 0 (encoded (h .version) (placedContents (contentsAt f h) ts starts))
 unfolding encoded fileWords tableWords
-file-put f h ts starts l l1 l2 l3 l4 d v e e1 e2 e3 e4 =
+file-put f h ts starts l l1 l2 l3 l4 d e e1 e2 e3 e4 =
     let C : Contents = contentsAt f h in
     let head : List ℕ = headWords (withNodes h (sizesOf ts)) in
-    let tables : List ℕ = tableWords C in
+    let tables : List ℕ = tableWords (h .version) C in
     let sessions : List ℕ = sessionWords (sessionsFrom starts (C .sessions)) in
     let nodes : List ℕ = nodeWords (groupsFrom starts (C .nodes) ts) in
-    let size2 : length tables ≡ h .at .sessions - 13 = omega (arith, d, table-words-length C, users-held f h, roles-held f h, kinds-held f h, channels-held f h) in
+    let size1 : length head ≡ h .at .users = head-length (withNodes h (sizesOf ts)) ∙ sym (d .users-at) in
+    let masks : juniorRecords (h .version) (length (C .juniors)) ≡ juniorRecords (h .version) (h .count .roles) = ap (juniorRecords (h .version)) (juniors-held f h) in
+    let size2 : h .at .users + length tables ≡ h .at .sessions =
+    omega (arith, d, table-words-length (h .version) C, users-held f h, roles-held f h, masks, kinds-held f h, channels-held f h) in
     let size3 : length sessions ≡ 3 * h .count .sessions =
     session-words-length (sessionsFrom starts (C .sessions)) ∙ ap (λ (k : ℕ). 3 * k) (sessions-length starts (C .sessions) ∙ sessions-held f h) in
-    let q2 : l2 ≡ sets l 0 (bytesOf (head ++ tables)) = puts-then l l1 l2 0 (h .at .users) head tables e1 (omega (arith, d)) e2 in
-    let two : length (head ++ tables) ≡ 13 + length tables = length-append head tables in
+    let q2 : l2 ≡ sets l 0 (bytesOf (head ++ tables)) = puts-then l l1 l2 0 (h .at .users) head tables e1 (omega (arith, size1)) e2 in
+    let two : length (head ++ tables) ≡ length head + length tables = length-append head tables in
     let q3 : l3 ≡ sets l 0 (bytesOf ((head ++ tables) ++ sessions)) =
-    puts-then l l2 l3 0 (h .at .sessions) (head ++ tables) sessions q2 (omega (arith, d, two, size2)) e3 in
+    puts-then l l2 l3 0 (h .at .sessions) (head ++ tables) sessions q2 (omega (arith, two, size1, size2)) e3 in
     let three : length ((head ++ tables) ++ sessions) ≡ length (head ++ tables) + length sessions = length-append (head ++ tables) sessions in
-    puts-then l l3 l4 0 (h .at .nodes) ((head ++ tables) ++ sessions) nodes q3 (omega (arith, d, two, three, size2, size3)) e4
+    puts-then l l3 l4 0 (h .at .nodes) ((head ++ tables) ++ sessions) nodes q3 (omega (arith, d, two, three, size1, size2, size3)) e4
     ∙ ap (λ (ws : List ℕ). sets l 0 (bytesOf ws)) (append-assoc (head ++ tables) sessions nodes ∙ append-assoc head tables (sessions ++ nodes))
-    ∙ ap (λ (x : Head). sets l 0 (bytesOf (headWords x ++ (tables ++ (sessions ++ nodes))))) (head-placed f h ts starts d v e)
+    ∙ ap (λ (x : Head). sets l 0 (bytesOf (headWords x ++ (tables ++ (sessions ++ nodes))))) (head-placed f h ts starts d e)

@@ -90,6 +90,7 @@ abbrev pub placedContents : Contents → List Turn → List ℕ → Contents
 placedContents C ts starts = record {
   users = C .users;
   roles = C .roles;
+  juniors = C .juniors;
   kinds = C .kinds;
   channels = C .channels;
   sessions = sessionsFrom starts (C .sessions);

@@ -18,7 +18,7 @@ ghost use Prim.Native.Nat.{_+_, _*_, _-_, _≤_, _<_};
 ghost use lib.ListN.{length, getD};
 ghost use lib.Seq.{sets};
 ghost use Rattle.format.specs.Words.{bytesOf};
-ghost use Rattle.format.specs.Header.{Laid, roomFor};
+ghost use Rattle.format.specs.Header.{Laid, lengthFor};
 ghost use Rattle.format.specs.Sections.{placeOf};
 ghost use Rattle.format.specs.Contents.{contentsAt};
 ghost use Rattle.format.specs.Writing.{sessionWords, nodeWords, encoded};
@@ -191,9 +191,9 @@ fn with_nodes(head: Head, nodes: u16) -> Head
 
 // The placed file. Every other byte stays.
 pub fn put_file(file: &[u8], head: Head, turns: &[u16], starts: &[u16], nodes: u16, out: &mut [u8])
-    requires { ⌜ Laid (now file) head × (head .version ≡ 1) × (length (now turns) ≡ 1025) × (length (now starts) ≡ 1025)
-        × (nodes ≡ sizesOf (turnsIn (now turns) (head .count .nodes))) × (nodes ≤ 1024) × (roomFor (now file) ≤ length (now out)) ⌝ }
-    ensures { λ r. ⌜ now (out .exit) ≡ sets (now (out .entry)) 0 (encoded (placedContents (contentsAt (now (file .entry)) head) (turnsIn (now (turns .entry)) (head .count .nodes)) (now (starts .entry)))) ⌝ }
+    requires { ⌜ Laid (now file) head × (length (now turns) ≡ 1025) × (length (now starts) ≡ 1025)
+        × (nodes ≡ sizesOf (turnsIn (now turns) (head .count .nodes))) × (nodes ≤ 1024) × (lengthFor (head .at .nodes) nodes ≤ length (now out)) × (28 ≤ length (now out)) ⌝ }
+    ensures { λ r. ⌜ now (out .exit) ≡ sets (now (out .entry)) 0 (encoded (head .version) (placedContents (contentsAt (now (file .entry)) head) (turnsIn (now (turns .entry)) (head .count .nodes)) (now (starts .entry)))) ⌝ }
 {
     put_head(out, with_nodes(head, nodes));
     put_tables(file, head, out);

@@ -7,6 +7,7 @@ pub mod storing;
 
 use checking::enter_scoped;
 use format::Head;
+use format::Seven;
 use format::Six;
 use format::Verdict;
 use format::sections::in_count;
@@ -99,6 +100,18 @@ fn no_six() -> Six {
     }
 }
 
+fn no_seven() -> Seven {
+    Seven {
+        users: 0,
+        roles: 0,
+        juniors: 0,
+        kinds: 0,
+        channels: 0,
+        sessions: 0,
+        nodes: 0,
+    }
+}
+
 // The head, where there is one.
 pub fn head_of(it: Opened) -> Head
     ensures { λ r. ⌜ ((h : Head) → it ≡ opened.Fine h → r ≡ h) ⌝ }
@@ -107,7 +120,7 @@ pub fn head_of(it: Opened) -> Head
         Opened::Refused(_) => Head {
             version: 0,
             count: no_six(),
-            at: no_six(),
+            at: no_seven(),
         },
         Opened::Fine(head) => head,
     }

@@ -1,7 +1,7 @@
 -- What may be lent, as a test and in words; and which answer comes where.
 use Prim.Native.Nat.{ℕ, zero, suc, _+_, _-_, _≤_, _<_}
 use mathlib.Core.Path.{_≡_, refl, sym, ap, _∙_, subst}
-use mathlib.Core.Logic.{_↔_}
+use mathlib.Core.Logic.{_↔_, _≢_, inl, inr}
 use mathlib.Core.Bool.{Bool, true, false, cond, _&&_, and-eq-true-iff, or-true, false≢true}
 use mathlib.Core.List.{List, [], _∷_}
 use native.Mathlib.Omega.{arith}
@@ -22,6 +22,8 @@ use Rattle.rules.specs.Checking.{openings}
 use Rattle.rules.proofs.NameLaws.{between}
 use Rattle.checking.specs.Check.{readingNames}
 use Rattle.reading_exact.specs.Lists.{All}
+use Rattle.reading_exact.specs.Order.{OfFile}
+use Rattle.reading_exact.proofs.Turns.{not-of-file, some-of-file}
 use Rattle.reading_exact.specs.File.{InCount}
 use Rattle.reading_exact.specs.Refusals.{nth}
 use Rattle.reading_exact.proofs.AllLaws.{all-map, all-both}
@@ -30,7 +32,7 @@ use Rattle.steps.specs.declared.Thread.{Thread}
 use Rattle.steps.specs.declared.Made.{Made}
 use Rattle.steps.specs.Choice.{clinicOf, kindHeld, State, halts, goes, choice}
 use Rattle.reading_exact.proofs.FirstLaws.{number-of}
-use Rattle.placing_exact.proofs.AnswerStages.{Among, none, some, names-among}
+use Rattle.placing_exact.proofs.AnswerStages.{Named, names-fine, names-wrong, names-of}
 use Rattle.running_exact.specs.Keeps.{HasValue, a-user, a-channel, a-made, Held, Fits, Reaches, Formed}
 use Rattle.running_exact.proofs.HeldValues.{Apart, kind-held}
 use Rattle.running_exact.proofs.FileNodes.{apart}
@@ -208,33 +210,33 @@ eighteen-zero f l eights b i p = (to (of-choice f l b i p), from (of-choice f l 
     unlent clean h = judged-lendable f clean l b eights (lending-fine f l b .0 h .1)
 
     to : OfChoice f l b i p → choosing f l b i p ≡ refused 18 0 → (readingNames f ≡ fine) × (Lendable (contentsOf f) l b → ⊥)
-    to (unread n q low high e h S) z = absurd (omega (arith, high, number-of (sym (S .answer) ∙ z)))
+    to (unread n q o e h S) z = absurd (not-of-file n 18 o (omega arith) (omega arith) (number-of (sym (S .answer) ∙ z)))
     to (unfit e h k S) z = (e, λ L. false≢true (sym h ∙ lendable-judged f e l b L))
     to (halted n over e h S) z = absurd (omega (arith, place-of (sym (S .answer) ∙ z)))
     to (carried s e h S) z = absurd (omega (arith, number-of (sym (S .answer) ∙ z)))
 
     from : OfChoice f l b i p → (readingNames f ≡ fine) × (Lendable (contentsOf f) l b → ⊥) → choosing f l b i p ≡ refused 18 0
-    from (unread n q low high e h S) (clean, never) = absurd (omega (arith, low, number-of (sym e ∙ clean)))
+    from (unread n q o e h S) (clean, never) = absurd (omega (arith, some-of-file n o, number-of (sym e ∙ clean)))
     from (unfit e h k S) (clean, never) = S .answer
     from (halted n over e h S) (clean, never) = absurd (never (unlent clean e))
     from (carried s e h S) (clean, never) = absurd (never (unlent clean e))
 
 -- 1 to 10 come first, and are the file's.
-pub ten-first : (f : List ℕ) (l : List Thread) (b : List ℕ) (i p n q : ℕ) → 1 ≤ n → n ≤ 10
+pub ten-first : (f : List ℕ) (l : List Thread) (b : List ℕ) (i p n q : ℕ) → OfFile n
     → (choosing f l b i p ≡ refused n q) ↔ (readingNames f ≡ refused n q)
-ten-first f l b i p n q low high = (to (of-choice f l b i p), from (of-choice f l b i p))
+ten-first f l b i p n q o = (to (of-choice f l b i p), from (of-choice f l b i p))
   where
     to : OfChoice f l b i p → choosing f l b i p ≡ refused n q → readingNames f ≡ refused n q
-    to (unread m r least most e h S) z = e ∙ sym (S .answer) ∙ z
-    to (unfit e h k S) z = absurd (omega (arith, high, number-of (sym (S .answer) ∙ z)))
-    to (halted m over e h S) z = absurd (omega (arith, high, over, number-of (sym (S .answer) ∙ z)))
-    to (carried s e h S) z = absurd (omega (arith, low, number-of (sym (S .answer) ∙ z)))
+    to (unread m r of e h S) z = e ∙ sym (S .answer) ∙ z
+    to (unfit e h k S) z = absurd (not-of-file n 18 o (omega arith) (omega arith) (sym (number-of (sym (S .answer) ∙ z))))
+    to (halted m over e h S) z = absurd (not-of-file n m o (over .0) (over .1) (sym (number-of (sym (S .answer) ∙ z))))
+    to (carried s e h S) z = absurd (omega (arith, some-of-file n o, number-of (sym (S .answer) ∙ z)))
 
     from : OfChoice f l b i p → readingNames f ≡ refused n q → choosing f l b i p ≡ refused n q
-    from (unread m r least most e h S) z = S .answer ∙ sym e ∙ z
-    from (unfit e h k S) z = absurd (omega (arith, low, number-of (sym e ∙ z)))
-    from (halted m over e h S) z = absurd (omega (arith, low, number-of (sym (lending-fine f l b .0 e .0) ∙ z)))
-    from (carried s e h S) z = absurd (omega (arith, low, number-of (sym (lending-fine f l b .0 e .0) ∙ z)))
+    from (unread m r of e h S) z = S .answer ∙ sym e ∙ z
+    from (unfit e h k S) z = absurd (omega (arith, some-of-file n o, number-of (sym e ∙ z)))
+    from (halted m over e h S) z = absurd (omega (arith, some-of-file n o, number-of (sym (lending-fine f l b .0 e .0) ∙ z)))
+    from (carried s e h S) z = absurd (omega (arith, some-of-file n o, number-of (sym (lending-fine f l b .0 e .0) ∙ z)))
 
 module _ (f : List ℕ) (l : List Thread) (b : List ℕ) (i p : ℕ) where
   -- where the file is not refused so, a refusal at place 1 is the choice's
@@ -244,7 +246,7 @@ module _ (f : List ℕ) (l : List Thread) (b : List ℕ) (i p : ℕ) where
   of-choice-alone n never = (to (of-choice f l b i p), λ (e, h). rw (e, h))
     where
       to : OfChoice f l b i p → choosing f l b i p ≡ refused n 1 → (lending f l b ≡ fine) × (chosenIn f l b i p ≡ halts n)
-      to (unread m q low high e h S) z = absurd (never (e ∙ sym (S .answer) ∙ z))
+      to (unread m q o e h S) z = absurd (never (e ∙ sym (S .answer) ∙ z))
       to (unfit e h k S) z = absurd (omega (arith, place-of (sym (S .answer) ∙ z)))
       to (halted m over e h S) z = (e, h ∙ ap halts (number-of (sym (S .answer) ∙ z)))
       to (carried s e h S) z = absurd (omega (arith, place-of (sym (S .answer) ∙ z)))
@@ -255,14 +257,15 @@ module _ (f : List ℕ) (l : List Thread) (b : List ℕ) (i p : ℕ) where
       let alone = of-choice-alone n (λ z. omega (arith, place-of (sym (lending-fine f l b .0 e .0) ∙ z))) in
       (λ z. alone .0 z .1, λ h. alone .1 (e, h))
 
-  -- With a number over 10, nothing else is refused at place 1.
-  pub past-ten-one : (n : ℕ) → 10 < n
+  -- With a number of 11 to 20, nothing else is refused at place 1.
+  pub past-ten-one : (n : ℕ) → 10 < n → n ≢ 21
       → (choosing f l b i p ≡ refused n 1) ↔ ((lending f l b ≡ fine) × (choice (clinicOf (contentsOf f)) (stateOf l b) i p ≡ halts n))
-  past-ten-one n over = of-choice-alone n (never (names-among f))
+  past-ten-one n over other = of-choice-alone n (never (names-of f))
     where
-      never : Among 1 10 (readingNames f) → readingNames f ≡ refused n 1 → ⊥
-      never (none e) z = omega (arith, over, number-of (sym e ∙ z))
-      never (some low high) z = omega (arith, over, high, number-of z)
+      never : Named (readingNames f) → readingNames f ≡ refused n 1 → ⊥
+      never (names-fine e) z = omega (arith, over, number-of (sym e ∙ z))
+      never (names-wrong (inl (low, high))) z = omega (arith, over, high, number-of z)
+      never (names-wrong (inr is)) z = other (sym (number-of z) ∙ is)
 
   -- Nothing is refused exactly where the choice is carried out in what may be lent.
   pub choosing-fine : (choosing f l b i p ≡ fine) ↔ ((lending f l b ≡ fine) × ((s : State) × (choice (clinicOf (contentsOf f)) (stateOf l b) i p ≡ goes s)))
@@ -270,7 +273,7 @@ module _ (f : List ℕ) (l : List Thread) (b : List ℕ) (i p : ℕ) where
   choosing-fine = (to (of-choice f l b i p), λ (e, (s, h)). rw (e, h))
     where
       to : OfChoice f l b i p → choosing f l b i p ≡ fine → (lending f l b ≡ fine) × ((s : State) × (chosenIn f l b i p ≡ goes s))
-      to (unread n q low high e h S) z = absurd (omega (arith, low, number-of (sym (S .answer) ∙ z)))
+      to (unread n q o e h S) z = absurd (omega (arith, some-of-file n o, number-of (sym (S .answer) ∙ z)))
       to (unfit e h k S) z = absurd (omega (arith, number-of (sym (S .answer) ∙ z)))
-      to (halted n over e h S) z = absurd (omega (arith, over, number-of (sym (S .answer) ∙ z)))
+      to (halted n over e h S) z = absurd (omega (arith, over .0, number-of (sym (S .answer) ∙ z)))
       to (carried s e h S) z = (e, (s, h))

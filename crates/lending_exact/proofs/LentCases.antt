@@ -14,6 +14,7 @@ use Rattle.tables.specs.Records.{recordFits, sectionAnswer, recordsAnswer}
 use Rattle.trees.specs.Ends.{following}
 use Rattle.trees.specs.Shape.{nodeFits, shapeFrom, roots, shapeAnswer}
 use Rattle.reading.specs.Reading.{reading}
+use Rattle.rules.specs.Juniors.{together, effective}
 use Rattle.rules.specs.Schema.{permits, permittingTo}
 use Rattle.rules.specs.Names.{named, kindOf, mine}
 use Rattle.rules.specs.Rules.{namesFit, kindsFit, able, wrong, childOf}
@@ -104,5 +105,5 @@ lentCases =
     ∷ []
 
 pub lent-cases : All LentShown lentCases
-unfolding has with namesOnly within bytesOf firstOf from2 from3 from4 from5 headOf tabled item contentsAt recordFits sectionAnswer recordsAnswer following nodeFits shapeFrom roots shapeAnswer reading permits permittingTo named kindOf mine namesFit kindsFit able wrong childOf reached openingsFrom firstBy namesAnswer readingNames value firstFree kindHeld meeting sending lone aloneOnly acting done outcome choice madeIn madeWords isValue varsFit threadFits madeFits every mayBeLent lending choosing recordsOver besideOver
+unfolding has with namesOnly within bytesOf firstOf from2 from3 from4 from5 headOf tabled item contentsAt recordFits sectionAnswer recordsAnswer following nodeFits shapeFrom roots shapeAnswer reading together effective permits permittingTo named kindOf mine namesFit kindsFit able wrong childOf reached openingsFrom firstBy namesAnswer readingNames value firstFree kindHeld meeting sending lone aloneOnly acting done outcome choice madeIn madeWords isValue varsFit threadFits madeFits every mayBeLent lending choosing recordsOver besideOver
 lent-cases = ((refl, refl, refl), ((refl, refl, refl), ((refl, refl, refl), ((refl, refl, refl), ((refl, refl, refl), ((refl, refl, refl), ((refl, refl, refl), ((refl, refl, refl), ((refl, refl, refl), ((refl, refl, refl), ((refl, refl, refl), ((refl, refl, refl), ((refl, refl, refl), ((refl, refl, refl), ((refl, refl, refl), ((refl, refl, refl), ((refl, refl, refl), tt)))))))))))))))))

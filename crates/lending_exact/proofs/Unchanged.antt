@@ -42,7 +42,7 @@ module _ (f : List ℕ) (l : List Thread) (b : List ℕ) (i p : ℕ) where
   refused-unchanged loud = go (of-choice f l b i p)
     where
       go : OfChoice f l b i p → (recordsOver f l b i p ≡ l) × (besideOver f l b i p ≡ b)
-      go (unread n q low high e h S) = (S .records, S .beside)
+      go (unread n q o e h S) = (S .records, S .beside)
       go (unfit e h k S) = (S .records, S .beside)
       go (halted n over e h S) = (S .records, S .beside)
       go (carried s e h S) = absurd (loud (number-of (S .answer)))

@@ -1,8 +1,8 @@
 -- Placing, whole, from what is decided.
 use Prim.Native.Nat.{ℕ, _+_, _*_, _≤_, _<_}
-use mathlib.Core.Path.{_≡_, refl, sym, ap, subst, _∙_}
+use mathlib.Core.Path.{_≡_, refl, sym, ap, ap₂, subst, _∙_}
 use mathlib.Core.List.{List}
-use mathlib.Core.Bool.{Bool, true, false, cond}
+use mathlib.Core.Bool.{Bool, true, false, cond, _&&_}
 use native.Mathlib.Omega.{arith}
 use lib.Dec.{eqb, ltb}
 use lib.ListN.{length}
@@ -11,42 +11,92 @@ use borrow.Author.Tests.{eq-eqb, ne-eqb, lt-ltb, le-ltb, ltb-true, ltb-false, eq
 use Rattle.format.specs.Contents.{contentsAt, contentsOf}
 use Rattle.format.specs.Writing.{headFor, encoded}
 use Rattle.format.specs.Answers.{refused, orElse}
-use Rattle.format.specs.Header.{headAt, headOf, lengthFor, Laid}
+use Rattle.format.specs.Header.{more, juniorRecords, headAt, headOf, lengthFor, largest, roomFor, Laid}
+use Rattle.format.specs.Words.{wordAt}
 use Rattle.format.specs.declared.Verdict.{Verdict}
 use Rattle.format.specs.declared.Head.{Head}
 use Rattle.format.specs.declared.HeadAnswer.the-variants.{Refused}
 use Rattle.format.proofs.AnswerLaws.{NoRefusal, quiet-first, loud-first, both-quiet}
-use Rattle.format.proofs.HeadLaws.{head-number}
+use Rattle.format.proofs.HeadLaws.{Headed, head-number}
 use Rattle.format.proofs.ContentsLaws.{users-held, roles-held, kinds-held, channels-held, sessions-held}
 use Rattle.tables.specs.Records.{recordsAnswer}
 use Rattle.trees.specs.Shape.{shapeAnswer}
 use Rattle.reading.specs.Reading.{bodyAnswer, reading}
 use Rattle.reading.specs.declared.Opened.the-variants.{Fine as Opened·Fine, Refused as Opened·Refused}
-use Rattle.reading.proofs.LongLaws.{StandsFor, stands-judged}
+use Rattle.reading.proofs.LongLaws.{StandsFor, stands-room, stands-judged}
 use Rattle.reading.proofs.ReadingLaws.{by-body}
 use Rattle.rules.specs.Candidates.{candidatesIn}
 use Rattle.checking.specs.Check.{readingNames, entered, surveyed}
 use Rattle.checking.proofs.CheckLaws.{names-refused, names-parts, names-headed, entered-fine, entered-refused}
 use Rattle.groups.specs.Groups.{sizesOf, onsOf, startsOf, placedContents}
-use Rattle.placing.specs.Placing.{Labelled, turnsFor, placeable, judging, noPlace, placedIn, placedAnswer, placing, placedBytes, placedOver}
+use Rattle.placing.specs.Placing.{Labelled, turnsFor, placeable, judging, noPlace, placedIn, placedAnswer, measuring, placing, placedBytes, placedOver}
 use Rattle.placing.specs.declared.Placed.{Placed}
 use Rattle.placing.proofs.DecideLaws.{labels-kept, few-nodes}
 
 -- the nodes of a file that is laid out begin where what it holds says
-nodes-begin : (f : List ℕ) (h : Head) → Laid f h → h .at .nodes ≡ headFor (contentsAt f h) .at .nodes
-nodes-begin f h l = omega (arith, l, users-held f h, roles-held f h, kinds-held f h, channels-held f h, sessions-held f h)
+nodes-begin : (f : List ℕ) (h : Head) → Laid f h → h .at .nodes ≡ headFor (h .version) (contentsAt f h) .at .nodes
+nodes-begin f h l =
+    let masks : juniorRecords (h .version) (length (contentsAt f h .roles)) ≡ juniorRecords (h .version) (h .count .roles) = ap (juniorRecords (h .version)) (roles-held f h) in
+    omega (arith, l, users-held f h, roles-held f h, masks, kinds-held f h, channels-held f h, sessions-held f h)
+
+pub room-least : (f : List ℕ) → 6874 ≤ roomFor f
+room-least f = go (ltb 1 (length f) && eqb (wordAt f 0) 2)
+  where
+    go : (b : Bool) → 6874 ≤ cond b 6908 6874
+    go true = omega arith
+    go false = omega arith
+
+pub room-most : (f : List ℕ) → roomFor f ≤ 6908
+room-most f = go (ltb 1 (length f) && eqb (wordAt f 0) 2)
+  where
+    go : (b : Bool) → cond b 6908 6874 ≤ 6908
+    go true = omega arith
+    go false = omega arith
+
+-- by the first word, where there is one
+pub room-by-word : (f : List ℕ) → ((2 ≤ length f) × (wordAt f 0 ≡ 2) → roomFor f ≡ 6908) × (((2 ≤ length f) × (wordAt f 0 ≡ 2) → ⊥) → roomFor f ≡ 6874)
+room-by-word f = (
+  λ (l, e). rw (lt-ltb 1 (length f) l, eq-eqb (wordAt f 0) 2 e),
+  λ other. go (ltb 1 (length f)) (eqb (wordAt f 0) 2) refl refl other,
+)
+  where
+    go : (a b : Bool) → ltb 1 (length f) ≡ a → eqb (wordAt f 0) 2 ≡ b → ((2 ≤ length f) × (wordAt f 0 ≡ 2) → ⊥) → _≡_ {A = ℕ} (cond (a && b) 6908 6874) 6874
+    go true true h e other = absurd (other (ltb-true 1 (length f) h, eqb-true (wordAt f 0) 2 e))
+    go true false h e other = refl
+    go false b h e other = refl
+
+-- the output that a file's version wants has room for every file of that version with its tables
+pub room-enough : (f : List ℕ) (n : ℕ) → Headed f → n ≤ 1024 → lengthFor (headAt f .at .nodes) n ≤ roomFor f
+room-enough f n d few = go (eqb (wordAt f 0) 2) refl
+  where
+    l : Laid f (headAt f)
+    l = d .laid
+
+    go : (b : Bool) → eqb (wordAt f 0) 2 ≡ b → lengthFor (headAt f .at .nodes) n ≤ roomFor f
+    go true e =
+        let long : ltb 1 (length f) ≡ true = lt-ltb 1 (length f) (omega (arith, l)) in
+        let room : roomFor f ≡ 6908 = rw (long, e) in
+        omega (arith, room, few, l)
+    go false e =
+        let none : juniorRecords (wordAt f 0) (wordAt f 2) ≡ 0 = rw e in
+        let first : more (wordAt f 0) ≡ 0 = rw e in
+        omega (arith, room-least f, none, first, few, l)
 
 module _ (f : List ℕ) where
-  pub too-small : (room : ℕ) → room < 6874 → placing f room ≡ noPlace 17 0
+  pub too-small : (room : ℕ) → room < roomFor f → placing f room ≡ noPlace 17 0
   unfolding placing
-  too-small room h = rw (lt-ltb room 6874 h)
+  too-small room h = rw (lt-ltb room (roomFor f) h)
 
-  answers : (room : ℕ) → 6874 ≤ room → placing f room ≡ placedAnswer (contentsOf f) (judging f)
+  pub answers : (room : ℕ) → roomFor f ≤ room → placing f room ≡ measuring f
   unfolding placing
-  answers room h = rw (le-ltb room 6874 h)
+  answers room h = rw (le-ltb room (roomFor f) h)
 
-  pub placing-refused : (room : ℕ) (v : Verdict) → 6874 ≤ room → judging f ≡ v → (NoRefusal v → ⊥) → placing f room ≡ noPlace (v .number) (v .place)
-  placing-refused room v h e l = answers room h ∙ ap (placedAnswer (contentsOf f)) e ∙ rw (ne-eqb (v .number) 0 l)
+  pub measuring-refused : (v : Verdict) → judging f ≡ v → (NoRefusal v → ⊥) → measuring f ≡ noPlace (v .number) (v .place)
+  unfolding measuring
+  measuring-refused v e l = ap (placedAnswer (wordAt f 0) (contentsOf f)) e ∙ rw (ne-eqb (v .number) 0 l)
+
+  pub placing-refused : (room : ℕ) (v : Verdict) → roomFor f ≤ room → judging f ≡ v → (NoRefusal v → ⊥) → placing f room ≡ noPlace (v .number) (v .place)
+  placing-refused room v h e l = answers room h ∙ measuring-refused v e l
 
   -- where anything is refused the output stays
   pub over-kept : (out : List ℕ) (n p : ℕ) → (n ≡ 0 → ⊥) → placing f (length out) ≡ noPlace n p → placedOver f out ≡ out
@@ -54,12 +104,12 @@ module _ (f : List ℕ) where
   over-kept out n p l e = rw (e, ne-eqb n 0 l)
 
   -- a file without a head
-  pub head-refused : (room n : ℕ) → 6874 ≤ room → headOf f ≡ Refused n → placing f room ≡ noPlace n 0
+  pub head-refused : (n : ℕ) → headOf f ≡ Refused n → measuring f ≡ noPlace n 0
   unfolding judging
-  head-refused room n h e =
+  head-refused n e =
       let loud : NoRefusal (refused n 0) → ⊥ = λ z. let no-way : ⊥ = omega (arith, head-number f n e, z) in no-way in
       let names : readingNames f ≡ refused n 0 = names-refused f n e in
-      placing-refused room (refused n 0) h (ap (λ v. orElse v (placeable (contentsOf f))) names ∙ loud-first (refused n 0) (placeable (contentsOf f)) loud) loud
+      measuring-refused (refused n 0) (ap (λ v. orElse v (placeable (contentsOf f))) names ∙ loud-first (refused n 0) (placeable (contentsOf f)) loud) loud
 
   -- a file that 1 to 10 refuse
   pub names-loud : (w : Verdict) → entered f ≡ Opened·Refused w → (judging f ≡ w) × (NoRefusal w → ⊥)
@@ -68,10 +118,11 @@ module _ (f : List ℕ) where
       let (l, same) = entered-refused f w e in (loud-first (readingNames f) (placeable (contentsOf f)) l ∙ sym same, λ q. l (subst NoRefusal same q))
 
   -- where nothing is refused
-  pub placing-placed : (room : ℕ) → 6874 ≤ room → NoRefusal (judging f) → placing f room ≡ placedIn (contentsOf f)
+  pub placing-placed : (room : ℕ) → roomFor f ≤ room → NoRefusal (judging f) → placing f room ≡ placedIn (wordAt f 0) (contentsOf f)
+  unfolding measuring
   placing-placed room r q = answers room r ∙ rw (eq-eqb (judging f .number) 0 q)
 
-  pub over-placed : (out : List ℕ) → 6874 ≤ length out → NoRefusal (judging f) → placedOver f out ≡ sets out 0 (placedBytes f)
+  pub over-placed : (out : List ℕ) → roomFor f ≤ length out → NoRefusal (judging f) → placedOver f out ≡ sets out 0 (placedBytes f)
   unfolding placedOver
   over-placed out r q = ap (λ a. cond (eqb (a .number) 0) (sets out 0 (placedBytes f)) out) (placing-placed (length out) r q)
 
@@ -83,8 +134,8 @@ module _ (f : List ℕ) where
     names-quiet : NoRefusal (readingNames f)
     names-quiet = ap (λ (v : Verdict). v .number) (entered-fine f h e .2)
 
-    pub head-version : h .version ≡ 1
-    head-version = ap (λ (k : Head). k .version) same ∙ names-headed f names-quiet .version
+    pub enough-room : (n : ℕ) → n ≤ 1024 → lengthFor (h .at .nodes) n ≤ roomFor f
+    enough-room n few = subst (λ (k : Head). lengthFor (k .at .nodes) n ≤ roomFor f) (sym same) (room-enough f n (names-headed f names-quiet) few)
 
     pub judged : judging f ≡ placeable (contentsAt f h)
     unfolding judging
@@ -95,15 +146,15 @@ module _ (f : List ℕ) where
       place = 0;
       length = lengthFor (h .at .nodes) (sizesOf (turnsFor (contentsAt f h)));
       «on_steps» = onsOf (turnsFor (contentsAt f h));
-    }) (placedIn (contentsOf f))
+    }) (placedIn (wordAt f 0) (contentsOf f))
     placed-here =
         ap (λ (n : ℕ). record { number = 0; place = 0; length = lengthFor n (sizesOf (turnsFor (contentsAt f h))); «on_steps» = onsOf (turnsFor (contentsAt f h)) })
         (nodes-begin f h (entered-fine f h e .0))
-        ∙ ap (λ (k : Head). placedIn (contentsAt f k)) same
+        ∙ ap (λ (k : Head). placedIn (k .version) (contentsAt f k)) same
 
-    pub bytes-here : encoded (placedContents (contentsAt f h) (turnsFor (contentsAt f h)) (startsOf (turnsFor (contentsAt f h)))) ≡ placedBytes f
+    pub bytes-here : encoded (h .version) (placedContents (contentsAt f h) (turnsFor (contentsAt f h)) (startsOf (turnsFor (contentsAt f h)))) ≡ placedBytes f
     unfolding placedBytes
-    bytes-here = ap (λ (k : Head). encoded (placedContents (contentsAt f k) (turnsFor (contentsAt f k)) (startsOf (turnsFor (contentsAt f k))))) same
+    bytes-here = ap (λ (k : Head). encoded (k .version) (placedContents (contentsAt f k) (turnsFor (contentsAt f k)) (startsOf (turnsFor (contentsAt f k))))) same
 
     -- the candidates of its nodes
     pub surveyed-labels : (t t′ : List ℕ) → t′ ≡ surveyed f t → length (contentsAt f h .nodes) < length t → Labelled (contentsAt f h) t′ × (length t′ ≡ length t)
@@ -118,49 +169,60 @@ module _ (f : List ℕ) where
         (subst (λ (k : Head). Labelled (contentsAt f k) t′) (sym same) labels, ap length filled ∙ length-sets t 1 (candidatesIn (contentsOf f)))
 
 -- what a caller keeps of a long input is placed as the whole is
+pub stands-measured : (kept input : List ℕ) → StandsFor kept input → measuring kept ≡ measuring input
+stands-measured = stands-judged (λ n. noPlace n 0) measuring head-refused
+
 pub stands-placed : (room : ℕ) (kept input : List ℕ) → StandsFor kept input → placing kept room ≡ placing input room
-stands-placed room = go (ltb room 6874) refl
+unfolding placing
+stands-placed room kept input s = ap₂ (λ r a. cond (ltb room r) (noPlace 17 0) a) (stands-room kept input s) (stands-measured kept input s)
+
+-- the output, where there is room for it
+abbrev over : List ℕ → List ℕ → List ℕ
+over out f = cond (eqb (measuring f .number) 0) (sets out 0 (placedBytes f)) out
+
+over-by-room : (out f : List ℕ) → placedOver f out ≡ cond (ltb (length out) (roomFor f)) out (over out f)
+unfolding placedOver placing
+over-by-room out f = go (ltb (length out) (roomFor f))
   where
-    go : (b : Bool) → ltb room 6874 ≡ b → (kept input : List ℕ) → StandsFor kept input → placing kept room ≡ placing input room
-    go true e kept input s = let small = ltb-true room 6874 e in too-small kept room small ∙ sym (too-small input room small)
-    go false e kept input s = stands-judged (λ n. noPlace n 0) (λ f. placing f room) (λ f n. head-refused f room n (ltb-false room 6874 e)) kept input s
+    go : (b : Bool) → cond (eqb (cond b (noPlace 17 0) (measuring f) .number) 0) (sets out 0 (placedBytes f)) out ≡ cond b out (over out f)
+    go true = refl
+    go false = refl
 
 pub stands-over : (out kept input : List ℕ) → StandsFor kept input → placedOver kept out ≡ placedOver input out
-stands-over out = go (ltb (length out) 6874) refl
+stands-over out kept input s =
+    over-by-room out kept
+    ∙ ap₂ (λ r o. cond (ltb (length out) r) out o) (stands-room kept input s) (stands-judged (λ n. out) (over out) refused-over kept input s)
+    ∙ sym (over-by-room out input)
   where
-    go : (b : Bool) → ltb (length out) 6874 ≡ b → (kept input : List ℕ) → StandsFor kept input → placedOver kept out ≡ placedOver input out
-    go true e kept input s = stays kept ∙ sym (stays input)
-      where
-        stays : (f : List ℕ) → placedOver f out ≡ out
-        stays f = over-kept f out 17 0 (λ z. let no-way : ⊥ = omega (arith, z) in no-way) (too-small f (length out) (ltb-true (length out) 6874 e))
-    go false e kept input s =
-        stands-judged (λ n. out) (λ f. placedOver f out)
-        (λ f n h. over-kept f out n 0 (λ z. let no-way : ⊥ = omega (arith, head-number f n h, z) in no-way) (head-refused f (length out) n (ltb-false (length out) 6874 e) h))
-        kept input s
+    refused-over : (f : List ℕ) (n : ℕ) → headOf f ≡ Refused n → over out f ≡ out
+    refused-over f n h = rw (head-refused f n h, ne-eqb n 0 (λ z. let no-way : ⊥ = omega (arith, head-number f n h, z) in no-way))
 
--- no answer is longer than the largest file
-pub length-most : (f : List ℕ) (room : ℕ) → placing f room .length ≤ 6874
+-- no answer is longer than the largest file, nor than the room that was asked for it
+pub length-within : (f : List ℕ) (room : ℕ) → placing f room .length ≤ roomFor f
 unfolding judging
-length-most f room = go (ltb room 6874) refl (eqb (judging f .number) 0) refl
+length-within f room = go (ltb room (roomFor f)) refl (eqb (judging f .number) 0) refl
   where
-    none : (n p : ℕ) → placing f room ≡ noPlace n p → placing f room .length ≤ 6874
+    none : (n p : ℕ) → placing f room ≡ noPlace n p → placing f room .length ≤ roomFor f
     none n p e = let zero-long : placing f room .length ≡ 0 = ap (λ (a : Placed). a .length) e in omega (arith, zero-long)
 
-    go : (b : Bool) → ltb room 6874 ≡ b → (q : Bool) → eqb (judging f .number) 0 ≡ q → placing f room .length ≤ 6874
-    go true r q j = none 17 0 (too-small f room (ltb-true room 6874 r))
+    go : (b : Bool) → ltb room (roomFor f) ≡ b → (q : Bool) → eqb (judging f .number) 0 ≡ q → placing f room .length ≤ roomFor f
+    go true r q j = none 17 0 (too-small f room (ltb-true room (roomFor f) r))
     go false r false j =
-        none (judging f .number) (judging f .place) (placing-refused f room (judging f) (ltb-false room 6874 r) refl (eqb-false (judging f .number) 0 j))
+        none (judging f .number) (judging f .place) (placing-refused f room (judging f) (ltb-false room (roomFor f) r) refl (eqb-false (judging f .number) 0 j))
     go false r true j =
         let quiet : NoRefusal (judging f) = eqb-true (judging f .number) 0 j in
         let (names, rest) = both-quiet NoRefusal (readingNames f) (placeable (contentsOf f)) (λ z. z) .0 quiet in
-        let laid = names-headed f names .laid in
-        let size : placing f room .length ≡ 2 * (headFor (contentsOf f) .at .nodes + 3 * sizesOf (turnsFor (contentsOf f))) =
-        ap (λ (a : Placed). a .length) (placing-placed f room (ltb-false room 6874 r) quiet) in
-        omega (arith, size, few-nodes (contentsOf f) rest, laid, nodes-begin f (headAt f) laid)
+        let headed : Headed f = names-headed f names in
+        let size : placing f room .length ≡ 2 * (headFor (wordAt f 0) (contentsOf f) .at .nodes + 3 * sizesOf (turnsFor (contentsOf f))) =
+        ap (λ (a : Placed). a .length) (placing-placed f room (ltb-false room (roomFor f) r) quiet) in
+        omega (arith, size, nodes-begin f (headAt f) (headed .laid), room-enough f (sizesOf (turnsFor (contentsOf f))) headed (few-nodes (contentsOf f) rest))
+
+pub length-most : (f : List ℕ) (room : ℕ) → placing f room .length ≤ largest
+length-most f room = omega (arith, length-within f room, room-most f)
 
 -- what a caller has in hand: an answer no longer than that, and an output as long as it was
-pub answer-short : (f : List ℕ) (room : ℕ) (a : Placed) → a ≡ placing f room → a .length ≤ 6874
-answer-short f room a e = subst (λ (b : Placed). b .length ≤ 6874) (sym e) (length-most f room)
+pub answer-short : (f : List ℕ) (room : ℕ) (a : Placed) → a ≡ placing f room → a .length ≤ largest
+answer-short f room a e = subst (λ (b : Placed). b .length ≤ largest) (sym e) (length-most f room)
 
 pub output-long : (f out o : List ℕ) → o ≡ placedOver f out → length o ≡ length out
 unfolding placedOver

@@ -7,7 +7,7 @@ use lib.Dec.{eqb, leb, ltb}
 use lib.ListN.{length, drop}
 use lib.Seq.{sets}
 use Rattle.format.specs.Answers.{fine, refused, orElse, firstOf}
-use Rattle.format.specs.Header.{lengthFor, roomFor}
+use Rattle.format.specs.Header.{versionAt, lengthFor, roomFor}
 use Rattle.format.specs.Contents.{Contents, item, noSession, noNode, contentsOf}
 use Rattle.format.specs.Writing.{headFor, encoded}
 use Rattle.format.specs.declared.Verdict.{Verdict}
@@ -83,24 +83,28 @@ abbrev pub noPlace : ℕ → ℕ → Placed
 noPlace n p = record { number = n; place = p; length = 0; «on_steps» = 0 }
 
 -- where nothing is refused: the length of the placed file in bytes, and the number of on steps
-abbrev pub placedIn : Contents → Placed
-placedIn C = record {
+abbrev pub placedIn : ℕ → Contents → Placed
+placedIn version C = record {
   number = 0;
   place = 0;
-  length = lengthFor (headFor C .at .nodes) (sizesOf (turnsFor C));
+  length = lengthFor (headFor version C .at .nodes) (sizesOf (turnsFor C));
   «on_steps» = onsOf (turnsFor C);
 }
 
-abbrev pub placedAnswer : Contents → Verdict → Placed
-placedAnswer C v = cond (eqb (v .number) 0) (placedIn C) (noPlace (v .number) (v .place))
+abbrev pub placedAnswer : ℕ → Contents → Verdict → Placed
+placedAnswer version C v = cond (eqb (v .number) 0) (placedIn version C) (noPlace (v .number) (v .place))
 
--- 17 first of all: output under 6,874 bytes
+-- what a file comes to in an output long enough
+unfoldable pub measuring : List ℕ → Placed
+measuring f = placedAnswer (versionAt f) (contentsOf f) (judging f)
+
+-- 17 first of all: output under 6,874 bytes, or under 6,908 where the file's first word is 2
 unfoldable pub placing : List ℕ → ℕ → Placed
-placing f room = cond (ltb room (roomFor f)) (noPlace 17 0) (placedAnswer (contentsOf f) (judging f))
+placing f room = cond (ltb room (roomFor f)) (noPlace 17 0) (measuring f)
 
--- the bytes of the placed file
+-- the bytes of the placed file, which keeps its version
 unfoldable pub placedBytes : List ℕ → List ℕ
-placedBytes f = encoded (placedContents (contentsOf f) (turnsFor (contentsOf f)) (startsOf (turnsFor (contentsOf f))))
+placedBytes f = encoded (versionAt f) (placedContents (contentsOf f) (turnsFor (contentsOf f)) (startsOf (turnsFor (contentsOf f))))
 
 -- the output: the placed file, and past it what was there; where anything is refused, all of what was there
 unfoldable pub placedOver : List ℕ → List ℕ → List ℕ

@@ -48,7 +48,7 @@ fn no_place(number: u16, place: u16) -> Placed
     }
 }
 
-// The same for a file that 1 to 10 leave clean, with each node's candidates at its number, into an output with room for the largest file.
+// The same for a file that 1 to 10 leave clean, with each node's candidates at its number, into an output with room for the largest file of its version.
 fn place_body(file: &[u8], head: Head, roles: &[u16], out: &mut [u8]) -> Placed
     requires { ⌜ (entered (now file) ≡ Fine head) × Labelled (contentsAt (now file) head) (now roles) × (length (now roles) ≡ 1025) × (roomFor (now file) ≤ length (now out)) ⌝ }
     ensures { λ r. ⌜ (r ≡ placing (now (file .entry)) (length (now (out .entry)))) × (now (out .exit) ≡ placedOver (now (file .entry)) (now (out .entry))) ⌝ }

@@ -1,7 +1,7 @@
 -- Placing's answer by stages: 17, then 1 to 10, then 14 (masks before nodes), 15, 16.
-use Prim.Native.Nat.{ℕ, suc, _≤_, _<_}
-use mathlib.Core.Path.{_≡_, refl, sym, ap, ap₂, _∙_}
-use mathlib.Core.Logic.{_↔_, _⊎_, inl, inr}
+use Prim.Native.Nat.{ℕ, suc, _*_, _≤_, _<_}
+use mathlib.Core.Path.{_≡_, refl, sym, ap, ap₂, _∙_, subst}
+use mathlib.Core.Logic.{_↔_, _⊎_, inl, inr, _≢_}
 use mathlib.Core.Bool.{Bool, true, false, cond, _&&_}
 use mathlib.Core.List.{List, [], _∷_}
 use native.Mathlib.Omega.{arith}
@@ -9,6 +9,7 @@ use lib.Dec.{eqb, leb, ltb}
 use lib.ListN.{length}
 use borrow.Author.Tests.{eqb-true, eqb-false, eq-eqb, ne-eqb, leb-true, leb-false, ltb-true, ltb-false, lt-ltb, le-ltb}
 use Rattle.format.specs.Contents.{Contents, contentsOf}
+use Rattle.format.specs.Words.{wordAt}
 use Rattle.format.specs.Answers.{fine, refused, orElse}
 use Rattle.format.specs.Header.{roomFor}
 use Rattle.format.specs.declared.Verdict.{Verdict}
@@ -17,48 +18,50 @@ use Rattle.checking.specs.Check.{readingNames}
 use Rattle.states.specs.States.{Label, needs}
 use Rattle.groups.specs.Groups.{sizesOf}
 use Rattle.placing.specs.declared.Placed.{Placed}
-use Rattle.placing.specs.Placing.{labelsIn, turnsFor, masksAnswer, switchesAnswer, unservedFrom, sizeAnswer, settling, placeable, judging, noPlace, placedIn, placing}
-use Rattle.reading_exact.specs.Order.{Order, First}
+use Rattle.placing.specs.Placing.{labelsIn, turnsFor, masksAnswer, switchesAnswer, unservedFrom, sizeAnswer, settling, placeable, judging, noPlace, placedIn, measuring, placing}
+use Rattle.reading_exact.specs.Order.{Order, inTurn, OfFile, First}
 use Rattle.reading_exact.specs.Refusals.{readingOrder}
 use Rattle.reading_exact.proofs.FirstLaws.{number-of, both-zero, both-fine, Unfit}
-use Rattle.checking_exact.specs.Faults.{checkOrder}
-use Rattle.checking_exact.proofs.CheckFirst.{objection-number, names-first}
+use Rattle.reading_exact.proofs.Turns.{of-file-turn, not-of-file}
+use Rattle.checking_exact.specs.Faults.{Objection, checkOrder}
+use Rattle.checking_exact.proofs.CheckFirst.{names-first}
 use Rattle.placing_exact.specs.Promised.{Clean, Unrefused}
 use Rattle.placing_exact.proofs.RefusedPlaces.{bareMask, lowTag, masks-first, switches-first, masks-none, switches-none}
 
--- an answer that is fine, or refuses with one of the numbers lo to hi
+-- an answer that is fine, or refuses with a number whose turn is one of lo to hi
 pub data Among (lo hi : ℕ) (v : Verdict) : Type 0 where
   none : v ≡ fine → Among lo hi v
-  some : lo ≤ v .number → v .number ≤ hi → Among lo hi v
+  some : lo ≤ inTurn (v .number) → inTurn (v .number) ≤ hi → Among lo hi v
 
--- such is the first of refusals with those numbers
-pub first-among : (o : Order) (R : ℕ → ℕ → Type 0) (lo hi : ℕ) (v : Verdict) → ((n p : ℕ) → R n p → (lo ≤ n) × (n ≤ hi)) → First o R v → Among lo hi v
+-- such is the first of refusals with those turns
+pub first-among : (o : Order) (R : ℕ → ℕ → Type 0) (lo hi : ℕ) (v : Verdict) → ((n p : ℕ) → R n p → (lo ≤ inTurn n) × (inTurn n ≤ hi)) → First o R v → Among lo hi v
 first-among o R lo hi v within (inl (e, _)) = none e
-first-among o R lo hi v within (inr (n, p, e, (r, _))) = some (omega (arith, number-of e, within n p r)) (omega (arith, number-of e, within n p r))
+first-among o R lo hi v within (inr (n, p, e, (r, _))) =
+    let z : inTurn (v .number) ≡ inTurn n = ap inTurn (number-of e) in some (omega (arith, z, within n p r)) (omega (arith, z, within n p r))
 
 pub among-fine : (lo hi : ℕ) (v : Verdict) → 1 ≤ lo → Among lo hi v → v .number ≡ 0 → v ≡ fine
 among-fine lo hi v l (none e) q = e
-among-fine lo hi v l (some a b) q = absurd (omega (arith, a, l, q))
+among-fine lo hi v l (some a b) q = let z : inTurn (v .number) ≡ 0 = ap inTurn q in absurd (omega (arith, a, l, z))
 
 -- a number past those is not refused with, nor one before
-past-number : (lo hi : ℕ) (v : Verdict) (n p : ℕ) → hi < n → Among lo hi v → v ≡ refused n p → ⊥
-past-number lo hi v n p l (none e) h = omega (arith, number-of (sym e ∙ h))
-past-number lo hi v n p l (some a b) h = omega (arith, number-of h, b)
+past-number : (lo hi : ℕ) (v : Verdict) (n p : ℕ) → hi < inTurn n → Among lo hi v → v ≡ refused n p → ⊥
+past-number lo hi v n p l (none e) h = let z : 0 ≡ inTurn n = ap inTurn (number-of (sym e ∙ h)) in omega (arith, l, z)
+past-number lo hi v n p l (some a b) h = let z : inTurn (v .number) ≡ inTurn n = ap inTurn (number-of h) in omega (arith, l, z, b)
 
-lower-number : (lo hi : ℕ) (v : Verdict) (n p : ℕ) → 1 ≤ n → n < lo → Among lo hi v → v ≡ refused n p → ⊥
-lower-number lo hi v n p k l (none e) h = omega (arith, number-of (sym e ∙ h))
-lower-number lo hi v n p k l (some a b) h = omega (arith, number-of h, a)
+lower-number : (lo hi : ℕ) (v : Verdict) (n p : ℕ) → 1 ≤ n → inTurn n < lo → Among lo hi v → v ≡ refused n p → ⊥
+lower-number lo hi v n p k l (none e) h = omega (arith, k, number-of (sym e ∙ h))
+lower-number lo hi v n p k l (some a b) h = let z : inTurn (v .number) ≡ inTurn n = ap inTurn (number-of h) in omega (arith, l, z, a)
 
--- of two answers the second's refusal, where the first has lower numbers
-pub second-stage : (lo hi : ℕ) (v w : Verdict) (n p : ℕ) → 1 ≤ lo → hi < n → Among lo hi v
+-- of two answers the second's refusal, where the first has earlier turns
+pub second-stage : (lo hi : ℕ) (v w : Verdict) (n p : ℕ) → 1 ≤ lo → hi < inTurn n → Among lo hi v
     → (orElse v w ≡ refused n p) ↔ ((v ≡ fine) × (w ≡ refused n p))
 second-stage lo hi v w n p k l a =
     let both = both-quiet (λ x. x ≡ refused n p) v w (λ e. absurd (past-number lo hi v n p l a e)) in
     (λ h. let (q, e) = both .0 h in (among-fine lo hi v k a q, e), λ h. both .1 (number-of (h .0), h .1))
 
--- and the first's, where the second has higher ones
-pub first-stage : (lo hi : ℕ) (v w : Verdict) (n p : ℕ) → 1 ≤ n → n < lo → Among lo hi w → (orElse v w ≡ refused n p) ↔ (v ≡ refused n p)
-first-stage lo hi v w n p k l a = (to (eqb (v .number) 0), λ h. loud-first v w (λ z. omega (arith, number-of h)) ∙ h)
+-- and the first's, where the second has later ones
+pub first-stage : (lo hi : ℕ) (v w : Verdict) (n p : ℕ) → 1 ≤ n → inTurn n < lo → Among lo hi w → (orElse v w ≡ refused n p) ↔ (v ≡ refused n p)
+first-stage lo hi v w n p k l a = (to (eqb (v .number) 0), λ h. loud-first v w (λ z. omega (arith, k, z, number-of h)) ∙ h)
   where
     to : (b : Bool) → cond b w v ≡ refused n p → v ≡ refused n p
     to true h = absurd (lower-number lo hi w n p k l a h)
@@ -74,10 +77,29 @@ among-or lo x y hi v w l k a c = go (eqb (v .number) 0) refl a c
     go false e (none z) c = absurd (eqb-false (v .number) 0 e (number-of z))
     go false e (some i j) c = some i (omega (arith, k, j))
 
--- The stages' numbers.
+-- The stages' turns: twice their numbers.
 
-pub names-among : (f : List ℕ) → Among 1 10 (readingNames f)
-names-among f = first-among checkOrder _ 1 10 (readingNames f) (λ n p (o, l). (objection-number f n p o, l)) (names-first f)
+pub names-among : (f : List ℕ) → Among 2 20 (readingNames f)
+names-among f = first-among checkOrder _ 2 20 (readingNames f) (λ n p (o, l). (some-turn n (of-file-turn n l .0), of-file-turn n l .1)) (names-first f)
+  where
+    some-turn : (n : ℕ) → 1 ≤ n → 2 ≤ inTurn n
+    some-turn n l = go (eqb n 21)
+      where
+        go : (b : Bool) → 2 ≤ cond b 13 (2 * n)
+        go true = omega arith
+        go false = omega (arith, l)
+
+-- what 1 to 10 answer of a file: nothing, or a refusal of the file
+pub data Named (v : Verdict) : Type 0 where
+  names-fine : v ≡ fine → Named v
+  names-wrong : OfFile (v .number) → Named v
+
+pub names-of : (f : List ℕ) → Named (readingNames f)
+names-of f = go (names-first f)
+  where
+    go : First checkOrder (λ n p. Objection f n p × OfFile n) (readingNames f) → Named (readingNames f)
+    go (inl (e, _)) = names-fine e
+    go (inr (n, p, e, ((o, l), _))) = names-wrong (subst OfFile (sym (number-of e)) l)
 
 -- 14 for a starting mask has place 0, and for on or off a node as place
 module _ (C : Contents) where
@@ -96,11 +118,11 @@ module _ (C : Contents) where
       go (inl (e, clear)) = inl e
       go (inr (n, p, e, ((a, x, l, k, z, b), low))) = inr (p, omega arith, e ∙ ap (λ (m : ℕ). refused m p) a)
 
-  pub masks-among : Among 14 14 (masksAnswer C)
-  masks-among = first-among readingOrder _ 14 14 (masksAnswer C) (λ n p u. omega (arith, u .0)) (masks-first C readingOrder)
+  pub masks-among : Among 28 28 (masksAnswer C)
+  masks-among = first-among readingOrder _ 28 28 (masksAnswer C) (λ n p u. let z : inTurn n ≡ 28 = ap inTurn (u .0) in omega (arith, z)) (masks-first C readingOrder)
 
-  pub switches-among : Among 14 14 (switchesAnswer C)
-  switches-among = first-among readingOrder _ 14 14 (switchesAnswer C) (λ n p u. omega (arith, u .0)) (switches-first C readingOrder)
+  pub switches-among : Among 28 28 (switchesAnswer C)
+  switches-among = first-among readingOrder _ 28 28 (switchesAnswer C) (λ n p u. let z : inTurn n ≡ 28 = ap inTurn (u .0) in omega (arith, z)) (switches-first C readingOrder)
 
 pub unserved-answers : (i : ℕ) (ls : List Label) → (unservedFrom i ls ≡ fine) ⊎ ((p : ℕ) × (unservedFrom i ls ≡ refused 15 p))
 unfolding unservedFrom
@@ -112,12 +134,12 @@ unserved-answers i (l ∷ ls) = go (needs (l .tag) && eqb (l .roles) 0) (unserve
     go true more = inr (i, refl)
     go false more = more
 
-pub unserved-among : (ls : List Label) → Among 15 15 (unservedFrom 1 ls)
+pub unserved-among : (ls : List Label) → Among 30 30 (unservedFrom 1 ls)
 unserved-among ls = go (unserved-answers 1 ls)
   where
-    go : (unservedFrom 1 ls ≡ fine) ⊎ ((p : ℕ) × (unservedFrom 1 ls ≡ refused 15 p)) → Among 15 15 (unservedFrom 1 ls)
+    go : (unservedFrom 1 ls ≡ fine) ⊎ ((p : ℕ) × (unservedFrom 1 ls ≡ refused 15 p)) → Among 30 30 (unservedFrom 1 ls)
     go (inl e) = none e
-    go (inr (p, e)) = some (omega (arith, number-of e)) (omega (arith, number-of e))
+    go (inr (p, e)) = let z = ap inTurn (number-of e) in some (omega (arith, z)) (omega (arith, z))
 
 pub size-answers : (n : ℕ) → ((sizeAnswer n ≡ fine) × (n ≤ 1024)) ⊎ ((sizeAnswer n ≡ refused 16 0) × (1024 < n))
 size-answers n = go (leb n 1024) refl
@@ -126,12 +148,12 @@ size-answers n = go (leb n 1024) refl
     go true e = inl (refl, leb-true n 1024 e)
     go false e = inr (refl, leb-false n 1024 e)
 
-pub size-among : (n : ℕ) → Among 16 16 (sizeAnswer n)
+pub size-among : (n : ℕ) → Among 32 32 (sizeAnswer n)
 size-among n = go (size-answers n)
   where
-    go : ((sizeAnswer n ≡ fine) × (n ≤ 1024)) ⊎ ((sizeAnswer n ≡ refused 16 0) × (1024 < n)) → Among 16 16 (sizeAnswer n)
+    go : ((sizeAnswer n ≡ fine) × (n ≤ 1024)) ⊎ ((sizeAnswer n ≡ refused 16 0) × (1024 < n)) → Among 32 32 (sizeAnswer n)
     go (inl (e, l)) = none e
-    go (inr (e, l)) = some (omega (arith, number-of e)) (omega (arith, number-of e))
+    go (inr (e, l)) = let z = ap inTurn (number-of e) in some (omega (arith, z)) (omega (arith, z))
 
 -- The whole answer.
 
@@ -145,86 +167,87 @@ module _ (f : List ℕ) (room : ℕ) where
   abbrev bare : Verdict
   bare = orElse (masksAnswer C) (switchesAnswer C)
 
-  settling-among : Among 15 16 (settling (labelsIn C))
+  settling-among : Among 30 32 (settling (labelsIn C))
   settling-among =
-      among-or 15 15 16 16 (unservedFrom 1 (labelsIn C)) (sizeAnswer sizes) (omega arith) (omega arith) (unserved-among (labelsIn C)) (size-among sizes)
+      among-or 30 30 32 32 (unservedFrom 1 (labelsIn C)) (sizeAnswer sizes) (omega arith) (omega arith) (unserved-among (labelsIn C)) (size-among sizes)
 
-  bare-among : Among 14 14 bare
-  bare-among = among-or 14 14 14 14 (masksAnswer C) (switchesAnswer C) (omega arith) (omega arith) (masks-among C) (switches-among C)
+  bare-among : Among 28 28 bare
+  bare-among = among-or 28 28 28 28 (masksAnswer C) (switchesAnswer C) (omega arith) (omega arith) (masks-among C) (switches-among C)
 
-  placeable-among : Among 14 16 (placeable C)
+  placeable-among : Among 28 32 (placeable C)
   unfolding placeable
-  placeable-among = among-or 14 14 15 16 bare (settling (labelsIn C)) (omega arith) (omega arith) bare-among settling-among
+  placeable-among = among-or 28 28 30 32 bare (settling (labelsIn C)) (omega arith) (omega arith) bare-among settling-among
 
-  pub judging-among : Among 1 16 (judging f)
+  pub judging-among : Among 2 32 (judging f)
   unfolding judging
-  judging-among = among-or 1 10 14 16 (readingNames f) (placeable C) (omega arith) (omega arith) (names-among f) placeable-among
+  judging-among = among-or 2 20 28 32 (readingNames f) (placeable C) (omega arith) (omega arith) (names-among f) placeable-among
 
   -- 17 first of all
   pub room-stage : (placing f room ≡ noPlace 17 0) ↔ (room < roomFor f)
-  unfolding placing
+  unfolding placing measuring
   room-stage = (to (ltb room (roomFor f)) refl (eqb (judging f .number) 0) refl, λ l. rw (lt-ltb room (roomFor f) l))
     where
       to : (b : Bool) → ltb room (roomFor f) ≡ b → (c : Bool) → eqb (judging f .number) 0 ≡ c
-          → cond b (noPlace 17 0) (cond c (placedIn C) (noPlace (judging f .number) (judging f .place))) ≡ noPlace 17 0
+          → cond b (noPlace 17 0) (cond c (placedIn (wordAt f 0) C) (noPlace (judging f .number) (judging f .place))) ≡ noPlace 17 0
           → room < roomFor f
       to true e c k h = ltb-true room (roomFor f) e
       to false e true k h = absurd (omega (arith, ap (λ (x : Placed). x .number) h))
-      to false e false k h = absurd (past-number 1 16 (judging f) 17 0 (omega arith) judging-among (ap (λ (x : Placed). refused (x .number) (x .place)) h))
+      to false e false k h = absurd (past-number 2 32 (judging f) 17 0 (omega arith) judging-among (ap (λ (x : Placed). refused (x .number) (x .place)) h))
 
   pub placed-zero : (placing f room .number ≡ 0) ↔ ((roomFor f ≤ room) × (judging f .number ≡ 0))
-  unfolding placing
+  unfolding placing measuring
   placed-zero = (to (ltb room (roomFor f)) refl (eqb (judging f .number) 0) refl, λ (l, q). rw (le-ltb room (roomFor f) l, eq-eqb (judging f .number) 0 q))
     where
       to : (b : Bool) → ltb room (roomFor f) ≡ b → (c : Bool) → eqb (judging f .number) 0 ≡ c
-          → cond b (noPlace 17 0) (cond c (placedIn C) (noPlace (judging f .number) (judging f .place))) .number ≡ 0
+          → cond b (noPlace 17 0) (cond c (placedIn (wordAt f 0) C) (noPlace (judging f .number) (judging f .place))) .number ≡ 0
           → (roomFor f ≤ room) × (judging f .number ≡ 0)
       to true e c k h = absurd (omega arith)
       to false e true k h = (ltb-false room (roomFor f) e, eqb-true (judging f .number) 0 k)
       to false e false k h = absurd (eqb-false (judging f .number) 0 k h)
 
-  pub placed-answer : placing f room .number ≡ 0 → placing f room ≡ placedIn C
-  unfolding placing
+  pub placed-answer : placing f room .number ≡ 0 → placing f room ≡ placedIn (wordAt f 0) C
+  unfolding placing measuring
   placed-answer h = let (l, q) = placed-zero .0 h in rw (le-ltb room (roomFor f) l, eq-eqb (judging f .number) 0 q)
 
-  pub refused-judging : (n p : ℕ) → 1 ≤ n → n < 17 → (placing f room ≡ noPlace n p) ↔ ((roomFor f ≤ room) × (judging f ≡ refused n p))
-  unfolding placing
-  refused-judging n p l k = (
+  pub refused-judging : (n p : ℕ) → 1 ≤ n → n ≢ 17 → (placing f room ≡ noPlace n p) ↔ ((roomFor f ≤ room) × (judging f ≡ refused n p))
+  unfolding placing measuring
+  refused-judging n p l other = (
     to (ltb room (roomFor f)) refl (eqb (judging f .number) 0) refl,
     λ (w, e). rw (le-ltb room (roomFor f) w, ne-eqb (judging f .number) 0 (λ z. omega (arith, number-of e))) (ap (λ (v : Verdict). noPlace (v .number) (v .place)) e),
   )
     where
       to : (b : Bool) → ltb room (roomFor f) ≡ b → (c : Bool) → eqb (judging f .number) 0 ≡ c
-          → cond b (noPlace 17 0) (cond c (placedIn C) (noPlace (judging f .number) (judging f .place))) ≡ noPlace n p
+          → cond b (noPlace 17 0) (cond c (placedIn (wordAt f 0) C) (noPlace (judging f .number) (judging f .place))) ≡ noPlace n p
           → (roomFor f ≤ room) × (judging f ≡ refused n p)
-      to true e c z h = absurd (omega (arith, ap (λ (x : Placed). x .number) h))
+      to true e c z h = absurd (other (sym (ap (λ (x : Placed). x .number) h)))
       to false e true z h = absurd (omega (arith, ap (λ (x : Placed). x .number) h))
       to false e false z h = (ltb-false room (roomFor f) e, ap (λ (x : Placed). refused (x .number) (x .place)) h)
 
   -- 1 to 10
-  pub names-stage : (n p : ℕ) → 1 ≤ n → n ≤ 10 → (placing f room ≡ noPlace n p) ↔ ((roomFor f ≤ room) × (readingNames f ≡ refused n p))
+  pub names-stage : (n p : ℕ) → OfFile n → (placing f room ≡ noPlace n p) ↔ ((roomFor f ≤ room) × (readingNames f ≡ refused n p))
   unfolding judging
-  names-stage n p l k =
-      let whole = refused-judging n p l (omega arith) in
-      let named = first-stage 14 16 (readingNames f) (placeable C) n p l (omega arith) placeable-among in
+  names-stage n p o =
+      let (l, k) = of-file-turn n o in
+      let whole = refused-judging n p l (not-of-file n 17 o (omega arith) (omega arith)) in
+      let named = first-stage 28 32 (readingNames f) (placeable C) n p l (omega (arith, k)) placeable-among in
       (λ h. let (w, j) = whole .0 h in (w, named .0 j), λ (w, e). whole .1 (w, named .1 e))
 
   -- 14 to 16 after 1 to 10
-  after-names : (n p : ℕ) → 10 < n → (judging f ≡ refused n p) ↔ ((readingNames f ≡ fine) × (placeable C ≡ refused n p))
+  after-names : (n p : ℕ) → 20 < inTurn n → (judging f ≡ refused n p) ↔ ((readingNames f ≡ fine) × (placeable C ≡ refused n p))
   unfolding judging
-  after-names n p l = second-stage 1 10 (readingNames f) (placeable C) n p (omega arith) l (names-among f)
+  after-names n p l = second-stage 2 20 (readingNames f) (placeable C) n p (omega arith) l (names-among f)
 
   -- 15 and 16 after 14
-  after-bare : (n p : ℕ) → 14 < n → (placeable C ≡ refused n p) ↔ ((bare ≡ fine) × (settling (labelsIn C) ≡ refused n p))
+  after-bare : (n p : ℕ) → 28 < inTurn n → (placeable C ≡ refused n p) ↔ ((bare ≡ fine) × (settling (labelsIn C) ≡ refused n p))
   unfolding placeable
-  after-bare n p l = second-stage 14 14 bare (settling (labelsIn C)) n p (omega arith) l bare-among
+  after-bare n p l = second-stage 28 28 bare (settling (labelsIn C)) n p (omega arith) l bare-among
 
   at-bare : (p : ℕ) → (placeable C ≡ refused 14 p) ↔ (bare ≡ refused 14 p)
   unfolding placeable
-  at-bare p = first-stage 15 16 bare (settling (labelsIn C)) 14 p (omega arith) (omega arith) settling-among
+  at-bare p = first-stage 30 32 bare (settling (labelsIn C)) 14 p (omega arith) (omega arith) settling-among
 
   bare-iff : (bare ≡ fine) ↔ ((masksAnswer C ≡ fine) × (switchesAnswer C ≡ fine))
-  bare-iff = both-fine (masksAnswer C) (switchesAnswer C) (among-fine 14 14 (masksAnswer C) (omega arith) (masks-among C))
+  bare-iff = both-fine (masksAnswer C) (switchesAnswer C) (among-fine 28 28 (masksAnswer C) (omega arith) (masks-among C))
 
   unrefused-iff : Unrefused f room ↔ ((roomFor f ≤ room) × (readingNames f ≡ fine) × (bare ≡ fine))
   unrefused-iff = (
@@ -237,10 +260,10 @@ module _ (f : List ℕ) (room : ℕ) where
       → (placing f room ≡ noPlace 16 p)
       ↔ (Unrefused f room × (unservedFrom 1 (labelsIn (contentsOf f)) ≡ fine) × (sizeAnswer (sizesOf (turnsFor (contentsOf f))) ≡ refused 16 p))
   sixteen-stage p =
-      let whole = refused-judging 16 p (omega arith) (omega arith) in
+      let whole = refused-judging 16 p (omega arith) (λ z. omega (arith, z)) in
       let named = after-names 16 p (omega arith) in
       let settled = after-bare 16 p (omega arith) in
-      let last = second-stage 15 15 (unservedFrom 1 (labelsIn C)) (sizeAnswer sizes) 16 p (omega arith) (omega arith) (unserved-among (labelsIn C)) in (
+      let last = second-stage 30 30 (unservedFrom 1 (labelsIn C)) (sizeAnswer sizes) 16 p (omega arith) (omega arith) (unserved-among (labelsIn C)) in (
         λ h.
             let (w, j) = whole .0 h in
             let (e, k) = named .0 j in
@@ -255,10 +278,10 @@ module _ (f : List ℕ) (room : ℕ) where
   -- 15
   pub fifteen-stage : (p : ℕ) → (placing f room ≡ noPlace 15 p) ↔ (Unrefused f room × (unservedFrom 1 (labelsIn (contentsOf f)) ≡ refused 15 p))
   fifteen-stage p =
-      let whole = refused-judging 15 p (omega arith) (omega arith) in
+      let whole = refused-judging 15 p (omega arith) (λ z. omega (arith, z)) in
       let named = after-names 15 p (omega arith) in
       let settled = after-bare 15 p (omega arith) in
-      let last = first-stage 16 16 (unservedFrom 1 (labelsIn C)) (sizeAnswer sizes) 15 p (omega arith) (omega arith) (size-among sizes) in (
+      let last = first-stage 32 32 (unservedFrom 1 (labelsIn C)) (sizeAnswer sizes) 15 p (omega arith) (omega arith) (size-among sizes) in (
         λ h.
             let (w, j) = whole .0 h in
             let (e, k) = named .0 j in
@@ -272,7 +295,7 @@ module _ (f : List ℕ) (room : ℕ) where
   -- 14: a starting mask
   pub masks-stage : (placing f room ≡ noPlace 14 0) ↔ (Clean f room × (masksAnswer (contentsOf f) ≡ refused 14 0))
   masks-stage =
-      let whole = refused-judging 14 0 (omega arith) (omega arith) in
+      let whole = refused-judging 14 0 (omega arith) (λ z. omega (arith, z)) in
       let named = after-names 14 0 (omega arith) in (
         λ h.
             let (w, j) = whole .0 h in
@@ -295,7 +318,7 @@ module _ (f : List ℕ) (room : ℕ) where
   pub switches-stage : (p : ℕ) → 1 ≤ p
       → (placing f room ≡ noPlace 14 p) ↔ (Clean f room × (masksAnswer (contentsOf f) ≡ fine) × (switchesAnswer (contentsOf f) ≡ refused 14 p))
   switches-stage p l =
-      let whole = refused-judging 14 p (omega arith) (omega arith) in
+      let whole = refused-judging 14 p (omega arith) (λ z. omega (arith, z)) in
       let named = after-names 14 p (omega arith) in (
         λ h.
             let (w, j) = whole .0 h in
@@ -327,8 +350,8 @@ module _ (f : List ℕ) (room : ℕ) where
             let (e, k) = named .0 j in
             let (b, z) = settled .0 k in
             let (s, n) = last .0 z in (
-              unrefused-iff .1 (w, among-fine 1 10 (readingNames f) (omega arith) (names-among f) e, among-fine 14 14 bare (omega arith) bare-among b),
-              among-fine 15 15 (unservedFrom 1 ls) (omega arith) (unserved-among ls) s,
+              unrefused-iff .1 (w, among-fine 2 20 (readingNames f) (omega arith) (names-among f) e, among-fine 28 28 bare (omega arith) bare-among b),
+              among-fine 30 30 (unservedFrom 1 ls) (omega arith) (unserved-among ls) s,
               few (size-answers sizes) n,
             ),
         λ (u, s, n).

@@ -30,13 +30,13 @@ module _ (C : Contents) where
   unfolding masksAnswer
   masks-in =
       let (to, from) = section-iff noSession (λ s. eqb (s .mask) 0) (λ n. refused 14 0) (λ n. omega arith) (C .sessions) in
-      (λ e. to (number-of e), λ h. among-fine 14 14 (masksAnswer C) (omega arith) (masks-among C) (from h))
+      (λ e. to (number-of e), λ h. among-fine 28 28 (masksAnswer C) (omega arith) (masks-among C) (from h))
 
   switches-in : (switchesAnswer C ≡ fine) ↔ All (λ (n : Node). ltb (n .tag) 7 ≡ true) (C .nodes)
   unfolding switchesAnswer
   switches-in =
       let (to, from) = section-iff noNode (λ n. ltb (n .tag) 7) (λ n. refused 14 n) (λ n. omega arith) (C .nodes) in
-      (λ e. to (number-of e), λ h. among-fine 14 14 (switchesAnswer C) (omega arith) (switches-among C) (from h))
+      (λ e. to (number-of e), λ h. among-fine 28 28 (switchesAnswer C) (omega arith) (switches-among C) (from h))
 
 -- a tree has no on or off exactly where its tags are below 7
 abbrev Low : Node → Type 0

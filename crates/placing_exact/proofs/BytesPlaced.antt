@@ -15,9 +15,9 @@ use Rattle.states.specs.declared.Turn.{Turn}
 use Rattle.states.specs.States.{Label, turnsFrom, turnsOf}
 use Rattle.groups.specs.Groups.{sizesOf, onsOf, startsOf, placedContents}
 use Rattle.placing.specs.Placing.{labelsIn, turnsFor, unservedFrom, placedBytes}
-use Rattle.reading_exact.specs.File.{File, WellFormed, nodesOf, contentsFor, encode}
+use Rattle.reading_exact.specs.File.{versionOf, File, WellFormed, nodesOf, contentsFor, encode}
 use Rattle.reading_exact.proofs.Places.{length-encoded}
-use Rattle.reading_exact.proofs.FileContents.{length-rooted, contents-back}
+use Rattle.reading_exact.proofs.FileContents.{length-rooted, contents-back, version-back, formed-by}
 use Rattle.checking_exact.specs.Tables.{schemaFor}
 use Rattle.checking_exact.specs.Typing.{WellKinded}
 use Rattle.placing_exact.specs.Placement.{onStepsOf, graft}
@@ -58,20 +58,21 @@ module _ (F : File) (W : WellFormed F) (N : WellKinded F) (B : Bare F) where
   pub placed-bytes : placedBytes (encode F) ≡ encode (placedFile F)
   unfolding placedBytes encode
   placed-bytes =
-      ap (λ (X : Contents). encoded (placedContents X (turnsFor X) (startsOf (turnsFor X)))) (contents-back F) ∙ ap encoded placed-contents
+      (λ i. encoded (version-back F i) (placedContents (contents-back F i) (turnsFor (contents-back F i)) (startsOf (turnsFor (contents-back F i)))))
+      ∙ ap (encoded (versionOf (F .grants))) placed-contents
 
   pub placed-size : sizesOf (turnsFor (contentsFor F)) ≡ length (nodesOf (placedFile F))
   placed-size = ap sizesOf turns-read ∙ all-sizes D 1 (F .sessions) states ∙ ap (λ (G : File). length (nodesOf G)) file-read
 
   -- the length answered is the placed file's, in bytes
-  pub placed-length : lengthFor (headFor (contentsFor F) .at .nodes) (sizesOf (turnsFor (contentsFor F))) ≡ length (encode (placedFile F))
+  pub placed-length : lengthFor (headFor (versionOf (F .grants)) (contentsFor F) .at .nodes) (sizesOf (turnsFor (contentsFor F))) ≡ length (encode (placedFile F))
   unfolding encode
   placed-length =
       let G : File = placedFile F in
       omega (
         arith,
         placed-size,
-        length-encoded (contentsFor G),
+        length-encoded (versionOf (G .grants)) (contentsFor G) (formed-by G),
         length-rooted 1 (F .sessions),
         length-rooted 1 (G .sessions),
         grafted-length D (F .sessions),

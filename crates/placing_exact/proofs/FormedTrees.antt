@@ -112,6 +112,7 @@ formed F W l =
       few-nodes = l;
       users-fit = W .users-fit;
       roles-fit = W .roles-fit;
+      juniors-fit = W .juniors-fit;
       kinds-fit = W .kinds-fit;
       channels-fit = W .channels-fit;
       sessions-fit = grafted-same D (λ u m. InCount (length (F .users)) u × Within m (getD (F .users) (u - 1) 0)) (F .sessions) (W .sessions-fit);

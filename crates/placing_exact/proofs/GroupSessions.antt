@@ -10,7 +10,7 @@ use Rattle.states.specs.declared.Turn.{Turn}
 use Rattle.groups.specs.Groups.{sizesOf, onsOf, startsOf, groupsFrom, sessionsFrom, placedContents}
 use Rattle.reading_exact.specs.Lists.{All}
 use Rattle.reading_exact.specs.Tree.{Tree, past, write, flatten}
-use Rattle.reading_exact.specs.File.{Routine, File, rooted, contentsFor}
+use Rattle.reading_exact.specs.File.{rolesOf, juniorsOf, Routine, File, rooted, contentsFor}
 use Rattle.reading_exact.proofs.TreeEnds.{past-length}
 use Rattle.reading_exact.proofs.FileContents.{treesOf}
 use Rattle.placing_exact.specs.Placement.{onStepsOf, grafted, graft}
@@ -88,4 +88,4 @@ contents-placed F D a free =
     let turns : List Turn = walkedAll D (F .sessions) a in
     let sessions = all-roots D (startsOf turns) 1 1 (F .sessions) a free (begun-all turns) in
     let nodes = all-groups D (startsOf turns) 1 1 (F .sessions) a free (begun-all turns) in
-    λ i. record { users = F .users; roles = F .roles; kinds = F .kinds; channels = F .channels; sessions = sessions i; nodes = nodes i }
+    λ i. record { users = F .users; roles = rolesOf (F .grants); juniors = juniorsOf (F .grants); kinds = F .kinds; channels = F .channels; sessions = sessions i; nodes = nodes i }

@@ -20,15 +20,18 @@ use Rattle.placing.specs.declared.Placed.{Placed}
 use Rattle.placing.specs.Placing.{labelsIn, turnsFor, masksAnswer, switchesAnswer, unservedFrom, sizeAnswer, noPlace, placedIn, placing, placedBytes, placedOver}
 use Rattle.reading_exact.specs.Lists.{All}
 use Rattle.reading_exact.specs.Tree.{Tree}
-use Rattle.reading_exact.specs.File.{Routine, File, WellFormed, nodesOf, contentsFor, encode}
+use Rattle.reading_exact.specs.File.{versionOf, rolesOf, Routine, File, WellFormed, nodesOf, contentsFor, encode}
+use Rattle.reading_exact.specs.Order.{OfFile}
+use Rattle.format.proofs.HeadLaws.{more-few, juniors-few}
 use Rattle.reading_exact.proofs.AllLaws.{all-map, all-both}
 use Rattle.reading_exact.proofs.EncodedBytes.{encode-bytes}
 use Rattle.reading_exact.proofs.Exact.{single}
 use Rattle.reading_exact.proofs.Places.{length-encoded}
-use Rattle.reading_exact.proofs.FileContents.{treesOf, length-rooted, contents-back, contents-held}
+use Rattle.reading_exact.proofs.FileContents.{version-back, formed-by, treesOf, length-rooted, contents-back, contents-held}
 use Rattle.checking_exact.specs.Tables.{schemaFor}
 use Rattle.checking_exact.specs.Typing.{WellKinded}
 use Rattle.checking_exact.proofs.CheckExact.{names-exact, check-exact}
+use Rattle.placing.proofs.PlaceLaws.{length-within}
 use Rattle.placing_exact.specs.Placement.{plain, onStepsOf, grafted, graft, Placement}
 use Rattle.placing_exact.specs.Placed.{placedTree, placedTrees, placedFile, insertAll, takingAll, servedAll, Bare}
 use Rattle.placing_exact.specs.Counts.{onNodes}
@@ -69,13 +72,15 @@ unfolding grafted placedTrees
 grafted-trees D [] = refl
 grafted-trees D (s ∷ ss) = ap {B = List Tree} (λ l. placedTree D (s .user) (s .tree) ∷ l) (grafted-trees D ss)
 
--- the largest file has 6,874 bytes
+-- the largest file has 6,908 bytes
 pub at-largest : (F : File) → WellFormed F → length (encode F) ≤ largest
 unfolding encode
 at-largest F W =
     omega (
       arith,
-      length-encoded (contentsFor F),
+      length-encoded (versionOf (F .grants)) (contentsFor F) (formed-by F),
+      more-few (versionOf (F .grants)),
+      juniors-few (versionOf (F .grants)) (length (rolesOf (F .grants))),
       length-rooted 1 (F .sessions),
       W .few-users,
       W .few-roles,
@@ -97,12 +102,12 @@ bare-iff F = (
   λ b. (masks-bare F .1 (all-map (λ s h. h .0) (F .sessions) b), switches-bare F .1 (all-map (λ s h. h .1) (F .sessions) b)),
 )
 
--- 17 first of all: output under 6,874 bytes
+-- 17 first of all: output under 6,874 bytes, or 6,908 where the first word is 2
 pub seventeen-exactly : (f : List ℕ) (room : ℕ) → (placing f room ≡ noPlace 17 0) ↔ (room < roomFor f)
 seventeen-exactly f room = room-stage f room
 
 -- then 1 to 10, as they are read
-pub ten-exactly : (f : List ℕ) (room n p : ℕ) → 1 ≤ n → n ≤ 10 → (placing f room ≡ noPlace n p) ↔ ((roomFor f ≤ room) × (readingNames f ≡ refused n p))
+pub ten-exactly : (f : List ℕ) (room n p : ℕ) → OfFile n → (placing f room ≡ noPlace n p) ↔ ((roomFor f ≤ room) × (readingNames f ≡ refused n p))
 ten-exactly f room = names-stage f room
 
 module _ (f : List ℕ) (bytes : All (λ b. b < 256) f) where
@@ -317,7 +322,7 @@ module _ (f : List ℕ) (bytes : All (λ b. b < 256) f) (room : ℕ) (placed : p
   placed-well =
       let (F, e, r, s, l) = found in
       let answer = subst (λ (b : List ℕ). placing b room .number ≡ 0) (sym e) placed in
-      let same = placed-answer (encode F) room answer ∙ ap (λ (C : Contents). placedIn C) (contents-back F) in
+      let same = placed-answer (encode F) room answer ∙ (λ i. placedIn (version-back F i) (contents-back F i)) in
       let long : placing (encode F) room .length ≡ length (placedBytes (encode F)) =
       ap (λ (a : Placed). a .length) same ∙ placed-length F (r .formed) (r .named) (r .bare) ∙ ap length (written F r s l) in
       subst (λ (b : List ℕ). WellPlaced b (placing b room) (placedBytes b)) e
@@ -332,9 +337,8 @@ module _ (f : List ℕ) (bytes : All (λ b. b < 256) f) (room : ℕ) (placed : p
   -- the output has room for it
   pub placed-fits : length (placedBytes f) ≤ room
   placed-fits =
-      let (F, e, r, s, l) = found in
       let wide = placed-exactly f bytes room .0 placed .0 .wide in
-      omega (arith, at-largest (placedFile F) (formed F r s l), ap length (written F r s l), ap (λ (b : List ℕ). length (placedBytes b)) e)
+      omega (arith, wide, placed-well .sized, length-within f room)
 
 -- a refusal leaves the output as it was
 pub out-kept : (f out : List ℕ) → placing f (length out) .number ≢ 0 → placedOver f out ≡ out

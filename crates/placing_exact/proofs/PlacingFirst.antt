@@ -1,21 +1,23 @@
--- Placing gives the first refusal in the paper's order: 17, then 1 to 8 by number and place, 9 and 10 together by node, then 14 (masks before nodes), 15, 16.
-use Prim.Native.Nat.{ℕ, _≤_, _<_}
+-- Placing gives the first refusal in the paper's order: 17, then 1 to 8 by number and place, 21 after 6, 9 and 10 together by node, then 14 (masks before nodes), 15, 16.
+use Prim.Native.Nat.{ℕ, _*_, _≤_, _<_}
 use mathlib.Core.Path.{_≡_, refl, sym, ap, _∙_, subst}
 use mathlib.Core.Logic.{_⊎_, inl, inr}
 use mathlib.Core.Bool.{Bool, true, false, cond}
 use mathlib.Core.List.{List}
 use native.Mathlib.Omega.{arith}
 use lib.Dec.{eqb, leb, ltb}
-use borrow.Author.Tests.{eqb-true, ne-eqb, leb-true, le-leb, ltb-true, ltb-false}
+use borrow.Author.Tests.{eqb-true, ne-eqb, leb-true, leb-false, le-leb, ltb-true, ltb-false}
 use Rattle.format.specs.Contents.{Contents, contentsOf}
+use Rattle.format.specs.Words.{wordAt}
 use Rattle.format.specs.Answers.{fine, refused, orElse}
 use Rattle.format.specs.Header.{roomFor}
 use Rattle.format.specs.declared.Verdict.{Verdict}
 use Rattle.checking.specs.Check.{readingNames}
 use Rattle.groups.specs.Groups.{sizesOf}
-use Rattle.placing.specs.Placing.{labelsIn, turnsFor, masksAnswer, switchesAnswer, unservedFrom, sizeAnswer, settling, placeable, judging, noPlace, placedIn, placing}
+use Rattle.placing.specs.Placing.{labelsIn, turnsFor, masksAnswer, switchesAnswer, unservedFrom, sizeAnswer, settling, placeable, judging, noPlace, placedIn, measuring, placing}
 use Rattle.reading_exact.specs.Lists.{All}
-use Rattle.reading_exact.specs.Order.{Sooner, First}
+use Rattle.reading_exact.specs.Order.{inTurn, OfFile, Sooner, First}
+use Rattle.reading_exact.proofs.Turns.{turn-of, not-of-file}
 use Rattle.reading_exact.proofs.FirstLaws.{Both, lowest, first-raise, first-clear, first-map, first-or}
 use Rattle.checking_exact.specs.Faults.{Objection, checkOrder}
 use Rattle.checking_exact.proofs.CheckFirst.{objection-number, names-first}
@@ -31,22 +33,28 @@ use Rattle.placing_exact.proofs.PlacingExact.{placement-read, read-plac
 abbrev stage : ℕ → ℕ
 stage = placingOrder .stage
 
--- up to 10 they are the check's
-stage-same : (n : ℕ) → n ≤ 10 → stage n ≡ checkOrder .stage n
-stage-same n l = rw (ne-eqb n 17 (λ e. omega arith), le-leb n 10 l)
-
-stage-low : (n : ℕ) → 1 ≤ n → n ≤ 10 → (1 ≤ stage n) × (stage n ≤ 9)
-stage-low n k l = go (leb n 8) refl
+-- those of the file are the check's
+stage-same : (n : ℕ) → OfFile n → stage n ≡ checkOrder .stage n
+stage-same n o = go (leb (inTurn n) 16) refl o
   where
-    go : (b : Bool) → leb n 8 ≡ b → (1 ≤ stage n) × (stage n ≤ 9)
-    go true e =
-        let z : stage n ≡ n = rw (ne-eqb n 17 (λ q. omega arith), e) in
-        (omega (arith, z), omega (arith, z, leb-true n 8 e))
-    go false e =
-        let z : stage n ≡ 9 = rw (ne-eqb n 17 (λ q. omega arith), e, le-leb n 10 l) in
-        (omega (arith, z), omega (arith, z))
+    go : (b : Bool) → leb (inTurn n) 16 ≡ b → OfFile n → stage n ≡ checkOrder .stage n
+    go true e o = rw (ne-eqb n 17 (not-of-file n 17 o (omega arith) (omega arith)), e)
+    go false e (inl (l, h)) = rw (ne-eqb n 17 (λ z. omega (arith, h, z)), e, le-leb n 10 h)
+    go false e (inr z) = let w : inTurn n ≡ 13 = ap inTurn z in absurd (omega (arith, w, leb-false (inTurn n) 16 e))
 
-check-sooner : (n p m q : ℕ) → n ≤ 10 → m ≤ 10 → Sooner checkOrder n p m q → Sooner placingOrder n p m q
+stage-low : (n : ℕ) → OfFile n → (1 ≤ stage n) × (stage n ≤ 18)
+stage-low n o = go (leb (inTurn n) 16) refl o
+  where
+    go : (b : Bool) → leb (inTurn n) 16 ≡ b → OfFile n → (1 ≤ stage n) × (stage n ≤ 18)
+    go true e (inl (l, h)) =
+        let z : stage n ≡ inTurn n = rw (ne-eqb n 17 (λ q. omega (arith, h, q)), e) in
+        let w : inTurn n ≡ 2 * n = turn-of n (λ q. omega (arith, h, q)) in
+        (omega (arith, z, w, l), omega (arith, z, leb-true (inTurn n) 16 e))
+    go true e (inr q) = rw q (omega arith)
+    go false e (inl (l, h)) = let z : stage n ≡ 18 = rw (ne-eqb n 17 (λ q. omega (arith, h, q)), e, le-leb n 10 h) in (omega (arith, z), omega (arith, z))
+    go false e (inr z) = let w : inTurn n ≡ 13 = ap inTurn z in absurd (omega (arith, w, leb-false (inTurn n) 16 e))
+
+check-sooner : (n p m q : ℕ) → OfFile n → OfFile m → Sooner checkOrder n p m q → Sooner placingOrder n p m q
 check-sooner n p m q l h (inl b) = inl (omega (arith, stage-same n l, stage-same m h, b))
 check-sooner n p m q l h (inr (e, b)) = inr (stage-same n l ∙ e ∙ sym (stage-same m h), b)
 
@@ -59,7 +67,7 @@ module _ (f : List ℕ) (bytes : All (λ b. b < 256) f) (room : ℕ) where
   NoRoom n p = (n ≡ 17) × ((p ≡ 0) × (room < roomFor f))
 
   abbrev UpToTen : ℕ → ℕ → Type 0
-  UpToTen n p = Objection f n p × (n ≤ 10)
+  UpToTen n p = Objection f n p × OfFile n
 
   abbrev Masked : ℕ → ℕ → Type 0
   Masked n p = (n ≡ 14) × ((p ≡ 0) × SomeMask C)
@@ -89,19 +97,19 @@ module _ (f : List ℕ) (bytes : All (λ b. b < 256) f) (room : ℕ) where
   bared-number n p (inl h) = h .0
   bared-number n p (inr h) = h .0
 
-  settling-stage : (n p : ℕ) → Settling n p → 15 ≤ stage n
-  settling-stage n p (inl h) = let e : stage n ≡ 15 = ap stage (h .0) in omega (arith, e)
-  settling-stage n p (inr h) = let e : stage n ≡ 16 = ap stage (h .0) in omega (arith, e)
+  settling-stage : (n p : ℕ) → Settling n p → 30 ≤ stage n
+  settling-stage n p (inl h) = let e : stage n ≡ 30 = ap stage (h .0) in omega (arith, e)
+  settling-stage n p (inr h) = let e : stage n ≡ 32 = ap stage (h .0) in omega (arith, e)
 
-  bared-stage : (n p : ℕ) → Bared n p → stage n ≡ 14
+  bared-stage : (n p : ℕ) → Bared n p → stage n ≡ 28
   bared-stage n p h = ap stage (bared-number n p h)
 
-  after-names : (n p : ℕ) → Both Bared Settling n p → 14 ≤ stage n
+  after-names : (n p : ℕ) → Both Bared Settling n p → 28 ≤ stage n
   after-names n p (inl h) = omega (arith, bared-stage n p h)
   after-names n p (inr h) = omega (arith, settling-stage n p h)
 
-  names-stage : (n p : ℕ) → UpToTen n p → (1 ≤ stage n) × (stage n ≤ 9)
-  names-stage n p (o, l) = stage-low n (objection-number f n p o) l
+  names-stage : (n p : ℕ) → UpToTen n p → (1 ≤ stage n) × (stage n ≤ 18)
+  names-stage n p (o, l) = stage-low n l
 
   judged-stage : (n p : ℕ) → Judged n p → 1 ≤ stage n
   judged-stage n p (inl h) = names-stage n p h .0
@@ -153,7 +161,7 @@ module _ (f : List ℕ) (bytes : All (λ b. b < 256) f) (room : ℕ) where
       (λ n p m q r s. inl (omega (arith, later n m (r .0) (s .0)))) lacking (λ none. large u (first-clear placingOrder Lacking (unservedFrom 1 (labelsIn C)) lacking none))
     where
       later : (n m : ℕ) → n ≡ 15 → m ≡ 16 → stage n < stage m
-      later n m a b = let x : stage n ≡ 15 = ap stage a in let y : stage m ≡ 16 = ap stage b in omega (arith, x, y)
+      later n m a b = let x : stage n ≡ 30 = ap stage a in let y : stage m ≡ 32 = ap stage b in omega (arith, x, y)
 
   -- where nothing before 15 has a cause
   unrefused : None NoRoom → readingNames f ≡ fine → None Bared → Unrefused f room
@@ -177,13 +185,13 @@ module _ (f : List ℕ) (bytes : All (λ b. b < 256) f) (room : ℕ) where
       (λ n p m q r s. inl (omega (arith, names-stage n p r, after-names m q s))) names (λ none. after roomy (first-clear placingOrder UpToTen (readingNames f) names none))
 
   in-turn : refusalIn (placing f room) ≡ orElse roomAnswer (judging f)
-  unfolding placing
+  unfolding placing measuring
   in-turn = go (ltb room (roomFor f)) (eqb (judging f .number) 0) refl
     where
       go : (b c : Bool) → eqb (judging f .number) 0 ≡ c
-          → refusalIn (cond b (noPlace 17 0) (cond c (placedIn C) (noPlace (judging f .number) (judging f .place)))) ≡ orElse (cond b (refused 17 0) fine) (judging f)
+          → refusalIn (cond b (noPlace 17 0) (cond c (placedIn (wordAt f 0) C) (noPlace (judging f .number) (judging f .place)))) ≡ orElse (cond b (refused 17 0) fine) (judging f)
       go true c e = refl
-      go false true e = sym (among-fine 1 16 (judging f) (omega arith) (judging-among f room) (eqb-true (judging f .number) 0 e))
+      go false true e = sym (among-fine 2 32 (judging f) (omega arith) (judging-among f room) (eqb-true (judging f .number) 0 e))
       go false false e = refl
 
   to : (n p : ℕ) → Both NoRoom Judged n p → Cause f room n p

@@ -14,7 +14,7 @@ use Rattle.rules.specs.Names.{Bound}
 use Rattle.optimum.specs.Optimum.{nodes}
 use Rattle.reading_exact.specs.Lists.{All}
 use Rattle.reading_exact.specs.Tree.{Tree, end, fork, step, switch, past, flatten}
-use Rattle.reading_exact.specs.File.{Routine, File, InCount, WellFormed}
+use Rattle.reading_exact.specs.File.{rolesOf, Routine, File, InCount, WellFormed}
 use Rattle.reading_exact.proofs.AllLaws.{all-get, all-map}
 use Rattle.reading_exact.proofs.TreeEnds.{past-length}
 use Rattle.checking_exact.specs.Tables.{schemaFor}
@@ -52,11 +52,11 @@ few-each D i (s ∷ ss) h =
 
 module _ (F : File) (W : WellFormed F) where
   -- a user's roles are in count
-  pub roles-fit : (u : ℕ) → InCount (length (F .users)) u → (r : ℕ) → has (schemaFor F .assigned u) r ≡ true → InCount (length (F .roles)) r
+  pub roles-fit : (u : ℕ) → InCount (length (F .users)) u → (r : ℕ) → has (schemaFor F .assigned u) r ≡ true → InCount (length (rolesOf (F .grants))) r
   roles-fit u c r h = (
     has-pos (item 0 (F .users) u) r h,
-    subst (NamesOnly (length (F .roles))) (sym (item-get 0 (F .users) u (c .0)))
-        (all-get (λ (m : ℕ). NamesOnly (length (F .roles)) m) (F .users) (u - 1) 0 (omega arith) (W .users-fit)) r h,
+    subst (NamesOnly (length (rolesOf (F .grants)))) (sym (item-get 0 (F .users) u (c .0)))
+        (all-get (λ (m : ℕ). NamesOnly (length (rolesOf (F .grants))) m) (F .users) (u - 1) 0 (omega arith) (W .users-fit)) r h,
   )
 
   gather : (ss : List Routine) → All (λ (s : Routine). InCount (length (F .users)) (s .user)) ss

@@ -1,4 +1,4 @@
--- The starred cases, computed on the definitions.
+-- The starred cases, and cases of version 2, computed on the definitions.
 use mathlib.Core.Path.{refl}
 use Rattle.masks.specs.Mask.{has, with, without, namesOnly, within}
 use Rattle.format.specs.Words.{bytesOf}
@@ -10,6 +10,7 @@ use Rattle.tables.specs.Records.{recordFits, sectionAnswer, recordsAnswer}
 use Rattle.trees.specs.Ends.{following}
 use Rattle.trees.specs.Shape.{nodeFits, shapeFrom, roots, shapeAnswer}
 use Rattle.reading.specs.Reading.{reading}
+use Rattle.rules.specs.Juniors.{together, effective}
 use Rattle.rules.specs.Schema.{permits, permittingTo}
 use Rattle.rules.specs.Names.{named, kindOf, mine}
 use Rattle.rules.specs.Rules.{namesFit, kindsFit, able, wrong, barred, childOf}
@@ -19,10 +20,14 @@ use Rattle.checking.specs.Check.{readingNames, checking}
 use Rattle.optimum.specs.Optimum.{scan, gate}
 use Rattle.states.specs.States.{suits, up, rowOf, taken, rows, turnsFrom, turnsOf, labelled}
 use Rattle.groups.specs.Groups.{before, sizesOf, onsOf, startsFrom, groupsFrom, sessionsFrom}
-use Rattle.placing.specs.Placing.{masksAnswer, switchesAnswer, unservedFrom, placeable, judging, placing, placedBytes}
+use Rattle.placing.specs.Placing.{masksAnswer, switchesAnswer, unservedFrom, placeable, judging, measuring, placing, placedBytes}
 use Rattle.reading_exact.specs.Lists.{All}
-use Rattle.placing_exact.specs.Cases.{Shown, cases}
+use Rattle.placing_exact.specs.Cases.{Shown, cases, juniorCases}
 
 pub starred : All Shown cases
-unfolding has with without namesOnly within bytesOf firstOf from2 from3 from4 from5 headOf tabled item contentsAt roleWords channelWords sessionWords nodeWords tableWords fileWords encoded recordFits sectionAnswer recordsAnswer following nodeFits shapeFrom roots shapeAnswer reading permits permittingTo named kindOf mine namesFit kindsFit able wrong barred childOf reached openingsFrom firstBy rightly namesAnswer rolesAnswer candidates candidatesIn readingNames checking scan gate suits up rowOf taken rows turnsFrom turnsOf labelled before sizesOf onsOf startsFrom groupsFrom sessionsFrom masksAnswer switchesAnswer unservedFrom placeable judging placing placedBytes
+unfolding has with without namesOnly within bytesOf firstOf from2 from3 from4 from5 headOf tabled item contentsAt roleWords channelWords sessionWords nodeWords tableWords fileWords encoded recordFits sectionAnswer recordsAnswer following nodeFits shapeFrom roots shapeAnswer reading together effective permits permittingTo named kindOf mine namesFit kindsFit able wrong barred childOf reached openingsFrom firstBy rightly namesAnswer rolesAnswer candidates candidatesIn readingNames checking scan gate suits up rowOf taken rows turnsFrom turnsOf labelled before sizesOf onsOf startsFrom groupsFrom sessionsFrom masksAnswer switchesAnswer unservedFrom placeable judging measuring placing placedBytes
 starred = ((refl, refl), ((refl, refl), (refl, (refl, ((refl, refl), ((refl, refl), (refl, (refl, (refl, ((refl, refl), (refl, (refl, (refl, (refl, tt))))))))))))))
+
+pub ranked : All Shown juniorCases
+unfolding has with without namesOnly within bytesOf firstOf from2 from3 from4 from5 headOf tabled item contentsAt roleWords channelWords sessionWords nodeWords tableWords fileWords encoded recordFits sectionAnswer recordsAnswer following nodeFits shapeFrom roots shapeAnswer reading together effective permits permittingTo named kindOf mine namesFit kindsFit able wrong barred childOf reached openingsFrom firstBy rightly namesAnswer rolesAnswer candidates candidatesIn readingNames checking scan gate suits up rowOf taken rows turnsFrom turnsOf labelled before sizesOf onsOf startsFrom groupsFrom sessionsFrom masksAnswer switchesAnswer unservedFrom placeable judging measuring placing placedBytes
+ranked = ((refl, refl), (refl, (refl, (refl, (refl, (refl, (refl, (refl, (refl, (refl, (refl, (refl, (refl, (refl, tt))))))))))))))

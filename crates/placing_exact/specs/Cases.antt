@@ -28,10 +28,10 @@ pub data Case : Type 0 where
 abbrev pub Shown : Case → Type 0
 Shown (checks ws v) = checking (bytesOf ws) ≡ v
 Shown (places ws xs n) =
-    (placing (bytesOf ws) 6874 ≡ record { number = 0; place = 0; length = 2 * length xs; «on_steps» = n }) × (placedBytes (bytesOf ws) ≡ bytesOf xs)
+    (placing (bytesOf ws) 6908 ≡ record { number = 0; place = 0; length = 2 * length xs; «on_steps» = n }) × (placedBytes (bytesOf ws) ≡ bytesOf xs)
 Shown (placesBytes f g n) = (placing f 6874 ≡ record { number = 0; place = 0; length = length g; «on_steps» = n }) × (placedBytes f ≡ g)
 Shown (takes ws ss) = map (λ (t : Turn). t .to) (turnsFor (contentsOf (bytesOf ws))) ≡ ss
-Shown (refuses ws n p) = placing (bytesOf ws) 6874 ≡ noPlace n p
+Shown (refuses ws n p) = placing (bytesOf ws) 6908 ≡ noPlace n p
 
 -- the booking's tables (two users, two roles, two kinds, two channels of user 2), with the grants of the two roles, and one session of user 1
 abbrev file : List ℕ → ℕ → List ℕ → List ℕ
@@ -107,4 +107,48 @@ cases =
     ∷ checks (file apart 5 (7 ∷ 1 ∷ 0 ∷ 7 ∷ 1 ∷ 0 ∷ 8 ∷ 1 ∷ 0 ∷ 6 ∷ 257 ∷ 2 ∷ 0 ∷ 0 ∷ 0 ∷ [])) (refused 13 4)
     -- on 1, fork, off 1 in one branch, {1} in the other
     ∷ checks (file apart 6 (7 ∷ 1 ∷ 0 ∷ 1 ∷ 5 ∷ 0 ∷ 8 ∷ 1 ∷ 0 ∷ 0 ∷ 0 ∷ 0 ∷ 6 ∷ 257 ∷ 2 ∷ 0 ∷ 0 ∷ 0 ∷ [])) fine
+    ∷ []
+
+-- A file of version 2 in its words: the booking's tables with three roles and the masks of their juniors, one session of user 1, who has role 3 alone.
+-- Role 1 may send on kind 1, role 2 on kind 2, role 3 on neither by its own record.
+abbrev withMasks : List ℕ → ℕ → List ℕ → List ℕ
+withMasks juniors nodes words =
+    2 ∷ 2 ∷ 3 ∷ 2 ∷ 2 ∷ 1 ∷ nodes ∷ 14 ∷ 16 ∷ 28 ∷ 31 ∷ 33 ∷ 37 ∷ 40 ∷ 4 ∷ 0 ∷ 1 ∷ 0 ∷ 0 ∷ 0 ∷ 2 ∷ 0 ∷ 0 ∷ 0 ∷ 0 ∷ 0 ∷ 0 ∷ 0
+    ∷ juniors ++ 0 ∷ 0 ∷ 2 ∷ 1 ∷ 2 ∷ 2 ∷ 1 ∷ 0 ∷ 1 ∷ words
+
+-- a chain: role 3 has role 2 for a junior, and role 2 role 1
+abbrev chain : List ℕ
+chain = 0 ∷ 1 ∷ 2 ∷ []
+
+-- two sends, on kind 1 and on kind 2
+abbrev twoSends : List ℕ
+twoSends = 6 ∷ 257 ∷ 2 ∷ 6 ∷ 258 ∷ 2 ∷ 0 ∷ 0 ∷ 0 ∷ []
+
+-- with on of a role before them and off after them
+abbrev inRole : ℕ → List ℕ
+inRole role = 7 ∷ role ∷ 0 ∷ 6 ∷ 257 ∷ 2 ∷ 6 ∷ 258 ∷ 2 ∷ 8 ∷ role ∷ 0 ∷ 0 ∷ 0 ∷ 0 ∷ []
+
+abbrev pub juniorCases : List Case
+juniorCases =
+    -- what the chain permits is placed in role 3, and the file keeps its version and masks
+    places (withMasks chain 3 twoSends) (withMasks chain 5 (inRole 3)) 1
+    ∷ checks (withMasks chain 5 (inRole 3)) fine
+    -- one junior of two: kind 1 is not permitted
+    ∷ refuses (withMasks (0 ∷ 0 ∷ 2 ∷ []) 3 twoSends) 15 1
+    ∷ checks (withMasks (0 ∷ 0 ∷ 2 ∷ []) 5 (inRole 3)) (refused 13 2)
+    -- no mask is as no junior
+    ∷ refuses (withMasks (0 ∷ 0 ∷ 0 ∷ []) 3 twoSends) 15 1
+    -- a junior isn't the user's to switch on
+    ∷ checks (withMasks chain 5 (inRole 2)) (refused 11 1)
+    -- a role's own number, a higher one, and one out of count are 21 at the mask's offset
+    ∷ checks (withMasks (0 ∷ 2 ∷ 0 ∷ []) 3 twoSends) (refused 21 29)
+    ∷ checks (withMasks (2 ∷ 0 ∷ 0 ∷ []) 3 twoSends) (refused 21 28)
+    ∷ checks (withMasks (0 ∷ 0 ∷ 32768 ∷ []) 3 twoSends) (refused 21 30)
+    -- 6 at a later place comes before it, and 7 after it
+    ∷ checks (2 ∷ 2 ∷ 3 ∷ 2 ∷ 2 ∷ 1 ∷ 3 ∷ 14 ∷ 16 ∷ 28 ∷ 31 ∷ 33 ∷ 37 ∷ 40 ∷ 4 ∷ 0 ∷ 1 ∷ 0 ∷ 0 ∷ 0 ∷ 2 ∷ 0 ∷ 0 ∷ 0 ∷ 0 ∷ 0 ∷ 0 ∷ 0 ∷ 0 ∷ 2 ∷ 0 ∷ 0 ∷ 0 ∷ 2 ∷ 1 ∷ 2 ∷ 3 ∷ 1 ∷ 0 ∷ 1 ∷ twoSends) (refused 6 35)
+    ∷ checks (2 ∷ 2 ∷ 3 ∷ 2 ∷ 2 ∷ 1 ∷ 3 ∷ 14 ∷ 16 ∷ 28 ∷ 31 ∷ 33 ∷ 37 ∷ 40 ∷ 4 ∷ 0 ∷ 1 ∷ 0 ∷ 0 ∷ 0 ∷ 2 ∷ 0 ∷ 0 ∷ 0 ∷ 0 ∷ 0 ∷ 0 ∷ 0 ∷ 0 ∷ 2 ∷ 0 ∷ 0 ∷ 0 ∷ 2 ∷ 1 ∷ 2 ∷ 2 ∷ 3 ∷ 0 ∷ 1 ∷ twoSends) (refused 21 29)
+    -- 26 bytes whose first word is 2, the least file of version 2, and version 3
+    ∷ checks (2 ∷ 0 ∷ 0 ∷ 0 ∷ 0 ∷ 0 ∷ 0 ∷ 13 ∷ 13 ∷ 13 ∷ 13 ∷ 13 ∷ 13 ∷ []) (refused 1 0)
+    ∷ checks (2 ∷ 0 ∷ 0 ∷ 0 ∷ 0 ∷ 0 ∷ 0 ∷ 14 ∷ 14 ∷ 14 ∷ 14 ∷ 14 ∷ 14 ∷ 14 ∷ []) fine
+    ∷ checks (3 ∷ 0 ∷ 0 ∷ 0 ∷ 0 ∷ 0 ∷ 0 ∷ 14 ∷ 14 ∷ 14 ∷ 14 ∷ 14 ∷ 14 ∷ 14 ∷ []) (refused 2 0)
     ∷ []

@@ -17,7 +17,7 @@ use Rattle.rules.specs.Schema.{schemaOf, Permitted}
 use Rattle.rules.specs.Rules.{Context}
 use Rattle.rules.specs.Checking.{openings}
 use Rattle.reading_exact.specs.File.{File, InCount, nodesOf, encode}
-use Rattle.reading_exact.specs.Order.{Order}
+use Rattle.reading_exact.specs.Order.{Order, inTurn, OfFile}
 use Rattle.reading_exact.specs.Refusals.{nth}
 use Rattle.checking_exact.specs.Tables.{schemaFor}
 use Rattle.checking_exact.specs.Typing.{HasKind}
@@ -48,10 +48,10 @@ PlacedWith Size f =
 
 -- a refusal's number and place have their cause in a file and the room for the output
 pub data Cause (f : List ℕ) (room n p : ℕ) : Type 0 where
-  -- 17: output under 6,874 bytes
+  -- 17: output under 6,874 bytes, or under 6,908 for an input whose first word is 2
   no-room : n ≡ 17 → p ≡ 0 → room < roomFor f → Cause f room n p
-  -- 1 to 10
-  objected : n ≤ 10 → Objection f n p → Cause f room n p
+  -- 1 to 10, 21 among them
+  objected : OfFile n → Objection f n p → Cause f room n p
   -- 14: a starting mask (place 0), or on or off present (place: that node)
   masked : n ≡ 14 → p ≡ 0 → SomeMask (contentsOf f) → Cause f room n p
   switched : n ≡ 14 → IsSwitch (contentsOf f .nodes) p → Cause f room n p
@@ -64,6 +64,6 @@ pub data Cause (f : List ℕ) (room n p : ℕ) : Type 0 where
 abbrev pub refusalIn : Placed → Verdict
 refusalIn a = refused (a .number) (a .place)
 
--- the order: 17, then 1 to 8 by number, then 9 and 10 together, then 14 (a mask's place 0 before nodes), 15, 16
+-- the order: 17, then 1 to 8 by number, 21 after 6, then 9 and 10 together, then 14 (a mask's place 0 before nodes), 15, 16
 abbrev pub placingOrder : Order
-placingOrder = record { stage = λ n. cond (eqb n 17) 0 (cond (leb n 8) n (cond (leb n 10) 9 n)); turn = λ n. n }
+placingOrder = record { stage = λ n. cond (eqb n 17) 0 (cond (leb (inTurn n) 16) (inTurn n) (cond (leb n 10) 18 (inTurn n))); turn = λ n. n }

@@ -50,7 +50,7 @@ grafted (s ∷ ss) (t ∷ ts) = record { user = s .user; mask = s .mask; tree = 
 
 -- the file with other trees: tables, users and masks stay
 abbrev pub graft : File → List Tree → File
-graft F ts = record { users = F .users; roles = F .roles; kinds = F .kinds; channels = F .channels; sessions = grafted (F .sessions) ts }
+graft F ts = record { users = F .users; grants = F .grants; kinds = F .kinds; channels = F .channels; sessions = grafted (F .sessions) ts }
 
 -- any list of trees that gives the file's trees back, passes by the check's own judgement, and holds at most one role, none at an end
 pub record Placement (F : File) (ts : List Tree) : Type 0 where

@@ -28,7 +28,7 @@ pub record WellPlaced (f : List ℕ) (a : Placed) (g : List ℕ) : Type 0 where
   pub formed : WellFormed file
   pub reads : encode file ≡ f
   pub trees : List Tree
-  -- it has its input's users, roles, kinds and channels, its sessions' users and starting masks
+  -- it has its input's version, users, roles with their masks of juniors, kinds and channels, its sessions' users and starting masks
   pub writes : encode (graft file trees) ≡ g
   -- and is a placement of its input, each branch holding at most one role at any moment and none at its end
   pub placement : Placement file trees
@@ -58,7 +58,7 @@ pub record Ruled (f : List ℕ) (F : File) : Type 0 where
   pub measured : sizesOf (turnsFor (contentsOf f)) ≡ length (nodesOf (graft F (insertAll (schemaFor F) (F .sessions) states)))
   pub written : placedBytes f ≡ encode (graft F (insertAll (schemaFor F) (F .sessions) states))
 
--- nothing before 14 in the order refuses: 17 (output under 6,874 bytes), then 1 to 10
+-- nothing before 14 in the order refuses: 17 (output under 6,874 bytes, or 6,908 where the first word is 2), then 1 to 10
 pub record Clean (f : List ℕ) (room : ℕ) : Type 0 where
   pub wide : roomFor f ≤ room
   pub names : readingNames f ≡ fine

@@ -1,4 +1,4 @@
--- Reading a file: the first of the refusals 1 to 8, by number, and within a number at the lowest place.
+-- Reading a file: the first of the refusals 1 to 8, by number, 21 after 6, and within a number at the lowest place. Where "1 to 8" is written, 21 is among them.
 use Prim.Native.Nat.{ℕ}
 use mathlib.Core.Bool.{cond}
 use mathlib.Core.List.{List}

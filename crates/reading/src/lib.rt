@@ -1,4 +1,4 @@
-// Reading a clinic file: the refusals 1 to 8, in order.
+// Reading a clinic file: the refusals 1 to 8, 21 after 6, in order.
 pub mod long;
 
 use format::Head;

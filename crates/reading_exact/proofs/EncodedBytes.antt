@@ -1,18 +1,22 @@
 -- The encoding of a well formed file is bytes: everything in it fits a word.
-use Prim.Native.Nat.{ℕ, _+_, _-_, _^_, _≤_, _<_}
-use mathlib.Core.Path.{sym, subst}
+use Prim.Native.Nat.{ℕ, suc, _+_, _-_, _^_, _≤_, _<_}
+use mathlib.Core.Path.{_≡_, sym, subst}
+use mathlib.Core.Bool.{Bool, true, false, cond}
 use mathlib.Core.List.{List, [], _∷_, _++_}
 use native.Mathlib.Omega.{arith}
+use lib.Dec.{eqb}
 use lib.ListN.{length}
 use Rattle.masks.specs.Mask.{NamesOnly}
 use Rattle.masks.proofs.Bounds.{namesOnly-iff, namesOnly-lt}
-use Rattle.format.specs.Header.{headWords}
-use Rattle.format.specs.Writing.{headFor, fileWords, encoded}
+use Rattle.format.specs.Header.{more, juniorRecords, sixWords, headWords}
+use Rattle.format.specs.Writing.{juniorWords, headFor, fileWords, encoded}
+use Rattle.format.specs.declared.Seven.{Seven}
 use Rattle.format.specs.declared.Role.{Role}
 use Rattle.format.specs.declared.Node.{Node}
+use Rattle.format.proofs.HeadLaws.{more-few, juniors-few}
 use Rattle.reading_exact.specs.Lists.{All}
 use Rattle.reading_exact.specs.Tree.{past, flatten, Worded}
-use Rattle.reading_exact.specs.File.{Routine, File, WellFormed, nodesOf, rooted, contentsFor, encode}
+use Rattle.reading_exact.specs.File.{Routine, Grants, first, second, versionOf, rolesOf, juniorsOf, LowerFrom, File, WellFormed, nodesOf, rooted, contentsFor, encode}
 use Rattle.reading_exact.proofs.TreeEnds.{past-length}
 use Rattle.reading_exact.proofs.WordedTrees.{WordsFit, worded-nodes}
 use Rattle.reading_exact.proofs.Bytes.{Byte, Word, small-bytes}
@@ -20,7 +24,7 @@ use Rattle.reading_exact.proofs.Rows.{cat}
 use Rattle.reading_exact.proofs.SectionRows.{oneRow, roleRow, channelRow, sessionRow, nodeRow, rowWords, file-rows}
 use Rattle.reading_exact.proofs.AllLaws.{all-map, all-append, all-get}
 use Rattle.reading_exact.proofs.RecordsJudged.{Seated}
-use Rattle.reading_exact.proofs.FileContents.{treesOf, length-rooted, all-trees}
+use Rattle.reading_exact.proofs.FileContents.{juniors-each, treesOf, length-rooted, all-trees}
 
 -- every one is a word; a record, so that the list is found from it
 record Small (l : List ℕ) : Type 0 where
@@ -48,8 +52,8 @@ small-rooted at (s ∷ ss) l h =
     ((h .0 .0, (h .0 .1, (omega arith, tt))), small-rooted (past at (s .tree)) ss (omega arith) (h .1))
 
 module _ (F : File) (w : WellFormed F) where
-  small-mask : (m : ℕ) → NamesOnly (length (F .roles)) m → Word m
-  small-mask m h = mask-lt 16 (length (F .roles)) m (w .few-roles) h
+  small-mask : (m : ℕ) → NamesOnly (length (rolesOf (F .grants))) m → Word m
+  small-mask m h = mask-lt 16 (length (rolesOf (F .grants))) m (w .few-roles) h
 
   small-role : (r : Role) → NamesOnly (length (F .kinds)) (r .sends) × NamesOnly (length (F .kinds)) (r .receives) → All Word (roleRow r)
   small-role r h =
@@ -61,7 +65,7 @@ module _ (F : File) (w : WellFormed F) where
   small-user s h =
       let few = w .few-users in
       let there : s .user - 1 < length (F .users) = omega arith in
-      let all = all-get (NamesOnly (length (F .roles))) (F .users) (s .user - 1) 0 there (w .users-fit) in
+      let all = all-get (NamesOnly (length (rolesOf (F .grants)))) (F .users) (s .user - 1) 0 there (w .users-fit) in
       (omega arith, small-mask (s .mask) (λ x p. all x (h .1 x p)))
 
   small-node : (n : Node) → WordsFit n → All Word (nodeRow n)
@@ -73,23 +77,62 @@ module _ (F : File) (w : WellFormed F) where
       let few = w .few-nodes in
       all-map small-node (nodesOf F) (worded-nodes 1 (treesOf (F .sessions)) worded (omega arith))
 
-  small-head : Small (headWords (headFor (contentsFor F)))
-  small-head = record { words = omega (arith, length-rooted 1 (F .sessions)) }
+  abbrev v : ℕ
+  v = versionOf (F .grants)
 
-  small-file : Small (rowWords (contentsFor F))
+  small-version : v < 65536
+  small-version = go (F .grants)
+    where
+      go : (g : Grants) → versionOf g < 65536
+      go (first rs) = omega arith
+      go (second rs) = omega arith
+
+  small-head : Small (headWords (headFor v (contentsFor F)))
+  small-head = record { words = go (eqb v 2) }
+    where
+      at : Seven
+      at = headFor v (contentsFor F) .at
+
+      few-one : more v ≤ 1
+      few-one = more-few v
+
+      few-masks : juniorRecords v (length (rolesOf (F .grants))) ≤ length (rolesOf (F .grants))
+      few-masks = juniors-few v (length (rolesOf (F .grants)))
+
+      sessions : length (rooted 1 (F .sessions)) ≡ length (F .sessions)
+      sessions = length-rooted 1 (F .sessions)
+
+      go : (b : Bool)
+          → All Word (v ∷ sixWords (headFor v (contentsFor F) .count) ++ (at .users ∷ at .roles ∷ cond b (at .juniors ∷ []) [] ++ (at .kinds ∷ at .channels ∷ at .sessions ∷ at .nodes ∷ [])))
+      go true = omega (arith, small-version, few-one, few-masks, sessions, w .few-users, w .few-roles, w .few-kinds, w .few-channels, w .few-sessions, w .few-nodes)
+      go false = omega (arith, small-version, few-one, few-masks, sessions, w .few-users, w .few-roles, w .few-kinds, w .few-channels, w .few-sessions, w .few-nodes)
+
+  -- a role's juniors are lower than it, and there are at most 16 roles
+  small-lower : (i : ℕ) (ms : List ℕ) → i + length ms ≤ 17 → LowerFrom i ms → All Word ms
+  small-lower i [] l h = tt
+  small-lower i (m ∷ ms) l h = (mask-lt 16 16 m (omega arith) (λ x p. omega (arith, h .0 x p)), small-lower (suc i) ms (omega arith) (h .1))
+
+  small-juniors : Small (juniorWords v (juniorsOf (F .grants)))
+  small-juniors = record { words = go (eqb v 2) }
+    where
+      go : (b : Bool) → All Word (cond b (juniorsOf (F .grants)) [])
+      go true = small-lower 1 (juniorsOf (F .grants)) (omega (arith, w .few-roles, juniors-each F)) (w .juniors-fit)
+      go false = tt
+
+  small-file : Small (rowWords v (contentsFor F))
   small-file =
       let few = w .few-nodes in
       let few-users = w .few-users in
       let few-kinds = w .few-kinds in
       let users = small-cat oneRow (F .users) (all-map (λ m h. (small-mask m h, tt)) (F .users) (w .users-fit)) in
-      let roles = small-cat roleRow (F .roles) (all-map small-role (F .roles) (w .roles-fit)) in
+      let roles = small-cat roleRow (rolesOf (F .grants)) (all-map small-role (rolesOf (F .grants)) (w .roles-fit)) in
       let kinds = small-cat oneRow (F .kinds) (all-map (λ k h. omega arith) (F .kinds) (w .kinds-fit)) in
       let channels = small-cat channelRow (F .channels) (all-map (λ c h. omega arith) (F .channels) (w .channels-fit)) in
       let sessions = small-cat sessionRow (rooted 1 (F .sessions)) (small-rooted 1 (F .sessions) (omega arith) (all-map small-user (F .sessions) (w .sessions-fit))) in
       let nodes = small-cat nodeRow (nodesOf F) small-nodes in
-      small-append small-head (small-append users (small-append roles (small-append kinds (small-append channels (small-append sessions nodes)))))
+      small-append small-head (small-append users (small-append roles (small-append small-juniors (small-append kinds (small-append channels (small-append sessions nodes))))))
 
   -- so that `sound` speaks of every file that `complete` does
   pub encode-bytes : All Byte (encode F)
   unfolding encode encoded
-  encode-bytes = small-bytes (fileWords (contentsFor F)) (subst (All Word) (sym (file-rows (contentsFor F))) (small-file .words))
+  encode-bytes = small-bytes (fileWords v (contentsFor F)) (subst (All Word) (sym (file-rows v (contentsFor F))) (small-file .words))

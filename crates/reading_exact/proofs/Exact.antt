@@ -1,22 +1,26 @@
 -- Reading a file without a refusal of 1 to 8 is the same as its bytes being the encoding of a well formed file, and of exactly one.
 use Prim.Native.Nat.{ℕ, zero, suc, _+_, _≤_, _<_}
-use mathlib.Core.Path.{_≡_, sym, ap, ap₂, _∙_, subst}
+use mathlib.Core.Path.{_≡_, refl, sym, ap, ap₂, _∙_, subst}
+use mathlib.Core.Logic.{inl, inr}
+use mathlib.Core.Bool.{Bool, true, false}
 use mathlib.Core.List.{List, map}
+use lib.Dec.{eqb}
 use Rattle.format.specs.Words.{wordAt}
 use Rattle.format.specs.Answers.{fine}
 use Rattle.format.specs.Header.{headAt}
-use Rattle.format.specs.Sections.{placeOf, nodeAt}
+use Rattle.format.specs.Sections.{placeOf, juniorsOf, nodeAt}
 use Rattle.format.specs.Contents.{Contents, tabled, contentsAt, contentsOf}
 use Rattle.format.specs.Writing.{encoded}
 use Rattle.format.specs.declared.Head.{Head}
 use Rattle.format.specs.declared.Section.the-variants.{Nodes}
+use Rattle.format.proofs.ContentsLaws.{tabled-same, roles-held, juniors-held}
 use Rattle.trees.specs.Shape.{shapeFrom}
 use Rattle.reading.specs.Reading.{reading}
 use Rattle.trees.specs.declared.Due.the-variants.{Root}
 use Rattle.reading.proofs.ReadingLaws.{reading-iff}
 use Rattle.reading_exact.specs.Lists.{All}
 use Rattle.reading_exact.specs.Tree.{Tree, flatten, height, Worded}
-use Rattle.reading_exact.specs.File.{File, WellFormed, rooted, contentsFor, encode}
+use Rattle.reading_exact.specs.File.{versionOf, File, WellFormed, rooted, contentsFor, encode}
 use Rattle.reading_exact.proofs.Standing.{rootsIn, rootsOf}
 use Rattle.reading_exact.proofs.ShapeComplete.{shape-complete}
 use Rattle.reading_exact.proofs.ShapeSound.{shape-sound}
@@ -28,13 +32,14 @@ use Rattle.reading_exact.proofs.AllLaws.{all-map, all-both}
 use Rattle.reading_exact.proofs.RecordsJudged.{Seated}
 use Rattle.reading_exact.proofs.ContentsJudged.{ContentsFit, judged, not-refused}
 use Rattle.reading_exact.proofs.FileContents.{treesOf, routines, length-rooted, roots-rooted, trees-routines, rooted-routines, all-rooted, all-trees}
-use Rattle.reading_exact.proofs.FileContents.{fileOf, file-back, contents-back}
+use Rattle.reading_exact.proofs.FileContents.{fileOf, file-back, contents-back, version-back, formed-by, known, grants-held, version-held}
+use Rattle.reading_exact.proofs.Places.{Formed}
 
 -- a tree that a file may have
 abbrev Fair : Tree → Type 0
 Fair t = (height t ≤ 8) × Worded t
 
-contents-fit : (F : File) → WellFormed F → ContentsFit (contentsFor F)
+pub contents-fit : (F : File) → WellFormed F → ContentsFit (contentsFor F)
 contents-fit F w = record {
   few-users = w .few-users;
   few-roles = w .few-roles;
@@ -45,6 +50,7 @@ contents-fit F w = record {
   records = record {
     users-fit = w .users-fit;
     roles-fit = w .roles-fit;
+    juniors-fit = w .juniors-fit;
     kinds-fit = w .kinds-fit;
     channels-fit = w .channels-fit;
     sessions-fit = all-rooted (Seated (F .users)) 1 (F .sessions) .1 (w .sessions-fit);
@@ -64,6 +70,7 @@ formed F t fair = record {
   few-nodes = t .few-nodes;
   users-fit = t .records .users-fit;
   roles-fit = t .records .roles-fit;
+  juniors-fit = t .records .juniors-fit;
   kinds-fit = t .records .kinds-fit;
   channels-fit = t .records .channels-fit;
   sessions-fit = all-rooted (Seated (F .users)) 1 (F .sessions) .0 (t .records .sessions-fit);
@@ -71,11 +78,24 @@ formed F t fair = record {
 }
 
 -- the file that contents and trees make has these contents
-same-contents : (C : Contents) (ts : List Tree) → C .nodes ≡ flatten 1 ts → rootsIn (C .sessions) ≡ rootsOf 1 ts → contentsFor (fileOf C ts) ≡ C
-same-contents C ts nodes roots =
+same-contents : (v : ℕ) (C : Contents) (ts : List Tree) → Formed v C → C .nodes ≡ flatten 1 ts → rootsIn (C .sessions) ≡ rootsOf 1 ts → contentsFor (fileOf v C ts) ≡ C
+same-contents v C ts formed nodes roots =
+    let (roles, juniors) = grants-held v C formed in
     let sessions : rooted 1 (routines (C .sessions) ts) ≡ C .sessions = rooted-routines 1 (C .sessions) ts roots in
     let trees : flatten 1 (treesOf (routines (C .sessions) ts)) ≡ C .nodes = ap (flatten 1) (trees-routines 1 (C .sessions) ts roots) ∙ sym nodes in
-    λ i. record { users = C .users; roles = C .roles; kinds = C .kinds; channels = C .channels; sessions = sessions i; nodes = trees i }
+    λ i. record { users = C .users; roles = roles i; juniors = juniors i; kinds = C .kinds; channels = C .channels; sessions = sessions i; nodes = trees i }
+
+-- what is read is formed by the version that is read
+read-formed : (f : List ℕ) → Formed (wordAt f 0) (contentsOf f)
+unfolding contentsAt
+read-formed f = go (eqb (wordAt f 0) 2) refl
+  where
+    h : Head
+    h = headAt f
+
+    go : (b : Bool) → eqb (wordAt f 0) 2 ≡ b → Formed (wordAt f 0) (contentsOf f)
+    go true e = inl (e, juniors-held f h ∙ sym (roles-held f h))
+    go false e = inr (e, tabled-same (juniorsOf f h) (λ n. 0) 1 (h .count .roles) (λ j p q. rw e) ∙ ap (tabled (λ n. 0) 1) (sym (roles-held f h)))
 
 -- the operands of the nodes read are words
 read-fields : (f : List ℕ) (h : Head) → ((i : ℕ) → Word (wordAt f i)) → All FieldsFit (contentsAt f h .nodes)
@@ -91,27 +111,31 @@ pub sound : (f : List ℕ) → All (λ b. b < 256) f → reading f ≡ fine → 
 unfolding encode
 sound f bytes e =
     let (d, body) = reading-iff f .0 e in
+    let v : ℕ = wordAt f 0 in
     let C : Contents = contentsOf f in
-    let back : encoded C ≡ f = bytes-back f d bytes in
-    let fit : ContentsFit C = judged C (subst (λ (g : List ℕ). reading g ≡ fine) (sym back) e) in
+    let form : Formed v C = read-formed f in
+    let back : encoded v C ≡ f = bytes-back f d bytes in
+    let fit : ContentsFit C = judged v C form (subst (λ (g : List ℕ). reading g ≡ fine) (sym back) e) in
     let (ts, nodes, roots, low) = shape-sound (C .nodes) (rootsIn (C .sessions)) (fit .shape) in
-    let F : File = fileOf C ts in
-    let same : contentsFor F ≡ C = same-contents C ts nodes roots in
+    let F : File = fileOf v C ts in
+    let same : contentsFor F ≡ C = same-contents v C ts form nodes roots in
+    let version : versionOf (F .grants) ≡ v = version-held v (d .version) (C .roles) (C .juniors) in
     let trees : treesOf (F .sessions) ≡ ts = trees-routines 1 (C .sessions) ts roots in
     let worded : All Worded ts = worded-trees 1 ts (subst (All FieldsFit) nodes (read-fields f (headAt f) (small-words f bytes))) in (
       F,
       formed F (subst ContentsFit (sym same) fit) (subst (All Fair) (sym trees) (all-both (λ t. height t ≤ 8) Worded ts low worded)),
-      ap encoded same ∙ back,
+      ap₂ encoded version same ∙ back,
     )
 
 -- encode, then read, is not refused
 pub complete : (F : File) → WellFormed F → reading (encode F) ≡ fine
 unfolding encode
-complete F w = not-refused (contentsFor F) (contents-fit F w)
+complete F w = not-refused (versionOf (F .grants)) (contentsFor F) (formed-by F) (known F) (contents-fit F w)
 
 -- no two files have the same bytes, well formed or not
 pub single : (F G : File) → encode F ≡ encode G → F ≡ G
 single F G e =
     let contents = sym (contents-back F) ∙ ap (λ (f : List ℕ). contentsOf f) e ∙ contents-back G in
+    let version = sym (version-back F) ∙ ap (λ (f : List ℕ). wordAt f 0) e ∙ version-back G in
     let trees = flatten-single (treesOf (F .sessions)) (treesOf (G .sessions)) (ap (λ (C : Contents). C .nodes) contents) in
-    sym (file-back F) ∙ ap₂ fileOf contents trees ∙ file-back G
+    sym (file-back F) ∙ (λ i. fileOf (version i) (contents i) (trees i)) ∙ file-back G

@@ -1,17 +1,25 @@
 -- What a file holds: its sessions as records with a root word, and its trees as nodes. Records and trees give the file back.
 use Prim.Native.Nat.{ℕ, suc}
 use mathlib.Core.Path.{_≡_, refl, sym, ap, ap₂, _∙_}
-use mathlib.Core.Logic.{_↔_}
+use mathlib.Core.Logic.{_↔_, _⊎_, inl, inr}
+use mathlib.Core.Bool.{true, false, cond}
 use mathlib.Core.List.{List, [], _∷_, map}
 use native.Mathlib.Omega.{arith}
-use lib.ListN.{length}
-use Rattle.format.specs.Contents.{Contents, contentsOf}
+use lib.Dec.{eqb}
+use lib.ListN.{length, length-map}
+use borrow.Author.Tests.{eq-eqb, ne-eqb}
+use Rattle.format.specs.Words.{wordAt}
+use Rattle.format.specs.Contents.{Contents, tabled, contentsOf}
+use Rattle.format.specs.declared.Head.{Head}
+use Rattle.format.specs.declared.Role.{Role}
 use Rattle.format.specs.declared.Session.{Session}
+use Rattle.format.proofs.HeadLaws.{IsVersion}
 use Rattle.reading_exact.specs.Lists.{All}
 use Rattle.reading_exact.specs.Tree.{Tree, past}
-use Rattle.reading_exact.specs.File.{Routine, File, rooted, contentsFor, encode}
+use Rattle.reading_exact.specs.File.{Routine, Senior, Grants, first, second, versionOf, rolesOf, juniorsOf, File, rooted, contentsFor, encode}
 use Rattle.reading_exact.proofs.Standing.{rootsIn, rootsOf}
-use Rattle.reading_exact.proofs.Places.{encoded-back}
+use Rattle.reading_exact.proofs.Places.{Formed, encoded-back}
+use Rattle.reading_exact.proofs.SectionRows.{head-back}
 
 abbrev pub treesOf : List Routine → List Tree
 treesOf ss = map (λ (s : Routine). s .tree) ss
@@ -65,22 +73,102 @@ pub all-trees : (P : Tree → Type 0) (ss : List Routine) → All P (treesOf ss)
 all-trees P [] = (λ h. tt, λ h. tt)
 all-trees P (s ∷ ss) = let more = all-trees P ss in (λ h. (h .0, more .0 (h .1)), λ h. (h .0, more .1 (h .1)))
 
-abbrev pub fileOf : Contents → List Tree → File
-fileOf C ts = record { users = C .users; roles = C .roles; kinds = C .kinds; channels = C .channels; sessions = routines (C .sessions) ts }
+-- roles with the masks of their juniors, one each
+unfoldable pub seniors : List Role → List ℕ → List Senior
+seniors [] js = []
+seniors (r ∷ rs) [] = []
+seniors (r ∷ rs) (j ∷ js) = record { own = r; juniors = j } ∷ seniors rs js
 
-pub file-back : (F : File) → fileOf (contentsFor F) (treesOf (F .sessions)) ≡ F
+-- the roles by a version
+abbrev pub grantsFor : ℕ → List Role → List ℕ → Grants
+grantsFor v rs js = cond (eqb v 2) (second (seniors rs js)) (first rs)
+
+seniors-back : (rs : List Senior) → seniors (rolesOf (second rs)) (juniorsOf (second rs)) ≡ rs
+unfolding seniors
+seniors-back [] = refl
+seniors-back (r ∷ rs) = ap {B = List Senior} (λ l. r ∷ l) (seniors-back rs)
+
+grants-back : (g : Grants) → grantsFor (versionOf g) (rolesOf g) (juniorsOf g) ≡ g
+grants-back (first rs) = refl
+grants-back (second rs) = ap second (seniors-back rs)
+
+seniors-roles : (rs : List Role) (js : List ℕ) → length js ≡ length rs → rolesOf (second (seniors rs js)) ≡ rs
+unfolding seniors
+seniors-roles [] js e = refl
+seniors-roles (r ∷ rs) [] e = let no : ⊥ = omega arith in absurd no
+seniors-roles (r ∷ rs) (j ∷ js) e = ap {B = List Role} (λ l. r ∷ l) (seniors-roles rs js (omega arith))
+
+seniors-juniors : (rs : List Role) (js : List ℕ) → length js ≡ length rs → juniorsOf (second (seniors rs js)) ≡ js
+unfolding seniors
+seniors-juniors [] [] e = refl
+seniors-juniors [] (j ∷ js) e = let no : ⊥ = omega arith in absurd no
+seniors-juniors (r ∷ rs) [] e = let no : ⊥ = omega arith in absurd no
+seniors-juniors (r ∷ rs) (j ∷ js) e = ap {B = List ℕ} (λ l. j ∷ l) (seniors-juniors rs js (omega arith))
+
+-- no mask of juniors
+zeros : (i : ℕ) (rs : List Role) → juniorsOf (first rs) ≡ tabled (λ n. 0) i (length rs)
+unfolding tabled
+zeros i [] = refl
+zeros i (r ∷ rs) = ap {B = List ℕ} (λ l. 0 ∷ l) (zeros (suc i) rs)
+
+-- what a version holds is the roles that it makes
+pub grants-held : (v : ℕ) (C : Contents) → Formed v C → (rolesOf (grantsFor v (C .roles) (C .juniors)) ≡ C .roles) × (juniorsOf (grantsFor v (C .roles) (C .juniors)) ≡ C .juniors)
+grants-held v C (inl (e, same)) = rw e (seniors-roles (C .roles) (C .juniors) same, seniors-juniors (C .roles) (C .juniors) same)
+grants-held v C (inr (e, none)) = rw e (refl, zeros 1 (C .roles) ∙ sym none)
+
+pub version-held : (v : ℕ) → IsVersion v → (rs : List Role) (js : List ℕ) → versionOf (grantsFor v rs js) ≡ v
+version-held v (inl e) rs js = rw (ne-eqb v 2 (omega arith)) (sym e)
+version-held v (inr e) rs js = rw (eq-eqb v 2 e) (sym e)
+
+-- a file's own contents are formed by its version
+pub formed-by : (F : File) → Formed (versionOf (F .grants)) (contentsFor F)
+formed-by F = go (F .grants)
+  where
+    go : (g : Grants) → ((eqb (versionOf g) 2 ≡ true) × (length (juniorsOf g) ≡ length (rolesOf g))) ⊎ ((eqb (versionOf g) 2 ≡ false) × (juniorsOf g ≡ tabled (λ n. 0) 1 (length (rolesOf g))))
+    go (first rs) = inr (refl, zeros 1 rs)
+    go (second rs) = inl (refl, length-map rs (λ (r : Senior). r .juniors) ∙ sym (length-map rs (λ (r : Senior). r .own)))
+
+pub known : (F : File) → IsVersion (versionOf (F .grants))
+known F = go (F .grants)
+  where
+    go : (g : Grants) → IsVersion (versionOf g)
+    go (first rs) = inl refl
+    go (second rs) = inr refl
+
+-- a mask for each role
+pub juniors-each : (F : File) → length (juniorsOf (F .grants)) ≡ length (rolesOf (F .grants))
+juniors-each F = go (F .grants)
+  where
+    go : (g : Grants) → length (juniorsOf g) ≡ length (rolesOf g)
+    go (first rs) = length-map rs (λ (r : Role). 0)
+    go (second rs) = length-map rs (λ (r : Senior). r .juniors) ∙ sym (length-map rs (λ (r : Senior). r .own))
+
+abbrev pub fileOf : ℕ → Contents → List Tree → File
+fileOf v C ts = record {
+  users = C .users;
+  grants = grantsFor v (C .roles) (C .juniors);
+  kinds = C .kinds;
+  channels = C .channels;
+  sessions = routines (C .sessions) ts;
+}
+
+pub file-back : (F : File) → fileOf (versionOf (F .grants)) (contentsFor F) (treesOf (F .sessions)) ≡ F
 file-back F = λ i. record {
   users = F .users;
-  roles = F .roles;
+  grants = grants-back (F .grants) i;
   kinds = F .kinds;
   channels = F .channels;
   sessions = routines-rooted 1 (F .sessions) i;
 }
 
--- encoded, then read, gives what the file holds
+-- encoded, then read, gives what the file holds, and its version
 pub contents-back : (F : File) → contentsOf (encode F) ≡ contentsFor F
 unfolding encode
-contents-back F = encoded-back (contentsFor F)
+contents-back F = encoded-back (versionOf (F .grants)) (contentsFor F) (formed-by F)
+
+pub version-back : (F : File) → wordAt (encode F) 0 ≡ versionOf (F .grants)
+unfolding encode
+version-back F = ap (λ (h : Head). h .version) (head-back (versionOf (F .grants)) (contentsFor F))
 
 -- so that bytes hold what the file holds whose bytes they are
 pub contents-held : (F : File) (f : List ℕ) → encode F ≡ f → contentsOf f ≡ contentsFor F

@@ -9,7 +9,7 @@ use borrow.Author.Tests.{eqb-true, eqb-false, leb-true, leb-false}
 use Rattle.format.specs.Answers.{fine, refused, orElse, firstOf}
 use Rattle.format.specs.declared.Verdict.{Verdict}
 use Rattle.format.proofs.AnswerLaws.{quiet-first, loud-first, both-quiet}
-use Rattle.reading_exact.specs.Order.{Order, Sooner, FirstAt, First}
+use Rattle.reading_exact.specs.Order.{Order, inTurn, Sooner, FirstAt, First}
 
 abbrev pub Both : (ℕ → ℕ → Type 0) → (ℕ → ℕ → Type 0) → ℕ → ℕ → Type 0
 Both R Q n p = R n p ⊎ Q n p
@@ -87,20 +87,20 @@ module _ (o : Order) where
       subst (First o (Both R Q)) (sym (loud-first v w (λ z. omega (arith, some n p (h .0), number-of e)) ∙ e))
       (first-some R Q n p h (λ m q. later n p m q (h .0)))
 
-  -- the same where the first has the numbers up to k, and the second those above, which are of later stages
-  pub first-split : (R : ℕ → ℕ → Type 0) (k : ℕ) (v w : Verdict) → Numbered R → ((n m : ℕ) → n ≤ k → k < m → o .stage n < o .stage m)
-      → First o (λ n p. R n p × (n ≤ k)) v → (((n p : ℕ) → R n p × (n ≤ k) → ⊥) → First o (λ n p. R n p × (k < n)) w) → First o R (orElse v w)
+  -- the same where the first has the numbers whose turn is up to k, and the second those after, which are of later stages
+  pub first-split : (R : ℕ → ℕ → Type 0) (k : ℕ) (v w : Verdict) → Numbered R → ((n m : ℕ) → inTurn n ≤ k → k < inTurn m → o .stage n < o .stage m)
+      → First o (λ n p. R n p × (inTurn n ≤ k)) v → (((n p : ℕ) → R n p × (inTurn n ≤ k) → ⊥) → First o (λ n p. R n p × (k < inTurn n)) w) → First o R (orElse v w)
   first-split R k v w some apart a b =
-      first-map _ R (orElse v w) to (λ n p r. from n p r (leb n k) refl)
-      (first-or (λ n p. R n p × (n ≤ k)) (λ n p. R n p × (k < n)) v w (λ n p r. some n p (r .0)) (λ n p m q r s. inl (apart n m (r .1) (s .1))) a b)
+      first-map _ R (orElse v w) to (λ n p r. from n p r (leb (inTurn n) k) refl)
+      (first-or (λ n p. R n p × (inTurn n ≤ k)) (λ n p. R n p × (k < inTurn n)) v w (λ n p r. some n p (r .0)) (λ n p m q r s. inl (apart n m (r .1) (s .1))) a b)
     where
-      to : (n p : ℕ) → (R n p × (n ≤ k)) ⊎ (R n p × (k < n)) → R n p
+      to : (n p : ℕ) → (R n p × (inTurn n ≤ k)) ⊎ (R n p × (k < inTurn n)) → R n p
       to n p (inl r) = r .0
       to n p (inr r) = r .0
 
-      from : (n p : ℕ) → R n p → (b : Bool) → leb n k ≡ b → (R n p × (n ≤ k)) ⊎ (R n p × (k < n))
-      from n p r true e = inl (r, leb-true n k e)
-      from n p r false e = inr (r, leb-false n k e)
+      from : (n p : ℕ) → R n p → (b : Bool) → leb (inTurn n) k ≡ b → (R n p × (inTurn n ≤ k)) ⊎ (R n p × (k < inTurn n))
+      from n p r true e = inl (r, leb-true (inTurn n) k e)
+      from n p r false e = inr (r, leb-false (inTurn n) k e)
 
 -- Answers by place: the answer from place i on, where nothing holds before.
 

@@ -18,9 +18,11 @@ pub mod RecordsJudged
 pub mod ContentsJudged
 pub mod FileContents
 pub mod Exact
+pub mod AsSecond
 pub mod EncodedBytes
 -- The first refusal in an order
 pub mod FirstLaws
+pub mod Turns
 -- Refusal 8 is of the first misshapen place (shape-first)
 pub mod FollowedEnds
 pub mod ReachedStack

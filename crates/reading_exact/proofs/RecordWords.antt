@@ -6,16 +6,16 @@ use mathlib.Core.List.{List}
 use native.Mathlib.Omega.{arith}
 use lib.Dec.{leb}
 use lib.ListN.{length}
-use borrow.Author.Tests.{leb-true, leb-false}
+use borrow.Author.Tests.{leb-true, leb-false, eq-eqb, ne-eqb}
 use Rattle.format.specs.Words.{wordAt, wideAt}
 use Rattle.format.specs.Header.{headAt}
-use Rattle.format.specs.Sections.{placeOf, userRoles, roleOf, carried, channelOf, sessionOf, nodeAt}
+use Rattle.format.specs.Sections.{placeOf, userRoles, roleOf, juniorsOf, carried, channelOf, sessionOf, nodeAt}
 use Rattle.format.specs.Contents.{item, noRole, noChannel, noSession, noNode, contentsAt}
 use Rattle.format.specs.declared.Head.{Head}
-use Rattle.format.specs.declared.Section.the-variants.{Users, Roles, Kinds, Channels, Sessions, Nodes}
-use Rattle.format.proofs.ContentsLaws.{item-made, item-past, users-held, roles-held, kinds-held, channels-held, sessions-held, nodes-held}
+use Rattle.format.specs.declared.Section.the-variants.{Users, Roles, Juniors, Kinds, Channels, Sessions, Nodes}
+use Rattle.format.proofs.ContentsLaws.{item-made, item-past, users-held, roles-held, juniors-held, kinds-held, channels-held, sessions-held, nodes-held}
 use Rattle.reading_exact.specs.File.{InCount}
-use Rattle.reading_exact.specs.ByWords.{recordWord, CountedByWords, ByWords}
+use Rattle.reading_exact.specs.ByWords.{recordWord, after, CountedByWords, ByWords}
 
 -- what is out of count is nothing
 pub item-out : {A : Type 0} (z : A) (xs : List A) (n : ℕ) → (InCount (length xs) n → ⊥) → item z xs n ≡ z
@@ -30,7 +30,7 @@ item-out z xs (suc n) out = go (leb (suc n) (length xs)) refl
 pub counted-by-words : (f : List ℕ) → CountedByWords f
 counted-by-words f =
     let h : Head = headAt f in
-    record { users = users-held f h; roles = roles-held f h; kinds = kinds-held f h; channels = channels-held f h; sessions = sessions-held f h; nodes = nodes-held f h }
+    record { users = users-held f h; roles = roles-held f h; juniors = juniors-held f h; kinds = kinds-held f h; channels = channels-held f h; sessions = sessions-held f h; nodes = nodes-held f h }
 
 three : {A : Type 0} (g : ℕ → ℕ → ℕ → A) {a b c x y z : ℕ} → a ≡ x → b ≡ y → c ≡ z → g a b c ≡ g x y z
 three g p q r = λ i. g (p i) (q i) (r i)
@@ -53,19 +53,22 @@ module _ (f : List ℕ) where
         let p : ℕ = placeOf h Roles n in
         item-made noRole (roleOf f h) (h .count .roles) n pos le
         ∙ ap₂ (λ s r. record { sends = s; receives = r }) (wide-on 8 4 n 0 p (omega arith)) (wide-on 8 4 n 2 (p + 2) (omega arith));
-    kind = λ n (pos, le). item-made 0 (carried f h) (h .count .kinds) n pos le ∙ word-on 9 1 n 0 (placeOf h Kinds n) (omega arith);
+    juniors = λ n (pos, le) e.
+        item-made 0 (juniorsOf f h) (h .count .roles) n pos le ∙ rw (eq-eqb (wordAt f 0) 2 e) (word-on 9 1 n 0 (placeOf h Juniors n) (omega arith));
+    no-juniors = λ n (pos, le) e. item-made 0 (juniorsOf f h) (h .count .roles) n pos le ∙ rw (ne-eqb (wordAt f 0) 2 e);
+    kind = λ n (pos, le). item-made 0 (carried f h) (h .count .kinds) n pos le ∙ word-on (after f 9) 1 n 0 (placeOf h Kinds n) (omega arith);
     channel = λ n (pos, le).
         let p : ℕ = placeOf h Channels n in
         item-made noChannel (channelOf f h) (h .count .channels) n pos le
-        ∙ ap₂ (λ o k. record { owner = o; kind = record { 0 = k } }) (word-on 10 2 n 0 p (omega arith)) (word-on 10 2 n 1 (p + 1) (omega arith));
+        ∙ ap₂ (λ o k. record { owner = o; kind = record { 0 = k } }) (word-on (after f 10) 2 n 0 p (omega arith)) (word-on (after f 10) 2 n 1 (p + 1) (omega arith));
     session = λ n (pos, le).
         let p : ℕ = placeOf h Sessions n in
         item-made noSession (sessionOf f h) (h .count .sessions) n pos le
-        ∙ three (λ u m r. record { user = u; mask = m; root = r }) (word-on 11 3 n 0 p (omega arith)) (word-on 11 3 n 1 (p + 1) (omega arith)) (word-on 11 3 n 2 (p + 2) (omega arith));
+        ∙ three (λ u m r. record { user = u; mask = m; root = r }) (word-on (after f 11) 3 n 0 p (omega arith)) (word-on (after f 11) 3 n 1 (p + 1) (omega arith)) (word-on (after f 11) 3 n 2 (p + 2) (omega arith));
     node = λ n (pos, le).
         let p : ℕ = placeOf h Nodes n in
         item-made noNode (λ m. nodeAt f (placeOf h Nodes m)) (h .count .nodes) n pos le
-        ∙ three (λ t a b. record { tag = t; f1 = a; f2 = b }) (word-on 12 3 n 0 p (omega arith)) (word-on 12 3 n 1 (p + 1) (omega arith)) (word-on 12 3 n 2 (p + 2) (omega arith));
+        ∙ three (λ t a b. record { tag = t; f1 = a; f2 = b }) (word-on (after f 12) 3 n 0 p (omega arith)) (word-on (after f 12) 3 n 1 (p + 1) (omega arith)) (word-on (after f 12) 3 n 2 (p + 2) (omega arith));
   }
     where
       h : Head

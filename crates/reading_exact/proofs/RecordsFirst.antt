@@ -1,4 +1,4 @@
--- Refusals 6 and 7: `recordsAnswer` is the first of what they object to.
+-- Refusals 6, 21 and 7: `recordsAnswer` is the first of what they object to.
 use Prim.Native.Nat.{ℕ, _≤_}
 use mathlib.Core.Path.{_≡_, refl, sym, ap, _∙_, subst}
 use mathlib.Core.Logic.{_⊎_, inl, inr}
@@ -12,30 +12,42 @@ use Rattle.format.specs.Sections.{placeOf}
 use Rattle.tables.specs.Records.{countIn, recordFits, refusalOf, sectionAnswer, recordsAnswer}
 use Rattle.format.specs.declared.Head.{Head}
 use Rattle.format.specs.declared.Section.{Section}
-use Rattle.format.specs.declared.Section.the-variants.{Users, Roles, Kinds, Channels, Sessions}
+use Rattle.format.specs.declared.Section.the-variants.{Users, Roles, Juniors, Kinds, Channels, Sessions}
 use Rattle.format.proofs.ContentsLaws.{users-held, roles-held, kinds-held}
-use Rattle.reading_exact.specs.Order.{Sooner, First}
-use Rattle.reading_exact.specs.Refusals.{Misnamed, Unassigned, readingOrder}
+use Rattle.reading_exact.specs.Order.{inTurn, Sooner, First}
+use Rattle.reading_exact.specs.Refusals.{Misnamed, Misranked, Unassigned, readingOrder}
 use Rattle.reading_exact.proofs.FirstLaws.{Both, lowest, first-map, first-or, Unfit, first-of}
-use Rattle.reading_exact.proofs.RecordsObjected.{Bad, BadAt, bad-user, bad-role, bad-kind, bad-channel, bad-session, misnamed-bad, misseated-bad}
+use Rattle.reading_exact.proofs.RecordsObjected.{Bad, BadAt, bad-user, bad-role, bad-kind, bad-channel, bad-juniors, bad-session, misnamed-bad, misranked-bad, misseated-bad}
 
--- 6 of a place before 6 of a later one, and before 7
+-- 6 of a place before 6 of a later one, before 21, and before 7
 six-six : {n p m q : ℕ} → n ≡ 6 → m ≡ 6 → p ≤ q → Sooner readingOrder n p m q
 six-six a b l = lowest readingOrder _ _ _ _ (a ∙ sym b) l
 
 six-seven : {n p m q : ℕ} → n ≡ 6 → m ≡ 7 → Sooner readingOrder n p m q
-six-seven a b = inl (omega arith)
+six-seven a b = inl (rw (a, b) (omega arith))
+
+six-ranks : {n p m q : ℕ} → n ≡ 6 → m ≡ 21 → Sooner readingOrder n p m q
+six-ranks a b = inl (rw (a, b) (omega arith))
+
+ranks-seven : {n p m q : ℕ} → n ≡ 21 → m ≡ 7 → Sooner readingOrder n p m q
+ranks-seven a b = inl (rw (a, b) (omega arith))
 
 module _ (h : Head) (C : Contents) where
-  -- 6 in one section, and 7; what comes from a section on
+  -- 6 in one section, 21, and 7; what comes from a section on
   abbrev Naming : Section → ℕ → ℕ → Type 0
   Naming s n p = (n ≡ 6) × BadAt h C s p
+
+  abbrev Ranking : ℕ → ℕ → Type 0
+  Ranking n p = (n ≡ 21) × BadAt h C Juniors p
 
   abbrev Seating : ℕ → ℕ → Type 0
   Seating n p = (n ≡ 7) × Bad h C Sessions p
 
+  abbrev FromJuniors : ℕ → ℕ → Type 0
+  FromJuniors = Both Ranking Seating
+
   abbrev FromChannels : ℕ → ℕ → Type 0
-  FromChannels = Both (Naming Channels) Seating
+  FromChannels = Both (Naming Channels) FromJuniors
 
   abbrev FromKinds : ℕ → ℕ → Type 0
   FromKinds = Both (Naming Kinds) FromChannels
@@ -46,12 +58,12 @@ module _ (h : Head) (C : Contents) where
   abbrev FromUsers : ℕ → ℕ → Type 0
   FromUsers = Both (Naming Users) FromRoles
 
-  naming : (s : Section) → refusalOf h s ≡ (λ x. refused 6 (placeOf h s x)) → ((x y : ℕ) → x ≤ y → placeOf h s x ≤ placeOf h s y)
-      → First readingOrder (Naming s) (sectionAnswer h C s)
+  by-place : (s : Section) (k : ℕ) → refusalOf h s ≡ (λ x. refused k (placeOf h s x)) → ((x y : ℕ) → x ≤ y → placeOf h s x ≤ placeOf h s y)
+      → First readingOrder (λ n p. (n ≡ k) × BadAt h C s p) (sectionAnswer h C s)
   unfolding sectionAnswer
-  naming s e mono =
+  by-place s k e mono =
       rw e (first-map readingOrder _ _ _ (λ n p (e, x, l, u, z, q). (e, (x, ((l, omega arith), z), q))) (λ n p (e, (x, ((l, u), z), q)). (e, x, l, omega arith, z, q))
-      (first-of readingOrder (recordFits C s) 6 (placeOf h s) mono 1 (countIn s C)))
+      (first-of readingOrder (recordFits C s) k (placeOf h s) mono 1 (countIn s C)))
 
   seating : First readingOrder Seating (sectionAnswer h C Sessions)
   unfolding sectionAnswer
@@ -81,35 +93,44 @@ module _ (h : Head) (C : Contents) where
     users-first n p m q (a, (x, (c, z), e)) (inl (b, (y, (d, w), g))) = six-six a b (omega (arith, users))
     users-first n p m q (a, (x, (c, z), e)) (inr (inl (b, (y, (d, w), g)))) = six-six a b (omega (arith, users))
     users-first n p m q (a, (x, (c, z), e)) (inr (inr (inl (b, (y, (d, w), g))))) = six-six a b (omega (arith, users))
-    users-first n p m q (a, b) (inr (inr (inr (c, d)))) = six-seven a c
+    users-first n p m q (a, b) (inr (inr (inr (inl (c, d))))) = six-ranks a c
+    users-first n p m q (a, b) (inr (inr (inr (inr (c, d))))) = six-seven a c
 
     roles-first : (n p m q : ℕ) → Naming Roles n p → FromKinds m q → Sooner readingOrder n p m q
     roles-first n p m q (a, (x, (c, z), e)) (inl (b, (y, (d, w), g))) = six-six a b (omega (arith, roles))
     roles-first n p m q (a, (x, (c, z), e)) (inr (inl (b, (y, (d, w), g)))) = six-six a b (omega (arith, roles))
-    roles-first n p m q (a, b) (inr (inr (c, d))) = six-seven a c
+    roles-first n p m q (a, b) (inr (inr (inl (c, d)))) = six-ranks a c
+    roles-first n p m q (a, b) (inr (inr (inr (c, d)))) = six-seven a c
 
     kinds-first : (n p m q : ℕ) → Naming Kinds n p → FromChannels m q → Sooner readingOrder n p m q
     kinds-first n p m q (a, (x, (c, z), e)) (inl (b, (y, (d, w), g))) = six-six a b (omega (arith, kinds))
-    kinds-first n p m q (a, b) (inr (c, d)) = six-seven a c
+    kinds-first n p m q (a, b) (inr (inl (c, d))) = six-ranks a c
+    kinds-first n p m q (a, b) (inr (inr (c, d))) = six-seven a c
+
+    channels-first : (n p m q : ℕ) → Naming Channels n p → FromJuniors m q → Sooner readingOrder n p m q
+    channels-first n p m q (a, b) (inl (c, d)) = six-ranks a c
+    channels-first n p m q (a, b) (inr (c, d)) = six-seven a c
 
     all-first : First readingOrder FromUsers (recordsAnswer h C)
     unfolding recordsAnswer
     all-first =
-        first-or readingOrder (Naming Users) FromRoles _ _ (pos Users) users-first (naming Users refl (λ x y l. omega arith))
-        (λ _. first-or readingOrder (Naming Roles) FromKinds _ _ (pos Roles) roles-first (naming Roles refl (λ x y l. omega arith))
-        (λ _. first-or readingOrder (Naming Kinds) FromChannels _ _ (pos Kinds) kinds-first (naming Kinds refl (λ x y l. omega arith))
-        (λ _. first-or readingOrder (Naming Channels) Seating _ _ (pos Channels) (λ n p m q a b. six-seven (a .0) (b .0)) (naming Channels refl (λ x y l. omega arith)) (λ _. seating))))
+        first-or readingOrder (Naming Users) FromRoles _ _ (pos Users) users-first (by-place Users 6 refl (λ x y l. omega arith))
+        (λ _. first-or readingOrder (Naming Roles) FromKinds _ _ (pos Roles) roles-first (by-place Roles 6 refl (λ x y l. omega arith))
+        (λ _. first-or readingOrder (Naming Kinds) FromChannels _ _ (pos Kinds) kinds-first (by-place Kinds 6 refl (λ x y l. omega arith))
+        (λ _. first-or readingOrder (Naming Channels) FromJuniors _ _ (pos Channels) channels-first (by-place Channels 6 refl (λ x y l. omega arith))
+        (λ _. first-or readingOrder Ranking Seating _ _ (λ n p b. omega (arith, b .0)) (λ n p m q a b. ranks-seven (a .0) (b .0)) (by-place Juniors 21 refl (λ x y l. omega arith)) (λ _. seating)))))
 
-  -- what 6 and 7 object to
+  -- what 6, 21 and 7 object to
   abbrev pub BadRecord : ℕ → ℕ → Type 0
-  BadRecord n p = ((n ≡ 6) × Misnamed h C p) ⊎ ((n ≡ 7) × Unassigned C p)
+  BadRecord n p = ((n ≡ 6) × Misnamed h C p) ⊎ (((n ≡ 21) × Misranked h C p) ⊎ ((n ≡ 7) × Unassigned C p))
 
   to-record : (n p : ℕ) → FromUsers n p → BadRecord n p
   to-record n p (inl (a, (x, b, e))) = inl (a, subst (Misnamed h C) (sym e) (bad-user h C x b))
   to-record n p (inr (inl (a, (x, b, e)))) = inl (a, subst (Misnamed h C) (sym e) (bad-role h C x b))
   to-record n p (inr (inr (inl (a, (x, b, e))))) = inl (a, subst (Misnamed h C) (sym e) (bad-kind h C x b))
   to-record n p (inr (inr (inr (inl (a, (x, b, e)))))) = inl (a, subst (Misnamed h C) (sym e) (bad-channel h C x b))
-  to-record n p (inr (inr (inr (inr (a, b))))) = inr (a, bad-session h C p b)
+  to-record n p (inr (inr (inr (inr (inl (a, (x, b, e))))))) = inr (inl (a, subst (Misranked h C) (sym e) (bad-juniors h C x b)))
+  to-record n p (inr (inr (inr (inr (inr (a, b)))))) = inr (inr (a, bad-session h C p b))
 
   of-record : (n p : ℕ) → BadRecord n p → FromUsers n p
   of-record n p (inl (a, m)) = go (misnamed-bad h C p m)
@@ -119,11 +140,14 @@ module _ (h : Head) (C : Contents) where
       go (inr (inl b)) = inr (inl (a, b))
       go (inr (inr (inl b))) = inr (inr (inl (a, b)))
       go (inr (inr (inr b))) = inr (inr (inr (inl (a, b))))
-  of-record n p (inr (a, m)) = inr (inr (inr (inr (a, misseated-bad h C p m))))
+  of-record n p (inr (inl (a, m))) = inr (inr (inr (inr (inl (a, misranked-bad h C p m)))))
+  of-record n p (inr (inr (a, m))) = inr (inr (inr (inr (inr (a, misseated-bad h C p m)))))
 
   pub records-first : (f : List ℕ) → Laid f h → C ≡ contentsAt f h → First readingOrder BadRecord (recordsAnswer h C)
   records-first f L c = first-map readingOrder FromUsers BadRecord (recordsAnswer h C) to-record of-record (all-first f L c)
 
-  pub record-number : (n p : ℕ) → BadRecord n p → (6 ≤ n) × (n ≤ 7)
-  record-number n p (inl r) = omega (arith, r .0)
-  record-number n p (inr r) = omega (arith, r .0)
+  -- their places in the order: 6, 21 and 7
+  pub record-turn : (n p : ℕ) → BadRecord n p → (1 ≤ n) × (12 ≤ inTurn n) × (inTurn n ≤ 14)
+  record-turn n p (inl r) = rw (r .0) (omega arith)
+  record-turn n p (inr (inl r)) = rw (r .0) (omega arith)
+  record-turn n p (inr (inr r)) = rw (r .0) (omega arith)

@@ -1,5 +1,5 @@
--- Records against the refusals 6 and 7: none is refused where every record names only what exists, and only there.
-use Prim.Native.Nat.{ℕ, zero, suc, _-_, _≤_}
+-- Records against the refusals 6, 21 and 7: none is refused where every record names only what exists, and only there.
+use Prim.Native.Nat.{ℕ, zero, suc, _-_, _≤_, _<_}
 use mathlib.Core.Path.{_≡_, refl, subst}
 use mathlib.Core.Logic.{_↔_, Iff·trans, Iff·and}
 use mathlib.Core.Bool.{Bool, true, _&&_}
@@ -7,7 +7,7 @@ use mathlib.Core.List.{List}
 use native.Mathlib.Omega.{arith}
 use lib.ListN.{length, getD}
 use lib.Dec.{leb}
-use Rattle.masks.specs.Mask.{namesOnly, NamesOnly, within, Within}
+use Rattle.masks.specs.Mask.{has, namesOnly, NamesOnly, within, Within}
 use Rattle.masks.proofs.Bounds.{namesOnly-iff, within-iff}
 use Rattle.format.specs.Contents.{Contents, tabled, inCount, item, noRole, noChannel, noSession}
 use Rattle.format.specs.Answers.{firstOf}
@@ -17,12 +17,12 @@ use Rattle.format.specs.declared.Verdict.{Verdict}
 use Rattle.format.specs.declared.Role.{Role}
 use Rattle.format.specs.declared.Channel.{Channel}
 use Rattle.format.specs.declared.Session.{Session}
-use Rattle.format.specs.declared.Section.the-variants.{Users, Roles, Kinds, Channels, Sessions}
+use Rattle.format.specs.declared.Section.the-variants.{Users, Roles, Juniors, Kinds, Channels, Sessions}
 use Rattle.format.proofs.BoolLaws.{le-iff, and-iff}
 use Rattle.format.proofs.AnswerLaws.{first-quiet}
 use Rattle.format.proofs.ContentsLaws.{inCount-iff, item-get, all-items}
 use Rattle.reading_exact.specs.Lists.{All}
-use Rattle.reading_exact.specs.File.{InCount}
+use Rattle.reading_exact.specs.File.{InCount, LowerFrom}
 use Rattle.reading_exact.proofs.AllLaws.{all-iff}
 use Rattle.reading_exact.proofs.FirstLaws.{both-zero}
 
@@ -42,6 +42,22 @@ module _ {A : Type 0} (z : A) where
         subst (λ (l : List A). (firstOf (λ n. test (item z xs n)) refusal 1 (length xs) .number ≡ 0) ↔ All (λ x. test x ≡ true) l) (all-items z xs)
         (all-from (item z xs) 1 (length xs))
 
+-- a role's juniors have lower numbers
+lower-mask : (i m : ℕ) → 1 ≤ i → (namesOnly (i - 1) m ≡ true) ↔ ((x : ℕ) → has m x ≡ true → x < i)
+lower-mask i m pos =
+    let (to, back) = namesOnly-iff (i - 1) m in
+    (λ e x p. omega (arith, to e x p), λ h. back (λ x p. omega (arith, h x p)))
+
+lower-from : (refusal : ℕ → Verdict) → ((n : ℕ) → 1 ≤ refusal n .number) → (g : ℕ → ℕ) (i k : ℕ) → 1 ≤ i
+    → (firstOf (λ n. namesOnly (n - 1) (g n)) refusal i k .number ≡ 0) ↔ LowerFrom i (tabled g i k)
+unfolding firstOf tabled
+lower-from refusal some g i zero pos = (λ e. tt, λ e. refl)
+lower-from refusal some g i (suc k) pos =
+    let one = first-quiet (λ n. namesOnly (n - 1) (g n)) refusal some i k in
+    let here = lower-mask i (g i) pos in
+    let rest = lower-from refusal some g (suc i) k (omega arith) in
+    (λ e. (here .0 (one .0 e .0), rest .0 (one .0 e .1)), λ a. one .1 (here .1 (a .0), rest .1 (a .1)))
+
 -- a session's user exists, and its starting roles are assigned to that user
 abbrev pub Seated : List ℕ → ℕ → ℕ → Type 0
 Seated users user mask = InCount (length users) user × Within mask (getD users (user - 1) 0)
@@ -50,6 +66,7 @@ Seated users user mask = InCount (length users) user × Within mask (getD users 
 pub record RecordsFit (C : Contents) : Type 0 where
   pub users-fit : All (λ m. NamesOnly (length (C .roles)) m) (C .users)
   pub roles-fit : All (λ r. NamesOnly (length (C .kinds)) (r .sends) × NamesOnly (length (C .kinds)) (r .receives)) (C .roles)
+  pub juniors-fit : LowerFrom 1 (C .juniors)
   pub kinds-fit : All (λ k. k ≤ length (C .kinds)) (C .kinds)
   pub channels-fit : All (λ c. InCount (length (C .users)) (c .owner) × InCount (length (C .kinds)) (c .kind .0)) (C .channels)
   pub sessions-fit : All (λ s. Seated (C .users) (s .user) (s .mask)) (C .sessions)
@@ -73,6 +90,12 @@ module _ (h : Head) (C : Contents) where
       let test : Role → Bool = (λ r. namesOnly kinds (r .sends) && namesOnly kinds (r .receives)) in
       Iff·trans (section-iff noRole test (refusalOf h Roles) (λ n. omega arith) (C .roles))
       (all-iff (C .roles) (λ r. and-iff (namesOnly-iff kinds (r .sends)) (λ p. namesOnly-iff kinds (r .receives))))
+
+  juniors-iff : (sectionAnswer h C Juniors .number ≡ 0) ↔ LowerFrom 1 (C .juniors)
+  unfolding sectionAnswer recordFits
+  juniors-iff =
+      subst (λ (l : List ℕ). (firstOf (recordFits C Juniors) (refusalOf h Juniors) 1 (length (C .juniors)) .number ≡ 0) ↔ LowerFrom 1 l) (all-items 0 (C .juniors))
+      (lower-from (refusalOf h Juniors) (λ n. omega arith) (item 0 (C .juniors)) 1 (length (C .juniors)) (omega arith))
 
   kinds-iff : (sectionAnswer h C Kinds .number ≡ 0) ↔ All (λ k. k ≤ kinds) (C .kinds)
   unfolding sectionAnswer recordFits
@@ -101,12 +124,13 @@ module _ (h : Head) (C : Contents) where
   pub records-iff : (recordsAnswer h C .number ≡ 0) ↔ RecordsFit C
   unfolding recordsAnswer
   records-iff =
-      let from-channels = Iff·trans (both-zero _ _) (Iff·and channels-iff sessions-iff) in
+      let from-juniors = Iff·trans (both-zero _ _) (Iff·and juniors-iff sessions-iff) in
+      let from-channels = Iff·trans (both-zero _ _) (Iff·and channels-iff from-juniors) in
       let from-kinds = Iff·trans (both-zero _ _) (Iff·and kinds-iff from-channels) in
       let from-roles = Iff·trans (both-zero _ _) (Iff·and roles-iff from-kinds) in
       let all = Iff·trans (both-zero _ _) (Iff·and users-iff from-roles) in (
         λ z.
-            let (users, (roles, (kinds, (channels, sessions)))) = all .0 z in
-            record { users-fit = users; roles-fit = roles; kinds-fit = kinds; channels-fit = channels; sessions-fit = sessions },
-        λ t. all .1 (t .users-fit, (t .roles-fit, (t .kinds-fit, (t .channels-fit, t .sessions-fit)))),
+            let (users, (roles, (kinds, (channels, (juniors, sessions))))) = all .0 z in
+            record { users-fit = users; roles-fit = roles; juniors-fit = juniors; kinds-fit = kinds; channels-fit = channels; sessions-fit = sessions },
+        λ t. all .1 (t .users-fit, (t .roles-fit, (t .kinds-fit, (t .channels-fit, (t .juniors-fit, t .sessions-fit))))),
       )

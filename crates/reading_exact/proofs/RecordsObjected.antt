@@ -1,5 +1,5 @@
--- A record that does not fit, and what 6 and 7 object to, are the same.
-use Prim.Native.Nat.{ℕ, _<_}
+-- A record that does not fit, and what 6, 21 and 7 object to, are the same.
+use Prim.Native.Nat.{ℕ, _-_, _<_}
 use mathlib.Core.Path.{_≡_, refl, sym, _∙_}
 use mathlib.Core.Logic.{_⊎_, inl, inr}
 use mathlib.Core.Bool.{true, false, and-eq-true-iff, not-eq-not, false≢true}
@@ -14,11 +14,11 @@ use Rattle.format.specs.Sections.{placeOf}
 use Rattle.tables.specs.Records.{countIn, recordFits}
 use Rattle.format.specs.declared.Head.{Head}
 use Rattle.format.specs.declared.Section.{Section}
-use Rattle.format.specs.declared.Section.the-variants.{Users, Roles, Kinds, Channels, Sessions}
+use Rattle.format.specs.declared.Section.the-variants.{Users, Roles, Juniors, Kinds, Channels, Sessions}
 use Rattle.format.proofs.BoolLaws.{and-fails}
 use Rattle.format.proofs.ContentsLaws.{inCount-iff}
 use Rattle.reading_exact.specs.File.{InCount}
-use Rattle.reading_exact.specs.Refusals.{Misnamed, user, sends, receives, kind, owner, kind-of, Unassigned, no-user, not-assigned}
+use Rattle.reading_exact.specs.Refusals.{Misnamed, user, sends, receives, kind, owner, kind-of, Misranked, junior, Unassigned, no-user, not-assigned}
 
 not-in-count : (n x : ℕ) → inCount n x ≡ false → InCount n x → ⊥
 not-in-count n x f c = false≢true (sym f ∙ inCount-iff n x .1 c)
@@ -49,6 +49,10 @@ module _ (h : Head) (C : Contents) where
   unfolding recordFits
   bad-channel x (c, e) = and-fails _ _ e (λ o. owner x c (not-in-count _ _ o) refl) (λ _ k. kind-of x c (not-in-count _ _ k) refl)
 
+  pub bad-juniors : (x : ℕ) → Bad Juniors x → Misranked h C (placeOf h Juniors x)
+  unfolding recordFits
+  bad-juniors x (c, e) = let (y, p, l) = item-above _ _ e in junior x y c p (omega (arith, c, l)) refl
+
   pub bad-session : (x : ℕ) → Bad Sessions x → Unassigned C x
   unfolding recordFits
   bad-session x (c, e) =
@@ -66,6 +70,10 @@ module _ (h : Head) (C : Contents) where
   misnamed-bad p (kind n c l e) = inr (inr (inl (n, (c, lt-leb (item 0 (C .kinds) n) (length (C .kinds)) l), e)))
   misnamed-bad p (owner n c o e) = inr (inr (inr (n, (c, not-eq-not .0 (λ t. o (inCount-iff _ _ .0 (and-eq-true-iff _ _ .0 t .0)))), e)))
   misnamed-bad p (kind-of n c o e) = inr (inr (inr (n, (c, not-eq-not .0 (λ t. o (inCount-iff _ _ .0 (and-eq-true-iff (inCount (length (C .users)) (item noChannel (C .channels) n .owner)) _ .0 t .1)))), e)))
+
+  pub misranked-bad : (p : ℕ) → Misranked h C p → BadAt Juniors p
+  unfolding recordFits
+  misranked-bad p (junior n x c i l e) = (n, (c, not-eq-not .0 (item-fails (n - 1) (item 0 (C .juniors) n) x i (omega (arith, c, l)))), e)
 
   pub misseated-bad : (p : ℕ) → Unassigned C p → Bad Sessions p
   unfolding recordFits

@@ -1,25 +1,27 @@
 -- The words of a record of each section, that a record is read back from them, and the words of a file section by section.
 use Prim.Native.Nat.{ℕ, _+_, _/_, _%_}
 use mathlib.Core.Path.{_≡_, refl, ap, _∙_}
+use mathlib.Core.Bool.{Bool, true, false}
 use mathlib.Core.List.{List, [], _∷_, _++_, append-assoc}
 use native.Mathlib.Omega.{arith}
+use lib.Dec.{eqb}
 use lib.ListN.{getD}
 use Rattle.format.specs.Words.{wordAt, wideAt, bytesOf}
-use Rattle.format.specs.Header.{headAt, headWords}
+use Rattle.format.specs.Header.{more, juniorRecords, offsetsAt, headAt, headWords}
 use Rattle.format.specs.Sections.{nodeAt}
 use Rattle.format.specs.Contents.{Contents}
-use Rattle.format.specs.Writing.{roleWords, channelWords, sessionWords, nodeWords, tableWords, headFor, fileWords, encoded}
+use Rattle.format.specs.Writing.{juniorWords, roleWords, channelWords, sessionWords, nodeWords, tableWords, headFor, fileWords, encoded}
+use Rattle.format.specs.declared.Head.{Head}
 use Rattle.format.specs.declared.Role.{Role}
 use Rattle.format.specs.declared.Channel.{Channel}
 use Rattle.format.specs.declared.Session.{Session}
 use Rattle.format.specs.declared.Node.{Node}
-use Rattle.reading_exact.proofs.Bytes.{word-back}
-use Rattle.reading_exact.proofs.Rows.{Holds, cat}
+use Rattle.reading_exact.proofs.Rows.{Holds, holds-all, cat}
 
 abbrev pub oneRow : ℕ → List ℕ
 oneRow x = x ∷ []
 
-cat-one : (xs : List ℕ) → cat oneRow xs ≡ xs
+pub cat-one : (xs : List ℕ) → cat oneRow xs ≡ xs
 unfolding cat
 cat-one [] = refl
 cat-one (x ∷ xs) = ap {B = List ℕ} (λ l. x ∷ l) (cat-one xs)
@@ -108,23 +110,51 @@ nodes-cat [] = refl
 nodes-cat (n ∷ ns) = ap {B = List ℕ} (λ l. nodeRow n ++ l) (nodes-cat ns)
 
 -- a file's words section by section
-abbrev pub rowWords : Contents → List ℕ
-rowWords C =
-    headWords (headFor C)
+abbrev pub rowWords : ℕ → Contents → List ℕ
+rowWords v C =
+    headWords (headFor v C)
     ++ (cat oneRow (C .users)
     ++ (cat roleRow (C .roles)
-    ++ (cat oneRow (C .kinds) ++ (cat channelRow (C .channels) ++ (cat sessionRow (C .sessions) ++ cat nodeRow (C .nodes))))))
+    ++ (juniorWords v (C .juniors) ++ (cat oneRow (C .kinds) ++ (cat channelRow (C .channels) ++ (cat sessionRow (C .sessions) ++ cat nodeRow (C .nodes)))))))
 
-pub file-rows : (C : Contents) → fileWords C ≡ rowWords C
+pub file-rows : (v : ℕ) (C : Contents) → fileWords v C ≡ rowWords v C
 unfolding fileWords tableWords
-file-rows C = simp (roles-cat, channels-cat, sessions-cat, nodes-cat, cat-one, append-assoc)
+file-rows v C = simp (roles-cat, channels-cat, sessions-cat, nodes-cat, cat-one, append-assoc)
 
-pub head-back : (C : Contents) → headAt (encoded C) ≡ headFor C
+-- what is read of the offsets, where a file begins with a head whose sections stand back to back
+module _ (f : List ℕ) (h : Head) (post : List ℕ) (w : Holds f 0 (headWords h ++ post)) where
+  word : (i : ℕ) → wordAt f i ≡ getD (headWords h ++ post) i 0
+  word i = let z : i ≡ 0 + i = omega arith in ap (wordAt f) z ∙ w i
+
+  offsets-read : h .at .kinds ≡ h .at .juniors + juniorRecords (h .version) (h .count .roles) → offsetsAt f (h .version) ≡ h .at
+  offsets-read back = go (eqb (h .version) 2) refl
+    where
+      go : (b : Bool) → eqb (h .version) 2 ≡ b → offsetsAt f (h .version) ≡ h .at
+      go true e =
+          let w9 : wordAt f 9 ≡ h .at .juniors = word 9 ∙ rw e in
+          let w10 : wordAt f (9 + more (h .version)) ≡ h .at .kinds = rw e (word 10 ∙ rw e) in
+          let w11 : wordAt f (10 + more (h .version)) ≡ h .at .channels = rw e (word 11 ∙ rw e) in
+          let w12 : wordAt f (11 + more (h .version)) ≡ h .at .sessions = rw e (word 12 ∙ rw e) in
+          let w13 : wordAt f (12 + more (h .version)) ≡ h .at .nodes = rw e (word 13 ∙ rw e) in
+          λ i. record { users = word 7 i; roles = word 8 i; juniors = w9 i; kinds = w10 i; channels = w11 i; sessions = w12 i; nodes = w13 i }
+      go false e =
+          let none : juniorRecords (h .version) (h .count .roles) ≡ 0 = rw e in
+          let w9 : wordAt f 9 ≡ h .at .juniors = word 9 ∙ rw e (omega (arith, back, none)) in
+          let w10 : wordAt f (9 + more (h .version)) ≡ h .at .kinds = rw e (word 9 ∙ rw e) in
+          let w11 : wordAt f (10 + more (h .version)) ≡ h .at .channels = rw e (word 10 ∙ rw e) in
+          let w12 : wordAt f (11 + more (h .version)) ≡ h .at .sessions = rw e (word 11 ∙ rw e) in
+          let w13 : wordAt f (12 + more (h .version)) ≡ h .at .nodes = rw e (word 12 ∙ rw e) in
+          λ i. record { users = word 7 i; roles = word 8 i; juniors = w9 i; kinds = w10 i; channels = w11 i; sessions = w12 i; nodes = w13 i }
+
+  pub head-read : h .at .kinds ≡ h .at .juniors + juniorRecords (h .version) (h .count .roles) → headAt f ≡ h
+  head-read back =
+      let offsets : offsetsAt f (wordAt f 0) ≡ h .at = ap (offsetsAt f) (word 0) ∙ offsets-read back in
+      λ i. record {
+        version = word 0 i;
+        count = record { users = word 1 i; roles = word 2 i; kinds = word 3 i; channels = word 4 i; sessions = word 5 i; nodes = word 6 i };
+        at = offsets i;
+      }
+
+pub head-back : (v : ℕ) (C : Contents) → headAt (encoded v C) ≡ headFor v C
 unfolding encoded fileWords
-head-back C =
-    let w : (i : ℕ) → wordAt (bytesOf (fileWords C)) i ≡ getD (fileWords C) i 0 = word-back (fileWords C) in
-    λ i. record {
-      version = w 0 i;
-      count = record { users = w 1 i; roles = w 2 i; kinds = w 3 i; channels = w 4 i; sessions = w 5 i; nodes = w 6 i };
-      at = record { users = w 7 i; roles = w 8 i; kinds = w 9 i; channels = w 10 i; sessions = w 11 i; nodes = w 12 i };
-    }
+head-back v C = head-read (bytesOf (fileWords v C)) (headFor v C) _ (holds-all (fileWords v C)) refl

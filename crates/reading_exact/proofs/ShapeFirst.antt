@@ -1,6 +1,6 @@
 -- Refusal 8: `shapeFrom` refuses exactly where something is misshapen, and at the first such place.
 use Prim.Native.Nat.{ℕ, suc, _-_, _≤_}
-use mathlib.Core.Path.{_≡_, refl, sym, _∙_}
+use mathlib.Core.Path.{_≡_, refl, sym, ap, _∙_}
 use mathlib.Core.Logic.{_⊎_, inl, inr}
 use mathlib.Core.Bool.{Bool, true, false, cond}
 use mathlib.Core.List.{List, [], _∷_, map}
@@ -63,7 +63,7 @@ module _ (ns : List Node) (roots : List ℕ) where
   Standing = TopReached (dues roots) ns
 
   refuse : (i : ℕ) → Misshapen ns roots i → FirstFrom readingOrder BadShape i (refused 8 i)
-  refuse i m = first-here readingOrder BadShape 8 i (refl, m) (λ n q (e, _). sym e) (λ n (e, _). omega arith)
+  refuse i m = first-here readingOrder BadShape 8 i (refl, m) (λ n q (e, _). ap (readingOrder .stage) (sym e)) (λ n (e, _). omega arith)
 
   over : (i : ℕ) (st : List Due) → i ≡ suc (length ns) → Standing i st → Answers i [] st
   unfolding shapeFrom

@@ -1,51 +1,60 @@
 -- A file whose head is not refused is the bytes of what is read from it.
 use Prim.Native.Nat.{ℕ, suc, _+_, _*_, _/_, _%_}
 use mathlib.Core.Path.{_≡_, refl, sym, ap, ap₂, _∙_}
+use mathlib.Core.Bool.{Bool, true, false, cond}
 use mathlib.Core.List.{List, [], _∷_, _++_}
 use native.Mathlib.Omega.{arith}
+use lib.Dec.{eqb}
 use lib.ListN.{length}
 use Rattle.format.specs.Words.{wordAt, wideAt, bytesOf}
-use Rattle.format.specs.Header.{headAt, headWords, Laid}
-use Rattle.format.specs.Sections.{nodeAt, wordsFrom}
-use Rattle.format.specs.Contents.{contentsAt, contentsOf}
-use Rattle.format.specs.Writing.{headFor, encoded}
+use Rattle.format.specs.Header.{more, juniorRecords, headAt, headWords, Laid}
+use Rattle.format.specs.Sections.{placeOf, juniorsOf, nodeAt, wordsFrom}
+use Rattle.format.specs.Contents.{tabled, contentsAt, contentsOf}
+use Rattle.format.specs.Writing.{juniorWords, headFor, encoded}
 use Rattle.format.specs.declared.Head.{Head}
 use Rattle.format.specs.declared.Six.{Six}
+use Rattle.format.specs.declared.Seven.{Seven}
+use Rattle.format.specs.declared.Section.the-variants.{Juniors}
 use Rattle.format.proofs.HeadLaws.{Headed}
 use Rattle.format.proofs.ContentsLaws.{users-held, roles-held, kinds-held, channels-held, sessions-held, nodes-held}
 use Rattle.reading_exact.specs.Lists.{All}
 use Rattle.reading_exact.proofs.Bytes.{Byte, Word, length-bytesOf, paired, small-words}
 use Rattle.reading_exact.proofs.Rows.{holds-all, holds-words, words-joined, rows-words}
-use Rattle.reading_exact.proofs.SectionRows.{oneRow, roleRow, channelRow, sessionRow, nodeRow, roleAt, channelAt, sessionAt, rowWords, file-rows}
+use Rattle.reading_exact.proofs.SectionRows.{oneRow, cat-one, roleRow, channelRow, sessionRow, nodeRow, roleAt, channelAt, sessionAt, rowWords, file-rows}
 
 -- the head that the contents read have is the file's own
-same-head : (f : List ℕ) → Headed f → headFor (contentsOf f) ≡ headAt f
+same-head : (f : List ℕ) → Headed f → headFor (wordAt f 0) (contentsOf f) ≡ headAt f
 same-head f d =
     let h : Head = headAt f in
     let l : Laid f h = d .laid in
     let u = users-held f h in
     let r = roles-held f h in
+    let j : juniorRecords (wordAt f 0) (length (contentsOf f .roles)) ≡ juniorRecords (wordAt f 0) (h .count .roles) = ap (juniorRecords (wordAt f 0)) r in
     let k = kinds-held f h in
     let c = channels-held f h in
     let s = sessions-held f h in
     let n = nodes-held f h in
-    let H : Head = headFor (contentsOf f) in
-    let version : 1 ≡ h .version = sym (d .version) in
-    let a7 : H .at .users ≡ h .at .users = omega arith in
-    let a8 : H .at .roles ≡ h .at .roles = omega arith in
-    let a9 : H .at .kinds ≡ h .at .kinds = omega arith in
-    let a10 : H .at .channels ≡ h .at .channels = omega arith in
-    let a11 : H .at .sessions ≡ h .at .sessions = omega arith in
-    let a12 : H .at .nodes ≡ h .at .nodes = omega arith in
+    let H : Head = headFor (wordAt f 0) (contentsOf f) in
+    let a-users : H .at .users ≡ h .at .users = omega arith in
+    let a-roles : H .at .roles ≡ h .at .roles = omega arith in
+    let a-juniors : H .at .juniors ≡ h .at .juniors = omega arith in
+    let a-kinds : H .at .kinds ≡ h .at .kinds = omega (arith, j) in
+    let a-channels : H .at .channels ≡ h .at .channels = omega (arith, j) in
+    let a-sessions : H .at .sessions ≡ h .at .sessions = omega (arith, j) in
+    let a-nodes : H .at .nodes ≡ h .at .nodes = omega (arith, j) in
     λ i. record {
-      version = version i;
+      version = wordAt f 0;
       count = record { users = u i; roles = r i; kinds = k i; channels = c i; sessions = s i; nodes = n i };
-      at = record { users = a7 i; roles = a8 i; kinds = a9 i; channels = a10 i; sessions = a11 i; nodes = a12 i };
+      at = record { users = a-users i; roles = a-roles i; juniors = a-juniors i; kinds = a-kinds i; channels = a-channels i; sessions = a-sessions i; nodes = a-nodes i };
     }
 
-head-words : (f : List ℕ) → headWords (headAt f) ≡ wordsFrom f 0 13
+head-words : (f : List ℕ) → headWords (headAt f) ≡ wordsFrom f 0 (13 + more (wordAt f 0))
 unfolding wordsFrom
-head-words f = refl
+head-words f = go (eqb (wordAt f 0) 2) refl
+  where
+    go : (b : Bool) → eqb (wordAt f 0) 2 ≡ b → headWords (headAt f) ≡ wordsFrom f 0 (13 + more (wordAt f 0))
+    go true e = rw e
+    go false e = rw e
 
 -- words, then what stands after them
 join : (f : List ℕ) (p a q b : ℕ) (k l : List ℕ) → p + a ≡ q → k ≡ wordsFrom f p a → l ≡ wordsFrom f q b → k ++ l ≡ wordsFrom f p (a + b)
@@ -83,38 +92,55 @@ triple-words f p =
     let two : p + 2 ≡ suc (suc p) = omega arith in
     rw (one, two)
 
+-- the masks of juniors, where the version has them
+juniors-words : (f : List ℕ) (h : Head) → juniorWords (h .version) (tabled (juniorsOf f h) 1 (h .count .roles)) ≡ wordsFrom f (h .at .juniors) (juniorRecords (h .version) (h .count .roles))
+unfolding wordsFrom
+juniors-words f h = go (eqb (h .version) 2)
+  where
+    r : ℕ
+    r = h .count .roles
+
+    go : (b : Bool) → cond b (tabled (λ n. cond b (wordAt f (placeOf h Juniors n)) 0) 1 r) [] ≡ wordsFrom f (h .at .juniors) (cond b r 0)
+    go true =
+        let one : 1 * r ≡ r = omega arith in
+        sym (cat-one (tabled (λ n. wordAt f (placeOf h Juniors n)) 1 r)) ∙ rows-words oneRow 1 (λ x. refl) f (wordAt f) (h .at .juniors) (one-words f) r ∙ ap (wordsFrom f (h .at .juniors)) one
+    go false = refl
+
 module _ (f : List ℕ) (d : Headed f) (bytes : All Byte f) where
   -- section after section, the words of what is read are the file's
-  contents-words : rowWords (contentsOf f) ≡ wordsFrom f 0 (wordAt f 12 + 3 * wordAt f 6)
+  contents-words : rowWords (wordAt f 0) (contentsOf f) ≡ wordsFrom f 0 (headAt f .at .nodes + 3 * wordAt f 6)
   unfolding contentsAt
   contents-words =
       let l : Laid f (headAt f) = d .laid in
       let n : Six = headAt f .count in
-      let at : Six = headAt f .at in
+      let v : ℕ = wordAt f 0 in
+      let at : Seven = headAt f .at in
       let small = small-words f bytes in
       let users = rows-words oneRow 1 (λ x. refl) f (wordAt f) (at .users) (one-words f) (n .users) in
       let roles = rows-words roleRow 4 (λ x. refl) f (roleAt f) (at .roles) (role-words f small) (n .roles) in
+      let juniors = juniors-words f (headAt f) in
       let kinds = rows-words oneRow 1 (λ x. refl) f (wordAt f) (at .kinds) (one-words f) (n .kinds) in
       let channels = rows-words channelRow 2 (λ x. refl) f (channelAt f) (at .channels) (channel-words f) (n .channels) in
       let sessions = rows-words sessionRow 3 (λ x. refl) f (sessionAt f) (at .sessions) (triple-words f) (n .sessions) in
       let nodes = rows-words nodeRow 3 (λ x. refl) f (nodeAt f) (at .nodes) (triple-words f) (n .nodes) in
       let past-users : at .users + 1 * n .users ≡ at .roles = omega arith in
       let past-kinds : at .kinds + 1 * n .kinds ≡ at .channels = omega arith in
-      let end : 13 + (1 * n .users + (4 * n .roles + (1 * n .kinds + (2 * n .channels + (3 * n .sessions + 3 * n .nodes))))) ≡ wordAt f 12 + 3 * wordAt f 6 = omega arith in
-      join f 0 13 (at .users) _ _ _ (sym (l .users-at)) (ap headWords (same-head f d) ∙ head-words f)
+      let end : 13 + more v + (1 * n .users + (4 * n .roles + (juniorRecords v (n .roles) + (1 * n .kinds + (2 * n .channels + (3 * n .sessions + 3 * n .nodes)))))) ≡ at .nodes + 3 * wordAt f 6 = omega arith in
+      join f 0 (13 + more v) (at .users) _ _ _ (omega arith) (ap headWords (same-head f d) ∙ head-words f)
       (join f (at .users) (1 * n .users) (at .roles) _ _ _ past-users users
-      (join f (at .roles) (4 * n .roles) (at .kinds) _ _ _ (sym (l .kinds-at)) roles
+      (join f (at .roles) (4 * n .roles) (at .juniors) _ _ _ (sym (l .juniors-at)) roles
+      (join f (at .juniors) (juniorRecords v (n .roles)) (at .kinds) _ _ _ (sym (l .kinds-at)) juniors
       (join f (at .kinds) (1 * n .kinds) (at .channels) _ _ _ past-kinds kinds
       (join f (at .channels) (2 * n .channels) (at .sessions) _ _ _ (sym (l .sessions-at)) channels
-      (join f (at .sessions) (3 * n .sessions) (at .nodes) _ _ _ (sym (l .nodes-at)) sessions nodes)))))
+      (join f (at .sessions) (3 * n .sessions) (at .nodes) _ _ _ (sym (l .nodes-at)) sessions nodes))))))
       ∙ ap (wordsFrom f 0) end
 
   -- read, then written, gives the bytes back
-  pub bytes-back : encoded (contentsOf f) ≡ f
+  pub bytes-back : encoded (wordAt f 0) (contentsOf f) ≡ f
   unfolding encoded
   bytes-back =
       let l : Laid f (headAt f) = d .laid in
       let (ws, e) = paired f (omega arith) bytes in
-      let len : wordAt f 12 + 3 * wordAt f 6 ≡ length ws = omega (arith, ap length e, length-bytesOf ws) in
+      let len : headAt f .at .nodes + 3 * wordAt f 6 ≡ length ws = omega (arith, ap length e, length-bytesOf ws) in
       let all : wordsFrom (bytesOf ws) 0 (length ws) ≡ ws = holds-words (bytesOf ws) 0 ws (holds-all ws) in
-      ap bytesOf (file-rows (contentsOf f) ∙ contents-words ∙ ap (wordsFrom f 0) len ∙ ap (λ (g : List ℕ). wordsFrom g 0 (length ws)) (sym e) ∙ all) ∙ e
+      ap bytesOf (file-rows (wordAt f 0) (contentsOf f) ∙ contents-words ∙ ap (wordsFrom f 0) len ∙ ap (λ (g : List ℕ). wordsFrom g 0 (length ws)) (sym e) ∙ all) ∙ e

@@ -1,9 +1,19 @@
 -- In what order refusals come, and which is the first of those that hold.
-use Prim.Native.Nat.{ℕ, _≤_, _<_}
+use Prim.Native.Nat.{ℕ, _*_, _≤_, _<_}
 use mathlib.Core.Path.{_≡_}
 use mathlib.Core.Logic.{_⊎_}
+use mathlib.Core.Bool.{cond}
+use lib.Dec.{eqb}
 use Rattle.format.specs.Answers.{fine, refused}
 use Rattle.format.specs.declared.Verdict.{Verdict}
+
+-- the numbers in order, 21 directly after 6: each has twice itself, and what comes after it has room behind it
+abbrev pub inTurn : ℕ → ℕ
+inTurn n = cond (eqb n 21) 13 (2 * n)
+
+-- the refusals of the file, which stand in the paper as 1 to 10 and include 21
+abbrev pub OfFile : ℕ → Type 0
+OfFile n = ((1 ≤ n) × (n ≤ 10)) ⊎ (n ≡ 21)
 
 -- by stage, within a stage the lowest place first, and at one place by turn
 pub record Order : Type 0 where

@@ -1,4 +1,4 @@
--- What each of the refusals 1 to 8 objects to, and where, in the words of the paper.
+-- What each of the refusals 1 to 8 and 21 objects to, and where, in the words of the paper.
 use Prim.Native.Nat.{ℕ, suc, _+_, _*_, _-_, _%_, _≤_, _<_}
 use mathlib.Core.Path.{_≡_}
 use mathlib.Core.Logic.{_⊎_, _≢_}
@@ -7,7 +7,7 @@ use mathlib.Core.List.{List, map}
 use lib.ListN.{length, getD}
 use Rattle.masks.specs.Mask.{has}
 use Rattle.format.specs.Words.{wordAt}
-use Rattle.format.specs.Header.{sixAt, headAt, Counted, BackToBack}
+use Rattle.format.specs.Header.{more, juniorRecords, sixAt, offsetsAt, headAt, Counted, BackToBack}
 use Rattle.format.specs.Sections.{placeOf}
 use Rattle.format.specs.Contents.{Contents, item, noRole, noChannel, noSession, noNode, contentsOf}
 use Rattle.trees.specs.Shape.{boundBelow}
@@ -15,9 +15,9 @@ use Rattle.format.specs.declared.Head.{Head}
 use Rattle.format.specs.declared.Six.{Six}
 use Rattle.format.specs.declared.Session.{Session}
 use Rattle.format.specs.declared.Node.{Node}
-use Rattle.format.specs.declared.Section.the-variants.{Users, Roles, Kinds, Channels}
+use Rattle.format.specs.declared.Section.the-variants.{Users, Roles, Juniors, Kinds, Channels}
 use Rattle.reading_exact.specs.File.{InCount}
-use Rattle.reading_exact.specs.Order.{Order}
+use Rattle.reading_exact.specs.Order.{Order, inTurn}
 
 -- 6: a user, role, kind or channel record names an item that the counts don't have; the place is the record's offset
 pub data Misnamed (h : Head) (C : Contents) (p : ℕ) : Type 0 where
@@ -27,6 +27,10 @@ pub data Misnamed (h : Head) (C : Contents) (p : ℕ) : Type 0 where
   kind : (n : ℕ) → InCount (length (C .kinds)) n → length (C .kinds) < item 0 (C .kinds) n → p ≡ placeOf h Kinds n → Misnamed h C p
   owner : (n : ℕ) → InCount (length (C .channels)) n → (InCount (length (C .users)) (item noChannel (C .channels) n .owner) → ⊥) → p ≡ placeOf h Channels n → Misnamed h C p
   kind-of : (n : ℕ) → InCount (length (C .channels)) n → (InCount (length (C .kinds)) (item noChannel (C .channels) n .kind .0) → ⊥) → p ≡ placeOf h Channels n → Misnamed h C p
+
+-- 21: a junior whose number is not lower than its senior's (out of count is 21, not 6); the place is the word offset
+pub data Misranked (h : Head) (C : Contents) (p : ℕ) : Type 0 where
+  junior : (n x : ℕ) → InCount (length (C .juniors)) n → has (item 0 (C .juniors) n) x ≡ true → n ≤ x → p ≡ placeOf h Juniors n → Misranked h C p
 
 -- 7: no such user, a starting role not assigned; the place is the session
 pub data Unassigned (C : Contents) (p : ℕ) : Type 0 where
@@ -78,22 +82,25 @@ pub data Misshapen (ns : List Node) (roots : List ℕ) (p : ℕ) : Type 0 where
   left-over : Begins ns (suc (length roots)) p → InCount (length ns) p → Misshapen ns roots p
   ninth : (b : ℕ) → ReachedWith ns (length roots) p b → 8 ≤ b → InCount (length ns) p → (nth ns p .tag ≡ 3) ⊎ (nth ns p .tag ≡ 5) → Misshapen ns roots p
 
--- the length in bytes that the six counts give: 13 words of head, and for each record its words
-abbrev pub lengthOf : Six → ℕ
-lengthOf n = 2 * (13 + n .users + 4 * n .roles + n .kinds + 2 * n .channels + 3 * n .sessions + 3 * n .nodes)
+-- the length in bytes that the six counts give: 13 words of head, and for each record its words; version 2 has a word more in the head, and one for each role
+abbrev pub lengthOf : ℕ → Six → ℕ
+lengthOf version n =
+    2 * (13 + more version + n .users + 4 * n .roles + juniorRecords version (n .roles) + n .kinds + 2 * n .channels + 3 * n .sessions + 3 * n .nodes)
 
 -- a refusal's number and place hold of a file
 pub data Refusable (f : List ℕ) (n p : ℕ) : Type 0 where
   short : n ≡ 1 → p ≡ 0 → length f < 26 → Refusable f n p
+  short-second : n ≡ 1 → p ≡ 0 → wordAt f 0 ≡ 2 → length f < 28 → Refusable f n p
   odd : n ≡ 1 → p ≡ 0 → length f % 2 ≡ 1 → Refusable f n p
-  version : n ≡ 2 → p ≡ 0 → wordAt f 0 ≢ 1 → Refusable f n p
+  version : n ≡ 2 → p ≡ 0 → wordAt f 0 ≢ 1 → wordAt f 0 ≢ 2 → Refusable f n p
   count : n ≡ 3 → p ≡ 0 → (Counted (sixAt f 1) → ⊥) → Refusable f n p
-  offset : n ≡ 4 → p ≡ 0 → (BackToBack (sixAt f 1) (sixAt f 7) → ⊥) → Refusable f n p
-  size : n ≡ 5 → p ≡ 0 → length f ≢ lengthOf (sixAt f 1) → Refusable f n p
+  offset : n ≡ 4 → p ≡ 0 → (BackToBack (wordAt f 0) (sixAt f 1) (offsetsAt f (wordAt f 0)) → ⊥) → Refusable f n p
+  size : n ≡ 5 → p ≡ 0 → length f ≢ lengthOf (wordAt f 0) (sixAt f 1) → Refusable f n p
   misnamed : n ≡ 6 → Misnamed (headAt f) (contentsOf f) p → Refusable f n p
+  misranked : n ≡ 21 → Misranked (headAt f) (contentsOf f) p → Refusable f n p
   unassigned : n ≡ 7 → Unassigned (contentsOf f) p → Refusable f n p
   misshapen : n ≡ 8 → Misshapen (contentsOf f .nodes) (map (λ (s : Session). s .root) (contentsOf f .sessions)) p → Refusable f n p
 
--- the order: by number, and within a number the lowest place first
+-- the order: by number, but 21 directly after 6, and within a number the lowest place first
 abbrev pub readingOrder : Order
-readingOrder = record { stage = λ n. n; turn = λ n. n }
+readingOrder = record { stage = inTurn; turn = λ n. n }

@@ -1,21 +1,24 @@
 -- Grants: a lookup, a mask of roles, and the table of these masks.
 use Prim.Native.Nat.{ℕ, zero, suc, _+_, _-_, _^_, _≤_, _<_}
 use mathlib.Core.Path.{_≡_, refl, sym, ap, _∙_}
-use mathlib.Core.Bool.{Bool, true, false, cond}
+use mathlib.Core.Bool.{Bool, true, false, cond, not, _||_}
 use mathlib.Core.List.{List, [], _∷_}
 use native.Mathlib.Omega.{arith}
 use native.Mathlib.Numerals.{add-one}
 use lib.ListN.{length, getD, take, drop, set, replicate, drop-of-length-le, List·getD-eq-default}
-use lib.Dec.{ltb}
+use lib.Bits.{bitAnd, and-zero-l}
+use lib.Dec.{eqb, ltb}
 use lib.Seq.{drop-cons, getD-take, take-take, take-set-le}
 use borrow.Author.Tests.{ltb-true, ltb-false}
 use Rattle.masks.specs.Mask.{has, with}
 use Rattle.masks.proofs.Laws.{has-above}
 use Rattle.masks.specs.declared.ChannelKind.{ChannelKind}
+use Rattle.format.specs.Contents.{Contents}
 use Rattle.format.proofs.ContentsLaws.{drop-set}
 use Rattle.rules.specs.declared.Way.{Way}
-use Rattle.rules.specs.Schema.{Schema, permits, permittingTo, permitting}
-use Rattle.rules.specs.Kept.{grantsTo, grantsFrom, addRole, Beyond, Granting}
+use Rattle.rules.specs.Schema.{Schema, ownGrants, juniorsIn, schemaOf, permits, permittingTo, permitting}
+use Rattle.rules.specs.Kept.{grantsTo, grantsFrom, joins, addRole, Beyond, Granting}
+use Rattle.rules.proofs.JuniorGrants.{joins-permits}
 
 -- one role more
 pub permitting-more : (D : Schema) (w : Way) (k : ChannelKind) (n m : ℕ) (can : Bool) → m ≡ permittingTo D w k n → can ≡ permits D w (record { 0 = n + 1 }) k
@@ -23,17 +26,18 @@ pub permitting-more : (D : Schema) (w : Way) (k : ChannelKind) (n m : ℕ) (can 
 unfolding permittingTo
 permitting-more D w k n m can e y = rw (e, y, add-one n)
 
-pub add-none : (g r : ℕ) (l : List ℕ) (k : ℕ) → k ≡ length l → drop k l ≡ addRole g r k (drop k l)
+pub add-none : (g j r : ℕ) (l : List ℕ) (k : ℕ) → k ≡ length l → drop k l ≡ addRole g j r k (drop k l)
 unfolding addRole
-add-none g r l k e = let none : drop k l ≡ [] = drop-of-length-le l {i = k} (omega arith) in rw none
+add-none g j r l k e = let none : drop k l ≡ [] = drop-of-length-le l {i = k} (omega arith) in rw none
 
 -- one kind more, below those that are done: of l₀, the first k are as they were
-pub add-more : (g r : ℕ) (l₀ l : List ℕ) (k v : ℕ) → 0 < k → k ≤ length l₀ → length l ≡ length l₀ → v ≡ cond (has g (k - 1)) (with (getD l (k - 1) 0) r) (getD l (k - 1) 0)
-    → take k l ≡ take k l₀ → drop k l ≡ addRole g r k (drop k l₀)
-    → (take (k - 1) (set l (k - 1) v) ≡ take (k - 1) l₀) × (drop (k - 1) (set l (k - 1) v) ≡ addRole g r (k - 1) (drop (k - 1) l₀))
+pub add-more : (g j r : ℕ) (l₀ l : List ℕ) (k v : ℕ) → 0 < k → k ≤ length l₀ → length l ≡ length l₀
+    → v ≡ cond (joins g j (getD l (k - 1) 0) (k - 1)) (with (getD l (k - 1) 0) r) (getD l (k - 1) 0)
+    → take k l ≡ take k l₀ → drop k l ≡ addRole g j r k (drop k l₀)
+    → (take (k - 1) (set l (k - 1) v) ≡ take (k - 1) l₀) × (drop (k - 1) (set l (k - 1) v) ≡ addRole g j r (k - 1) (drop (k - 1) l₀))
 unfolding addRole
-add-more g r l₀ l zero v pos le len e t d = let no : ⊥ = omega arith in absurd no
-add-more g r l₀ l (suc k) v pos le len e t d =
+add-more g j r l₀ l zero v pos le len e t d = let no : ⊥ = omega arith in absurd no
+add-more g j r l₀ l (suc k) v pos le len e t d =
     let k1 : suc k - 1 ≡ k = omega arith in
     let same : getD l k 0 ≡ getD l₀ k 0 = sym (getD-take (suc k) l k 0 (omega arith)) ∙ ap (λ x. getD x k 0) t ∙ getD-take (suc k) l₀ k 0 (omega arith) in
     let low : take k l ≡ take k l₀ = sym (take-take k (suc k) l (omega arith)) ∙ ap (take k) t ∙ take-take k (suc k) l₀ (omega arith) in
@@ -43,13 +47,16 @@ add-more g r l₀ l (suc k) v pos le len e t d =
     )
 
 -- a role more in all of them
-pub grants-more : (D : Schema) (w : Way) (g r k n : ℕ) → g ≡ D .grants w (r + 1) → addRole g (r + 1) k (grantsTo D w r k n) ≡ grantsTo D w (r + 1) k n
-unfolding addRole grantsTo permits
-grants-more D w g r k zero e = refl
-grants-more D w g r k (suc n) e =
-    let some : has g k ≡ permits D w (record { 0 = r + 1 }) (record { 0 = k }) = ap (λ x. has x k) e in
-    let first = permitting-more D w (record { 0 = k }) r (permittingTo D w (record { 0 = k }) r) (has g k) refl some in
-    rw (first, grants-more D w g r (suc k) n e)
+pub grants-more : (C : Contents) (w : Way) (g j r k n : ℕ) → r < length (C .roles) → g ≡ ownGrants C w (r + 1) → j ≡ juniorsIn C (r + 1)
+    → addRole g j (r + 1) k (grantsTo (schemaOf C) w r k n) ≡ grantsTo (schemaOf C) w (r + 1) k n
+unfolding addRole grantsTo
+grants-more C w g j r k zero l eg ej = refl
+grants-more C w g j r k (suc n) l eg ej =
+    let K : ChannelKind = record { 0 = k } in
+    let m : ℕ = permittingTo (schemaOf C) w K r in
+    let first : cond (joins g j m k) (with m (r + 1)) m ≡ permittingTo (schemaOf C) w K (r + 1) =
+    permitting-more (schemaOf C) w K r m (joins g j m k) refl (joins-permits C w K r g j l eg ej) in
+    rw (first, grants-more C w g j r (suc k) n l eg ej)
 
 -- no role yet
 pub grants-begin : (D : Schema) (w : Way) (k n : ℕ) → replicate n 0 ≡ grantsTo D w 0 k n
@@ -74,11 +81,16 @@ pub beyond-none : (D : Schema) (w : Way) → Beyond D w 0
 unfolding permittingTo
 beyond-none D w k h = refl
 
-pub beyond-more : (D : Schema) (w : Way) (g r : ℕ) → g ≡ D .grants w (r + 1) → g < 2 ^ 32 → Beyond D w r → Beyond D w (r + 1)
-unfolding permits
-beyond-more D w g r e small ih k above =
-    let off : false ≡ permits D w (record { 0 = r + 1 }) (record { 0 = k }) = sym (has-above 32 g k small above) ∙ ap (λ x. has x k) e in
-    sym (permitting-more D w (record { 0 = k }) r (permittingTo D w (record { 0 = k }) r) false refl off) ∙ ih k above
+pub beyond-more : (C : Contents) (w : Way) (g j r : ℕ) → r < length (C .roles) → g ≡ ownGrants C w (r + 1) → j ≡ juniorsIn C (r + 1) → g < 2 ^ 32
+    → Beyond (schemaOf C) w r → Beyond (schemaOf C) w (r + 1)
+beyond-more C w g j r l eg ej small ih k above =
+    let K : ChannelKind = record { 0 = k } in
+    let m : ℕ = permittingTo (schemaOf C) w K r in
+    let none : joins g j m k ≡ false =
+    ap (λ b. b || not (eqb (bitAnd m j) 0)) (has-above 32 g k small above)
+    ∙ ap (λ (x : ℕ). not (eqb (bitAnd x j) 0)) (ih k above)
+    ∙ ap (λ (x : ℕ). not (eqb x 0)) (and-zero-l j) in
+    sym (permitting-more (schemaOf C) w K r m (joins g j m k) refl (joins-permits C w K r g j l eg ej)) ∙ rw none (ih k above)
 
 pub granting : (D : Schema) (w : Way) (l : List ℕ) (n : ℕ) → l ≡ grantsFrom D w 0 n → n ≡ 33 → Beyond D w (D .roles) → Granting D w l
 granting D w l n e all past k = go (ltb k n) refl

@@ -8,11 +8,11 @@ use native.Mathlib.Omega.{arith}
 use lib.Bits.{bitAnd}
 use lib.Dec.{eqb}
 use lib.ListN.{getD}
-use borrow.Author.Tests.{eqb-true, eqb-false, ne-eqb}
+use borrow.Author.Tests.{eqb-true, eqb-false}
 use Rattle.masks.specs.Mask.{has, with}
 use Rattle.masks.specs.declared.ChannelKind.{ChannelKind}
 use Rattle.masks.proofs.Laws.{has-none, has-with, has-and, has-pos}
-use Rattle.masks.proofs.Meets.{meet-iff}
+use Rattle.masks.proofs.Meets.{meets-iff}
 use Rattle.rules.specs.declared.Way.{Way}
 use Rattle.rules.specs.Schema.{Schema, permits, permittingTo, permitting, Permitted, ThosePermitting}
 use Rattle.rules.specs.Rules.{able}
@@ -48,19 +48,16 @@ module _ (D : Schema) (w : Way) (k : ChannelKind) where
 
 pub able-iff : (D : Schema) (m : ℕ) (w : Way) (k : ℕ) → (able D m w k ≡ true) ↔ Permitted D m w k
 unfolding able
-able-iff D m w k = (to (eqb (bitAnd m (permitting D w k)) 0) refl, back)
+able-iff D m w k = (to, back)
   where
-    to : (b : Bool) → eqb (bitAnd m (permitting D w k)) 0 ≡ b → not b ≡ true → Permitted D m w k
-    to true e h = absurd (false≢true h)
-    to false e h =
-        let (r, a, b) = meet-iff m (permitting D w k) .0 (eqb-false (bitAnd m (permitting D w k)) 0 e) in
+    to : not (eqb (bitAnd m (permitting D w k)) 0) ≡ true → Permitted D m w k
+    to h =
+        let (r, a, b) = meets-iff m (permitting D w k) .0 h in
         let (c, q) = permitting-iff D w (record { 0 = k }) (D .roles) r .0 b in
         (r, c, a, q)
 
     back : Permitted D m w k → not (eqb (bitAnd m (permitting D w k)) 0) ≡ true
-    back (r, c, a, q) =
-        let b = permitting-iff D w (record { 0 = k }) (D .roles) r .1 (c, q) in
-        rw (ne-eqb (bitAnd m (permitting D w k)) 0 (meet-iff m (permitting D w k) .1 (r, a, b)))
+    back (r, c, a, q) = meets-iff m (permitting D w k) .1 (r, a, permitting-iff D w (record { 0 = k }) (D .roles) r .1 (c, q))
 
 -- what a look into a table of grants says
 module _ (D : Schema) (w : Way) (l : List ℕ) (m : ℕ) (k : ChannelKind) (its : Granting D w l) where

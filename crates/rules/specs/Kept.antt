@@ -1,16 +1,17 @@
 -- What the passes over the nodes keep: tables of grants and of names, and the contexts that wait, each as numbers in an array.
 use Prim.Native.Nat.{ℕ, zero, suc, _+_, _*_, _-_, _/_, _%_, _≤_, _<_}
 use mathlib.Core.Path.{_≡_}
-use mathlib.Core.Bool.{Bool, true, cond, not, _&&_}
+use mathlib.Core.Bool.{Bool, true, cond, not, _&&_, _||_}
 use mathlib.Core.List.{List, [], _∷_, map}
 use lib.Bits.{bitAnd}
 use lib.Dec.{eqb, leb, ltb}
-use lib.ListN.{getD, take, drop}
+use lib.ListN.{length, getD, take, drop}
 use Rattle.masks.specs.Mask.{has, with, without}
 use Rattle.format.specs.Answers.{fine, refused}
 use Rattle.format.specs.declared.Verdict.{Verdict}
-use Rattle.format.specs.Contents.{Contents, item, noChannel, noSession, inCount}
+use Rattle.format.specs.Contents.{Contents, item, noRole, noChannel, noSession, inCount}
 use Rattle.format.specs.Stacks.{stacked}
+use Rattle.format.specs.declared.Role.{Role}
 use Rattle.format.specs.declared.Node.{Node}
 use Rattle.rules.specs.declared.Way.{Way}
 use Rattle.rules.specs.declared.Way.the-variants.{Sends, Receives}
@@ -28,10 +29,19 @@ grantsTo D w r k (suc n) = permittingTo D w (record { 0 = k }) r ∷ grantsTo D 
 abbrev pub grantsFrom : Schema → Way → ℕ → ℕ → List ℕ
 grantsFrom D w k n = grantsTo D w (D .roles) k n
 
--- such masks with one role more, which has the kinds g
-unfoldable pub addRole : ℕ → ℕ → ℕ → List ℕ → List ℕ
-addRole g r k [] = []
-addRole g r k (m ∷ ms) = cond (has g k) (with m r) m ∷ addRole g r (suc k) ms
+-- whether a role with its own kinds g and the juniors j joins the lower roles m that permit a step on the kind k: its own record has the kind, or a
+-- junior of it is among them
+abbrev pub joins : ℕ → ℕ → ℕ → ℕ → Bool
+joins g j m k = has g k || not (eqb (bitAnd m j) 0)
+
+-- such masks with one role more
+unfoldable pub addRole : ℕ → ℕ → ℕ → ℕ → List ℕ → List ℕ
+addRole g j r k [] = []
+addRole g j r k (m ∷ ms) = cond (joins g j m k) (with m r) m ∷ addRole g j r (suc k) ms
+
+-- a role's record and its juniors, as the file has them
+abbrev pub RoleIn : Contents → ℕ → Role → ℕ → Type 0
+RoleIn C r it j = (1 ≤ r) × (r ≤ length (C .roles)) × (it ≡ item noRole (C .roles) r) × (j ≡ item 0 (C .juniors) r)
 
 -- none of the roles 1 to r permits a step on a kind above 32
 abbrev pub Beyond : Schema → Way → ℕ → Type 0

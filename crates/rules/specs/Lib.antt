@@ -1,3 +1,4 @@
+pub mod Juniors
 pub mod Schema
 pub mod Names
 pub mod Rules

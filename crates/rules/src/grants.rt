@@ -12,15 +12,15 @@ use masks::with_role;
 ghost use mathlib.Core.Path.{_≡_};
 ghost use mathlib.Core.Bool.{true, cond, not};
 ghost use mathlib.Core.Logic.{_↔_};
-ghost use Prim.Native.Nat.{_≤_};
+ghost use Prim.Native.Nat.{_-_, _≤_};
 ghost use lib.Bits.{bitAnd};
 ghost use lib.Dec.{eqb};
 ghost use lib.ListN.{length, getD, replicate};
-ghost use Rattle.masks.specs.Mask.{has, with};
+ghost use Rattle.masks.specs.Mask.{with};
 ghost use Rattle.format.specs.Header.{Laid};
-ghost use Rattle.format.specs.Contents.{contentsAt};
-ghost use Rattle.rules.specs.Schema.{Schema, granted, schemaOf, permits, Permitted, ThosePermitting};
-ghost use Rattle.rules.specs.Kept.{grantsFrom, addRole, Beyond, Granting};
+ghost use Rattle.format.specs.Contents.{Contents, contentsAt};
+ghost use Rattle.rules.specs.Schema.{Schema, granted, schemaOf, permits, permittingTo, Permitted, ThosePermitting};
+ghost use Rattle.rules.specs.Kept.{grantsFrom, joins, addRole, RoleIn, Beyond, Granting};
 ghost use Rattle.rules.specs.declared.Way.the-variants.{Sends, Receives};
 
 fn granted_by(way: Way, it: Role) -> u32
@@ -32,12 +32,20 @@ fn granted_by(way: Way, it: Role) -> u32
     }
 }
 
-// Whether a user's role, whose record is at hand, permits sending, or receiving, on a channel's kind: each entry of the tables is decided by it.
-fn role_permits(it: Role, way: Way, role: UserRole, kind: ChannelKind) -> bool
-    ensures { λ r. ⌜ (r ≡ has (granted way it) (kind .0))
-        × ((D : Schema) → granted way it ≡ D .grants way (role .0) → r ≡ permits D way role kind) ⌝ }
+// Whether a user's role, whose record and juniors are at hand, permits sending, or receiving, on a channel's kind, by the lower roles that do: each
+// entry of the tables is decided by it.
+fn role_permits(
+    it: Role,
+    juniors: u16,
+    lower: u16,
+    way: Way,
+    role: UserRole,
+    kind: ChannelKind,
+) -> bool
+    ensures { λ r. ⌜ (r ≡ joins (granted way it) juniors lower (kind .0))
+        × ((C : Contents) → RoleIn C (role .0) it juniors → lower ≡ permittingTo (schemaOf C) way kind (role .0 - 1) → r ≡ permits (schemaOf C) way role kind) ⌝ }
 {
-    has_kind(granted_by(way, it), kind)
+    has_kind(granted_by(way, it), kind) | ((lower & juniors) != 0)
 }
 
 fn with_if(mask: u16, role: UserRole, yes: bool) -> u16
@@ -50,20 +58,26 @@ fn with_if(mask: u16, role: UserRole, yes: bool) -> u16
     mask
 }
 
-// One role more in the masks for the kinds 0, 1, .., where the role's record permits it.
-fn add_role(table: &mut [u16], role: UserRole, it: Role, way: Way)
+// One role more in the masks for the kinds 0, 1, .., where the role's record permits it or a junior of it is in the mask.
+fn add_role(table: &mut [u16], role: UserRole, it: Role, juniors: u16, way: Way)
     requires { ⌜ (1 ≤ role .0) × (role .0 ≤ 16) × (length (now table) ≤ 33) ⌝ }
-    ensures { λ r. ⌜ now (table .exit) ≡ addRole (granted way it) (role .0) 0 (now (table .entry)) ⌝ }
+    ensures { λ r. ⌜ now (table .exit) ≡ addRole (granted way it) juniors (role .0) 0 (now (table .entry)) ⌝ }
 {
     let mut k = table.len();
     while 0 < k {
         k -= 1;
         let kind = ChannelKind(narrow(k));
-        table[k] = with_if(table[k], role, role_permits(it, way, role, kind));
+        let lower = table[k];
+        table[k] = with_if(
+            lower,
+            role,
+            role_permits(it, juniors, lower, way, role, kind),
+        );
     }
 }
 
-// The masks of the roles that permit sending, and receiving, on the kinds 0, 1, .., as many as the tables have room for.
+// The masks of the roles that permit sending, and receiving, on the kinds 0, 1, .., as many as the tables have room for. Juniors have lower numbers,
+// so that one pass, lower roles first, sees every chain of them.
 pub fn fill_grants(file: &[u8], head: Head, sends: &mut [u16], receives: &mut [u16])
     requires { ⌜ Laid (now file) head × (length (now sends) ≤ 33) × (length (now receives) ≤ 33) × (now sends ≡ replicate (length (now sends)) 0) × (now receives ≡ replicate (length (now receives)) 0) ⌝ }
     ensures { λ r. ⌜ (now (sends .exit) ≡ grantsFrom (schemaOf (contentsAt (now (file .entry)) head)) Sends 0 (length (now (sends .entry))))
@@ -74,8 +88,9 @@ pub fn fill_grants(file: &[u8], head: Head, sends: &mut [u16], receives: &mut [u
     while n < head.count.roles {
         n += 1;
         let it = sections::role(file, head, n);
-        add_role(sends, UserRole(n), it, Way::Sends);
-        add_role(receives, UserRole(n), it, Way::Receives);
+        let juniors = sections::juniors(file, head, n);
+        add_role(sends, UserRole(n), it, juniors, Way::Sends);
+        add_role(receives, UserRole(n), it, juniors, Way::Receives);
     }
 }
 

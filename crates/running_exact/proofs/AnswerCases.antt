@@ -16,20 +16,22 @@ use Rattle.checking.specs.Check.{readingNames}
 use Rattle.steps.specs.Choice.{clinicOf}
 use Rattle.choices.specs.Choices.{Ran, start, ranOf}
 use Rattle.running.specs.Run.{listed, stopped, unready}
+use Rattle.reading_exact.specs.Order.{OfFile}
 use Rattle.reading_exact.proofs.FirstLaws.{number-of}
-use Rattle.placing_exact.proofs.AnswerStages.{Among, none, some, names-among}
+use Rattle.reading_exact.proofs.Turns.{not-of-file, some-of-file}
+use Rattle.placing_exact.proofs.AnswerStages.{Named, names-fine, names-wrong, names-of}
 use Rattle.running_exact.specs.Runs.{Unlisted, Unfit, Listed, Fit}
 use Rattle.running_exact.proofs.Agree.{Number, refused-number}
 use Rattle.running_exact.proofs.RunChain.{run-stopped}
 
--- the refusals of a choice come after those of a file, and none is 17
-pub past-ten : (n : ℕ) → Number n → (10 < n) × (n ≢ 17)
-past-ten n (inl e) = (omega (arith, e), λ z. omega (arith, e, z))
-past-ten n (inr (inl e)) = (omega (arith, e), λ z. omega (arith, e, z))
-past-ten n (inr (inr (inl e))) = (omega (arith, e), λ z. omega (arith, e, z))
-past-ten n (inr (inr (inr (inl e)))) = (omega (arith, e), λ z. omega (arith, e, z))
-past-ten n (inr (inr (inr (inr (inl e))))) = (omega (arith, e), λ z. omega (arith, e, z))
-past-ten n (inr (inr (inr (inr (inr e))))) = (omega (arith, e), λ z. omega (arith, e, z))
+-- the refusals of a choice are none of a file, and none is 17
+pub past-ten : (n : ℕ) → Number n → (10 < n) × (n < 21) × (n ≢ 17)
+past-ten n (inl e) = (omega (arith, e), omega (arith, e), λ z. omega (arith, e, z))
+past-ten n (inr (inl e)) = (omega (arith, e), omega (arith, e), λ z. omega (arith, e, z))
+past-ten n (inr (inr (inl e))) = (omega (arith, e), omega (arith, e), λ z. omega (arith, e, z))
+past-ten n (inr (inr (inr (inl e)))) = (omega (arith, e), omega (arith, e), λ z. omega (arith, e, z))
+past-ten n (inr (inr (inr (inr (inl e))))) = (omega (arith, e), omega (arith, e), λ z. omega (arith, e, z))
+past-ten n (inr (inr (inr (inr (inr e))))) = (omega (arith, e), omega (arith, e), λ z. omega (arith, e, z))
 
 -- the list of choices fits, or it doesn't; and with it the output
 pub data Decided (Yes No : Type 0) (b : Bool) : Type 0 where
@@ -66,44 +68,44 @@ never-fit ws room (a, h) (inr u) = never-listed ws h u
 -- A list that fits or not, and a file: the four things that can be answered.
 pub data Answer (Yes No : Type 0) (f ws : List ℕ) (v : Verdict) : Type 0 where
   unfit : No → v ≡ refused 17 0 → Answer Yes No f ws v
-  unread : Yes → 1 ≤ readingNames f .number → readingNames f .number ≤ 10 → v ≡ readingNames f → Answer Yes No f ws v
+  unread : Yes → OfFile (readingNames f .number) → v ≡ readingNames f → Answer Yes No f ws v
   whole : Yes → readingNames f ≡ fine → ranOf f ws .refusal ≡ 0 → v ≡ fine → Answer Yes No f ws v
-  halted : Yes → readingNames f ≡ fine → 10 < ranOf f ws .refusal → ranOf f ws .refusal ≢ 17 → v ≡ refused (ranOf f ws .refusal) (ranOf f ws .count + 1) → Answer Yes No f ws v
+  halted : Yes → readingNames f ≡ fine → (10 < ranOf f ws .refusal) × (ranOf f ws .refusal < 21) → ranOf f ws .refusal ≢ 17 → v ≡ refused (ranOf f ws .refusal) (ranOf f ws .count + 1) → Answer Yes No f ws v
 
 module _ (f ws : List ℕ) {Yes No : Type 0} (apart : Yes → No → ⊥) {v : Verdict} where
   pub by-unfit : Answer Yes No f ws v → No → v ≡ refused 17 0
   by-unfit (unfit h e) u = e
-  by-unfit (unread h a b e) u = absurd (apart h u)
+  by-unfit (unread h o e) u = absurd (apart h u)
   by-unfit (whole h c z e) u = absurd (apart h u)
   by-unfit (halted h c a b e) u = absurd (apart h u)
 
   pub by-seventeen : Answer Yes No f ws v → v .number ≡ 17 → No
   by-seventeen (unfit h e) z = h
-  by-seventeen (unread h a b e) z = absurd (omega (arith, b, z, number-of e))
+  by-seventeen (unread h o e) z = absurd (not-of-file _ 17 o (omega arith) (omega arith) (sym (number-of e) ∙ z))
   by-seventeen (whole h c q e) z = absurd (omega (arith, z, number-of e))
   by-seventeen (halted h c a b e) z = absurd (b (sym (number-of e) ∙ z))
 
-  pub to-names : (n p : ℕ) → 1 ≤ n → n ≤ 10 → Answer Yes No f ws v → v ≡ refused n p → Yes × (readingNames f ≡ refused n p)
-  to-names n p l k (unfit h e) z = absurd (omega (arith, k, number-of (sym e ∙ z)))
-  to-names n p l k (unread h a b e) z = (h, sym e ∙ z)
-  to-names n p l k (whole h c q e) z = absurd (omega (arith, l, number-of (sym e ∙ z)))
-  to-names n p l k (halted h c a b e) z = absurd (omega (arith, a, k, number-of (sym e ∙ z)))
+  pub to-names : (n p : ℕ) → OfFile n → Answer Yes No f ws v → v ≡ refused n p → Yes × (readingNames f ≡ refused n p)
+  to-names n p l (unfit h e) z = absurd (not-of-file n 17 l (omega arith) (omega arith) (sym (number-of (sym e ∙ z))))
+  to-names n p l (unread h o e) z = (h, sym e ∙ z)
+  to-names n p l (whole h c q e) z = absurd (omega (arith, some-of-file n l, number-of (sym e ∙ z)))
+  to-names n p l (halted h c a b e) z = absurd (not-of-file n (ranOf f ws .refusal) l (a .0) (a .1) (sym (number-of (sym e ∙ z))))
 
   pub from-names : (n p : ℕ) → 1 ≤ n → Answer Yes No f ws v → Yes → readingNames f ≡ refused n p → v ≡ refused n p
   from-names n p l (unfit h e) y z = absurd (apart y h)
-  from-names n p l (unread h a b e) y z = e ∙ z
+  from-names n p l (unread h o e) y z = e ∙ z
   from-names n p l (whole h c q e) y z = absurd (omega (arith, l, number-of (sym c ∙ z)))
   from-names n p l (halted h c a b e) y z = absurd (omega (arith, l, number-of (sym c ∙ z)))
 
   pub by-whole : Answer Yes No f ws v → Yes → readingNames f ≡ fine → ranOf f ws .refusal ≡ 0 → v ≡ fine
   by-whole (unfit h e) y clean q = absurd (apart y h)
-  by-whole (unread h a b e) y clean q = e ∙ clean
+  by-whole (unread h o e) y clean q = e ∙ clean
   by-whole (whole h c z e) y clean q = e
-  by-whole (halted h c a b e) y clean q = absurd (omega (arith, a, q))
+  by-whole (halted h c a b e) y clean q = absurd (omega (arith, a .0, q))
 
   pub by-halt : Answer Yes No f ws v → Yes → readingNames f ≡ fine → ranOf f ws .refusal ≢ 0 → v ≡ refused (ranOf f ws .refusal) (ranOf f ws .count + 1)
   by-halt (unfit h e) y clean q = absurd (apart y h)
-  by-halt (unread h a b e) y clean q = absurd (omega (arith, a, number-of clean))
+  by-halt (unread h o e) y clean q = absurd (omega (arith, some-of-file (readingNames f .number) o, number-of clean))
   by-halt (whole h c z e) y clean q = absurd (q z)
   by-halt (halted h c a b e) y clean q = e
 
@@ -111,7 +113,7 @@ module _ (f ws : List ℕ) where
   abbrev ran : Ran
   ran = ranOf f ws
 
-  halted-number : ran .refusal ≢ 0 → (10 < ran .refusal) × (ran .refusal ≢ 17)
+  halted-number : ran .refusal ≢ 0 → (10 < ran .refusal) × (ran .refusal < 21) × (ran .refusal ≢ 17)
   halted-number z =
       let (l, h) = run-stopped (clinicOf (contentsOf f)) ws (start (contentsOf f)) z in
       past-ten (ran .refusal) (refused-number (clinicOf (contentsOf f)) (ran .state) _ _ (ran .refusal) h)
@@ -120,12 +122,12 @@ module _ (f ws : List ℕ) where
   answer-of Yes No true (no h e) = absurd (false≢true (sym e))
   answer-of Yes No false (yes h e) = absurd (false≢true e)
   answer-of Yes No false (no h e) = unfit h refl
-  answer-of Yes No true (yes h e) = go (names-among f)
+  answer-of Yes No true (yes h e) = go (names-of f)
     where
       stops : readingNames f ≡ fine → (b : Bool) → eqb (ran .refusal) 0 ≡ b → Answer Yes No f ws (stopped ran)
       stops clean true q = whole h clean (eqb-true (ran .refusal) 0 q) (rw q)
-      stops clean false q = let (l, d) = halted-number (eqb-false (ran .refusal) 0 q) in halted h clean l d (rw q)
+      stops clean false q = let (l, k, d) = halted-number (eqb-false (ran .refusal) 0 q) in halted h clean (l, k) d (rw q)
 
-      go : Among 1 10 (readingNames f) → Answer Yes No f ws (orElse (readingNames f) (stopped ran))
-      go (none clean) = subst (Answer Yes No f ws) (sym (quiet-first (readingNames f) (stopped ran) (number-of clean))) (stops clean (eqb (ran .refusal) 0) refl)
-      go (some low high) = unread h low high (loud-first (readingNames f) (stopped ran) (λ z. omega (arith, z, low)))
+      go : Named (readingNames f) → Answer Yes No f ws (orElse (readingNames f) (stopped ran))
+      go (names-fine clean) = subst (Answer Yes No f ws) (sym (quiet-first (readingNames f) (stopped ran) (number-of clean))) (stops clean (eqb (ran .refusal) 0) refl)
+      go (names-wrong o) = unread h o (loud-first (readingNames f) (stopped ran) (λ z. omega (arith, z, some-of-file (readingNames f .number) o)))

@@ -16,6 +16,8 @@ use Rattle.steps.specs.Choice.{clinicOf}
 use Rattle.choices.specs.Choices.{Ran, ranOf}
 use Rattle.running.specs.declared.Ready.{Ready}
 use Rattle.running.specs.Run.{listed, stopped, unready, readyPair, readyOf, ready}
+use Rattle.reading_exact.specs.Order.{OfFile}
+use Rattle.reading_exact.proofs.Turns.{some-of-file}
 use Rattle.running_exact.specs.Runs.{Unlisted, Listed, noPair}
 use Rattle.running_exact.proofs.AnswerCases.{listed-or, never-listed, Answer, answer-of, by-unfit, by-seventeen, to-names, from-names, by-whole, by-halt}
 
@@ -62,9 +64,10 @@ module _ (f ws : List ℕ) where
   ready-seventeen = (λ e. by-seventeen f ws (never-listed ws) ready-verdict (sym pair-number ∙ e), λ u. ap (λ (r : Ready). r .number) (ready-unlisted u))
 
   -- then 1 to 10
-  pub ready-names : (n p : ℕ) → 1 ≤ n → n ≤ 10 → (ready f ws ≡ noPair n p) ↔ (Listed ws × (readingNames f ≡ refused n p))
-  ready-names n p l k =
-      (λ e. to-names f ws (never-listed ws) n p l k ready-verdict (loud-verdict n p l e), λ (y, z). loud-pair n p l (from-names f ws (never-listed ws) n p l ready-verdict y z))
+  pub ready-names : (n p : ℕ) → OfFile n → (ready f ws ≡ noPair n p) ↔ (Listed ws × (readingNames f ≡ refused n p))
+  ready-names n p o =
+      let l = some-of-file n o in
+      (λ e. to-names f ws (never-listed ws) n p o ready-verdict (loud-verdict n p l e), λ (y, z). loud-pair n p l (from-names f ws (never-listed ws) n p l ready-verdict y z))
 
   -- then the run's halt
   pub ready-halted : Listed ws → readingNames f ≡ fine → ran .refusal ≢ 0 → ready f ws ≡ noPair (ran .refusal) (ran .count + 1)

@@ -16,8 +16,10 @@ use Rattle.steps.specs.declared.Thread.{Thread}
 use Rattle.choices.specs.Choices.{Ran, ranOf}
 use Rattle.running.specs.Run.{ranWords, listed, unready, running, runOver}
 use Rattle.reading_exact.proofs.AllLaws.{all-map}
+use Rattle.reading_exact.specs.Order.{OfFile}
+use Rattle.reading_exact.proofs.Turns.{some-of-file}
 use Rattle.reading_exact.proofs.FirstLaws.{number-of}
-use Rattle.placing_exact.proofs.AnswerStages.{Among, none, some, names-among}
+use Rattle.placing_exact.proofs.AnswerStages.{Named, names-fine, names-wrong, names-of}
 use Rattle.running_exact.specs.Runs.{Unfit, Fit}
 use Rattle.running_exact.specs.Output.{Written}
 use Rattle.running_exact.proofs.RunSafe.{run-kept}
@@ -41,9 +43,9 @@ module _ (f ws : List ℕ) where
     run-seventeen = (by-seventeen f ws (never-fit ws room) (run-answer room), λ u. number-of (run-unfit u))
 
     -- then 1 to 10, as they are read
-    pub run-names : (n p : ℕ) → 1 ≤ n → n ≤ 10 → (running f ws room ≡ refused n p) ↔ (Fit ws room × (readingNames f ≡ refused n p))
-    run-names n p l k =
-        (to-names f ws (never-fit ws room) n p l k (run-answer room), λ (y, z). from-names f ws (never-fit ws room) n p l (run-answer room) y z)
+    pub run-names : (n p : ℕ) → OfFile n → (running f ws room ≡ refused n p) ↔ (Fit ws room × (readingNames f ≡ refused n p))
+    run-names n p o =
+        (to-names f ws (never-fit ws room) n p o (run-answer room), λ (y, z). from-names f ws (never-fit ws room) n p (some-of-file n o) (run-answer room) y z)
 
     -- then what the run came to: 0 at 0, or the number that halted it at the choice after those done
     pub run-through : Fit ws room → readingNames f ≡ fine → ran .refusal ≡ 0 → running f ws room ≡ fine
@@ -57,15 +59,15 @@ module _ (f ws : List ℕ) where
   -- nothing is written where 17 or 1 to 10 refuse
   pub run-unwritten : (out : List ℕ) → Unfit ws (length out) ⊎ (readingNames f ≢ fine) → runOver f ws out ≡ out
   unfolding runOver
-  run-unwritten out why = go (listed (length ws) && leb 1800 (length out)) (fit-or ws (length out)) (names-among f) why
+  run-unwritten out why = go (listed (length ws) && leb 1800 (length out)) (fit-or ws (length out)) (names-of f) why
     where
-      go : (b : Bool) → Decided (Fit ws (length out)) (Unfit ws (length out)) b → Among 1 10 (readingNames f) → Unfit ws (length out) ⊎ (readingNames f ≢ fine)
+      go : (b : Bool) → Decided (Fit ws (length out)) (Unfit ws (length out)) b → Named (readingNames f) → Unfit ws (length out) ⊎ (readingNames f ≢ fine)
           → cond (eqb (unready b f .number) 0) (sets out 0 (bytesOf (ranWords ran))) out ≡ out
       go false d a w = refl
       go true (no h e) a w = absurd (false≢true (sym e))
       go true (yes h e) a (inl u) = absurd (never-fit ws (length out) h u)
-      go true (yes h e) (none c) (inr z) = absurd (z c)
-      go true (yes h e) (some low high) (inr z) = rw (ne-eqb (readingNames f .number) 0 (λ q. omega (arith, low, q)))
+      go true (yes h e) (names-fine c) (inr z) = absurd (z c)
+      go true (yes h e) (names-wrong o) (inr z) = rw (ne-eqb (readingNames f .number) 0 (λ q. omega (arith, some-of-file (readingNames f .number) o, q)))
 
   -- and else the state after the choices done
   pub run-written : (out : List ℕ) → Fit ws (length out) → readingNames f ≡ fine → Written ran out (runOver f ws out)

@@ -9,6 +9,7 @@ use Rattle.tables.specs.Records.{recordFits, sectionAnswer, recordsAnswer}
 use Rattle.trees.specs.Ends.{following}
 use Rattle.trees.specs.Shape.{nodeFits, shapeFrom, roots, shapeAnswer}
 use Rattle.reading.specs.Reading.{reading}
+use Rattle.rules.specs.Juniors.{together, effective}
 use Rattle.rules.specs.Schema.{permits, permittingTo}
 use Rattle.rules.specs.Names.{named, kindOf, mine}
 use Rattle.rules.specs.Rules.{namesFit, kindsFit, able, wrong, childOf}
@@ -23,5 +24,5 @@ use Rattle.reading_exact.specs.Lists.{All}
 use Rattle.running_exact.specs.RunCases.{RunShown, runCases}
 
 pub runs-shown : All RunShown runCases
-unfolding has with without held namesOnly within bytesOf firstOf from2 from3 from4 from5 headOf tabled item contentsAt recordFits sectionAnswer recordsAnswer following nodeFits shapeFrom roots shapeAnswer reading permits permittingTo named kindOf mine namesFit kindsFit able wrong childOf reached openingsFrom firstBy namesAnswer readingNames value firstFree kindHeld meeting sending lone aloneOnly acting done outcome choice threadsFrom run madeWords threadWords ranWords running runOver receiverFrom pairFrom readyPair ready
+unfolding has with without held namesOnly within bytesOf firstOf from2 from3 from4 from5 headOf tabled item contentsAt recordFits sectionAnswer recordsAnswer following nodeFits shapeFrom roots shapeAnswer reading together effective permits permittingTo named kindOf mine namesFit kindsFit able wrong childOf reached openingsFrom firstBy namesAnswer readingNames value firstFree kindHeld meeting sending lone aloneOnly acting done outcome choice threadsFrom run madeWords threadWords ranWords running runOver receiverFrom pairFrom readyPair ready
 runs-shown = ((refl, refl), ((refl, refl), ((refl, refl), ((refl, refl), ((refl, refl), ((refl, refl), ((refl, refl), ((refl, refl), ((refl, refl), (refl, (refl, (refl, (refl, (refl, tt))))))))))))))

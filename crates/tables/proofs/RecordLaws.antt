@@ -13,14 +13,15 @@ use Rattle.format.specs.declared.Verdict.{Verdict}
 use Rattle.format.specs.Sections.{part}
 use Rattle.format.specs.declared.Head.{Head}
 use Rattle.format.specs.declared.Section.{Section}
-use Rattle.format.specs.declared.Section.the-variants.{Users, Roles, Kinds, Channels, Sessions, Nodes}
+use Rattle.format.specs.declared.Section.the-variants.{Users, Roles, Juniors, Kinds, Channels, Sessions, Nodes}
 use Rattle.format.proofs.AnswerLaws.{NoRefusal, first-quiet, both-quiet}
-use Rattle.format.proofs.ContentsLaws.{in-count, item-past, users-held, roles-held, kinds-held, channels-held, sessions-held, nodes-held}
+use Rattle.format.proofs.ContentsLaws.{in-count, item-past, users-held, roles-held, juniors-held, kinds-held, channels-held, sessions-held, nodes-held}
 use Rattle.tables.specs.Records.{countIn, recordFits, refusalOf, sectionAnswer, recordsAnswer}
 
 pub counted : (f : List ℕ) (h : Head) (s : Section) → countIn s (contentsAt f h) ≡ part s (h .count)
 counted f h Users = users-held f h
 counted f h Roles = roles-held f h
+counted f h Juniors = juniors-held f h
 counted f h Kinds = kinds-held f h
 counted f h Channels = channels-held f h
 counted f h Sessions = sessions-held f h
@@ -51,6 +52,7 @@ module _ (h : Head) (C : Contents) where
   some : (s : Section) (n : ℕ) → 1 ≤ refusalOf h s n .number
   some Users n = omega arith
   some Roles n = omega arith
+  some Juniors n = omega arith
   some Kinds n = omega arith
   some Channels n = omega arith
   some Sessions n = omega arith
@@ -60,13 +62,15 @@ module _ (h : Head) (C : Contents) where
   unfolding sectionAnswer
   fitting s q n low high = all-fit (recordFits C s) (refusalOf h s) (some s) 1 (countIn s C) q n low (omega arith)
 
-  sections-quiet : NoRefusal (recordsAnswer h C) → NoRefusal (sectionAnswer h C Channels) × NoRefusal (sectionAnswer h C Sessions)
+  sections-quiet : NoRefusal (recordsAnswer h C) → NoRefusal (sectionAnswer h C Channels) × NoRefusal (sectionAnswer h C Juniors) × NoRefusal (sectionAnswer h C Sessions)
   unfolding recordsAnswer
   sections-quiet q =
       let after-users = both-quiet NoRefusal (sectionAnswer h C Users) _ (λ z. z) .0 q .1 in
       let after-roles = both-quiet NoRefusal (sectionAnswer h C Roles) _ (λ z. z) .0 after-users .1 in
       let after-kinds = both-quiet NoRefusal (sectionAnswer h C Kinds) _ (λ z. z) .0 after-roles .1 in
-      both-quiet NoRefusal (sectionAnswer h C Channels) (sectionAnswer h C Sessions) (λ z. z) .0 after-kinds
+      let (channels, after-channels) = both-quiet NoRefusal (sectionAnswer h C Channels) _ (λ z. z) .0 after-kinds in
+      let (juniors, sessions) = both-quiet NoRefusal (sectionAnswer h C Juniors) (sectionAnswer h C Sessions) (λ z. z) .0 after-channels in
+      (channels, juniors, sessions)
 
   pub owners-are-users : NoRefusal (recordsAnswer h C) → (n : ℕ) → item noChannel (C .channels) n .owner ≤ length (C .users)
   unfolding recordFits
@@ -78,4 +82,4 @@ module _ (h : Head) (C : Contents) where
   unfolding recordFits
   seated-are-users q =
       any-item noSession (C .sessions) (λ s. s .user ≤ length (C .users)) (omega arith) (λ n low high.
-      in-count (length (C .users)) _ (and-eq-true-iff _ _ .0 (fitting Sessions (sections-quiet q .1) n low high) .0) .1)
+      in-count (length (C .users)) _ (and-eq-true-iff _ _ .0 (fitting Sessions (sections-quiet q .2) n low high) .0) .1)

@@ -1,4 +1,4 @@
-// Refusals 6 and 7: records that name what isn't there.
+// Refusals 6, 21 and 7: records that name what isn't there, and juniors that are not lower than their senior.
 use format::Head;
 use format::Section;
 use format::Verdict;
@@ -6,6 +6,7 @@ use format::answers::or_else;
 use format::sections::carries;
 use format::sections::channel;
 use format::sections::in_count;
+use format::sections::juniors;
 use format::sections::part_of;
 use format::sections::place_of;
 use format::sections::role;
@@ -21,8 +22,8 @@ ghost use Rattle.format.specs.Answers.{orElse};
 ghost use Rattle.format.specs.Header.{Laid};
 ghost use Rattle.format.specs.Sections.{placeOf};
 ghost use Rattle.format.specs.Contents.{contentsAt};
-ghost use Rattle.tables.specs.Records.{recordFits, numberOf, refusalOf, sectionAnswer, recordsAnswer};
-ghost use Rattle.format.specs.declared.Section.the-variants.{Users, Roles, Kinds, Channels, Sessions, Nodes};
+ghost use Rattle.tables.specs.Records.{recordFits, numberOf, byOffset, refusalOf, sectionAnswer, recordsAnswer};
+ghost use Rattle.format.specs.declared.Section.the-variants.{Users, Roles, Juniors, Kinds, Channels, Sessions, Nodes};
 
 fn user_fits(file: &[u8], head: Head, n: u16) -> bool
     requires { ⌜ Laid (now file) head ⌝ }
@@ -37,6 +38,13 @@ fn role_fits(file: &[u8], head: Head, n: u16) -> bool
 {
     let it = role(file, head, n);
     names_only(it.sends, head.count.kinds) & names_only(it.receives, head.count.kinds)
+}
+
+fn juniors_fit(file: &[u8], head: Head, n: u16) -> bool
+    requires { ⌜ Laid (now file) head × (0 < n) ⌝ }
+    ensures { λ r. ⌜ r ≡ recordFits (contentsAt (now (file .entry)) head) Juniors n ⌝ }
+{
+    names_only(juniors(file, head, n) as u32, n - 1)
 }
 
 fn channel_fits(file: &[u8], head: Head, n: u16) -> bool
@@ -59,12 +67,13 @@ fn session_fits(file: &[u8], head: Head, n: u16) -> bool
 }
 
 fn record_fits(file: &[u8], head: Head, section: Section, n: u16) -> bool
-    requires { ⌜ Laid (now file) head ⌝ }
+    requires { ⌜ Laid (now file) head × (0 < n) ⌝ }
     ensures { λ r. ⌜ r ≡ recordFits (contentsAt (now (file .entry)) head) section n ⌝ }
 {
     match section {
         Section::Users => user_fits(file, head, n),
         Section::Roles => role_fits(file, head, n),
+        Section::Juniors => juniors_fit(file, head, n),
         Section::Kinds => carries(file, head, ChannelKind(n)).0 <= head.count.kinds,
         Section::Channels => channel_fits(file, head, n),
         Section::Sessions => session_fits(file, head, n),
@@ -79,6 +88,7 @@ fn number_of(section: Section) -> u16
     match section {
         Section::Users => 6,
         Section::Roles => 6,
+        Section::Juniors => 21,
         Section::Kinds => 6,
         Section::Channels => 6,
         Section::Sessions => 7,
@@ -86,13 +96,20 @@ fn number_of(section: Section) -> u16
     }
 }
 
-// The refusal of a section's record: 6 at its offset in the file, any other at its number.
+// The place of 6 and 21 is an offset in the file, that of any other a number.
+fn by_offset(number: u16) -> bool
+    ensures { λ r. ⌜ r ≡ byOffset number ⌝ }
+{
+    (number == 6) | (number == 21)
+}
+
+// The refusal of a section's record.
 fn refusal_of(head: Head, section: Section, n: u16) -> Verdict
     requires { ⌜ (0 < n) × (placeOf head section n < 65536) ⌝ }
     ensures { λ r. ⌜ r ≡ refusalOf head section n ⌝ }
 {
     let number = number_of(section);
-    if number == 6 {
+    if by_offset(number) {
         return Verdict {
             number,
             place: narrow(place_of(head, section, n)),
@@ -120,7 +137,7 @@ fn section_answer(file: &[u8], head: Head, section: Section) -> Verdict
     }
 }
 
-// 6, then 7.
+// 6, then 21, then 7.
 pub fn records(file: &[u8], head: Head) -> Verdict
     requires { ⌜ Laid (now file) head ⌝ }
     ensures { λ r. ⌜ r ≡ recordsAnswer head (contentsAt (now (file .entry)) head) ⌝ }
@@ -129,9 +146,13 @@ pub fn records(file: &[u8], head: Head) -> Verdict
     let roles = section_answer(file, head, Section::Roles);
     let kinds = section_answer(file, head, Section::Kinds);
     let channels = section_answer(file, head, Section::Channels);
+    let juniors = section_answer(file, head, Section::Juniors);
     let sessions = section_answer(file, head, Section::Sessions);
     or_else(
         users,
-        or_else(roles, or_else(kinds, or_else(channels, sessions))),
+        or_else(
+            roles,
+            or_else(kinds, or_else(channels, or_else(juniors, sessions))),
+        ),
     )
 }

@@ -1,54 +1,79 @@
 //! A file's records, as far as they can be told apart. Nothing is judged here.
 
-/// Words in the head: version, counts, offsets.
-pub const HEAD: usize = 13;
-
-/// What a section is called, the words of a record, and the most records.
+/// What a section is called, the words of a record, the most records, and which
+/// of the head's counts is that of its records.
+#[derive(Clone, Copy)]
 pub struct Section {
     pub name: &'static str,
     pub one: &'static str,
     pub width: usize,
     pub most: u16,
+    counted: usize,
 }
 
-const fn section(name: &'static str, one: &'static str, width: usize, most: u16) -> Section {
+const fn section(
+    name: &'static str,
+    one: &'static str,
+    width: usize,
+    most: u16,
+    counted: usize,
+) -> Section {
     Section {
         name,
         one,
         width,
         most,
+        counted,
     }
 }
 
-pub const USERS: usize = 0;
-pub const ROLES: usize = 1;
-pub const KINDS: usize = 2;
-pub const CHANNELS: usize = 3;
-pub const SESSIONS: usize = 4;
-pub const NODES: usize = 5;
+pub const USERS: Section = section("users", "user", 1, 32, 0);
+pub const ROLES: Section = section("roles", "role", 4, 16, 1);
+/// A mask for each role, in version 2 alone.
+pub const JUNIORS: Section = section("juniors", "junior mask", 1, 16, 1);
+pub const KINDS: Section = section("kinds", "kind", 1, 32, 2);
+pub const CHANNELS: Section = section("channels", "channel", 2, 64, 3);
+pub const SESSIONS: Section = section("sessions", "session", 3, 32, 4);
+pub const NODES: Section = section("nodes", "node", 3, 1_024, 5);
 
-/// The sections in the file's order.
-pub const SECTIONS: [Section; 6] = [
-    section("users", "user", 1, 32),
-    section("roles", "role", 4, 16),
-    section("kinds", "kind", 1, 32),
-    section("channels", "channel", 2, 64),
-    section("sessions", "session", 3, 32),
-    section("nodes", "node", 3, 1_024),
-];
+/// The sections that have a count of their own, in the order of the counts, which
+/// is that of version 1's sections.
+pub const COUNTED: [Section; 6] = [USERS, ROLES, KINDS, CHANNELS, SESSIONS, NODES];
+
+/// The sections of version 2.
+const OF_SECOND: [Section; 7] = [USERS, ROLES, JUNIORS, KINDS, CHANNELS, SESSIONS, NODES];
+
+/// The sections of a version, in the file's order.
+fn sections(version: u16) -> &'static [Section] {
+    match version {
+        2 => &OF_SECOND,
+        _ => &COUNTED,
+    }
+}
+
+/// Words in a version's head: the version, the counts, an offset for each
+/// section.
+fn head_words(version: u16) -> usize {
+    OFFSETS + sections(version).len()
+}
+
+/// The word of the head at which the offsets begin.
+const OFFSETS: usize = 1 + COUNTED.len();
 
 /// A file taken apart.
 #[derive(Default)]
 pub struct Clinic {
     /// Its length in bytes.
     pub length: usize,
-    /// Its first 13 words, or as many as there are.
+    /// The words of its head, or as many as there are.
     pub head: Vec<u16>,
-    /// The counts, if the version is 1 and all of them are in range. Only then
-    /// are there records.
+    /// The counts, if the head is whole, its version is known and all of them
+    /// are in range. Only then are there records.
     pub counts: Option<[usize; 6]>,
     pub users: Vec<[u16; 1]>,
     pub roles: Vec<[u16; 4]>,
+    /// None in version 1.
+    pub juniors: Vec<[u16; 1]>,
     pub kinds: Vec<[u16; 1]>,
     pub channels: Vec<[u16; 2]>,
     pub sessions: Vec<[u16; 3]>,
@@ -60,34 +85,85 @@ impl Clinic {
     /// the end of the file.
     pub fn of(bytes: &[u8]) -> Clinic {
         let words: Vec<u16> = bytes.chunks_exact(2).map(word).collect();
-        let (head, mut rest) = words.split_at(HEAD.min(words.len()));
+        let version = words.first().copied().unwrap_or(0);
+        let (head, mut rest) = words.split_at(head_words(version).min(words.len()));
         let mut clinic = Clinic {
             length: bytes.len(),
             head: head.to_vec(),
-            counts: counts(head),
             ..Clinic::default()
         };
-        if let Some(counts) = clinic.counts {
-            clinic.users = take(&mut rest, counts[USERS]);
-            clinic.roles = take(&mut rest, counts[ROLES]);
-            clinic.kinds = take(&mut rest, counts[KINDS]);
-            clinic.channels = take(&mut rest, counts[CHANNELS]);
-            clinic.sessions = take(&mut rest, counts[SESSIONS]);
-            clinic.nodes = take(&mut rest, counts[NODES]);
+        clinic.counts = clinic.counts_in_range();
+        if clinic.counts.is_some() {
+            clinic.users = take(&mut rest, clinic.count(USERS));
+            clinic.roles = take(&mut rest, clinic.count(ROLES));
+            if clinic.has_juniors() {
+                clinic.juniors = take(&mut rest, clinic.count(JUNIORS));
+            }
+            clinic.kinds = take(&mut rest, clinic.count(KINDS));
+            clinic.channels = take(&mut rest, clinic.count(CHANNELS));
+            clinic.sessions = take(&mut rest, clinic.count(SESSIONS));
+            clinic.nodes = take(&mut rest, clinic.count(NODES));
         }
         clinic
     }
 
-    /// How many records of a section the head counts.
-    pub fn count(&self, section: usize) -> usize {
-        self.counts.map_or(0, |counts| counts[section])
+    /// The first word, 0 where there is none.
+    pub fn version(&self) -> u16 {
+        self.head.first().copied().unwrap_or(0)
     }
 
-    /// The word at which a section begins by the counts; behind the last, the
-    /// file's length in words.
-    pub fn start(&self, section: usize) -> usize {
-        let before = (0..section).map(|i| self.count(i) * SECTIONS[i].width);
-        HEAD + before.sum::<usize>()
+    /// Whether its version is known and its head is whole.
+    pub fn has_head(&self) -> bool {
+        let version = self.version();
+        matches!(version, 1 | 2) && self.head.len() == head_words(version)
+    }
+
+    /// Whether its version has masks of juniors.
+    pub fn has_juniors(&self) -> bool {
+        self.version() == 2
+    }
+
+    /// The counts as the head has them.
+    pub fn counted(&self) -> &[u16] {
+        self.head.get(1..OFFSETS).unwrap_or_default()
+    }
+
+    /// The offsets as the head has them, each with its section.
+    pub fn offsets(&self) -> impl Iterator<Item = (Section, u16)> + '_ {
+        let offsets = self.head.get(OFFSETS..).unwrap_or_default();
+        let sections = sections(self.version()).iter().copied();
+        sections.zip(offsets.iter().copied())
+    }
+
+    fn counts_in_range(&self) -> Option<[usize; 6]> {
+        let counts: &[u16; 6] = self.counted().first_chunk()?;
+        let in_range = counts
+            .iter()
+            .zip(&COUNTED)
+            .all(|(&count, section)| count <= section.most);
+        (self.has_head() && in_range).then(|| counts.map(usize::from))
+    }
+
+    /// How many records of a section the head counts.
+    pub fn count(&self, section: Section) -> usize {
+        self.counts.map_or(0, |counts| counts[section.counted])
+    }
+
+    /// The word at which a section begins by the counts.
+    pub fn start(&self, section: Section) -> usize {
+        let all = sections(self.version()).iter();
+        self.words_of(all.take_while(|before| before.name != section.name))
+    }
+
+    /// The file's length in words by the counts.
+    pub fn words(&self) -> usize {
+        self.words_of(sections(self.version()).iter())
+    }
+
+    /// The words of the head and of these sections.
+    fn words_of<'a>(&self, sections: impl Iterator<Item = &'a Section>) -> usize {
+        let records = sections.map(|&section| self.count(section) * section.width);
+        head_words(self.version()) + records.sum::<usize>()
     }
 
     /// How many nodes put a role on.
@@ -106,18 +182,6 @@ fn word(pair: &[u8]) -> u16 {
     pair.iter()
         .rev()
         .fold(0, |word, &byte| word << 8 | u16::from(byte))
-}
-
-/// The counts of a head of version 1, if they are in range.
-fn counts(head: &[u16]) -> Option<[usize; 6]> {
-    let (&version, rest) = head.split_first()?;
-    let counts: &[u16; 6] = rest.first_chunk()?;
-    let in_range = counts
-        .iter()
-        .zip(&SECTIONS)
-        .all(|(&count, s)| count <= s.most);
-    let whole = head.len() == HEAD && version == 1;
-    (whole && in_range).then(|| counts.map(usize::from))
 }
 
 /// The next records, as many as there are words for.

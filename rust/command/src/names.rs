@@ -19,6 +19,20 @@ pub fn list(noun: &str, mask: u32, count: usize) -> String {
     }
 }
 
+/// `; junior: role 1` or `; juniors: roles 1, 2`; those that are not lower than
+/// their senior are marked.
+pub fn juniors(mask: u16, senior: usize, roles: usize) -> String {
+    let texts: Vec<String> = items(u32::from(mask))
+        .map(|item| match item as usize {
+            junior if junior > roles => format!("{item} (out of count)"),
+            junior if junior >= senior => format!("{item} (not lower)"),
+            _ => item.to_string(),
+        })
+        .collect();
+    let many = if texts.len() == 1 { "" } else { "s" };
+    format!("; junior{many}: role{many} {}", texts.join(", "))
+}
+
 /// A number of things: `1 user`, `2 users`.
 pub fn several(count: usize, one: &str) -> String {
     let many = if count == 1 { "" } else { "s" };

@@ -31,6 +31,7 @@ const CALLER: &str = "the caller";
 
 const NOTHING: &str = "nothing; it is 0";
 const WORD: &str = "words: the first word of the record, from 0 at the start of the file";
+const JUNIORS: &str = "words: the role's word of juniors, from 0 at the start of the file";
 const SESSION: &str = "sessions, from 1";
 const NODE: &str = "nodes, from 1";
 const NODE_OR_CHOICE: &str = "nodes, from 1; in a run choices, from 1";
@@ -44,7 +45,7 @@ pub fn of(number: u16) -> Option<&'static Refusal> {
 /// What the place of a refusal of this number counts.
 pub fn counts(number: u16, place: u16, in_run: bool) -> Counts {
     match number {
-        6 => Counts::Word,
+        6 | 21 => Counts::Word,
         7 => Counts::Session,
         11..=13 if in_run => Counts::Choice,
         14 if place == 0 => Counts::Nothing,
@@ -55,25 +56,26 @@ pub fn counts(number: u16, place: u16, in_run: bool) -> Counts {
 }
 
 /// The refusals from 1 on.
-pub const ALL: [Refusal; 20] = [
+pub const ALL: [Refusal; 21] = [
     Refusal {
-        short: "the file has under 26 bytes, or an odd number of them",
+        short: "the file has under 26 bytes (28 in version 2), or an odd number",
         place: NOTHING,
         who: WRITER,
-        wrong: "A file is made of words of two bytes, and its head alone has 13 of them. This one \
-            is shorter than a head, or ends in the middle of a word.",
+        wrong: "A file is made of words of two bytes, and its head alone has 13 of them, 14 in \
+            version 2. This one is shorter than a head, or ends in the middle of a word.",
         mend: "Fetch the file again: most often it was cut off on its way. If it is so at its \
             source, write it again.",
     },
     Refusal {
-        short: "the version isn't 1",
+        short: "the version is neither 1 nor 2",
         place: NOTHING,
         who: WRITER,
         wrong:
-            "The first word of a file is the version of its format. This engine reads version 1.",
+            "The first word of a file is the version of its format. This engine reads version 1, \
+            and version 2, in which roles have juniors.",
         mend:
-            "Write the file in version 1. If that is what was meant, make sure that each word is \
-            written low byte first, and that this is a clinic's file at all.",
+            "Write the file in one of these. If that is what was meant, make sure that each word \
+            is written low byte first, and that this is a clinic's file at all.",
     },
     Refusal {
         short: "a count is out of range",
@@ -88,9 +90,9 @@ pub const ALL: [Refusal; 20] = [
         short: "an offset isn't the one that the counts give",
         place: NOTHING,
         who: WRITER,
-        wrong: "The six sections (users, roles, kinds, channels, sessions, nodes) stand back to \
-            back behind the head, and the head says at which word each begins. One of these \
-            offsets isn't the one that follows from the counts.",
+        wrong: "The sections (users, roles, in version 2 the roles' juniors, kinds, channels, \
+            sessions, nodes) stand back to back behind the head, and the head says at which word \
+            each begins. One of these offsets isn't the one that follows from the counts.",
         mend: "Correct the offset, or the count before it. `pilzdamo show` names the offset that \
             is due.",
     },
@@ -156,7 +158,9 @@ pub const ALL: [Refusal; 20] = [
         short: "the role put on isn't assigned to the session's user",
         place: NODE_OR_CHOICE,
         who: AUTHOR,
-        wrong: "An on step may only put on a role that the user's record has.",
+        wrong:
+            "An on step may only put on a role that the user's record has; the juniors of such a \
+            role don't count.",
         mend: "Put on another role; or the schema's keeper assigns this one to the user. The runs \
             of a placed file never come to this.",
     },
@@ -175,8 +179,8 @@ pub const ALL: [Refusal; 20] = [
         who: AUTHOR,
         wrong:
             "A send or receive needs one role that is on, and that may send, or receive, on the \
-            kind of the channel. The roles of the session's own user count, never those of the \
-            channel's owner.",
+            kind of the channel, by its own record or by those of its juniors. The roles of the \
+            session's own user count, never those of the channel's owner.",
         mend:
             "A routine that has no on and off yet is to be placed (`pilzdamo place`), which puts \
             them in. Otherwise put on a role that permits the step. The runs of a placed file \
@@ -197,10 +201,11 @@ pub const ALL: [Refusal; 20] = [
         place: NODE,
         who: AUTHOR,
         wrong: "Not one role of the session's user may send, or receive, on the kind of this \
-            channel, so that no placement exists.",
+            channel, by its own record or by those of its juniors, so that no placement exists.",
         mend:
             "Let another user's session make the step; or the schema's keeper grants the kind to \
-            one of the user's roles, or assigns the user a role that has it.",
+            one of the user's roles, makes a role that has it the junior of one of them (in \
+            version 2), or assigns the user a role that has it.",
     },
     Refusal {
         short: "the placed file would have over 1,024 nodes",
@@ -248,5 +253,17 @@ pub const ALL: [Refusal; 20] = [
         wrong: "A run has at most 64 threads at a time, and makes at most 64 channels in all.",
         mend: "Let threads come to their end before others fork or repeat. Made channels are not \
             given back.",
+    },
+    Refusal {
+        short: "a junior's number isn't lower than its senior's",
+        place: JUNIORS,
+        who: KEEPER,
+        wrong:
+            "In version 2 a role has a word of juniors: the roles whose grants it has as well as \
+            its own. A junior must have a lower number than its senior. This word has the role \
+            itself, a higher one, or one above the count. It is judged behind every 6.",
+        mend:
+            "Take the junior out, or number the roles anew, juniors first. `pilzdamo show` marks \
+            the role.",
     },
 ];

@@ -1,7 +1,8 @@
 //! A file as a person reads it.
 
-use crate::clinic::{Clinic, CHANNELS, HEAD, KINDS, ROLES, SECTIONS, USERS};
-use crate::names::{list, record, several};
+use crate::clinic::{Clinic, Section};
+use crate::clinic::{CHANNELS, COUNTED, JUNIORS, KINDS, ROLES, USERS};
+use crate::names::{juniors, list, record, several};
 use crate::page::{Page, Spot};
 use crate::sessions;
 use pilzdamo::Verdict;
@@ -23,23 +24,20 @@ pub fn text(bytes: &[u8]) -> String {
 fn head(page: &mut Page, clinic: &Clinic, verdict: Verdict) {
     page.line(&format!("check: {}", judged(clinic, verdict)));
     page.marked(&length(clinic), Spot::Length);
-    match clinic.head.as_slice() {
-        [] => (),
-        [1, counts @ .., _, _, _, _, _, _] if clinic.head.len() == HEAD => {
-            page.marked("version: 1", Spot::Version);
-            page.marked(&count_line(counts), Spot::Counts);
-            page.marked(&offset_line(clinic), Spot::Offsets);
-        }
-        [version, ..] => {
-            page.marked(&format!("version: {version}"), Spot::Version);
-            let words: Vec<String> = clinic.head.iter().map(u16::to_string).collect();
-            page.line(&format!("head: {}", words.join(" ")));
-        }
+    if !clinic.head.is_empty() {
+        page.marked(&format!("version: {}", clinic.version()), Spot::Version);
+    }
+    if clinic.has_head() {
+        page.marked(&count_line(clinic.counted()), Spot::Counts);
+        page.marked(&offset_line(clinic), Spot::Offsets);
+    } else if !clinic.head.is_empty() {
+        let words: Vec<String> = clinic.head.iter().map(u16::to_string).collect();
+        page.line(&format!("head: {}", words.join(" ")));
     }
     match clinic.counts {
         Some(_) => page.line(&format!("on steps: {}", clinic.on_steps())),
         None => page.line(
-            "(no records can be told apart: that takes a head of version 1, counts in range)",
+            "(no records can be told apart: that takes a head of version 1 or 2, counts in range)",
         ),
     }
 }
@@ -57,7 +55,7 @@ fn judged(clinic: &Clinic, verdict: Verdict) -> String {
 
 /// The length, and the one that the counts give, if it is another.
 fn length(clinic: &Clinic) -> String {
-    let due = 2 * clinic.start(SECTIONS.len());
+    let due = 2 * clinic.words();
     match clinic.length {
         length if clinic.counts.is_some() && length != due => {
             format!("length: {length} bytes ({due} by the counts)")
@@ -67,7 +65,7 @@ fn length(clinic: &Clinic) -> String {
 }
 
 fn count_line(counts: &[u16]) -> String {
-    let counts = counts.iter().zip(&SECTIONS).map(|(&count, section)| {
+    let counts = counts.iter().zip(&COUNTED).map(|(&count, section)| {
         let text = several(usize::from(count), section.one);
         match section.most {
             most if count > most => format!("{text} (at most {most})"),
@@ -78,8 +76,8 @@ fn count_line(counts: &[u16]) -> String {
 }
 
 fn offset_line(clinic: &Clinic) -> String {
-    let offsets = clinic.head.iter().skip(7).enumerate().map(|(i, &offset)| {
-        let (name, due) = (SECTIONS[i].name, clinic.start(i));
+    let offsets = clinic.offsets().map(|(section, offset)| {
+        let (name, due) = (section.name, clinic.start(section));
         match clinic.counts {
             Some(_) if usize::from(offset) != due => format!("{name} {offset} ({due} is due)"),
             _ => format!("{name} {offset}"),
@@ -95,17 +93,7 @@ fn tables(page: &mut Page, clinic: &Clinic) {
     section(page, clinic, USERS, &clinic.users, |[mask]| {
         format!(": {}", list("role", u32::from(mask), roles))
     });
-    section(
-        page,
-        clinic,
-        ROLES,
-        &clinic.roles,
-        |[low, high, low_in, high_in]| {
-            let sends = list("kind", wide(low, high), kinds);
-            let receives = list("kind", wide(low_in, high_in), kinds);
-            format!(": sends on {sends}; receives on {receives}")
-        },
-    );
+    role_table(page, clinic);
     section(
         page,
         clinic,
@@ -122,6 +110,34 @@ fn tables(page: &mut Page, clinic: &Clinic) {
     });
 }
 
+/// The roles, in version 2 with their juniors.
+fn role_table(page: &mut Page, clinic: &Clinic) {
+    let kinds = clinic.count(KINDS);
+    if clinic.count(ROLES) > 0 {
+        page.line("");
+    }
+    for (i, &[low, high, low_in, high_in]) in clinic.roles.iter().enumerate() {
+        let sends = list("kind", wide(low, high), kinds);
+        let receives = list("kind", wide(low_in, high_in), kinds);
+        let juniors = match clinic.juniors.get(i) {
+            Some(&[mask]) if mask != 0 => juniors(mask, i + 1, clinic.count(ROLES)),
+            _ => String::new(),
+        };
+        let line = format!(
+            "role {}: sends on {sends}; receives on {receives}{juniors}",
+            i + 1
+        );
+        page.marked(&line, Spot::Word(clinic.start(ROLES) + ROLES.width * i));
+        if clinic.has_juniors() {
+            page.mark(Spot::Word(clinic.start(JUNIORS) + i));
+        }
+    }
+    cut_off(page, clinic, ROLES, clinic.roles.len());
+    if clinic.has_juniors() {
+        cut_off(page, clinic, JUNIORS, clinic.juniors.len());
+    }
+}
+
 fn wide(low: u16, high: u16) -> u32 {
     u32::from(high) << 16 | u32::from(low)
 }
@@ -130,26 +146,25 @@ fn wide(low: u16, high: u16) -> u32 {
 fn section<const W: usize>(
     page: &mut Page,
     clinic: &Clinic,
-    number: usize,
+    section: Section,
     records: &[[u16; W]],
     say: impl Fn([u16; W]) -> String,
 ) {
-    let name = SECTIONS[number].one;
-    if clinic.count(number) > 0 {
+    if clinic.count(section) > 0 {
         page.line("");
     }
     for (i, &words) in records.iter().enumerate() {
-        let line = format!("{name} {}{}", i + 1, say(words));
-        page.marked(&line, Spot::Word(clinic.start(number) + W * i));
+        let line = format!("{} {}{}", section.one, i + 1, say(words));
+        page.marked(&line, Spot::Word(clinic.start(section) + W * i));
     }
-    cut_off(page, clinic, number, records.len());
+    cut_off(page, clinic, section, records.len());
 }
 
 /// A remark if the file ends before a section's last record.
-pub(crate) fn cut_off(page: &mut Page, clinic: &Clinic, number: usize, there: usize) {
-    let missing = clinic.count(number) - there;
+pub(crate) fn cut_off(page: &mut Page, clinic: &Clinic, section: Section, there: usize) {
+    let missing = clinic.count(section) - there;
     if missing > 0 {
-        let records = several(missing, SECTIONS[number].one);
+        let records = several(missing, section.one);
         page.line(&format!("(the file ends here; {records} missing)"));
     }
 }

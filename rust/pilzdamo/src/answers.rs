@@ -11,6 +11,7 @@ use std::fmt;
 /// |---|---|
 /// | 1 to 5 | 0: the file as a whole |
 /// | 6 | the first word of the record, from 0 at the start of the file |
+/// | 21 | the role's word of juniors, counted so |
 /// | 7 | the session, from 1 |
 /// | 8 to 10 | the node, from 1; where a tree goes past the last node, the number of nodes and 1 |
 /// | 11 to 13 | the node; in a run the choice, from 1 |

@@ -3,8 +3,13 @@
 use crate::raw;
 use crate::{Placed, Ready, Thread, Verdict};
 
-/// The bytes that [`place`] wants of its output: those of the largest file.
-pub const ROOM: usize = 6_874;
+/// As many bytes as [`place`] wants of its output for any file: those of the
+/// largest file of version 2. What it wants for a given file is [`room`].
+pub const ROOM: usize = 6_908;
+
+/// The bytes that [`place`] wants of its output for a file of version 1: those of
+/// the largest.
+pub const ROOM_1: usize = 6_874;
 
 /// The bytes that [`run`] wants of its output: those of the largest state.
 pub const RUN_ROOM: usize = 1_800;
@@ -14,6 +19,30 @@ pub const RECORDS: usize = 64;
 
 /// The words that are lent to [`start`] and [`choose`] beside the list.
 pub const BESIDE: usize = 130;
+
+/// The bytes that [`place`] wants of its output for this file: [`ROOM`] where its
+/// first word is 2, else [`ROOM_1`], also where it has no first word.
+///
+/// ```
+/// use pilzdamo::{room, ROOM, ROOM_1};
+///
+/// assert_eq!((room(&[1, 0]), room(&[2, 0])), (ROOM_1, ROOM));
+/// assert_eq!((room(&[]), room(&[2])), (ROOM_1, ROOM_1));
+///
+/// // A byte less, and the file isn't looked at.
+/// let file = std::fs::read("../../examples/head-nurse/juniors.clinic")?;
+/// let mut out = vec![0; room(&file)];
+/// assert!(pilzdamo::place(&file, &mut out).is_placed());
+/// out.pop();
+/// assert_eq!(pilzdamo::place(&file, &mut out).to_string(), "refused 17 0");
+/// # Ok::<(), std::io::Error>(())
+/// ```
+pub fn room(file: &[u8]) -> usize {
+    match file {
+        [2, 0, ..] => ROOM,
+        _ => ROOM_1,
+    }
+}
 
 /// Judges a clinic file by refusals 1 to 10.
 ///
@@ -55,8 +84,8 @@ pub fn check(file: &[u8]) -> Verdict {
 /// Places the roles of a clinic file: by refusal 17, by 1 to 10, and then by
 /// 14 to 16. If none refuses it, the placed file stands at the start of `out`.
 ///
-/// Any bytes will do, of any length. `out` must have [`ROOM`] bytes or more,
-/// whatever the file. Where the answer is a refusal nothing of `out` is
+/// Any bytes will do, of any length. `out` must have as many bytes as [`room`]
+/// says, or more; [`ROOM`] will do for any file. Where the answer is a refusal nothing of `out` is
 /// written, and otherwise nothing past the answer's length. [`placed`] has an
 /// output of its own.
 ///

@@ -6,6 +6,9 @@
 //! node. The engine judges such a file, places roles into it, and runs it. It takes
 //! any bytes, and answers a refusal by a number and a place where it must.
 //!
+//! Wherever refusals 1 to 10 are spoken of, 21 is among them: it has its turn behind
+//! 6 and before 7.
+//!
 //! | to | call |
 //! |---|---|
 //! | judge a file's form, names and kinds: refusals 1 to 10 | [`read`] |
@@ -42,6 +45,26 @@
 //! let file = std::fs::read("../../examples/booking.clinic")?;
 //! let (placed, on_steps) = pilzdamo::placed(&file)?;
 //! assert_eq!((placed.len(), on_steps), (94, 1));
+//! assert!(pilzdamo::check(&placed).is_clean());
+//! # Ok::<(), Box<dyn std::error::Error>>(())
+//! ```
+//!
+//! # Senior roles
+//!
+//! In version 2 of the format a role has a word of juniors, lower roles whose grants
+//! it has as well as its own: those of a head nurse, say, are a nurse's and her own.
+//! Nobody gets a role by this that isn't assigned.
+//!
+//! ```
+//! // The nurse's grants were copied into the head nurse's record, and one forgotten.
+//! let file = std::fs::read("../../examples/head-nurse/copied.clinic")?;
+//! let refusal = pilzdamo::placed(&file).unwrap_err();
+//! assert_eq!(refusal.to_string(), "refused 15 2");
+//!
+//! // With the nurse's role as the head nurse's junior she has all of them.
+//! let file = std::fs::read("../../examples/head-nurse/juniors.clinic")?;
+//! let (placed, on_steps) = pilzdamo::placed(&file)?;
+//! assert_eq!((placed[0], on_steps), (2, 3));
 //! assert!(pilzdamo::check(&placed).is_clean());
 //! # Ok::<(), Box<dyn std::error::Error>>(())
 //! ```
@@ -168,7 +191,7 @@ mod raw;
 mod state;
 
 pub use answers::{Placed, Ready, Verdict};
-pub use calls::{check, choose, place, placed, read, ready, run, start};
-pub use calls::{BESIDE, RECORDS, ROOM, RUN_ROOM};
+pub use calls::{check, choose, place, placed, read, ready, room, run, start};
+pub use calls::{BESIDE, RECORDS, ROOM, ROOM_1, RUN_ROOM};
 pub use desk::Desk;
 pub use state::{Channel, State, Thread};

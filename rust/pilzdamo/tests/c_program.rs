@@ -1,6 +1,7 @@
 //! The header, tried by a C program: what it prints.
 
-use pilzdamo::{Placed, Ready, Thread, Verdict, BESIDE, RECORDS, ROOM, RUN_ROOM};
+use pilzdamo::{Placed, Ready, Thread, Verdict};
+use pilzdamo::{BESIDE, RECORDS, ROOM, ROOM_1, RUN_ROOM};
 use std::process::{Command, Output};
 
 const FOLDER: &str = env!("CARGO_MANIFEST_DIR");
@@ -15,7 +16,13 @@ its nodes: 7 2 0 6 257 2 6 258 2 8 2 0 0 0 0
 behind it: ab
 check what is placed: clean
 place it again: refusal 14 1, 0 bytes, on steps: 0
+place it in just enough: refusal 0 0, 94 bytes, on steps: 1
 place it in less: refusal 17 0, 0 bytes, on steps: 0
+copied grants: refusal 15 2, 0 bytes, on steps: 0
+a junior: refusal 0 0, 204 bytes, on steps: 3
+check it: clean
+a junior in less: refusal 17 0, 0 bytes, on steps: 0
+a junior that is no lower: refused 21 24
 run: clean
 choices done: 12, refusal: 0
 thread 1: user 1, node 4, mask 0, roles 0, first variable 4
@@ -74,12 +81,12 @@ fn a_c_program_calls_the_engine() {
         size_of::<Ready>(),
         size_of::<Thread>(),
     ];
-    let line = |name: &str, numbers: [usize; 4]| {
-        let [one, two, three, four] = numbers;
-        format!("{name}: {one} {two} {three} {four}\n")
+    let line = |name: &str, numbers: &[usize]| {
+        let numbers: Vec<String> = numbers.iter().map(usize::to_string).collect();
+        format!("{name}: {}\n", numbers.join(" "))
     };
-    let sizes = line("sizes", sizes);
-    let rooms = line("rooms", [ROOM, RUN_ROOM, RECORDS, BESIDE]);
+    let sizes = line("sizes", &sizes);
+    let rooms = line("rooms", &[ROOM, ROOM_1, RUN_ROOM, RECORDS, BESIDE]);
     let printed = String::from_utf8_lossy(&output.stdout);
     assert_eq!(printed, sizes + &rooms + PRINTED);
 }

@@ -2,6 +2,7 @@
 //! implementations.
 
 mod checking;
+mod juniors;
 mod placing;
 mod reading;
 mod running;
@@ -20,9 +21,9 @@ pub struct Case {
 }
 
 impl Case {
-    /// The answer of a judge who goes up to refusal `most` only.
-    pub fn up_to(&self, most: u16) -> (u16, u16) {
-        if self.answer.0 <= most {
+    /// The answer of a judge who has these numbers only.
+    pub fn by(&self, has: impl Fn(u16) -> bool) -> (u16, u16) {
+        if has(self.answer.0) {
             self.answer
         } else {
             CLEAN
@@ -50,6 +51,7 @@ fn clinic(nodes: &[[u16; 3]]) -> Draft {
         channels: vec![[1, 1], [1, 2], [2, 1]],
         sessions: vec![[1, 0, 1]],
         nodes: nodes.to_vec(),
+        ..Draft::default()
     }
 }
 
@@ -70,6 +72,9 @@ pub fn cases() -> Vec<Case> {
         reading::trees(),
         checking::names(),
         checking::roles(),
+        juniors::heads(),
+        juniors::records(),
+        juniors::roles(),
     ]
     .into_iter()
     .flatten()
@@ -84,6 +89,8 @@ pub fn place_cases() -> Vec<PlaceCase> {
         placing::forks(),
         placing::refusals(),
         placing::sizes(),
+        juniors::placing(),
+        juniors::rooms(),
     ]
     .into_iter()
     .flatten()

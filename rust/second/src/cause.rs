@@ -1,6 +1,6 @@
 //! Why a file or a call is refused. The number follows from the cause.
 
-use crate::file::Section;
+use crate::file::{Section, Version};
 use crate::running::{Halt, Unfit};
 use crate::Verdict;
 
@@ -10,6 +10,8 @@ use crate::Verdict;
 pub enum Cause {
     Short,
     Odd,
+    /// A version 2 file with room for a version 1 header alone.
+    ShortForSecond,
     Version,
     Count(Section),
     Offset(Section),
@@ -23,6 +25,11 @@ pub enum Cause {
     OwnerAbove,
     ChannelKindZero,
     ChannelKindAbove,
+    JuniorItself,
+    /// A junior of a higher number than its senior's.
+    JuniorHigher,
+    /// A junior out of count.
+    JuniorAbove,
     SessionUserZero,
     SessionUserAbove,
     StartAbove,
@@ -30,7 +37,10 @@ pub enum Cause {
     Root,
     NoNodesLeft,
     Tag,
-    Unused { tag: u16, field: u16 },
+    Unused {
+        tag: u16,
+        field: u16,
+    },
     SecondChild,
     PastLast,
     LeftOver,
@@ -54,15 +64,27 @@ pub enum Cause {
     ReceiveOnReceived,
     ComparePlain,
     CompareKinds,
-    OnNotAssigned { second: bool },
-    OffNotActive { second: bool },
-    SendNotAllowed { second: bool },
-    ReceiveNotAllowed { second: bool },
+    OnNotAssigned {
+        second: bool,
+    },
+    OffNotActive {
+        second: bool,
+    },
+    SendNotAllowed {
+        second: bool,
+    },
+    ReceiveNotAllowed {
+        second: bool,
+    },
     StartPresent,
     OnPresent,
     OffPresent,
-    NoRoleSends { second: bool },
-    NoRoleReceives { second: bool },
+    NoRoleSends {
+        second: bool,
+    },
+    NoRoleReceives {
+        second: bool,
+    },
     ResultTooLarge,
     OutputTooShort,
     OddChoices,
@@ -84,18 +106,31 @@ const UNUSED: [(u16, u16); 9] = [
     (8, 2),
 ];
 
+/// Whether a refusal of this number is one of those that the paper calls 1 to 8.
+/// 21 is among them.
+pub fn is_of_reading(number: u16) -> bool {
+    matches!(number, 1..=8 | 21)
+}
+
+/// Whether a refusal of this number is one of those that the paper calls 1 to
+/// 10. 21 is among them.
+pub fn is_of_file(number: u16) -> bool {
+    is_of_reading(number) || matches!(number, 9 | 10)
+}
+
 impl Cause {
     /// The refusal's number.
     pub fn number(self) -> u16 {
         use Cause::*;
         match self {
-            Short | Odd => 1,
+            Short | Odd | ShortForSecond => 1,
             Version => 2,
             Count(_) => 3,
             Offset(_) => 4,
             Shorter | Longer => 5,
             UserRoles | RoleSends | RoleReceives | KindCarries | OwnerZero | OwnerAbove
             | ChannelKindZero | ChannelKindAbove => 6,
+            JuniorItself | JuniorHigher | JuniorAbove => 21,
             SessionUserZero | SessionUserAbove | StartAbove | StartNotAssigned => 7,
             Root
             | NoNodesLeft
@@ -125,6 +160,22 @@ impl Cause {
             OutputTooShort | OddChoices | TooManyChoices => 17,
             Lent(_) => 18,
             Choice(halt) => halt.number(),
+        }
+    }
+
+    /// Whether a file whose first word names this version can have it; a first
+    /// word that names none counts as 1.
+    pub fn is_of(self, version: Version) -> bool {
+        let of_second = [
+            Cause::ShortForSecond,
+            Cause::Offset(Section::Juniors),
+            Cause::JuniorItself,
+            Cause::JuniorHigher,
+            Cause::JuniorAbove,
+        ];
+        match version {
+            Version::One => !of_second.contains(&self),
+            Version::Two => self != Cause::Version,
         }
     }
 
@@ -162,11 +213,11 @@ impl Cause {
             .collect()
     }
 
-    /// Every cause of the check, in the order of the numbers.
+    /// Every cause of the check, in the order in which refusals come.
     pub fn all() -> Vec<Cause> {
         use Cause::*;
-        let mut all = vec![Short, Odd, Version];
-        all.extend(Section::ALL.map(Count));
+        let mut all = vec![Short, Odd, ShortForSecond, Version];
+        all.extend(Section::COUNTED.map(Count));
         all.extend(Section::ALL.map(Offset));
         all.extend([
             Shorter,
@@ -179,6 +230,9 @@ impl Cause {
             OwnerAbove,
             ChannelKindZero,
             ChannelKindAbove,
+            JuniorItself,
+            JuniorHigher,
+            JuniorAbove,
             SessionUserZero,
             SessionUserAbove,
             StartAbove,

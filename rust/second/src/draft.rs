@@ -1,13 +1,15 @@
-//! A file in the making: the six sections as lists of words. The header
-//! follows from them.
+//! A file in the making: its sections as lists of words. The header follows
+//! from them.
 
-use crate::file::{word, File, Section, HEADER};
+use crate::file::{word, File, Version};
 
 /// The sections of a file that is yet to be written out.
 #[derive(Clone, Debug, Default)]
 pub struct Draft {
     pub users: Vec<[u16; 1]>,
     pub roles: Vec<[u16; 4]>,
+    /// For each role the mask of its juniors. With this, the file has version 2.
+    pub juniors: Option<Vec<[u16; 1]>>,
     pub kinds: Vec<[u16; 1]>,
     pub channels: Vec<[u16; 2]>,
     pub sessions: Vec<[u16; 3]>,
@@ -21,6 +23,10 @@ impl Draft {
         Draft {
             users: records(file.users),
             roles: records(file.roles),
+            juniors: match file.version {
+                Version::One => None,
+                Version::Two => Some(records(file.juniors)),
+            },
             kinds: records(file.kinds),
             channels: records(file.channels),
             sessions: records(file.sessions),
@@ -28,26 +34,36 @@ impl Draft {
         }
     }
 
+    /// The version that it has.
+    pub fn version(&self) -> Version {
+        match self.juniors {
+            None => Version::One,
+            Some(_) => Version::Two,
+        }
+    }
+
     /// The file, with the counts and offsets that these sections have.
     pub fn bytes(&self) -> Vec<u8> {
-        let sections = [
-            self.users.as_flattened(),
-            self.roles.as_flattened(),
+        let mut words = vec![self.version().number()];
+        let counts = [
+            self.users.len(),
+            self.roles.len(),
+            self.kinds.len(),
+            self.channels.len(),
+            self.sessions.len(),
+            self.nodes.len(),
+        ];
+        words.extend(counts.map(|count| count as u16));
+        let mut sections = vec![self.users.as_flattened(), self.roles.as_flattened()];
+        sections.extend(self.juniors.as_ref().map(|juniors| juniors.as_flattened()));
+        sections.extend([
             self.kinds.as_flattened(),
             self.channels.as_flattened(),
             self.sessions.as_flattened(),
             self.nodes.as_flattened(),
-        ];
-        let mut words = vec![1];
-        let widths = Section::ALL.map(|section| usize::from(section.width()));
-        words.extend(
-            sections
-                .iter()
-                .zip(widths)
-                .map(|(s, w)| (s.len() / w) as u16),
-        );
-        let mut offset = HEADER;
-        for section in sections {
+        ]);
+        let mut offset = self.version().header();
+        for section in &sections {
             words.push(offset as u16);
             offset += section.len();
         }

@@ -1,15 +1,15 @@
-//! The header, and the six sections as slices of records: refusals 1 to 5.
+//! The header, and the sections as slices of records: refusals 1 to 5.
 
 use crate::cause::{Cause, Refusal};
+use crate::draft::word_at;
 
-/// Words in the header.
-pub const HEADER: usize = 13;
-
-/// The six sections, in the file's order.
+/// The sections, in the file's order. The juniors are in version 2 alone, one
+/// record for each role.
 #[derive(Clone, Copy, Debug, PartialEq, Eq, PartialOrd, Ord)]
 pub enum Section {
     Users,
     Roles,
+    Juniors,
     Kinds,
     Channels,
     Sessions,
@@ -17,7 +17,18 @@ pub enum Section {
 }
 
 impl Section {
-    pub const ALL: [Section; 6] = [
+    pub const ALL: [Section; 7] = [
+        Section::Users,
+        Section::Roles,
+        Section::Juniors,
+        Section::Kinds,
+        Section::Channels,
+        Section::Sessions,
+        Section::Nodes,
+    ];
+
+    /// Those that have a count of their own, in the order of the counts.
+    pub const COUNTED: [Section; 6] = [
         Section::Users,
         Section::Roles,
         Section::Kinds,
@@ -26,11 +37,23 @@ impl Section {
         Section::Nodes,
     ];
 
+    /// The word of the header that counts its records.
+    pub const fn count_at(self) -> usize {
+        match self {
+            Section::Users => 1,
+            Section::Roles | Section::Juniors => 2,
+            Section::Kinds => 3,
+            Section::Channels => 4,
+            Section::Sessions => 5,
+            Section::Nodes => 6,
+        }
+    }
+
     /// The largest count of records.
     pub const fn most(self) -> u16 {
         match self {
             Section::Users | Section::Kinds | Section::Sessions => 32,
-            Section::Roles => 16,
+            Section::Roles | Section::Juniors => 16,
             Section::Channels => 64,
             Section::Nodes => 1024,
         }
@@ -39,7 +62,7 @@ impl Section {
     /// Words in a record.
     pub const fn width(self) -> u16 {
         match self {
-            Section::Users | Section::Kinds => 1,
+            Section::Users | Section::Juniors | Section::Kinds => 1,
             Section::Channels => 2,
             Section::Sessions | Section::Nodes => 3,
             Section::Roles => 4,
@@ -47,11 +70,76 @@ impl Section {
     }
 }
 
+/// The versions of the format.
+#[derive(Clone, Copy, Debug, PartialEq, Eq, PartialOrd, Ord)]
+pub enum Version {
+    One,
+    Two,
+}
+
+impl Version {
+    pub const ALL: [Version; 2] = [Version::One, Version::Two];
+
+    /// The version that a file's first word names, if there is such a one.
+    pub fn named(first: u16) -> Option<Version> {
+        Version::ALL
+            .into_iter()
+            .find(|version| version.number() == first)
+    }
+
+    /// The version that a file's first word names, 1 where it names none.
+    pub fn claimed(file: &[u8]) -> Version {
+        let first = file.first_chunk().copied().map(u16::from_le_bytes);
+        first.and_then(Version::named).unwrap_or(Version::One)
+    }
+
+    pub const fn number(self) -> u16 {
+        match self {
+            Version::One => 1,
+            Version::Two => 2,
+        }
+    }
+
+    /// The sections that it has, in the file's order.
+    pub const fn sections(self) -> &'static [Section] {
+        match self {
+            Version::One => &Section::COUNTED,
+            Version::Two => &Section::ALL,
+        }
+    }
+
+    /// Words in the header: the version, the counts, an offset for each section.
+    pub const fn header(self) -> usize {
+        1 + Section::COUNTED.len() + self.sections().len()
+    }
+
+    /// The word of the header that is a section's offset, if it has that section.
+    pub fn offset_at(self, section: Section) -> Option<usize> {
+        let at = self.sections().iter().position(|&found| found == section);
+        at.map(|at| 1 + Section::COUNTED.len() + at)
+    }
+
+    /// The bytes of its largest file.
+    pub const fn largest(self) -> usize {
+        let mut words = self.header();
+        let mut at = 0;
+        while at < self.sections().len() {
+            let section = self.sections()[at];
+            words += section.most() as usize * section.width() as usize;
+            at += 1;
+        }
+        2 * words
+    }
+}
+
 /// A file that meets refusals 1 to 5 clean.
 #[derive(Clone)]
 pub struct File<'a> {
+    pub version: Version,
     pub users: &'a [[u8; 2]],
     pub roles: &'a [[u8; 8]],
+    /// None in version 1.
+    pub juniors: &'a [[u8; 2]],
     pub kinds: &'a [[u8; 2]],
     pub channels: &'a [[u8; 4]],
     pub sessions: &'a [[u8; 6]],
@@ -75,43 +163,57 @@ pub fn numbered<T>(records: &[T]) -> impl Iterator<Item = (u16, &T)> {
 
 impl<'a> File<'a> {
     pub fn open(file: &'a [u8]) -> Result<File<'a>, Refusal> {
-        let counts = judge_header(file)?;
-        let mut rest = &file[2 * HEADER..];
+        let (version, [users, roles, kinds, channels, sessions, nodes]) = judge_header(file)?;
+        let mut rest = &file[2 * version.header()..];
         Ok(File {
-            users: take(&mut rest, counts[0]),
-            roles: take(&mut rest, counts[1]),
-            kinds: take(&mut rest, counts[2]),
-            channels: take(&mut rest, counts[3]),
-            sessions: take(&mut rest, counts[4]),
-            nodes: take(&mut rest, counts[5]),
+            version,
+            users: take(&mut rest, users),
+            roles: take(&mut rest, roles),
+            juniors: match version {
+                Version::One => &[],
+                Version::Two => take(&mut rest, roles),
+            },
+            kinds: take(&mut rest, kinds),
+            channels: take(&mut rest, channels),
+            sessions: take(&mut rest, sessions),
+            nodes: take(&mut rest, nodes),
         })
+    }
+
+    /// The mask of a role's juniors; the first role has index 0.
+    pub fn juniors_of(&self, role: usize) -> u16 {
+        self.juniors.get(role).map_or(0, |record| word(record, 0))
     }
 }
 
-/// The counts, if header and length are as they should be.
-fn judge_header(file: &[u8]) -> Result<[u16; 6], Refusal> {
+/// The version and the counts, if header and length are as they should be.
+fn judge_header(file: &[u8]) -> Result<(Version, [u16; 6]), Refusal> {
     let refuse = |cause| Err(Refusal { cause, place: 0 });
-    let Some(header) = file.first_chunk::<{ 2 * HEADER }>() else {
+    let Some(header) = file.first_chunk::<{ 2 * Version::One.header() }>() else {
         return refuse(Cause::Short);
     };
     if !file.len().is_multiple_of(2) {
         return refuse(Cause::Odd);
     }
-    if word(header, 0) != 1 {
+    let Some(version) = Version::named(word(header, 0)) else {
         return refuse(Cause::Version);
-    }
-    let counts: [u16; 6] = std::array::from_fn(|i| word(header, 1 + i));
-    for (section, count) in Section::ALL.into_iter().zip(counts) {
+    };
+    let Some(header) = file.get(..2 * version.header()) else {
+        return refuse(Cause::ShortForSecond);
+    };
+    let counts = Section::COUNTED.map(|section| word_at(header, section.count_at()));
+    for (section, count) in Section::COUNTED.into_iter().zip(counts) {
         if count > section.most() {
             return refuse(Cause::Count(section));
         }
     }
-    let mut due = HEADER as u16;
-    for (i, section) in Section::ALL.into_iter().enumerate() {
-        if word(header, 7 + i) != due {
+    let mut due = version.header() as u16;
+    let offsets = 1 + counts.len()..;
+    for (at, &section) in offsets.zip(version.sections()) {
+        if word_at(header, at) != due {
             return refuse(Cause::Offset(section));
         }
-        due += counts[i] * section.width();
+        due += word_at(header, section.count_at()) * section.width();
     }
     let length = 2 * usize::from(due);
     if file.len() < length {
@@ -120,7 +222,7 @@ fn judge_header(file: &[u8]) -> Result<[u16; 6], Refusal> {
     if file.len() > length {
         return refuse(Cause::Longer);
     }
-    Ok(counts)
+    Ok((version, counts))
 }
 
 /// The next `count` records of `N` bytes.

@@ -1,7 +1,8 @@
 //! The second implementation of the clinic file's judge, in plain Rust.
 //!
 //! It is written from the paper alone and shares nothing with the engine, so
-//! that the two can be compared. The timed functions, [`read`],
+//! that the two can be compared. Where 1 to 8 or 1 to 10 are spoken of, 21 is
+//! among them. The timed functions, [`read`],
 //! [`read_names`], [`check`], [`place`], [`run`], [`ready`], [`start`] and
 //! [`choose`], go over the file a few times, in place, and allocate nothing.
 
@@ -18,13 +19,14 @@ mod running;
 mod schema;
 mod tree;
 
-pub use cause::{Cause, Refusal};
-pub use file::Section;
-pub use placing::ROOM;
+pub use cause::{is_of_file, is_of_reading, Cause, Refusal};
+pub use file::{Section, Version};
+pub use placing::{room_for, ROOM};
 pub use running::{Halt, Run, Thread, Unfit, BESIDE, RECORDS, RUN_ROOM};
 
 use file::File;
 use placing::Plan;
+use roles::Grants;
 use running::{Lent, Scopes, State};
 
 /// A refusal's number and place; 0 and 0 where nothing is refused.
@@ -258,7 +260,7 @@ fn judge_check(file: &[u8]) -> Result<(), Refusal> {
 }
 
 fn judge_placing<'a>(file: &'a [u8], room: usize, plan: &mut Plan) -> Result<File<'a>, Refusal> {
-    placing::judge_room(room)?;
+    placing::judge_room(file, room)?;
     let file = judge_reading(file)?;
     plan.draw_up(&file)?;
     Ok(file)
@@ -310,7 +312,7 @@ fn judge_choosing(
     let (file, lent) = judge_lent(file, threads, beside)?;
     let mut state = State {
         file: &file,
-        rights: &file,
+        rights: &Grants::of(&file),
         threads: lent.threads,
         beside: lent.beside,
     };

@@ -2,7 +2,7 @@
 
 use crate::cause::{Cause, Refusal};
 use crate::file::{numbered, three, word, File};
-use crate::roles::{self, Act};
+use crate::roles::{self, Act, Grants};
 use crate::tree::VARIABLES;
 
 /// A sound file of 1,024 nodes has at most 511 forks that wait.
@@ -42,10 +42,12 @@ pub fn judge(file: &File) -> Result<(), Refusal> {
 /// Judges 9 to 13 on a file that 1 to 8 leave clean. A 9 or 10 anywhere comes
 /// before every 11 to 13.
 pub fn judge_with_roles(file: &File) -> Result<(), Refusal> {
+    let grants = Grants::of(file);
     let mut first_of_roles = Ok(());
     each_act(file, |context, place, act| {
         if first_of_roles.is_ok() {
-            first_of_roles = context.act(act).map_err(|cause| Refusal { cause, place });
+            let acted = context.act(&grants, act);
+            first_of_roles = acted.map_err(|cause| Refusal { cause, place });
         }
     })?;
     first_of_roles
@@ -214,9 +216,9 @@ impl<'a> Context<'a> {
     }
 
     /// Rules 5 and 6.
-    fn act(&mut self, act: Act) -> Result<(), Cause> {
+    fn act(&mut self, grants: &Grants, act: Act) -> Result<(), Cause> {
         let active = self.point.active;
-        self.point.active = roles::step(self.file, self.assigned, active, act, self.second)?;
+        self.point.active = roles::step(grants, self.assigned, active, act, self.second)?;
         Ok(())
     }
 }

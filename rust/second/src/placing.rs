@@ -5,13 +5,13 @@ mod states;
 
 use crate::cause::{Cause, Refusal};
 use crate::draft::set_word;
-use crate::file::{three, word, File, Section};
+use crate::file::{three, word, File, Section, Version};
 use crate::Placed;
 use needs::Needs;
 use states::{Choice, Waiting};
 
-/// The bytes that the output must have, whatever is written there.
-pub const ROOM: usize = 6_874;
+/// As many bytes as any file wants of the output.
+pub const ROOM: usize = Version::Two.largest();
 
 const MOST_NODES: usize = Section::Nodes.most() as usize;
 
@@ -26,9 +26,15 @@ const OFF: u16 = 8;
 /// Bytes of a node, and of a session.
 const BYTES: usize = 6;
 
+/// The bytes that the output must have, whatever is written there. The file's
+/// first word decides, if it has one.
+pub fn room_for(file: &[u8]) -> usize {
+    Version::claimed(file).largest()
+}
+
 /// Refusal 17.
-pub fn judge_room(room: usize) -> Result<(), Refusal> {
-    if room < ROOM {
+pub fn judge_room(file: &[u8], room: usize) -> Result<(), Refusal> {
+    if room < room_for(file) {
         return refuse(Cause::OutputTooShort, 0);
     }
     Ok(())
@@ -118,7 +124,7 @@ impl Plan {
         let length = head + BYTES * usize::from(self.nodes);
         let (start, nodes) = out[..length].split_at_mut(head);
         start.copy_from_slice(&bytes[..head]);
-        set_word(start, 1 + Section::Nodes as usize, self.nodes);
+        set_word(start, Section::Nodes.count_at(), self.nodes);
         self.write_roots(&mut start[head - BYTES * file.sessions.len()..]);
         self.write_nodes(file, nodes.as_chunks_mut().0);
         Placed::written(length as u16, self.on_steps)

@@ -4,6 +4,7 @@ use crate::cause::Cause;
 use crate::file::{File, Section};
 use crate::schema::grants;
 
+const MOST_ROLES: usize = Section::Roles.most() as usize;
 const MOST_KINDS: usize = Section::Kinds.most() as usize;
 
 /// What a node does that asks for a role.
@@ -15,14 +16,22 @@ pub enum Act {
 }
 
 /// The active set after the act, or why it is refused.
-pub fn step(file: &File, assigned: u16, active: u16, act: Act, second: bool) -> Result<u16, Cause> {
+pub fn step(
+    rights: &impl Rights,
+    assigned: u16,
+    active: u16,
+    act: Act,
+    second: bool,
+) -> Result<u16, Cause> {
     match act {
         Act::On { role } if !has(assigned.into(), role) => Err(Cause::OnNotAssigned { second }),
         Act::On { role } => Ok(active | 1 << (role - 1)),
         Act::Off { role } if !has(active.into(), role) => Err(Cause::OffNotActive { second }),
         Act::Off { role } => Ok(active & !(1 << (role - 1))),
-        Act::Send { kind } if !file.may_send(active, kind) => Err(Cause::SendNotAllowed { second }),
-        Act::Receive { kind } if !file.may_receive(active, kind) => {
+        Act::Send { kind } if !rights.may_send(active, kind) => {
+            Err(Cause::SendNotAllowed { second })
+        }
+        Act::Receive { kind } if !rights.may_receive(active, kind) => {
             Err(Cause::ReceiveNotAllowed { second })
         }
         Act::Send { .. } | Act::Receive { .. } => Ok(active),
@@ -34,17 +43,6 @@ pub fn has(mask: u32, item: u16) -> bool {
     mask >> (item - 1) & 1 != 0
 }
 
-/// Whether one active role has a grant that will do.
-fn permits(file: &File, mut active: u16, will_do: impl Fn((u32, u32)) -> bool) -> bool {
-    while active != 0 {
-        if will_do(grants(&file.roles[active.trailing_zeros() as usize])) {
-            return true;
-        }
-        active &= active - 1;
-    }
-    false
-}
-
 /// What is known of who may act on a kind.
 pub trait Rights {
     /// Whether an active role may send on the kind.
@@ -54,14 +52,48 @@ pub trait Rights {
     fn may_receive(&self, active: u16, kind: u16) -> bool;
 }
 
-/// The active roles' grants, looked up as they are asked for.
-impl Rights for File<'_> {
+/// For each role the kinds that it may send on, and those that it may receive
+/// on: by its own record, or by what its juniors may.
+pub struct Grants([(u32, u32); MOST_ROLES]);
+
+impl Grants {
+    /// A junior has a lower number than its senior, so that what it may is known
+    /// before.
+    pub fn of(file: &File) -> Grants {
+        let mut known = Grants([(0, 0); MOST_ROLES]);
+        for (role, record) in file.roles.iter().enumerate() {
+            let (mut sends, mut receives) = grants(record);
+            let mut juniors = file.juniors_of(role);
+            while juniors != 0 {
+                let (more_sends, more_receives) = known.0[juniors.trailing_zeros() as usize];
+                sends |= more_sends;
+                receives |= more_receives;
+                juniors &= juniors - 1;
+            }
+            known.0[role] = (sends, receives);
+        }
+        known
+    }
+
+    /// Whether one active role has a grant that will do.
+    fn any(&self, mut active: u16, will_do: impl Fn((u32, u32)) -> bool) -> bool {
+        while active != 0 {
+            if will_do(self.0[active.trailing_zeros() as usize]) {
+                return true;
+            }
+            active &= active - 1;
+        }
+        false
+    }
+}
+
+impl Rights for Grants {
     fn may_send(&self, active: u16, kind: u16) -> bool {
-        permits(self, active, |(sends, _)| has(sends, kind))
+        self.any(active, |(sends, _)| has(sends, kind))
     }
 
     fn may_receive(&self, active: u16, kind: u16) -> bool {
-        permits(self, active, |(_, receives)| has(receives, kind))
+        self.any(active, |(_, receives)| has(receives, kind))
     }
 }
 
@@ -78,8 +110,8 @@ impl Permitted {
             to_send: [0; MOST_KINDS],
             to_receive: [0; MOST_KINDS],
         };
-        for (role, record) in file.roles.iter().enumerate() {
-            let (sends, receives) = grants(record);
+        let grants = Grants::of(file);
+        for (role, &(sends, receives)) in grants.0[..file.roles.len()].iter().enumerate() {
             add(&mut permitted.to_send, sends, role);
             add(&mut permitted.to_receive, receives, role);
         }

@@ -1,17 +1,22 @@
-//! The records before the nodes: refusals 6 and 7.
+//! The records before the nodes: refusals 6, 21 and 7.
 
 use crate::cause::{Cause, Refusal};
-use crate::file::{numbered, three, word, File, Section, HEADER};
+use crate::file::{numbered, three, word, File, Section};
 
-/// Every 6 comes before every 7.
+/// Every 6 comes before every 21, and every 21 before every 7.
 pub fn judge(file: &File) -> Result<(), Refusal> {
-    let mut at = HEADER as u16;
+    let mut at = file.version.header() as u16;
     judge_records(file.users, Section::Users, &mut at, |r| user(file, r))?;
     judge_records(file.roles, Section::Roles, &mut at, |r| role(file, r))?;
+    let juniors_at = at;
+    at += file.juniors.len() as u16;
     judge_records(file.kinds, Section::Kinds, &mut at, |r| kind(file, r))?;
     judge_records(file.channels, Section::Channels, &mut at, |r| {
         channel(file, r)
     })?;
+    for ((role, record), place) in numbered(file.juniors).zip(juniors_at..) {
+        juniors(file, role, record).map_err(|cause| Refusal { cause, place })?;
+    }
     for (place, record) in numbered(file.sessions) {
         session(file, record).map_err(|cause| Refusal { cause, place })?;
     }
@@ -61,6 +66,22 @@ fn role(file: &File, record: &[u8; 8]) -> Result<(), Cause> {
 pub fn grants(record: &[u8; 8]) -> (u32, u32) {
     let mask = |i| u32::from(word(record, i)) | u32::from(word(record, i + 1)) << 16;
     (mask(0), mask(2))
+}
+
+/// A junior's number is lower than its senior's.
+fn juniors(file: &File, senior: u16, record: &[u8; 2]) -> Result<(), Cause> {
+    let mask = word(record, 0);
+    let lower = (1 << (senior - 1)) - 1;
+    let wrong = mask & !lower;
+    if wrong == 0 {
+        return Ok(());
+    }
+    let lowest = wrong.trailing_zeros() as usize + 1;
+    Err(match lowest {
+        lowest if lowest == usize::from(senior) => Cause::JuniorItself,
+        lowest if lowest <= file.roles.len() => Cause::JuniorHigher,
+        _ => Cause::JuniorAbove,
+    })
 }
 
 fn kind(file: &File, record: &[u8; 2]) -> Result<(), Cause> {

@@ -2,8 +2,8 @@ use crate::cases::{booking, cases, choose_cases, place_cases, placed_booking, ru
 use crate::cases::{start_cases, Due, BOOKING};
 use crate::draft::to_bytes;
 use crate::{cause, cause_in_choosing, cause_in_placing, cause_in_run, cause_in_starting};
-use crate::{check, choose, place, read, read_names, ready, run, start};
-use crate::{Cause, Placed, Verdict, ROOM};
+use crate::{check, choose, is_of_file, is_of_reading, place, read, read_names, ready, run, start};
+use crate::{Cause, Placed, Verdict, Version, ROOM};
 use std::collections::BTreeSet;
 
 fn verdict((number, place): (u16, u16)) -> Verdict {
@@ -14,8 +14,9 @@ fn verdict((number, place): (u16, u16)) -> Verdict {
 fn named_cases() {
     for case in cases() {
         let (file, name) = (&case.file, case.name);
-        assert_eq!(read(file), verdict(case.up_to(8)), "1 to 8: {name}");
-        assert_eq!(read_names(file), verdict(case.up_to(10)), "1 to 10: {name}");
+        let [shape, names] = [case.by(is_of_reading), case.by(is_of_file)].map(verdict);
+        assert_eq!(read(file), shape, "1 to 8: {name}");
+        assert_eq!(read_names(file), names, "1 to 10: {name}");
         assert_eq!(check(file), verdict(case.answer), "1 to 13: {name}");
         let told = cause(file).map_or(Verdict::CLEAN, |refusal| refusal.verdict());
         assert_eq!(told, check(file), "cause: {name}");
@@ -105,10 +106,25 @@ fn the_booking_is_built_as_the_paper_writes_it() {
 }
 
 #[test]
-fn causes_are_listed_once_and_by_number() {
+fn the_largest_files() {
+    assert_eq!(Version::ALL.map(Version::header), [13, 14]);
+    assert_eq!(Version::ALL.map(Version::largest), [6_874, 6_908]);
+    assert_eq!(ROOM, 6_908);
+}
+
+/// 21 has its turn behind 6.
+fn turn(cause: &Cause) -> u16 {
+    match cause.number() {
+        21 => 2 * 6 + 1,
+        number => 2 * number,
+    }
+}
+
+#[test]
+fn causes_are_listed_once_and_in_order() {
     let all = [Cause::all(), Cause::of_placing()].concat();
     assert!(all.windows(2).all(|two| two[0] < two[1]));
-    assert!(all.is_sorted_by_key(|cause| cause.number()));
+    assert!(all.is_sorted_by_key(turn));
     assert_eq!(all.last().map(|cause| cause.number()), Some(17));
     let of_running = Cause::of_running();
     assert!(of_running.windows(2).all(|two| two[0] < two[1]));

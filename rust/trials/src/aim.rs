@@ -3,37 +3,49 @@
 
 use crate::rng::Rng;
 use second::draft::{set_word, word_at, Draft};
-use second::{Cause, Section};
+use second::{Cause, Section, Version};
 
-/// Changes the draft for a cause of 6 to 8.
+/// Changes the draft for a cause of 6 to 8, or of 21.
 pub fn at_draft(rng: &mut Rng, draft: &mut Draft, cause: Cause) {
     match cause.number() {
         6 => at_record(rng, draft, cause),
+        21 => at_juniors(rng, draft, cause),
         7 => at_session(rng, draft, cause),
         8 => at_tree(rng, draft, cause),
         _ => {}
     }
 }
 
-/// Changes the bytes for a cause of 1 to 5.
+/// Changes the bytes for a cause of 1 to 5. They have a whole header.
 pub fn at_bytes(rng: &mut Rng, file: &mut Vec<u8>, cause: Cause) {
     let even = |number: usize| number & !1;
+    let version = Version::claimed(file);
+    let header = 2 * version.header();
     match cause {
         Cause::Short => file.truncate(rng.below(26)),
         Cause::Odd if rng.once_in(2) => file.push(0),
         Cause::Odd => file.truncate((26 + rng.below(file.len() - 25)) | 1),
-        Cause::Version => set_word(file, 0, other(rng, 1)),
+        Cause::ShortForSecond => file.truncate(26),
+        Cause::Version => {
+            let due = word_at(file, 0);
+            set_word(file, 0, other(rng, due));
+        }
         Cause::Count(section) => {
             let count = rng.from(section.most() + 1, u16::MAX);
             let least = section.most() + 1;
-            set_word(file, 1 + section as usize, *rng.of(&[least, count]));
+            set_word(file, section.count_at(), *rng.of(&[least, count]));
         }
         Cause::Offset(section) => {
-            let at = 7 + section as usize;
+            let Some(at) = version.offset_at(section) else {
+                return;
+            };
             let due = word_at(file, at);
             set_word(file, at, other(rng, due));
         }
-        Cause::Shorter => file.truncate(26 + even(rng.below(file.len() - 25).saturating_sub(1))),
+        Cause::Shorter => {
+            let more = rng.below(file.len() - header + 1);
+            file.truncate(header + even(more.saturating_sub(1)));
+        }
         Cause::Longer => {
             let most = *rng.of(&[4, 100, 8_000]);
             file.resize(file.len() + 2 + even(rng.below(most)), 0);
@@ -94,6 +106,25 @@ fn at_record(rng: &mut Rng, draft: &mut Draft, cause: Cause) {
         }
         _ => {}
     }
+}
+
+/// Gives a role a junior that is not lower: itself, a higher one, or one out of
+/// count.
+fn at_juniors(rng: &mut Rng, draft: &mut Draft, cause: Cause) {
+    let roles = draft.roles.len();
+    let Some(juniors) = draft.juniors.as_mut().filter(|_| roles > 0) else {
+        return;
+    };
+    let senior = rng.index(roles);
+    let bit = match cause {
+        Cause::JuniorItself => Some(senior),
+        Cause::JuniorHigher if senior + 1 < roles => {
+            Some(senior + 1 + rng.below(roles - senior - 1))
+        }
+        Cause::JuniorAbove => bit_above(rng, roles, 16),
+        _ => None,
+    };
+    juniors[senior][0] |= bit.map_or(0, |bit| 1 << bit);
 }
 
 fn set_channel(rng: &mut Rng, draft: &mut Draft, word: usize, to: u16) {

@@ -10,55 +10,76 @@ use crate::rng::Rng;
 use crate::schema::{schema, Size};
 use crate::wild::Wild;
 use second::draft::Draft;
-use second::{Section, ROOM};
+use second::{room_for, Section, Version, ROOM};
 
 /// How many families of files take turns.
 const FAMILIES: u64 = 24;
 
 const MOST_NODES: u16 = Section::Nodes.most();
 
-/// File `index` under `seed`, and an output with what it holds beforehand.
-pub fn deal_bare(seed: u64, index: u64) -> (Vec<u8>, Vec<u8>) {
+/// File `index` of this version under `seed`, and an output with what it holds
+/// beforehand. Some damaged files have another version.
+pub fn deal_bare(version: Version, seed: u64, index: u64) -> (Vec<u8>, Vec<u8>) {
     let rng = &mut Rng::new(!seed, index);
     let file = match index % FAMILIES {
-        0..=9 => any(rng, None).bytes(),
-        10..=11 => any(rng, Some(Wild::Roles)).bytes(),
-        12..=13 => any(rng, Some(Wild::Permission)).bytes(),
-        14 => any(rng, Some(Wild::Names)).bytes(),
-        15 => any(rng, Some(Wild::Kinds)).bytes(),
-        16 => full(rng).bytes(),
-        17 => long(rng).bytes(),
-        18 => started(rng).bytes(),
+        0..=9 => any(rng, version, None).bytes(),
+        10..=11 => any(rng, version, Some(Wild::Roles)).bytes(),
+        12..=13 => any(rng, version, Some(Wild::Permission)).bytes(),
+        14 => any(rng, version, Some(Wild::Names)).bytes(),
+        15 => any(rng, version, Some(Wild::Kinds)).bytes(),
+        16 => full(rng, version).bytes(),
+        17 => long(rng, version).bytes(),
+        18 => started(rng, version).bytes(),
         19 => {
             let size = Size::lean(rng);
-            sound(rng, size, None).bytes()
+            sound(rng, version, size, None).bytes()
         }
         20 => {
-            let mut file = any(rng, None).bytes();
+            let mut file = any(rng, version, None).bytes();
             change::one_word(rng, &mut file);
             file
         }
         21 => {
-            let mut file = any(rng, None).bytes();
+            let mut file = any(rng, version, None).bytes();
             change::any_bytes(rng, &mut file);
             file
         }
-        _ => deal(seed, index),
+        22 if version == Version::Two && rng.once_in(4) => few_bytes(rng),
+        _ => deal(version, seed, index),
     };
-    let room = room(rng);
+    let room = room(rng, &file);
     (file, filled(rng, room))
 }
 
-/// The length of an output: mostly long enough, and then mostly just so.
-fn room(rng: &mut Rng) -> usize {
+/// So few bytes that there is hardly a first word, mostly 2.
+fn few_bytes(rng: &mut Rng) -> Vec<u8> {
+    let any = rng.word().to_le_bytes();
+    let all = [
+        [2, 0, any[0]],
+        [2, any[0], any[1]],
+        [any[0], 0, 0],
+        [0, 2, 0],
+    ];
+    let bytes = *rng.of(&[all[0], all[0], all[1], all[2], all[3]]);
+    bytes[..*rng.of(&[1, 1, 1, 2, 3])].to_vec()
+}
+
+/// The length of an output: mostly long enough, and then mostly just so; for few
+/// bytes, mostly as another version would have it.
+fn room(rng: &mut Rng, file: &[u8]) -> usize {
+    let wanted = room_for(file);
+    let [least, most] = Version::ALL.map(Version::largest);
     match rng.below(600) {
         0 => 0,
-        1..=6 => ROOM - 1,
-        7..=12 => rng.below(ROOM),
-        13 => *rng.of(&[65_536, 65_537, 65_536 + ROOM, 100_000]),
-        14..=100 => ROOM + 1 + rng.below(300),
-        101..=130 => ROOM + 1 + rng.below(8_000),
-        _ => ROOM,
+        1..=6 => wanted - 1,
+        7..=12 => rng.below(wanted),
+        13 => *rng.of(&[65_536, 65_537, 65_536 + wanted, 100_000]),
+        14..=100 => wanted + 1 + rng.below(300),
+        101..=130 => wanted + 1 + rng.below(8_000),
+        131..=136 => *rng.of(&[least - 1, least, least + 1, most - 1, most, most + 1]),
+        137..=142 => least + rng.below(most - least),
+        143..=550 if file.len() < 4 => least + rng.below(most - least),
+        _ => wanted,
     }
 }
 
@@ -73,7 +94,7 @@ pub fn filled(rng: &mut Rng, length: usize) -> Vec<u8> {
 
 /// A file with at most so many nodes and few roles, whose sends and receives
 /// may lack one.
-pub fn small_bare(rng: &mut Rng, nodes: u16) -> Draft {
+pub fn small_bare(rng: &mut Rng, version: Version, nodes: u16) -> Draft {
     let size = Size {
         users: rng.from(1, 2),
         roles: *rng.of(&[0, 1, 2, 3, 3, 4, 4]),
@@ -83,13 +104,13 @@ pub fn small_bare(rng: &mut Rng, nodes: u16) -> Draft {
         nodes: rng.from(2, nodes).max(rng.from(2, nodes)),
     };
     let wild = rng.once_in(3).then_some(Wild::Permission);
-    sound(rng, size, wild)
+    sound(rng, version, size, wild)
 }
 
 /// A file with several sessions that meet once it is placed.
-pub fn lively_bare(rng: &mut Rng) -> Draft {
+pub fn lively_bare(rng: &mut Rng, version: Version) -> Draft {
     let size = lively_size(rng);
-    let mut draft = schema(rng, size);
+    let mut draft = schema(rng, version, size);
     for [_, start, _] in &mut draft.sessions {
         *start = 0;
     }
@@ -104,14 +125,14 @@ pub fn lively_bare(rng: &mut Rng) -> Draft {
 
 /// The largest file that is placed with an on step: one tree of 1,022 nodes
 /// that needs one of its 16 roles, so that the result has 1,024.
-pub fn largest_bare(seed: u64) -> Vec<u8> {
-    chain_bare(seed, Section::Roles.most(), MOST_NODES)
+pub fn largest_bare(version: Version, seed: u64) -> Vec<u8> {
+    chain_bare(version, seed, Section::Roles.most(), MOST_NODES)
 }
 
 /// A file of so many roles and one tree, without forks, that needs one of them.
 /// Its result has so many nodes; it has two less. Everything else is at its
 /// largest.
-pub fn chain_bare(seed: u64, roles: u16, nodes: u16) -> Vec<u8> {
+pub fn chain_bare(version: Version, seed: u64, roles: u16, nodes: u16) -> Vec<u8> {
     let rng = &mut Rng::new(seed, 0);
     let size = Size {
         roles,
@@ -119,7 +140,7 @@ pub fn chain_bare(seed: u64, roles: u16, nodes: u16) -> Vec<u8> {
         nodes: nodes - 2,
         ..Size::FULL
     };
-    let mut draft = schema(rng, size);
+    let mut draft = schema(rng, version, size);
     draft.users.fill([u16::MAX >> (16 - roles)]);
     draft.roles[rng.below(roles.into())] = [u16::MAX; 4];
     draft.sessions[0][1] = 0;
@@ -135,6 +156,7 @@ pub fn full_bare(seed: u64) -> Vec<u8> {
         let rng = &mut Rng::new(seed, nodes.into());
         let mut draft = usual(
             rng,
+            Version::One,
             Size {
                 nodes,
                 ..Size::FULL
@@ -147,30 +169,30 @@ pub fn full_bare(seed: u64) -> Vec<u8> {
 
 /// A file of 1,024 nodes and 16 roles, whose result has more.
 pub fn overfull_bare(seed: u64) -> Vec<u8> {
-    usual(&mut Rng::new(seed, 0), Size::FULL).bytes()
+    usual(&mut Rng::new(seed, 0), Version::One, Size::FULL).bytes()
 }
 
 /// A file of 40 nodes.
-pub fn typical_bare(seed: u64) -> Vec<u8> {
-    usual(&mut Rng::new(seed, 0), Size::TYPICAL).bytes()
+pub fn typical_bare(version: Version, seed: u64) -> Vec<u8> {
+    usual(&mut Rng::new(seed, 0), version, Size::TYPICAL).bytes()
 }
 
-fn usual(rng: &mut Rng, size: Size) -> Draft {
-    grown(rng, size, Bent::USUAL, None)
+fn usual(rng: &mut Rng, version: Version, size: Size) -> Draft {
+    grown(rng, version, size, Bent::USUAL, None)
 }
 
-fn any(rng: &mut Rng, wild: Option<Wild>) -> Draft {
+fn any(rng: &mut Rng, version: Version, wild: Option<Wild>) -> Draft {
     let size = Size::any(rng);
-    sound(rng, size, wild)
+    sound(rng, version, size, wild)
 }
 
-fn sound(rng: &mut Rng, size: Size, wild: Option<Wild>) -> Draft {
+fn sound(rng: &mut Rng, version: Version, size: Size, wild: Option<Wild>) -> Draft {
     let bent = Bent::any(rng);
-    grown(rng, size, bent, wild)
+    grown(rng, version, size, bent, wild)
 }
 
-fn grown(rng: &mut Rng, size: Size, bent: Bent, wild: Option<Wild>) -> Draft {
-    let mut draft = schema(rng, size);
+fn grown(rng: &mut Rng, version: Version, size: Size, bent: Bent, wild: Option<Wild>) -> Draft {
+    let mut draft = schema(rng, version, size);
     for [_, start, _] in &mut draft.sessions {
         *start = 0;
     }
@@ -204,9 +226,9 @@ pub fn grant_few(rng: &mut Rng, draft: &mut Draft) {
 }
 
 /// A file with at least one starting mask, if a session's user has a role.
-fn started(rng: &mut Rng) -> Draft {
+fn started(rng: &mut Rng, version: Version) -> Draft {
     let wild = rng.once_in(2).then_some(Wild::Roles);
-    let mut draft = any(rng, wild);
+    let mut draft = any(rng, version, wild);
     for _ in 0..=rng.below(2) {
         let at = rng.index(draft.sessions.len());
         let [user, start, _] = &mut draft.sessions[at];
@@ -217,22 +239,22 @@ fn started(rng: &mut Rng) -> Draft {
 }
 
 /// Many nodes, so that the result is often too large.
-fn long(rng: &mut Rng) -> Draft {
+fn long(rng: &mut Rng, version: Version) -> Draft {
     let size = Size {
         nodes: rng.from(300, MOST_NODES),
         ..Size::middle(rng)
     };
-    sound(rng, size, None)
+    sound(rng, version, size, None)
 }
 
 /// A file whose result has 1,024 nodes, or one or two more or less.
-fn full(rng: &mut Rng) -> Draft {
+fn full(rng: &mut Rng, version: Version) -> Draft {
     let middle = Size::middle(rng);
     let size = Size {
         nodes: rng.from(32, 500),
         ..*rng.of(&[middle, middle, middle, Size::FULL])
     };
-    let mut draft = sound(rng, size, None);
+    let mut draft = sound(rng, version, size, None);
     let nodes = rng.from(MOST_NODES - 2, MOST_NODES + 2);
     pad(rng, &mut draft, nodes);
     draft

@@ -2,20 +2,23 @@
 
 use crate::rng::Rng;
 use second::draft::{set_word, word_at, Draft};
-use second::Section;
+use second::Version;
 
 /// Sets one word of the file: one of the header, or of a record of any
 /// section, all of them as likely.
 pub fn one_word(rng: &mut Rng, file: &mut [u8]) {
     let count = file.len() / 2;
-    let section = rng.below(Section::ALL.len() + 1);
-    let (start, end) = match section {
-        0 => (0, 13),
-        6 => (word_at(file, 12).into(), count),
-        _ => (
-            word_at(file, 6 + section).into(),
-            word_at(file, 7 + section).into(),
-        ),
+    let version = Version::claimed(file);
+    let (header, sections) = (version.header(), version.sections().len());
+    if count < header {
+        return;
+    }
+    // The offsets are the last words of the header.
+    let offset = |section: usize| word_at(file, header - sections + section).into();
+    let (start, end) = match rng.below(sections + 1) {
+        0 => (0, header),
+        last if last == sections => (offset(last - 1), count),
+        section => (offset(section - 1), offset(section)),
     };
     if start >= end || end > count {
         return;
@@ -96,13 +99,16 @@ pub fn any_bytes(rng: &mut Rng, file: &mut Vec<u8>) {
     }
 }
 
-/// Random bytes, mostly few.
-pub fn noise(rng: &mut Rng) -> Vec<u8> {
+/// Random bytes, mostly few. Behind a first word of 2, in version 2.
+pub fn noise(rng: &mut Rng, version: Version) -> Vec<u8> {
     let most = *rng.of(&[30, 80, 80, 300, 7_000]);
     let length = rng.below(most);
-    std::iter::repeat_with(|| rng.word() as u8)
-        .take(length)
-        .collect()
+    let bytes = std::iter::repeat_with(|| rng.word() as u8);
+    let mut bytes: Vec<u8> = bytes.take(length).collect();
+    if version == Version::Two && length >= 2 {
+        set_word(&mut bytes, 0, 2);
+    }
+    bytes
 }
 
 /// Gives all records random words, or only the nodes; the header stays right.
@@ -117,6 +123,9 @@ pub fn any_words(rng: &mut Rng, draft: &mut Draft) {
 fn fill(draft: &mut Draft, mut word: impl FnMut() -> u16) {
     draft.users.as_flattened_mut().fill_with(&mut word);
     draft.roles.as_flattened_mut().fill_with(&mut word);
+    if let Some(juniors) = &mut draft.juniors {
+        juniors.as_flattened_mut().fill_with(&mut word);
+    }
     draft.kinds.as_flattened_mut().fill_with(&mut word);
     draft.channels.as_flattened_mut().fill_with(&mut word);
     draft.sessions.as_flattened_mut().fill_with(&mut word);
@@ -124,11 +133,13 @@ fn fill(draft: &mut Draft, mut word: impl FnMut() -> u16) {
 }
 
 /// Few records of any section, all words 0.
-pub fn blank(rng: &mut Rng) -> Draft {
+pub fn blank(rng: &mut Rng, version: Version) -> Draft {
     let mut few = || rng.below(3);
+    let (users, roles) = (few(), few());
     Draft {
-        users: vec![[0; 1]; few()],
-        roles: vec![[0; 4]; few()],
+        users: vec![[0; 1]; users],
+        roles: vec![[0; 4]; roles],
+        juniors: (version == Version::Two).then(|| vec![[0; 1]; roles]),
         kinds: vec![[0; 1]; few()],
         channels: vec![[0; 2]; few()],
         sessions: vec![[0; 3]; few()],

@@ -13,7 +13,7 @@ pub use steps::{long_run_by_choices, run_by_choices, Steps};
 pub use tally::ChooseTally;
 
 use crate::lists::{by_engine, Call, Lists};
-use second::{Thread, Verdict};
+use second::{is_of_file, Thread, Verdict, Version};
 use std::fmt::Display;
 
 /// A file, what is lent with it, and a choice.
@@ -63,7 +63,7 @@ fn judge(before: &Lists, after: &Lists, verdict: Verdict) -> Result<(), &'static
     let unless = |wrong: bool, fault| if wrong { Err(fault) } else { Ok(()) };
     let can_be = match verdict.number {
         0 => verdict.place == 0,
-        1..=10 => true,
+        number if is_of_file(number) => true,
         11..=13 | 19 | 20 => verdict.place == 1,
         18 => verdict.place <= 1,
         _ => false,
@@ -98,12 +98,14 @@ fn judge(before: &Lists, after: &Lists, verdict: Verdict) -> Result<(), &'static
     )
 }
 
-/// Deals lists for `files` files to both and panics at the first difference.
-pub fn compare_choosing(seed: u64, files: u64) -> ChooseTally {
-    let mut tally = ChooseTally::default();
+/// Deals lists for `files` files of a version to both and panics at the first
+/// difference.
+pub fn compare_choosing(version: Version, seed: u64, files: u64) -> ChooseTally {
+    let mut tally = ChooseTally::new(version);
     for index in 0..files {
-        for (turn, lent) in deal_lent(seed, index).iter().enumerate() {
-            let origin = format_args!("trials::deal_lent({seed}, {index})[{turn}]");
+        for (turn, lent) in deal_lent(version, seed, index).iter().enumerate() {
+            let origin =
+                format_args!("trials::deal_lent(Version::{version:?}, {seed}, {index})[{turn}]");
             let (verdict, after) = agreed_choice(&lent.file, &lent.lists, lent.choice, origin);
             tally.count(lent, verdict, &after);
         }

@@ -5,10 +5,11 @@ use crate::bare::{grant_few, lively_bare};
 use crate::change;
 use crate::deal::deal;
 use crate::grow::{grow, Bent, Heed, VARIABLES};
+use crate::juniors;
 use crate::rng::Rng;
 use crate::schema::{schema, Size};
 use second::draft::Draft;
-use second::ROOM;
+use second::{Version, ROOM};
 
 const END: [u16; 3] = [0, 0, 0];
 const REPEAT: [u16; 3] = [2, 0, 0];
@@ -26,51 +27,53 @@ pub enum Use {
     Crowd,
 }
 
-/// A file for a run.
-pub fn deal_desk(rng: &mut Rng, good_for: Use) -> Vec<u8> {
+/// A file of this version for a run; some damaged ones have another.
+pub fn deal_desk(rng: &mut Rng, version: Version, good_for: Use) -> Vec<u8> {
     match good_for {
-        Use::Any => any(rng),
+        Use::Any => any(rng, version),
         Use::Roles => {
-            let mut draft = lively(rng, Heed::Active);
+            let mut draft = lively(rng, version, Heed::Active);
             for _ in 0..=rng.below(4) {
                 put_in_roles(rng, &mut draft);
             }
             draft.bytes()
         }
-        Use::Permission => heedless(rng).bytes(),
-        Use::Crowd => crowd(rng).bytes(),
+        Use::Permission => heedless(rng, version).bytes(),
+        Use::Crowd => crowd(rng, version).bytes(),
     }
 }
 
-fn any(rng: &mut Rng) -> Vec<u8> {
+fn any(rng: &mut Rng, version: Version) -> Vec<u8> {
     match rng.below(20) {
-        0..=7 => lively(rng, Heed::Active).bytes(),
-        8..=9 => heedless(rng).bytes(),
-        10..=12 => crowd(rng).bytes(),
+        0..=7 => lively(rng, version, Heed::Active).bytes(),
+        8..=9 => heedless(rng, version).bytes(),
+        10..=12 => crowd(rng, version).bytes(),
         13..=14 => {
             let heed = *rng.of(&[Heed::Active, Heed::Active, Heed::Nothing]);
             let size = Size::any(rng);
-            grown(rng, size, heed).bytes()
+            grown(rng, version, size, heed).bytes()
         }
-        15..=16 => placed(rng).unwrap_or_else(|| lively(rng, Heed::Active).bytes()),
+        15..=16 => {
+            placed(rng, version).unwrap_or_else(|| lively(rng, version, Heed::Active).bytes())
+        }
         17 => {
-            let mut file = lively(rng, Heed::Active).bytes();
+            let mut file = lively(rng, version, Heed::Active).bytes();
             change::one_word(rng, &mut file);
             file
         }
         18 => {
-            let mut file = lively(rng, Heed::Active).bytes();
+            let mut file = lively(rng, version, Heed::Active).bytes();
             change::any_bytes(rng, &mut file);
             file
         }
-        _ => deal(rng.number(), rng.number()),
+        _ => deal(version, rng.number(), rng.number()),
     }
 }
 
 /// A file of which placing made something.
-fn placed(rng: &mut Rng) -> Option<Vec<u8>> {
+fn placed(rng: &mut Rng, version: Version) -> Option<Vec<u8>> {
     let mut out = [0; ROOM];
-    let placed = second::place(&lively_bare(rng).bytes(), &mut out);
+    let placed = second::place(&lively_bare(rng, version).bytes(), &mut out);
     (placed.number == 0).then(|| out[..placed.length.into()].to_vec())
 }
 
@@ -92,6 +95,9 @@ pub fn lively_size(rng: &mut Rng) -> Size {
 /// before them.
 pub fn open_up(rng: &mut Rng, draft: &mut Draft) {
     grant_few(rng, draft);
+    if draft.juniors.is_some() && !rng.once_in(3) {
+        juniors::promote(rng, draft);
+    }
     for (at, kind) in draft.kinds.iter_mut().enumerate() {
         if !rng.once_in(4) {
             *kind = [at as u16];
@@ -99,9 +105,9 @@ pub fn open_up(rng: &mut Rng, draft: &mut Draft) {
     }
 }
 
-fn lively(rng: &mut Rng, heed: Heed) -> Draft {
+fn lively(rng: &mut Rng, version: Version, heed: Heed) -> Draft {
     let size = lively_size(rng);
-    let mut draft = schema(rng, size);
+    let mut draft = schema(rng, version, size);
     if !rng.once_in(4) {
         open_up(rng, &mut draft);
     }
@@ -117,8 +123,8 @@ fn lively(rng: &mut Rng, heed: Heed) -> Draft {
     draft
 }
 
-fn grown(rng: &mut Rng, size: Size, heed: Heed) -> Draft {
-    let mut draft = schema(rng, size);
+fn grown(rng: &mut Rng, version: Version, size: Size, heed: Heed) -> Draft {
+    let mut draft = schema(rng, version, size);
     let bent = Bent::any(rng);
     grow(rng, &mut draft, size.nodes, bent, heed, None);
     draft
@@ -126,8 +132,8 @@ fn grown(rng: &mut Rng, size: Size, heed: Heed) -> Draft {
 
 /// Sends and receives with no heed to roles. Most sessions start with all that
 /// their user has, and some roles are put on and off.
-fn heedless(rng: &mut Rng) -> Draft {
-    let mut draft = lively(rng, Heed::Nothing);
+fn heedless(rng: &mut Rng, version: Version) -> Draft {
+    let mut draft = lively(rng, version, Heed::Nothing);
     for at in 0..draft.sessions.len() {
         let [user, start, _] = &mut draft.sessions[at];
         if rng.once_in(2) {
@@ -227,8 +233,8 @@ fn put_in_roles(rng: &mut Rng, draft: &mut Draft) {
 
 /// Trees of repeats, forks and new channels beside the others, often as soon
 /// as a session starts.
-fn crowd(rng: &mut Rng) -> Draft {
-    let mut draft = lively(rng, Heed::Active);
+fn crowd(rng: &mut Rng, version: Version) -> Draft {
+    let mut draft = lively(rng, version, Heed::Active);
     for _ in 0..=rng.below(3) {
         let kinds = draft.kinds.len() as u16;
         let new = [3, rng.from(1, kinds), 0];
@@ -330,6 +336,9 @@ pub fn fill_up(draft: &mut Draft) {
     } = Size::FULL;
     draft.users.resize(users.into(), [7]);
     draft.roles.resize(roles.into(), [0; 4]);
+    if let Some(juniors) = &mut draft.juniors {
+        juniors.resize(roles.into(), [0]);
+    }
     draft.kinds.resize(kinds.into(), [0]);
     draft.channels.resize(channels.into(), [1, 1]);
     let mut left = usize::from(nodes) - draft.nodes.len();

@@ -1,6 +1,7 @@
 //! Trees that are sound: in shape always, in names, kinds and roles but for
 //! the one node that is grown wild.
 
+use crate::juniors;
 use crate::rng::Rng;
 use crate::wild::Wild;
 use second::draft::Draft;
@@ -99,6 +100,8 @@ pub struct Grower<'a> {
     /// Users and channels, as this session's user sees them.
     names: Vec<Name>,
     assigned: u16,
+    /// What each role may, by its juniors too.
+    grants: Vec<[u16; 4]>,
 }
 
 /// Gives each session a tree, of `nodes` nodes together; at least one each.
@@ -124,6 +127,7 @@ pub fn grow(
         let mut grower = Grower {
             assigned: draft.users[usize::from(user) - 1][0],
             names: names(draft, user),
+            grants: juniors::granted(draft),
             rng,
             draft,
             bent,
@@ -281,7 +285,7 @@ impl Grower<'_> {
         let (word, bit) = (grant + usize::from(kind - 1) / 16, (kind - 1) % 16);
         let granted = |role: &[u16; 4]| role[word] & 1 << bit != 0;
         (0..)
-            .zip(&self.draft.roles)
+            .zip(&self.grants)
             .any(|(i, role)| mask & 1 << i != 0 && granted(role))
     }
 

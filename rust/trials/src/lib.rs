@@ -11,6 +11,7 @@ mod choosing;
 mod deal;
 mod desk;
 mod grow;
+pub mod juniors;
 mod lists;
 mod placing;
 pub mod rivals;

@@ -1,26 +1,14 @@
 //! Placing by both implementations: compared, judged and counted.
 
+mod tally;
+
+pub use tally::PlaceTally;
+
 use crate::bare::deal_bare;
-use crate::states::{greedy, on_steps};
 use crate::trees::Trees;
 use second::draft::Draft;
-use second::{Cause, Placed, Section, Verdict, ROOM};
-use std::collections::BTreeMap;
+use second::{Placed, Verdict, Version};
 use std::fmt::Display;
-
-/// The least number of files for each cause that placing alone has.
-const LEAST_OF_CAUSE: u64 = 500;
-
-/// The least number of files that are placed with fewer on steps than a greedy
-/// choice has.
-const LEAST_OF_GREEDY: u64 = 1_000;
-
-/// The least number of results with exactly 1,024 nodes, and of those in an
-/// output that is longer than need be.
-const LEAST_OF_FULL: u64 = 1_000;
-
-/// The least number of results with everything at its largest.
-const LEAST_OF_LARGEST: u64 = 100;
 
 /// The engine's answer, in the second implementation's form.
 pub fn engine_place(file: &[u8], out: &mut [u8]) -> Placed {
@@ -121,77 +109,12 @@ fn erased(mut draft: Draft) -> Draft {
     draft
 }
 
-/// What came up over many files.
-#[derive(Default)]
-pub struct PlaceTally {
-    files: u64,
-    placed: u64,
-    /// Placed with fewer on steps than the lowest permitting role gives, step
-    /// by step.
-    below_lowest: u64,
-    /// And fewer than if the role that is on is kept where it will do.
-    below_staying: u64,
-    /// Placed in exactly 1,024 nodes.
-    full: u64,
-    /// Placed in all the bytes that the output must have.
-    largest: u64,
-    /// Placed in an output that is longer than need be.
-    with_rest: u64,
-    by_number: BTreeMap<u16, u64>,
-    by_cause: BTreeMap<Cause, u64>,
-}
-
-impl PlaceTally {
-    fn count(&mut self, file: &[u8], placed: Placed, out: &[u8]) {
-        self.files += 1;
-        *self.by_number.entry(placed.number).or_default() += 1;
-        if let Some(refusal) = second::cause_in_placing(file, out.len()) {
-            *self.by_cause.entry(refusal.cause).or_default() += 1;
-            return;
-        }
-        let trees = Trees::of(&Draft::of(file));
-        let more = |stays| on_steps(&trees, &greedy(&trees, stays)) > placed.on_steps.into();
-        let nodes = Draft::of(&out[..placed.length.into()]).nodes.len();
-        self.placed += 1;
-        self.below_lowest += u64::from(more(false));
-        self.below_staying += u64::from(more(true));
-        self.full += u64::from(nodes == usize::from(Section::Nodes.most()));
-        self.largest += u64::from(usize::from(placed.length) == ROOM);
-        self.with_rest += u64::from(out.len() > ROOM);
-    }
-
-    /// Prints the table, and fails if something came up too seldom.
-    pub fn demand(&self) {
-        for (number, count) in &self.by_number {
-            println!("{count:>9} of {number}");
-        }
-        for cause in Cause::of_placing() {
-            let count = self.by_cause.get(&cause).copied().unwrap_or(0);
-            println!("{count:>9} {:>3} {cause:?}", cause.number());
-            assert!(count >= LEAST_OF_CAUSE, "too few of {cause:?}");
-        }
-        let third = self.files.div_ceil(3);
-        for (name, count, least) in [
-            ("placed", self.placed, third),
-            ("better than greedy", self.below_lowest, LEAST_OF_GREEDY),
-            ("better than staying", self.below_staying, LEAST_OF_GREEDY),
-            ("in 1,024 nodes", self.full, LEAST_OF_FULL),
-            ("in 6,874 bytes", self.largest, LEAST_OF_LARGEST),
-            ("in a longer output", self.with_rest, LEAST_OF_FULL),
-        ] {
-            println!("{count:>9} {name}");
-            assert!(count >= least, "too few {name}");
-        }
-        println!("{:>9} files", self.files);
-    }
-}
-
-/// Deals `files` files to both and panics at the first difference.
-pub fn compare_placing(seed: u64, files: u64) -> PlaceTally {
-    let mut tally = PlaceTally::default();
+/// Deals `files` files of a version to both and panics at the first difference.
+pub fn compare_placing(version: Version, seed: u64, files: u64) -> PlaceTally {
+    let mut tally = PlaceTally::new(version);
     for index in 0..files {
-        let (file, before) = deal_bare(seed, index);
-        let origin = format_args!("trials::deal_bare({seed}, {index})");
+        let (file, before) = deal_bare(version, seed, index);
+        let origin = format_args!("trials::deal_bare(Version::{version:?}, {seed}, {index})");
         let (placed, out) = agreed_placing(&file, &before, origin);
         tally.count(&file, placed, &out);
     }

@@ -11,7 +11,7 @@ pub use replay::sends_in;
 pub use tally::RunTally;
 
 use second::draft::word_at;
-use second::{Ready, Verdict, RUN_ROOM};
+use second::{Ready, Verdict, Version, RUN_ROOM};
 use std::fmt::Display;
 
 /// The engine's answer, in the second implementation's form.
@@ -129,12 +129,13 @@ fn assert_state_before(dealt: &Dealt, verdict: Verdict, out: &[u8]) {
     assert_eq!(cut[4..], out[4..], "the state before choice {}", done + 1);
 }
 
-/// Deals `runs` runs to both and panics at the first difference.
-pub fn compare_running(seed: u64, runs: u64) -> RunTally {
-    let mut tally = RunTally::default();
+/// Deals `runs` runs of files of a version to both and panics at the first
+/// difference.
+pub fn compare_running(version: Version, seed: u64, runs: u64) -> RunTally {
+    let mut tally = RunTally::new(version);
     for index in 0..runs {
-        let dealt = deal_run(seed, index);
-        let origin = format_args!("trials::deal_run({seed}, {index})");
+        let dealt = deal_run(version, seed, index);
+        let origin = format_args!("trials::deal_run(Version::{version:?}, {seed}, {index})");
         let (verdict, out) = agreed_run(&dealt, origin);
         if is_halted(verdict) && index % 4 == 0 {
             assert_state_before(&dealt, verdict, &out);

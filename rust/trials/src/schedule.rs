@@ -6,7 +6,7 @@ use crate::desk::{busy_desk, crowded_desk, fill_up};
 use crate::rng::Rng;
 use crate::running::sends_in;
 use second::draft::Draft;
-use second::{Halt, Run, RECORDS};
+use second::{Halt, Run, Version, RECORDS};
 
 /// The most choices of a list.
 pub const MOST_CHOICES: usize = 65_535;
@@ -244,7 +244,7 @@ pub fn typical_run(seed: u64) -> (Vec<u8>, Vec<u16>) {
         halt: None,
     };
     let found = (seed..).find_map(|seed| {
-        let file = typical(seed);
+        let file = typical(Version::One, seed);
         let choices = schedule(&mut Rng::new(seed, 0), &file, goal);
         let will_do = choices.len() == 80 && sends_in(&file, &choices) >= 4;
         will_do.then_some((file, choices))

@@ -1,8 +1,9 @@
 //! Users, roles, kinds, channels and sessions that are sound.
 
+use crate::juniors;
 use crate::rng::Rng;
 use second::draft::Draft;
-use second::Section;
+use second::{Section, Version};
 
 /// How many records a file has of each section.
 #[derive(Clone, Copy)]
@@ -16,7 +17,7 @@ pub struct Size {
 }
 
 impl Size {
-    /// Everything at its largest: 6,874 bytes.
+    /// Everything at its largest.
     pub const FULL: Size = Size {
         users: Section::Users.most(),
         roles: Section::Roles.most(),
@@ -125,7 +126,7 @@ const SMALL: Size = Size {
 
 /// A sound schema with its sessions, which have no root yet. What needs users
 /// or kinds is left out where there are none.
-pub fn schema(rng: &mut Rng, size: Size) -> Draft {
+pub fn schema(rng: &mut Rng, version: Version, size: Size) -> Draft {
     let kinds = usize::from(size.kinds);
     let channels = if size.kinds == 0 { 0 } else { size.channels };
     let mut draft = Draft {
@@ -137,6 +138,9 @@ pub fn schema(rng: &mut Rng, size: Size) -> Draft {
         let high = |mask: u32| (mask >> 16) as u16;
         [sends as u16, high(sends), receives as u16, high(receives)]
     });
+    if version == Version::Two {
+        draft.juniors = Some(juniors::masks(rng, size.roles));
+    }
     draft.kinds = many(size.kinds, || [carried(rng, size.kinds)]);
     if size.users > 0 {
         draft.channels = many(channels, || {

@@ -9,7 +9,7 @@ pub use tally::StartTally;
 use crate::answers::second_read;
 use crate::lists::{by_engine, Call, Lists};
 use second::draft::Draft;
-use second::{Thread, Verdict, BESIDE, RECORDS};
+use second::{Thread, Verdict, Version, BESIDE, RECORDS};
 use std::fmt::Display;
 
 /// The engine's answer, in the second implementation's form.
@@ -62,12 +62,13 @@ fn started(file: &[u8], before: &Lists) -> Lists {
     lists
 }
 
-/// Deals `files` files and lists to both and panics at the first difference.
-pub fn compare_starting(seed: u64, files: u64) -> StartTally {
-    let mut tally = StartTally::default();
+/// Deals `files` files of a version and lists to both and panics at the first
+/// difference.
+pub fn compare_starting(version: Version, seed: u64, files: u64) -> StartTally {
+    let mut tally = StartTally::new(version);
     for index in 0..files {
-        let (file, lists) = deal_start(seed, index);
-        let origin = format_args!("trials::deal_start({seed}, {index})");
+        let (file, lists) = deal_start(version, seed, index);
+        let origin = format_args!("trials::deal_start(Version::{version:?}, {seed}, {index})");
         agreed_start(&file, &lists, origin);
         tally.count(&file, &lists);
     }

@@ -1,5 +1,6 @@
 //! The trees of a sound file, with what rules 1, 5 and 6 say at each node.
 
+use crate::juniors;
 use second::draft::Draft;
 
 /// A node, and where it hangs.
@@ -49,6 +50,7 @@ impl Trees {
         let mut variables: Vec<Variables> = Vec::with_capacity(draft.nodes.len());
         let mut parents = vec![None; draft.nodes.len()];
         let mut sessions = draft.sessions.iter();
+        let grants = juniors::granted(draft);
         for (at, &node) in draft.nodes.iter().enumerate() {
             let children = children(at, node);
             for child in children.into_iter().flatten() {
@@ -62,7 +64,7 @@ impl Trees {
                 }
             };
             let mut below = above;
-            let permitted = pass(draft, node, &mut below);
+            let permitted = pass(draft, &grants, node, &mut below);
             variables.push(below);
             nodes.push(Node {
                 parent: parents[at],
@@ -107,7 +109,12 @@ impl Variables {
 }
 
 /// Goes past a node by rule 1, and says which roles permit it by rule 6.
-fn pass(draft: &Draft, [tag, f1, _]: [u16; 3], variables: &mut Variables) -> Option<u16> {
+fn pass(
+    draft: &Draft,
+    grants: &[[u16; 4]],
+    [tag, f1, _]: [u16; 3],
+    variables: &mut Variables,
+) -> Option<u16> {
     match tag {
         3 => {
             variables.bind(f1);
@@ -116,9 +123,9 @@ fn pass(draft: &Draft, [tag, f1, _]: [u16; 3], variables: &mut Variables) -> Opt
         5 => {
             let kind = kind_of(draft, f1, variables);
             variables.bind(draft.kinds[usize::from(kind) - 1][0]);
-            Some(granted(draft, kind, 2))
+            Some(granted(grants, kind, 2))
         }
-        6 => Some(granted(draft, kind_of(draft, f1, variables), 0)),
+        6 => Some(granted(grants, kind_of(draft, f1, variables), 0)),
         _ => None,
     }
 }
@@ -131,9 +138,9 @@ fn kind_of(draft: &Draft, operand: u16, variables: &Variables) -> u16 {
     }
 }
 
-/// The roles whose grant, at word 0 or 2 of the record, has the kind.
-fn granted(draft: &Draft, kind: u16, grant: usize) -> u16 {
+/// The roles whose grant, at word 0 or 2, has the kind.
+fn granted(grants: &[[u16; 4]], kind: u16, grant: usize) -> u16 {
     let (word, bit) = (grant + usize::from(kind - 1) / 16, (kind - 1) % 16);
     let mask = |(role, record): (u16, &[u16; 4])| (record[word] >> bit & 1) << role;
-    (0..).zip(&draft.roles).map(mask).sum()
+    (0..).zip(grants).map(mask).sum()
 }

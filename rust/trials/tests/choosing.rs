@@ -2,7 +2,7 @@
 //! the second implementation.
 
 use second::draft::Draft;
-use second::{Thread, BESIDE, RECORDS};
+use second::{Thread, Version, BESIDE, RECORDS};
 use trials::{agreed_choice, compare_choosing, engine_choose, long_run_by_choices, run_by_choices};
 use trials::{busy, files, full_lent, seed, typical, typical_lent, Lists};
 
@@ -16,7 +16,9 @@ fn named_cases() {
 
 #[test]
 fn random_lists() {
-    compare_choosing(seed(), files() / 32).demand();
+    for version in Version::ALL {
+        compare_choosing(version, seed(), files() / 32).demand();
+    }
 }
 
 /// The least number of runs that go on to the end of their list or are halted,
@@ -26,11 +28,13 @@ const LEAST_DONE: u64 = 20_000;
 
 #[test]
 fn runs_are_their_choices_one_by_one() {
-    let steps = run_by_choices(seed(), files() / 100);
-    println!("{steps:?}");
-    assert!(steps.halted >= LEAST_RUNS);
-    assert!(steps.runs - steps.halted >= LEAST_RUNS);
-    assert!(steps.done >= LEAST_DONE);
+    for version in Version::ALL {
+        let steps = run_by_choices(version, seed(), files() / 100);
+        println!("{version:?}: {steps:?}");
+        assert!(steps.halted >= LEAST_RUNS);
+        assert!(steps.runs - steps.halted >= LEAST_RUNS);
+        assert!(steps.done >= LEAST_DONE);
+    }
 }
 
 #[test]
@@ -86,8 +90,19 @@ fn counts_of_any_size() {
 #[test]
 fn a_file_at_the_start_of_a_longer_input() {
     let lent = typical_lent(seed());
-    for sound in [Draft::default().bytes(), typical(seed())] {
-        for length in [6_874, 6_875, 65_536, 65_537, 65_536 + sound.len(), 131_098] {
+    let sounds = Version::ALL.map(|version| typical(version, seed()));
+    for sound in sounds.into_iter().chain([Draft::default().bytes()]) {
+        for length in [
+            6_874,
+            6_875,
+            6_908,
+            6_909,
+            6_910,
+            65_536,
+            65_537,
+            65_536 + sound.len(),
+            131_098,
+        ] {
             let mut file = sound.clone();
             file.resize(length, 0);
             let due = if length % 2 == 1 { 1 } else { 5 };

@@ -1,8 +1,14 @@
 //! The engine against the second implementation, on random files.
 
+use second::Version;
 use trials::{compare, files, seed};
 
 #[test]
 fn random_files() {
-    compare(seed(), files()).demand();
+    compare(Version::One, seed(), files()).demand();
+}
+
+#[test]
+fn random_files_of_version_2() {
+    compare(Version::Two, seed(), files()).demand();
 }

@@ -1,7 +1,7 @@
 //! Placing: the named cases, and the engine against the second implementation.
 
 use second::draft::Draft;
-use second::{Placed, ROOM};
+use second::{Placed, Version, ROOM};
 use trials::{agreed_placing, compare_placing, engine_place, files, seed};
 use trials::{full_bare, largest_bare, overfull_bare, typical_bare};
 
@@ -15,15 +15,31 @@ fn named_cases() {
 
 #[test]
 fn random_files() {
-    compare_placing(seed(), files() / 2).demand();
+    compare_placing(Version::One, seed(), files() / 2).demand();
+}
+
+#[test]
+fn random_files_of_version_2() {
+    compare_placing(Version::Two, seed(), files() / 2).demand();
 }
 
 #[test]
 fn a_file_at_the_start_of_a_longer_input() {
-    for sound in [Draft::default().bytes(), typical_bare(seed())] {
+    let sounds = Version::ALL.map(|version| typical_bare(version, seed()));
+    for sound in sounds.into_iter().chain([Draft::default().bytes()]) {
         let (placed, _) = agreed_placing(&sound, &[7; ROOM], "whole");
         assert_eq!(placed.number, 0);
-        for length in [6_874, 6_875, 65_536, 65_537, 65_536 + sound.len(), 131_098] {
+        for length in [
+            6_874,
+            6_875,
+            6_908,
+            6_909,
+            6_910,
+            65_536,
+            65_537,
+            65_536 + sound.len(),
+            131_098,
+        ] {
             let mut file = sound.clone();
             file.resize(length, 0);
             let (placed, _) = agreed_placing(&file, &[7; ROOM], "longer");
@@ -35,12 +51,34 @@ fn a_file_at_the_start_of_a_longer_input() {
 
 #[test]
 fn outputs_of_any_length() {
-    let file = typical_bare(seed());
-    let room = (0..30).chain(6_840..6_900).chain([65_535, 65_536, 65_537]);
-    for room in room.chain([65_536 + ROOM - 1, 65_536 + ROOM, 131_072]) {
-        let (placed, _) = agreed_placing(&file, &vec![0x5a; room], room);
-        let due = if room < ROOM { 17 } else { 0 };
-        assert_eq!(placed.number, due, "output of {room} bytes");
+    for version in Version::ALL {
+        let file = typical_bare(version, seed());
+        let wanted = version.largest();
+        let room = (0..30).chain(6_840..6_940).chain([65_535, 65_536, 65_537]);
+        for room in room.chain([65_536 + wanted - 1, 65_536 + wanted, 131_072]) {
+            let (placed, _) = agreed_placing(&file, &vec![0x5a; room], room);
+            let due = if room < wanted { 17 } else { 0 };
+            assert_eq!(placed.number, due, "output of {room} bytes");
+        }
+    }
+}
+
+/// Every input of one byte, and every first word alone, in outputs of 6,880 bytes,
+/// and as long as each version wants, and one less.
+#[test]
+fn the_first_word_asks_for_the_output() {
+    let rooms = [6_873, 6_874, 6_880, 6_907, 6_908];
+    let answers = |file: &[u8]| rooms.map(|room| agreed_placing(file, &vec![0x5a; room], room).0);
+    let refused = |numbers: [u16; 5]| numbers.map(|number| Placed::refused(number, 0));
+    for byte in 0..=255 {
+        assert_eq!(answers(&[byte]), refused([17, 1, 1, 1, 1]));
+    }
+    for word in 0..=u16::MAX {
+        let due = match word {
+            2 => [17, 17, 17, 17, 1],
+            _ => [17, 1, 1, 1, 1],
+        };
+        assert_eq!(answers(&word.to_le_bytes()), refused(due), "{word}");
     }
 }
 
@@ -59,7 +97,10 @@ fn sizes(file: &[u8]) -> (usize, Option<usize>) {
 
 #[test]
 fn large_files() {
-    assert_eq!(sizes(&largest_bare(seed())), (1_022, Some(1_024)));
+    for version in Version::ALL {
+        let largest = largest_bare(version, seed());
+        assert_eq!(sizes(&largest), (1_022, Some(1_024)));
+    }
     assert_eq!(sizes(&full_bare(seed())).1, Some(1_024));
     assert_eq!(sizes(&overfull_bare(seed())), (1_024, None));
 }

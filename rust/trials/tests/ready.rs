@@ -2,7 +2,7 @@
 //! more choice of the list.
 
 use second::draft::{word_at, Draft};
-use second::{Ready, Verdict, RUN_ROOM};
+use second::{Ready, Verdict, Version, RUN_ROOM};
 use trials::{deal_state, engine_ready, engine_run, seed};
 
 const FILES: u64 = 8_000;
@@ -71,10 +71,14 @@ impl State {
 
 #[test]
 fn ready_pairs_are_the_lowest_that_can_meet() {
+    Version::ALL.into_iter().for_each(try_states);
+}
+
+fn try_states(version: Version) {
     let (mut states, mut pairs, mut no_pair) = (0, 0, 0);
     let (mut past_sender, mut past_receiver) = (0, 0);
     for index in 0..FILES {
-        let Some(state) = State::of(deal_state(seed(), index)) else {
+        let Some(state) = State::of(deal_state(version, seed(), index)) else {
             continue;
         };
         let ready = engine_ready(&state.file, &state.choices);

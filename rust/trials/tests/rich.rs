@@ -1,26 +1,37 @@
 //! The sound files of the trials show what they should.
 
-use second::Section;
+use second::draft::Draft;
+use second::{Section, Version};
+use trials::juniors;
 
 /// The least number of files that show a thing.
 const LEAST: u64 = 100;
 
 /// A file that passes the check, as words.
-struct Words(Vec<u16>);
+struct Words {
+    version: Version,
+    words: Vec<u16>,
+    draft: Draft,
+}
 
 impl Words {
     fn of(file: &[u8]) -> Words {
         let pairs = file.as_chunks().0;
-        Words(pairs.iter().map(|&pair| u16::from_le_bytes(pair)).collect())
+        Words {
+            version: Version::claimed(file),
+            words: pairs.iter().map(|&pair| u16::from_le_bytes(pair)).collect(),
+            draft: Draft::of(file),
+        }
     }
 
     fn count(&self, section: Section) -> u16 {
-        self.0[1 + section as usize]
+        self.words[section.count_at()]
     }
 
     fn records(&self, section: Section) -> Vec<&[u16]> {
-        let start = usize::from(self.0[7 + section as usize]);
-        self.0[start..]
+        let offset = self.version.offset_at(section).expect("it is there");
+        let start = usize::from(self.words[offset]);
+        self.words[start..]
             .chunks(section.width().into())
             .take(self.count(section).into())
             .collect()
@@ -50,10 +61,33 @@ type OfNode = fn(u16, u16, u16) -> bool;
 /// Says whether a file shows something.
 type Sign = Box<dyn Fn(&Words) -> bool>;
 
-fn signs() -> Vec<(String, Sign)> {
+fn signs(version: Version) -> Vec<(String, Sign)> {
     let mut signs: Vec<(String, Sign)> = Vec::new();
     let mut sign = |name: String, sign: Sign| signs.push((name, sign));
-    for section in Section::ALL {
+    if version == Version::Two {
+        let mask = |words: &Words, role: usize| words.records(Section::Juniors)[role][0];
+        let any = move |will_do: fn(u16, usize) -> bool| {
+            move |f: &Words| (0..f.draft.roles.len()).any(|role| will_do(mask(f, role), role))
+        };
+        sign(
+            "one junior".into(),
+            Box::new(any(|mask, _| mask.count_ones() == 1)),
+        );
+        sign(
+            "several juniors".into(),
+            Box::new(any(|mask, _| mask.count_ones() > 1)),
+        );
+        let all_lower = |mask: u16, role: usize| role == 15 && mask == 0x7fff;
+        sign("fifteen juniors".into(), Box::new(any(all_lower)));
+        let more = |f: &Words| juniors::granted(&f.draft) != f.draft.roles;
+        sign("grants by a junior".into(), Box::new(more));
+        let chain = |f: &Words| {
+            let one_level = juniors::of_one_level(&f.draft).roles;
+            juniors::granted(&f.draft) != one_level
+        };
+        sign("grants by a chain of two".into(), Box::new(chain));
+    }
+    for &section in version.sections() {
         let (most, none) = (format!("most {section:?}"), format!("no {section:?}"));
         sign(most, Box::new(move |f| f.count(section) == section.most()));
         sign(none, Box::new(move |f| f.count(section) == 0));
@@ -93,11 +127,16 @@ fn signs() -> Vec<(String, Sign)> {
 
 #[test]
 fn files_that_pass_show_everything() {
-    let signs = signs();
+    Version::ALL.into_iter().for_each(demand_signs);
+}
+
+fn demand_signs(version: Version) {
+    let signs = signs(version);
     let mut shown = vec![0; signs.len()];
     for index in 0..trials::files() / 4 {
-        let file = trials::deal(trials::seed(), index);
-        if trials::second_check(&file) != (0, 0) {
+        let file = trials::deal(version, trials::seed(), index);
+        let other = Version::claimed(&file) != version;
+        if other || trials::second_check(&file) != (0, 0) {
             continue;
         }
         let words = Words::of(&file);

@@ -1,19 +1,24 @@
 //! Placing against searches through everything, on small files.
 
-use second::ROOM;
+use second::{Version, ROOM};
 use std::collections::BTreeMap;
 use trials::{agreed_placing, rivals, seed, small_bare, states, Rng, Trees};
 
-const FILES: u64 = 20_000;
+const FILES: u64 = 40_000;
 
 /// The least number of files in which something comes up.
 const LEAST: u64 = 300;
+
+/// The two take turns.
+fn version(index: u64) -> Version {
+    Version::ALL[(index % 2) as usize]
+}
 
 #[test]
 fn no_rival_has_fewer_on_steps() {
     let mut by_steps = BTreeMap::<Option<u32>, u64>::new();
     for index in 0..FILES {
-        let draft = small_bare(&mut Rng::new(seed(), index), 16);
+        let draft = small_bare(&mut Rng::new(seed(), index), version(index), 16);
         let fewest = rivals::fewest(&Trees::of(&draft));
         let (placed, _) = agreed_placing(&draft.bytes(), &[1; ROOM], index);
         match fewest {
@@ -36,7 +41,7 @@ fn no_rival_has_fewer_on_steps() {
 fn the_states_are_the_smallest_list() {
     let (mut placed_files, mut better) = (0, 0);
     for index in 0..FILES {
-        let draft = small_bare(&mut Rng::new(!seed(), index), 7);
+        let draft = small_bare(&mut Rng::new(!seed(), index), version(index), 7);
         let trees = Trees::of(&draft);
         let (placed, out) = agreed_placing(&draft.bytes(), &[1; ROOM], index);
         let Some(states) = states::smallest(&trees) else {

@@ -1,7 +1,7 @@
 //! Runs: the named cases, and the engine against the second implementation.
 
 use second::draft::Draft;
-use second::{Verdict, RUN_ROOM};
+use second::{Verdict, Version, RUN_ROOM};
 use trials::{agreed_run, compare_running, run_placed, Dealt, MOST_CHOICES};
 use trials::{busy, crowded, engine_ready, engine_run, files, seed, sends_in, typical};
 
@@ -17,7 +17,12 @@ fn named_cases() {
 
 #[test]
 fn random_runs() {
-    compare_running(seed(), files() / 2).demand();
+    compare_running(Version::One, seed(), files() / 2).demand();
+}
+
+#[test]
+fn random_runs_of_version_2() {
+    compare_running(Version::Two, seed(), files() / 2).demand();
 }
 
 /// The least number of files, and of sends in their runs.
@@ -26,10 +31,12 @@ const LEAST_SENDS: u64 = 10_000;
 
 #[test]
 fn no_run_of_a_placed_file_is_stopped_for_a_role() {
-    let came_up = run_placed(seed(), files() / 100);
-    println!("{came_up:?}");
-    assert!(came_up.files >= LEAST_PLACED);
-    assert!(came_up.sends >= LEAST_SENDS);
+    for version in Version::ALL {
+        let came_up = run_placed(version, seed(), files() / 100);
+        println!("{version:?}: {came_up:?}");
+        assert!(came_up.files >= LEAST_PLACED);
+        assert!(came_up.sends >= LEAST_SENDS);
+    }
 }
 
 /// What both answer, given an output of so many bytes.
@@ -90,9 +97,20 @@ fn outputs_of_any_length() {
 
 #[test]
 fn a_file_at_the_start_of_a_longer_input() {
-    for sound in [Draft::default().bytes(), typical(seed())] {
+    let sounds = Version::ALL.map(|version| typical(version, seed()));
+    for sound in sounds.into_iter().chain([Draft::default().bytes()]) {
         assert_eq!(agreed(&sound, &[], RUN_ROOM), (0, 0));
-        for length in [6_874, 6_875, 65_536, 65_537, 65_536 + sound.len(), 131_098] {
+        for length in [
+            6_874,
+            6_875,
+            6_908,
+            6_909,
+            6_910,
+            65_536,
+            65_537,
+            65_536 + sound.len(),
+            131_098,
+        ] {
             let mut file = sound.clone();
             file.resize(length, 0);
             let due = if length % 2 == 1 { 1 } else { 5 };

@@ -2,7 +2,7 @@
 //! second implementation.
 
 use second::draft::Draft;
-use second::{Thread, BESIDE, RECORDS};
+use second::{Thread, Version, BESIDE, RECORDS};
 use trials::{agreed_start, any_lists, compare_starting, engine_start};
 use trials::{files, largest, seed, typical, Lists, Rng};
 
@@ -16,7 +16,9 @@ fn named_cases() {
 
 #[test]
 fn random_files_and_lists() {
-    compare_starting(seed(), files() / 4).demand();
+    for version in Version::ALL {
+        compare_starting(version, seed(), files() / 4).demand();
+    }
 }
 
 /// What both answer.
@@ -30,13 +32,20 @@ fn agreed(file: &[u8], lists: &Lists) -> (u16, u16) {
     (verdict.number, verdict.place)
 }
 
+fn sound_files() -> Vec<Vec<u8>> {
+    let of = |version| [typical(version, seed()), largest(version, seed())];
+    let mut files = Version::ALL.map(of).concat();
+    files.push(Draft::default().bytes());
+    files
+}
+
 fn lists(file: &[u8]) -> Lists {
     any_lists(&mut Rng::new(seed(), 0), file)
 }
 
 #[test]
 fn lists_of_any_length() {
-    for file in [Draft::default().bytes(), typical(seed()), largest(seed())] {
+    for file in sound_files() {
         let right = lists(&file);
         assert_eq!(agreed(&file, &right), (0, 0));
         let far = [255, 256, 65_535, 65_536, 65_536 + RECORDS];
@@ -58,13 +67,15 @@ fn lists_of_any_length() {
 
 #[test]
 fn parts_of_a_file_and_longer_inputs() {
-    for sound in [Draft::default().bytes(), typical(seed()), largest(seed())] {
+    for sound in sound_files() {
         let lists = lists(&sound);
+        let header = 2 * Version::claimed(&sound).header();
         for length in 0..sound.len() {
-            let due = if length < 26 || length % 2 == 1 { 1 } else { 5 };
+            let short = length < header || length % 2 == 1;
+            let due = if short { 1 } else { 5 };
             assert_eq!(agreed(&sound[..length], &lists), (due, 0));
         }
-        for length in [6_875, 6_876, 65_536, 65_537, 65_536 + sound.len(), 131_098] {
+        for length in [6_909, 6_910, 65_536, 65_537, 65_536 + sound.len(), 131_098] {
             let mut file = sound.clone();
             file.resize(length, 0);
             let due = if length % 2 == 1 { 1 } else { 5 };

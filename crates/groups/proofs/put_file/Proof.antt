@@ -43,9 +43,9 @@ returns c =
     let three = c .before .before .before .before .before .before .put-sessions in
     let four = c .before .before .put-groups in
     let n = a .head .count .nodes in
-    let head = one .ensures ∙ ap (λ h. sets (a .out .now) 0 (bytesOf (headWords h))) (c .before .before .before .before .before .before .before .before .before .before .before .before .before .before .before .with-nodes .ensures ∙ ap (withNodes (a .head)) (pre .4)) in
+    let head = one .ensures ∙ ap (λ h. sets (a .out .now) 0 (bytesOf (headWords h))) (c .before .before .before .before .before .before .before .before .before .before .before .before .before .before .before .with-nodes .ensures ∙ ap (withNodes (a .head)) (pre .3)) in
     file-put (a .file .now) (a .head) (turnsIn (a .turns .now) n) (a .starts .now) (a .out .now) (one .last .0) (two .last .1 .1 .0) (three .last .1 .1 .1 .0) (four .last .1 .1 .1 .1 .0)
-    (pre .0) (pre .1) (turns-counted (a .turns .now) n (omega (arith, pre .0 .nodes, pre .2))) head (two .ensures) (three .ensures) (four .ensures)
+    (pre .0) (turns-counted (a .turns .now) n (omega (arith, pre .0 .nodes, pre .1))) head (two .ensures) (three .ensures) (four .ensures)
 
 pub put-file-spec : {M : Type 1} → statement M
 put-file-spec =

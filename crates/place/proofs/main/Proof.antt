@@ -53,13 +53,13 @@ wide-requires c κs = search needs
 array-share-prefix-out : tie.Need-array-share-prefix-out
 array-share-prefix-out c =
     let p = c .before .before .before .before .place in
-    omega (arith, answer-short _ _ (p .result) (p .ensures .0), output-long _ (replicate 6874 0) (p .last .1 .0) (p .ensures .1), c .wide .ensures)
+    omega (arith, answer-short _ _ (p .result) (p .ensures .0), output-long _ (replicate 6908 0) (p .last .1 .0) (p .ensures .1), c .wide .ensures)
 
 slice-aggregate-write-all-2 : tie.Need-slice-aggregate-write-all-2
 slice-aggregate-write-all-2 c =
     let p = c .before .before .before .before .before .place in
     sym (length-take-le (c .before .wide .result) (p .last .1 .0)
-    (omega (arith, answer-short _ _ (p .result) (p .ensures .0), output-long _ (replicate 6874 0) (p .last .1 .0) (p .ensures .1), c .before .wide .ensures)))
+    (omega (arith, answer-short _ _ (p .result) (p .ensures .0), output-long _ (replicate 6908 0) (p .last .1 .0) (p .ensures .1), c .before .wide .ensures)))
 
 write-all-requires-2 : tie.Need-write-all-requires-2
 write-all-requires-2 c κs = search needs

@@ -19,7 +19,7 @@ use Rattle.placing.specs.Placing.{turnsFor, placeable, judging, summed, 
 use Rattle.placing.specs.declared.Decision.{Decision}
 use Rattle.placing.specs.declared.Placed.{Placed}
 use Rattle.placing.proofs.DecideLaws.{decided-quiet, settled-quiet, few-nodes, turns-kept, starts-kept}
-use Rattle.placing.proofs.PlaceLaws.{head-version, judged, placing-refused, placing-placed, placed-here, over-kept, over-placed, bytes-here}
+use Rattle.placing.proofs.PlaceLaws.{enough-room, room-least, judged, placing-refused, placing-placed, placed-here, over-kept, over-placed, bytes-here}
 use borrow.Author.Needs.{needs}
 use Rattle.placing.proofs.place_body.Statement.{statement}
 use Rattle.placing.proofs.place_body.Tie as tie
@@ -96,12 +96,12 @@ put-file-requires c κs =
     let tables = tables-at (c .before .before .before) in
     let nodes : d .result .sums .nodes ≡ sizesOf (turnsFor C) = ap (λ (x : Sums). x .nodes) (sums-at (c .before .before .before)) in (
       entered-fine (a .file .now) (a .head) (c .before .before .before .before .before .before .before .before .before .before .before .before .before .before .pre .0) .0,
-      head-version (a .file .now) (a .head) (c .before .before .before .before .before .before .before .before .before .before .before .before .before .before .pre .0),
       ap length (tables .0) ∙ length-sets {A = ℕ} (replicate 1025 0) 1 (map packed (turnsFor C)),
       ap length (tables .1) ∙ length-sets {A = ℕ} (replicate 1025 0) 1 (startsFrom 1 (turnsFor C)),
       nodes ∙ ap sizesOf (sym (turns-at (c .before .before .before))),
       omega (arith, nodes, few-nodes C (quiet-at (c .before .before .before))),
-      c .before .before .before .before .before .before .before .before .before .before .before .before .before .before .pre .3,
+      omega (arith, nodes, enough-room (a .file .now) (a .head) (c .before .before .before .before .before .before .before .before .before .before .before .before .before .before .pre .0) (sizesOf (turnsFor C)) (few-nodes C (quiet-at (c .before .before .before))), c .before .before .before .before .before .before .before .before .before .before .before .before .before .before .pre .3),
+      omega (arith, room-least (a .file .now), c .before .before .before .before .before .before .before .before .before .before .before .before .before .before .pre .3),
     )
 
 length-for-requires : tie.Need-length-for-requires
@@ -131,7 +131,7 @@ returns-2 c =
     let placed = ap (λ l. placedContents C l s) (turns-at (c .before .before .before .before .before .before .before .before))
     ∙ starts-kept C (a .roles .now) (c .before .before .before .before .before .before .before .before .before .before .before .before .before .before .before .before .before .before .before .pre .1) (omega (arith, few-at (c .before .before .before .before .before .before .before .before), c .before .before .before .before .before .before .before .before .before .before .before .before .before .before .before .before .before .before .before .pre .2)) s (few-at (c .before .before .before .before .before .before .before .before)) (tables-at (c .before .before .before .before .before .before .before .before) .1) in (
       ap₂ (λ i j. answer i j) size (ap (λ (x : Sums). x .«on_steps») sums) ∙ placed-here (a .file .now) (a .head) e ∙ sym (placing-placed (a .file .now) (length (a .out .now)) (c .before .before .before .before .before .before .before .before .before .before .before .before .before .before .before .before .before .before .before .pre .3) out),
-      c .before .before .before .before .put-file .ensures ∙ ap (λ D. sets (a .out .now) 0 (encoded D)) placed ∙ ap (sets (a .out .now) 0) (bytes-here (a .file .now) (a .head) e) ∙ sym (over-placed (a .file .now) (a .out .now) (c .before .before .before .before .before .before .before .before .before .before .before .before .before .before .before .before .before .before .before .pre .3) out),
+      c .before .before .before .before .put-file .ensures ∙ ap (λ D. sets (a .out .now) 0 (encoded (a .head .version) D)) placed ∙ ap (sets (a .out .now) 0) (bytes-here (a .file .now) (a .head) e) ∙ sym (over-placed (a .file .now) (a .out .now) (c .before .before .before .before .before .before .before .before .before .before .before .before .before .before .before .before .before .before .before .pre .3) out),
     )
 
 pub place-body-spec : {M : Type 1} → statement M

@@ -12,7 +12,7 @@ use Rattle.streams.proofs.read_input.Statement.{statement}
 use Rattle.streams.proofs.read_input.Tie as tie
 
 abbrev Inv-loop : tie.InvT-loop
-Inv-loop descriptor₀ buffer₀ kept₀ turns₀ buffer kept turns = (kept ≤ 6876) × (length buffer ≡ 16384)
+Inv-loop descriptor₀ buffer₀ kept₀ turns₀ buffer kept turns = (kept ≤ 6910) × (length buffer ≡ 16384)
 
 abbrev μ-loop : tie.MeasureT-loop
 μ-loop descriptor₀ buffer₀ kept₀ turns₀ buffer kept turns = turns

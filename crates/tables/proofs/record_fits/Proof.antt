@@ -9,6 +9,7 @@ use Rattle.tables.proofs.record_fits.Reads as reads
 use Rattle.tables.proofs.record_fits.Lts as lts
 use Rattle.tables.proofs.channel_fits.Reads as channel-fits-reads
 use Rattle.tables.proofs.role_fits.Reads as role-fits-reads
+use Rattle.tables.proofs.juniors_fit.Reads as juniors-fit-reads
 use Rattle.tables.proofs.session_fits.Reads as session-fits-reads
 use Rattle.tables.proofs.user_fits.Reads as user-fits-reads
 use Rattle.format.proofs.sections.carries.Reads as carries-reads
@@ -28,23 +29,29 @@ role-fits-requires c κs = search needs
 enum-told-3 : tie.Need-enum-told-3
 enum-told-3 c = search needs
 
-carries-requires : tie.Need-carries-requires
-carries-requires c κs = search needs
+juniors-fit-requires : tie.Need-juniors-fit-requires
+juniors-fit-requires c κs = search needs
 
 enum-told-4 : tie.Need-enum-told-4
 enum-told-4 c = search needs
 
-channel-fits-requires : tie.Need-channel-fits-requires
-channel-fits-requires c κs = search needs
+carries-requires : tie.Need-carries-requires
+carries-requires c κs = search needs
 
 enum-told-5 : tie.Need-enum-told-5
 enum-told-5 c = search needs
 
-session-fits-requires : tie.Need-session-fits-requires
-session-fits-requires c κs = search needs
+channel-fits-requires : tie.Need-channel-fits-requires
+channel-fits-requires c κs = search needs
 
 enum-told-6 : tie.Need-enum-told-6
 enum-told-6 c = search needs
+
+session-fits-requires : tie.Need-session-fits-requires
+session-fits-requires c κs = search needs
+
+enum-told-7 : tie.Need-enum-told-7
+enum-told-7 c = search needs
 
 returns : tie.Need-returns
 returns c = cc
@@ -53,20 +60,23 @@ returns-2 : tie.Need-returns-2
 returns-2 c = cc
 
 returns-3 : tie.Need-returns-3
-unfolding recordFits
-returns-3 c =
-    let a = c .before .before .before .before .before .before .args in
-    rw (c .before .before .before .enum-told3 .given .1, kinds-held (a .file .now) (a .head)) (ap (λ x. leb x (a .head .count .kinds)) (c .before .before .carries .ensures))
+returns-3 c = cc
 
 returns-4 : tie.Need-returns-4
-returns-4 c = cc
+unfolding recordFits
+returns-4 c =
+    let a = c .before .before .before .before .before .before .args in
+    rw (c .before .before .before .enum-told4 .given .1, kinds-held (a .file .now) (a .head)) (ap (λ x. leb x (a .head .count .kinds)) (c .before .before .carries .ensures))
 
 returns-5 : tie.Need-returns-5
 returns-5 c = cc
 
 returns-6 : tie.Need-returns-6
+returns-6 c = cc
+
+returns-7 : tie.Need-returns-7
 unfolding recordFits
-returns-6 c = rw (c .enum-told6 .given .1)
+returns-7 c = rw (c .enum-told7 .given .1)
 
 pub record-fits-spec : {M : Type 1} → statement M
 record-fits-spec =
@@ -77,15 +87,18 @@ record-fits-spec =
     enum-told-2
     role-fits-requires
     enum-told-3
-    carries-requires
+    juniors-fit-requires
     enum-told-4
-    channel-fits-requires
+    carries-requires
     enum-told-5
-    session-fits-requires
+    channel-fits-requires
     enum-told-6
+    session-fits-requires
+    enum-told-7
     returns
     returns-2
     returns-3
     returns-4
     returns-5
-    returns-6)
+    returns-6
+    returns-7)

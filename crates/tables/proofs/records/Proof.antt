@@ -24,6 +24,9 @@ section-answer-requires-4 c κs = search needs
 section-answer-requires-5 : tie.Need-section-answer-requires-5
 section-answer-requires-5 c κs = search needs
 
+section-answer-requires-6 : tie.Need-section-answer-requires-6
+section-answer-requires-6 c κs = search needs
+
 or-else-requires : tie.Need-or-else-requires
 or-else-requires c κs = search needs
 
@@ -36,17 +39,22 @@ or-else-requires-3 c κs = search needs
 or-else-requires-4 : tie.Need-or-else-requires-4
 or-else-requires-4 c κs = search needs
 
+or-else-requires-5 : tie.Need-or-else-requires-5
+or-else-requires-5 c κs = search needs
+
 returns : tie.Need-returns
 unfolding recordsAnswer
 returns c =
-    c .or-else4 .ensures
-    ∙ ap₂ orElse (c .before .before .before .before .before .before .before .before .section-answer .ensures)
-    (c .before .or-else3 .ensures
-    ∙ ap₂ orElse (c .before .before .before .before .before .before .before .section-answer2 .ensures)
-    (c .before .before .or-else2 .ensures
-    ∙ ap₂ orElse (c .before .before .before .before .before .before .section-answer3 .ensures)
-    (c .before .before .before .or-else .ensures
-    ∙ ap₂ orElse (c .before .before .before .before .before .section-answer4 .ensures) (c .before .before .before .before .section-answer5 .ensures))))
+    c .or-else5 .ensures
+    ∙ ap₂ orElse (c .before .before .before .before .before .before .before .before .before .before .section-answer .ensures)
+    (c .before .or-else4 .ensures
+    ∙ ap₂ orElse (c .before .before .before .before .before .before .before .before .before .section-answer2 .ensures)
+    (c .before .before .or-else3 .ensures
+    ∙ ap₂ orElse (c .before .before .before .before .before .before .before .before .section-answer3 .ensures)
+    (c .before .before .before .or-else2 .ensures
+    ∙ ap₂ orElse (c .before .before .before .before .before .before .before .section-answer4 .ensures)
+    (c .before .before .before .before .or-else .ensures
+    ∙ ap₂ orElse (c .before .before .before .before .before .before .section-answer5 .ensures) (c .before .before .before .before .before .section-answer6 .ensures)))))
 
 pub records-spec : {M : Type 1} → statement M
 records-spec =
@@ -57,8 +65,10 @@ records-spec =
     section-answer-requires-3
     section-answer-requires-4
     section-answer-requires-5
+    section-answer-requires-6
     or-else-requires
     or-else-requires-2
     or-else-requires-3
     or-else-requires-4
+    or-else-requires-5
     returns)

@@ -47,9 +47,13 @@ fn noise(dice: &mut Dice) -> Vec<u8> {
 
 /// Any records behind a head that fits them.
 fn records(dice: &mut Dice) -> Vec<u8> {
+    let roles: Vec<[u16; 4]> = dice.records(4);
+    let masks: Vec<[u16; 1]> = roles.iter().map(|_| [dice.word()]).collect();
+    let juniors = (dice.below(2) == 0).then_some(masks);
     let draft = Draft {
         users: dice.records(6),
-        roles: dice.records(4),
+        juniors,
+        roles,
         kinds: dice.records(5),
         channels: dice.records(6),
         sessions: dice.records(4),
@@ -96,6 +100,7 @@ fn stands_there(before: &str, verdict: Verdict, file: &[u8]) -> bool {
     let starts = |word: &&str| before.starts_with(*word);
     match number {
         6 => ["user ", "role ", "kind ", "channel "].iter().any(starts),
+        21 => before.starts_with("role ") && before.contains("; junior"),
         7 => before.starts_with(&format!("session {place}: ")),
         8..=13 if place <= nodes(file) => {
             let row = before.get(6..).unwrap_or_default();

@@ -5,6 +5,8 @@
 pub struct Draft {
     pub users: Vec<[u16; 1]>,
     pub roles: Vec<[u16; 4]>,
+    /// In version 2 the masks of juniors.
+    pub juniors: Option<Vec<[u16; 1]>>,
     pub kinds: Vec<[u16; 1]>,
     pub channels: Vec<[u16; 2]>,
     pub sessions: Vec<[u16; 3]>,
@@ -21,6 +23,12 @@ impl Draft {
     /// Adds a role that sends and receives on these kinds (1 to 16 here).
     pub fn role(mut self, sends: &[u16], receives: &[u16]) -> Draft {
         self.roles.push([mask(sends), 0, mask(receives), 0]);
+        self
+    }
+
+    /// Makes it a file of version 2, with these juniors of each role.
+    pub fn juniors(mut self, juniors: &[&[u16]]) -> Draft {
+        self.juniors = Some(juniors.iter().map(|roles| [mask(roles)]).collect());
         self
     }
 
@@ -59,22 +67,31 @@ impl Draft {
 
     /// The file's words.
     pub fn words(&self) -> Vec<u16> {
-        let sections: [(&[u16], usize); 6] = [
-            (self.users.as_flattened(), 1),
-            (self.roles.as_flattened(), 4),
-            (self.kinds.as_flattened(), 1),
-            (self.channels.as_flattened(), 2),
-            (self.sessions.as_flattened(), 3),
-            (self.nodes.as_flattened(), 3),
+        let counts = [
+            self.users.len(),
+            self.roles.len(),
+            self.kinds.len(),
+            self.channels.len(),
+            self.sessions.len(),
+            self.nodes.len(),
         ];
-        let mut words = vec![1];
-        words.extend(sections.map(|(section, width)| (section.len() / width) as u16));
-        let mut offset = 13;
-        for (section, _) in sections {
-            words.push(offset);
-            offset += section.len() as u16;
+        let juniors = self.juniors.as_ref().map(|juniors| juniors.as_flattened());
+        let mut sections = vec![self.users.as_flattened(), self.roles.as_flattened()];
+        sections.extend(juniors);
+        sections.extend([
+            self.kinds.as_flattened(),
+            self.channels.as_flattened(),
+            self.sessions.as_flattened(),
+            self.nodes.as_flattened(),
+        ]);
+        let mut words = vec![if juniors.is_some() { 2 } else { 1 }];
+        words.extend(counts.map(|count| count as u16));
+        let mut offset = words.len() + sections.len();
+        for section in &sections {
+            words.push(offset as u16);
+            offset += section.len();
         }
-        words.extend(sections.map(|(section, _)| section).concat());
+        words.extend(sections.concat());
         words
     }
 }

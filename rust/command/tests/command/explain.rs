@@ -6,18 +6,18 @@ use crate::common::pilzdamo;
 fn every_refusal_is_explained() {
     let who = |number| match number {
         1..=5 => "the file's writer",
-        6 => "the schema's keeper",
+        6 | 21 => "the schema's keeper",
         7..=16 => "the routine's author",
         _ => "the caller",
     };
     let counts = |number| match number {
-        6 => "words",
+        6 | 21 => "words",
         7 => "sessions",
         8..=15 => "nodes",
         18..=20 => "choices",
         _ => "nothing",
     };
-    for number in 1..=20 {
+    for number in 1..=21 {
         let answer = pilzdamo(&["explain", &number.to_string()]);
         assert_eq!((answer.status, answer.err.as_str()), (0, ""));
         let text = answer.text();
@@ -34,11 +34,11 @@ fn every_refusal_is_explained() {
 
 #[test]
 fn no_other_number() {
-    for word in ["0", "21", "-", "-1", "x", "13 ", "65536", "1.0"] {
+    for word in ["0", "22", "-", "-1", "x", "13 ", "65536", "1.0"] {
         let answer = pilzdamo(&["explain", word]);
         assert_eq!((answer.status, answer.text()), (2, ""), "{word}");
         assert!(
-            answer.err.contains("the refusals have the numbers 1 to 20"),
+            answer.err.contains("the refusals have the numbers 1 to 21"),
             "{word}"
         );
     }

@@ -9,6 +9,8 @@ pub fn all() -> Vec<(&'static str, Vec<u8>)> {
         ("overlap.clinic", overlap().bytes()),
         ("overlap-placed.clinic", placed_overlap().bytes()),
         ("transfer.clinic", transfer().bytes()),
+        ("head-nurse/copied.clinic", copied_grants().bytes()),
+        ("head-nurse/juniors.clinic", by_juniors().bytes()),
         ("spring/bare.clinic", spring(&READ_AND_WRITE, false).bytes()),
         ("spring/cut.clinic", spring(&READ_CUT_WRITE, true).bytes()),
     ];
@@ -106,6 +108,41 @@ fn ask(root: u16) -> [[u16; 3]; 7] {
         compare(variable(2), 4),
         END,
     ]
+}
+
+/// A ward: the head nurse (user 1, role 2), a nurse (user 2, role 1) and the
+/// desk (user 3, role 3). Kinds 1, 2 and 3 are for notes on beds, rounds and the
+/// roster; the desk takes all of them. User 4 stands for a bed.
+fn ward(head_nurse: &[u16]) -> Draft {
+    let [bed, round, roster] = [1, 2, 3].map(channel);
+    Draft::default()
+        .user(&[2])
+        .user(&[1])
+        .user(&[3])
+        .user(&[])
+        .role(&[1, 2], &[])
+        .role(head_nurse, &[])
+        .role(&[], &[1, 2, 3])
+        .kind(0)
+        .kind(0)
+        .kind(0)
+        .channel(3, 1)
+        .channel(3, 2)
+        .channel(3, 3)
+        .session(1, &[send(bed, 4), send(round, 4), send(roster, 2), END])
+        .session(2, &[send(bed, 4), send(round, 4), END])
+        .session(3, &[receive(bed), receive(round), receive(roster), END])
+}
+
+/// The nurse's grants copied into the head nurse's record: kind 2 is forgotten.
+fn copied_grants() -> Draft {
+    ward(&[1, 3])
+}
+
+/// The nurse's role as junior of the head nurse's, whose own record has what is
+/// hers alone.
+pub fn by_juniors() -> Draft {
+    ward(&[3]).juniors(&[&[], &[1], &[]])
 }
 
 /// A scheduler's steps: reads the free bed, writes the booking.
@@ -219,6 +256,7 @@ fn refused() -> Vec<(&'static str, Vec<u8>)> {
             ("refused/14-placed.clinic", placed()),
             ("refused/15-no-role.clinic", no_role()),
             ("refused/16-too-long.clinic", too_long()),
+            ("refused/21-junior.clinic", junior()),
             ("refused/choices.clinic", choices()),
         ]
         .map(|(name, draft)| (name, draft.bytes())),
@@ -248,6 +286,13 @@ fn refused_heads() -> Vec<(&'static str, Vec<u8>)> {
 fn record() -> Draft {
     let mut draft = booking();
     draft.channels[1] = [2, 3];
+    draft
+}
+
+/// The head nurse's role as junior of the nurse's.
+fn junior() -> Draft {
+    let mut draft = booking().juniors(&[&[2], &[]]);
+    draft.users[0] = [mask(&[2])];
     draft
 }
 

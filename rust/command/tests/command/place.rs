@@ -105,6 +105,7 @@ fn what_is_placed_passes() {
         "booking.clinic",
         "overlap.clinic",
         "transfer.clinic",
+        "head-nurse/juniors.clinic",
         "spring/bare.clinic",
     ] {
         let placed = pilzdamo(&["place", &example(name)]).out;
@@ -113,6 +114,39 @@ fn what_is_placed_passes() {
         assert_eq!(again.status, 1, "{name}");
         assert!(again.err.contains("refused 14 at node "), "{name}");
     }
+}
+
+/// A grant that was forgotten in version 1 comes by a junior in version 2. The
+/// placed file has its version and its juniors.
+#[test]
+fn a_head_nurse() {
+    let answer = pilzdamo(&["place", &example("head-nurse/copied.clinic")]);
+    assert_eq!((answer.status, answer.text()), (1, ""));
+    assert!(answer
+        .err
+        .contains("refused 15 at node 2: send user 4 on channel 2"));
+    let file = example("head-nurse/juniors.clinic");
+    let answer = pilzdamo(&["place", &file]);
+    let mut draft = files::by_juniors();
+    let nodes = std::mem::take(&mut draft.nodes);
+    let (hers, rest) = nodes.split_at(4);
+    let (nurses, desks) = rest.split_at(3);
+    draft.sessions.clear();
+    let placed = draft
+        .session(1, &held(2, hers))
+        .session(2, &held(1, nurses))
+        .session(3, &held(3, desks));
+    assert_eq!((answer.status, answer.out), (0, placed.bytes()));
+    assert_eq!(
+        answer.err,
+        format!("{file}: placed, 3 on steps, 204 bytes\n")
+    );
+}
+
+/// The nodes with a role on from the first to before the last.
+fn held(role: u16, nodes: &[[u16; 3]]) -> Vec<[u16; 3]> {
+    let (end, steps) = nodes.split_last().expect("an end");
+    [&[on(role)], steps, &[off(role), *end]].concat()
 }
 
 #[test]

@@ -3,7 +3,7 @@
 use crate::common::{example, pilzdamo};
 
 /// The example, what is asked of it, the refusal, and its place in the message.
-const FILES: [(&str, &str, u16, &str); 16] = [
+const FILES: [(&str, &str, u16, &str); 17] = [
     ("01-odd", "check", 1, "place 0 (the file as a whole)"),
     ("02-version", "check", 2, "place 0 (the file as a whole)"),
     ("03-count", "check", 3, "place 0 (the file as a whole)"),
@@ -40,10 +40,11 @@ const FILES: [(&str, &str, u16, &str); 16] = [
         "node 4: send user 1 on channel 1",
     ),
     ("16-too-long", "place", 16, "place 0 (the file as a whole)"),
+    ("21-junior", "check", 21, "word 24"),
 ];
 
 /// The line of a shown file behind which the refusal of a check is marked.
-const MARKED: [(&str, &str); 13] = [
+const MARKED: [(&str, &str); 14] = [
     ("01-odd", "length: 83 bytes (82 by the counts)"),
     ("02-version", "version: 9"),
     (
@@ -78,12 +79,16 @@ const MARKED: [(&str, &str); 13] = [
     ("11-on", "  +1       1  -     on role 1"),
     ("12-off", "  -1       1  -     off role 1"),
     ("13-role", "           4  -     send user 2 on channel 1"),
+    (
+        "21-junior",
+        "role 1: sends on kind 1; receives on no kind; junior: role 2 (not lower)",
+    ),
 ];
 
 fn who(number: u16) -> &'static str {
     match number {
         1..=5 => "the file's writer",
-        6 => "the schema's keeper",
+        6 | 21 => "the schema's keeper",
         7..=16 => "the routine's author",
         _ => "the caller",
     }
@@ -130,7 +135,8 @@ fn lists() {
 
 #[test]
 fn shown_with_the_refusal_at_its_place() {
-    for (number, (name, line)) in (1..).zip(MARKED) {
+    for (name, line) in MARKED {
+        let number: u16 = name[..2].parse().expect("its number comes first");
         let answer = pilzdamo(&["show", &example(&format!("refused/{name}.clinic"))]);
         assert_eq!((answer.status, answer.err.as_str()), (0, ""), "{name}");
         let text = answer.text();

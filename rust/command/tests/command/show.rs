@@ -32,6 +32,26 @@ session 1: user 1, no role at the start, root 1
            3  -     end
 ";
 
+const HEAD_NURSE: &str = "\
+check: refused 13, marked !!; it has no on or off yet: place it
+length: 168 bytes
+version: 2
+counts: 4 users, 3 roles, 3 kinds, 3 channels, 3 sessions, 11 nodes
+offsets: users 14, roles 18, juniors 30, kinds 33, channels 36, sessions 42, nodes 51
+on steps: 0
+
+user 1: role 2
+user 2: role 1
+user 3: role 3
+user 4: no role
+
+role 1: sends on kinds 1, 2; receives on no kind
+role 2: sends on kind 3; receives on no kind; junior: role 1
+role 3: sends on no kind; receives on kinds 1, 2, 3
+
+kind 1 carries a plain value
+";
+
 const PLACED_SESSION: &str = "
 session 1: user 1, no role at the start, root 1
         node  held  step
@@ -71,6 +91,68 @@ fn a_bare_file() {
     let answer = pilzdamo(&["show", &example("booking.clinic")]);
     assert_eq!((answer.status, answer.err.as_str()), (0, ""));
     assert_eq!(answer.text(), BOOKING);
+}
+
+#[test]
+fn a_file_with_juniors() {
+    let answer = pilzdamo(&["show", &example("head-nurse/juniors.clinic")]);
+    assert_eq!((answer.status, answer.err.as_str()), (0, ""));
+    assert!(answer.text().starts_with(HEAD_NURSE), "{}", answer.text());
+}
+
+/// The text for the booking's tables with these masks of juniors.
+fn shown_with(juniors: &[&[u16]]) -> String {
+    command::show::text(&files::booking().juniors(juniors).bytes())
+}
+
+#[test]
+fn juniors() {
+    let text = shown_with(&[&[], &[]]);
+    assert!(!text.contains("; junior"), "{text}");
+    let text = shown_with(&[&[], &[1, 2, 3, 16]]);
+    let due = "; receives on no kind; \
+               juniors: roles 1, 2 (not lower), 3 (out of count), 16 (out of count)\n\
+               !! refused 21 at word 25: a junior's number isn't lower than its senior's \
+               (the schema's keeper)\n";
+    assert!(text.contains(due), "{text}");
+    // A 6 further behind comes first.
+    let mut draft = files::booking().juniors(&[&[1], &[]]);
+    draft.channels[1] = [2, 3];
+    let text = command::show::text(&draft.bytes());
+    assert!(
+        text.contains("kind 3 (out of count)\n!! refused 6 at word 30: "),
+        "{text}"
+    );
+}
+
+#[test]
+fn files_of_version_2_cut_short() {
+    let whole = files::booking().juniors(&[&[], &[1]]).bytes();
+    let text = command::show::text(&whole[..26]);
+    assert!(
+        text.contains("length: 26 bytes\n!! refused 1 at "),
+        "{text}"
+    );
+    assert!(
+        text.contains("\nversion: 2\nhead: 2 2 2 2 2 1 3 14 16 24 26 28 32\n"),
+        "{text}"
+    );
+    let text = command::show::text(&whole[..28]);
+    assert!(
+        text.contains("length: 28 bytes (88 by the counts)\n!! refused 5 at "),
+        "{text}"
+    );
+    let text = command::show::text(&whole[..50]);
+    assert!(
+        text.contains("\n(the file ends here; 1 junior mask missing)\n\n"),
+        "{text}"
+    );
+    let mut wrong = whole.clone();
+    wrong[18] += 1;
+    let text = command::show::text(&wrong);
+    let due = "roles 16, juniors 25 (24 is due), kinds 26, channels 28, sessions 32, nodes 35\n\
+               !! refused 4 at ";
+    assert!(text.contains(due), "{text}");
 }
 
 #[test]

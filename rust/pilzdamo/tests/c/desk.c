@@ -64,8 +64,27 @@ static void booking(const char *folder) {
     print("check what is placed", pilzdamo_check(out, placed.length));
     print_placed("place it again",
                  pilzdamo_place(out, placed.length, other, sizeof other));
+    print_placed("place it in just enough",
+                 pilzdamo_place(file.bytes, file.len, other, PILZDAMO_ROOM_1));
     print_placed("place it in less",
-                 pilzdamo_place(file.bytes, file.len, other, sizeof other - 1));
+                 pilzdamo_place(file.bytes, file.len, other, PILZDAMO_ROOM_1 - 1));
+}
+
+/* The head nurse's grants copied by hand, and by her junior. */
+static void head_nurse(const char *folder) {
+    clinic copied = example(folder, "head-nurse/copied.clinic");
+    clinic juniors = example(folder, "head-nurse/juniors.clinic");
+    clinic wrong = example(folder, "refused/21-junior.clinic");
+    uint8_t out[PILZDAMO_ROOM];
+    pilzdamo_placed placed;
+    print_placed("copied grants",
+                 pilzdamo_place(copied.bytes, copied.len, out, sizeof out));
+    placed = pilzdamo_place(juniors.bytes, juniors.len, out, sizeof out);
+    print_placed("a junior", placed);
+    print("check it", pilzdamo_check(out, placed.length));
+    print_placed("a junior in less",
+                 pilzdamo_place(juniors.bytes, juniors.len, out, PILZDAMO_ROOM - 1));
+    print("a junior that is no lower", pilzdamo_read(wrong.bytes, wrong.len));
 }
 
 /* What a run wrote. */
@@ -154,9 +173,10 @@ int main(int argc, char **argv) {
     printf("sizes: %d %d %d %d\n", (int)sizeof(pilzdamo_verdict),
            (int)sizeof(pilzdamo_placed), (int)sizeof(pilzdamo_ready_pair),
            (int)sizeof(pilzdamo_thread));
-    printf("rooms: %d %d %d %d\n", PILZDAMO_ROOM, PILZDAMO_RUN_ROOM, PILZDAMO_RECORDS,
-           PILZDAMO_BESIDE);
+    printf("rooms: %d %d %d %d %d\n", PILZDAMO_ROOM, PILZDAMO_ROOM_1, PILZDAMO_RUN_ROOM,
+           PILZDAMO_RECORDS, PILZDAMO_BESIDE);
     booking(argv[1]);
+    head_nurse(argv[1]);
     both_read(argv[1]);
     refusals(argv[1]);
     return 0;

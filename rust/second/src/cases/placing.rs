@@ -2,7 +2,7 @@
 
 use super::BOOKING;
 use crate::draft::{to_bytes, Draft};
-use crate::{Placed, ROOM};
+use crate::{room_for, Placed};
 
 /// A file, the length of the output, and what placing does with them.
 pub struct PlaceCase {
@@ -40,7 +40,7 @@ impl PlaceCase {
         }
     }
 
-    fn with_room(self, room: usize) -> PlaceCase {
+    pub fn with_room(self, room: usize) -> PlaceCase {
         PlaceCase { room, ..self }
     }
 }
@@ -48,7 +48,7 @@ impl PlaceCase {
 /// Nodes by name, with a number where the name takes one: a kind for `new`,
 /// the channel of that kind for `send` and `receive`, a role for `on` and
 /// `off`, the second child for `fork`.
-fn nodes(names: &str) -> Vec<[u16; 3]> {
+pub fn nodes(names: &str) -> Vec<[u16; 3]> {
     names.split_whitespace().map(node).collect()
 }
 
@@ -85,6 +85,7 @@ fn shared(sessions: &[[u16; 3]], names: &str) -> Draft {
         channels: (1..=17).map(|kind| [1, kind]).collect(),
         sessions: sessions.to_vec(),
         nodes: nodes(names),
+        ..Draft::default()
     }
 }
 
@@ -98,11 +99,12 @@ fn desk(names: &str) -> Draft {
     started(0, names)
 }
 
-fn placing(name: &'static str, file: Vec<u8>, due: Due) -> PlaceCase {
+/// In an output that is just long enough.
+pub fn placing(name: &'static str, file: Vec<u8>, due: Due) -> PlaceCase {
     PlaceCase {
         name,
+        room: room_for(&file),
         file,
-        room: ROOM,
         due,
     }
 }
@@ -118,7 +120,7 @@ fn same(name: &'static str, names: &str) -> PlaceCase {
     placed(name, names, names, 0)
 }
 
-fn refused(name: &'static str, file: Draft, number: u16, place: u16) -> PlaceCase {
+pub fn refused(name: &'static str, file: Draft, number: u16, place: u16) -> PlaceCase {
     placing(name, file.bytes(), Due::Refused(number, place))
 }
 
@@ -325,10 +327,10 @@ pub fn refusals() -> Vec<PlaceCase> {
     vec![
         empty(1),
         empty(17).with_room(0),
-        empty(17).with_room(ROOM - 1),
-        refused("17 before 14", started(1, "end"), 17, 0).with_room(ROOM - 1),
-        refused("17, though it would fit", desk("end"), 17, 0).with_room(ROOM - 1),
-        booking().with_room(ROOM + 1),
+        empty(17).with_room(6_873),
+        refused("17 before 14", started(1, "end"), 17, 0).with_room(6_873),
+        refused("17, though it would fit", desk("end"), 17, 0).with_room(6_873),
+        booking().with_room(6_875),
         booking().with_room(10_000),
         refused("nine variables", desk(&nine), 8, 9),
         refused("8 before 14", started(1, "on1"), 8, 2),

@@ -2,6 +2,7 @@
 
 mod booking;
 mod halts;
+mod juniors;
 mod lent;
 mod ready;
 mod refusals;
@@ -192,6 +193,7 @@ pub fn cases() -> Vec<RunCase> {
         halts::at_full(),
         ready::cases(),
         refusals::cases(),
+        juniors::runs(),
     ]
     .into_iter()
     .flatten()

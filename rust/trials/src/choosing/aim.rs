@@ -2,6 +2,7 @@
 //! where the lists have nothing to change, they stay as they are.
 
 use super::fit::{any_thread, Clinic};
+use crate::juniors;
 use crate::lists::Lists;
 use crate::rng::Rng;
 use second::{Thread, Unfit, BESIDE, RECORDS};
@@ -147,11 +148,19 @@ impl Aim<'_> {
         Some(&mut self.lists.threads[found])
     }
 
-    /// Adds roles that the user lacks: one of them, or several.
+    /// Adds roles that the user lacks: one of them, or several; often juniors of
+    /// the user's roles, if there are any.
     fn add_role(&mut self) {
         let clinic = self.clinic;
         let (one, several) = (1 << self.rng.below(16), self.rng.word());
-        let lacks = |thread: &Thread| !clinic.assigned(thread);
+        let juniors = self.rng.once_in(2);
+        let lacks = |thread: &Thread| {
+            let assigned = clinic.assigned(thread);
+            match juniors::reached(&clinic.draft, assigned) & !assigned {
+                found if juniors && found != 0 => found,
+                _ => !assigned,
+            }
+        };
         if let Some(thread) = self.thread_where(|thread| lacks(thread) != 0) {
             let lacks = lacks(thread);
             let lowest = lacks & lacks.wrapping_neg();

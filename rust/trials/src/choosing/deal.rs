@@ -3,6 +3,7 @@
 use super::aim::Aim;
 use super::fit::{any_thread, Clinic, Sort};
 use super::Lent;
+use crate::aim::at_draft;
 use crate::change;
 use crate::deal::{largest, typical};
 use crate::desk::{deal_desk, Use};
@@ -10,7 +11,7 @@ use crate::lists::Lists;
 use crate::rng::Rng;
 use crate::schedule::{any_choice, enabled, refused, schedule, Goal, Steer};
 use second::draft::Draft;
-use second::{Halt, Run, Thread, Unfit, BESIDE, RECORDS};
+use second::{Cause, Halt, Run, Thread, Unfit, Version, BESIDE, RECORDS};
 
 /// How many lists there are for a file that 1 to 10 leave clean, and for one
 /// that they refuse.
@@ -33,8 +34,9 @@ const MISSED: [Unfit; 4] = [
     Unfit::OtherKind,
 ];
 
-/// What is lent with file `index` under `seed`.
-pub fn deal_lent(seed: u64, index: u64) -> Vec<Lent> {
+/// What is lent with file `index` of this version under `seed`; some damaged
+/// files have another.
+pub fn deal_lent(version: Version, seed: u64, index: u64) -> Vec<Lent> {
     let rng = &mut Rng::new(seed.rotate_left(4), index);
     let good_for = *rng.of(&[
         Use::Any,
@@ -44,7 +46,7 @@ pub fn deal_lent(seed: u64, index: u64) -> Vec<Lent> {
         Use::Permission,
         Use::Crowd,
     ]);
-    let mut file = deal_desk(rng, good_for);
+    let mut file = deal_desk(rng, version, good_for);
     if second::begin(&file).is_err() {
         let lent = |_| of_any_words(rng, file.clone());
         return (0..LISTS_OF_REFUSED).map(lent).collect();
@@ -92,6 +94,15 @@ fn with_fewer_roles(rng: &mut Rng, file: &[u8]) -> Vec<u8> {
     for [user, start, _] in &mut draft.sessions {
         *start &= draft.users[usize::from(*user) - 1][0];
     }
+    draft.bytes()
+}
+
+/// Gives a role a junior that is not lower, in version 2.
+fn with_wrong_junior(rng: &mut Rng, draft: &Draft) -> Vec<u8> {
+    let causes = [Cause::JuniorItself, Cause::JuniorHigher, Cause::JuniorAbove];
+    let mut draft = draft.clone();
+    let cause = *rng.of(&causes);
+    at_draft(rng, &mut draft, cause);
     draft.bytes()
 }
 
@@ -174,6 +185,7 @@ fn changed(rng: &mut Rng, clinic: &Clinic, file: &[u8], mut lists: Lists, sort: 
     match rng.below(30) {
         0..=1 => change::one_word(rng, &mut file),
         2 => change::any_bytes(rng, &mut file),
+        3..=4 => file = with_wrong_junior(rng, &clinic.draft),
         _ => {}
     }
     Lent {
@@ -245,13 +257,13 @@ fn of_any_words(rng: &mut Rng, file: Vec<u8>) -> Lent {
 /// A largest file, with 64 threads that each have seven variables or eight, 64
 /// made channels, and a send that is done.
 pub fn full_lent(seed: u64) -> Lent {
-    with_send(seed, largest, RECORDS, 7)
+    with_send(seed, |seed| largest(Version::One, seed), RECORDS, 7)
 }
 
 /// A file of 40 nodes, with a few threads and made channels, and a send that is
 /// done.
 pub fn typical_lent(seed: u64) -> Lent {
-    with_send(seed, typical, 5, 1)
+    with_send(seed, |seed| typical(Version::One, seed), 5, 1)
 }
 
 /// A file of this sort with so many threads and made channels, so many variables

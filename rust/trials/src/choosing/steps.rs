@@ -6,7 +6,7 @@ use crate::rng::Rng;
 use crate::running::{deal_run, engine_run};
 use crate::starting::{agreed_start, any_lists};
 use second::draft::to_bytes;
-use second::{Run, Verdict, RUN_ROOM};
+use second::{Run, Verdict, Version, RUN_ROOM};
 
 /// What came up over the runs.
 #[derive(Debug, Default)]
@@ -71,17 +71,18 @@ fn holds(lists: &Lists, run: &Run) -> bool {
         && threads.starts_with(counted)
 }
 
-/// Goes through `runs` runs by choices, both implementations at a time, and
-/// panics where the state after a choice is not the run's.
-pub fn run_by_choices(seed: u64, runs: u64) -> Steps {
+/// Goes through `runs` runs of files of a version by choices, both
+/// implementations at a time, and panics where the state after a choice is not the
+/// run's.
+pub fn run_by_choices(version: Version, seed: u64, runs: u64) -> Steps {
     let mut steps = Steps::default();
     for index in 0..runs {
-        let dealt = deal_run(seed, index);
+        let dealt = deal_run(version, seed, index);
         let Ok(mut run) = second::begin(&dealt.file) else {
             continue;
         };
         steps.runs += 1;
-        let origin = format!("trials::deal_run({seed}, {index})");
+        let origin = format!("trials::deal_run(Version::{version:?}, {seed}, {index})");
         let mut lists = start(&mut Rng::new(seed, index), &dealt.file, &origin);
         assert!(holds(&lists, &run), "{origin}: not the run's start");
         let (choices, _) = dealt.choices.as_chunks();

@@ -2,8 +2,10 @@
 
 use super::fit::Clinic;
 use super::Lent;
+use crate::juniors;
 use crate::lists::Lists;
-use second::{Cause, Halt, Unfit, Verdict, BESIDE, RECORDS};
+use second::draft::Draft;
+use second::{is_of_file, Cause, Halt, Unfit, Verdict, Version, BESIDE, RECORDS};
 use std::collections::BTreeMap;
 
 /// The least number of choices for each cause, of those refused with each
@@ -36,9 +38,18 @@ const LEAST: [(&str, u64); 19] = [
     ("11 to 13 where the check passes the file", 500),
 ];
 
-/// What came up over many choices.
-#[derive(Default)]
+/// What has to come up in version 2 besides. A chain of two counts where the
+/// juniors of juniors make a difference.
+const LEAST_OF_JUNIORS: [(&str, u64); 4] = [
+    ("21 before 18 at place 0", 500),
+    ("sends done by a junior", 500),
+    ("sends done by a chain of two", 500),
+    ("18 at place 0 for a junior that isn't assigned", 500),
+];
+
+/// What came up over many choices in files of a version.
 pub struct ChooseTally {
+    version: Version,
     counts: BTreeMap<&'static str, u64>,
     /// By number and by whether the place is the choice's.
     by_number: BTreeMap<(u16, bool), u64>,
@@ -52,6 +63,15 @@ fn cause_of(lent: &Lent) -> Option<Cause> {
     let [thread, partner] = lent.choice;
     let refusal = second::cause_in_choosing(&lent.file, threads, beside, thread, partner);
     refusal.map(|refusal| refusal.cause)
+}
+
+/// Why it is refused with another file.
+fn cause_with(lent: &Lent, draft: Draft) -> Option<Cause> {
+    let file = draft.bytes();
+    cause_of(&Lent {
+        file,
+        ..lent.clone()
+    })
 }
 
 /// Why it is refused if the two counts are these.
@@ -68,12 +88,26 @@ fn is_misshapen(Lists { threads, beside }: &Lists) -> bool {
 }
 
 impl ChooseTally {
+    pub(super) fn new(version: Version) -> ChooseTally {
+        ChooseTally {
+            version,
+            counts: BTreeMap::new(),
+            by_number: BTreeMap::new(),
+            by_cause: BTreeMap::new(),
+            done_by_tag: BTreeMap::new(),
+        }
+    }
+
     fn note(&mut self, what: &'static str, shown: bool) {
         *self.counts.entry(what).or_default() += u64::from(shown);
     }
 
     pub(super) fn count(&mut self, lent: &Lent, verdict: Verdict, after: &Lists) {
-        let at_choice = verdict.number > 10 && verdict.place == 1;
+        if Version::claimed(&lent.file) != self.version {
+            self.note("files of another version", true);
+            return;
+        }
+        let at_choice = !is_of_file(verdict.number) && verdict.place == 1;
         let number = (verdict.number, at_choice);
         *self.by_number.entry(number).or_default() += 1;
         let Some(cause) = cause_of(lent) else {
@@ -87,6 +121,8 @@ impl ChooseTally {
             _ => {
                 let misshapen = is_misshapen(&lent.lists);
                 self.note("1 to 10 before 18 at place 0", misshapen);
+                let of_juniors = cause.number() == 21;
+                self.note("21 before 18 at place 0", of_juniors && misshapen);
             }
         }
     }
@@ -127,6 +163,11 @@ impl ChooseTally {
             self.note("sends done on a made channel", channel >= 385);
             self.note("sends done of a made channel", value >= 385);
             self.note("sends done on a channel in a variable", operand >= 512);
+            let draft = &clinic.draft;
+            let refused = |draft| cause_with(lent, draft).is_some();
+            self.note("sends done by a junior", refused(juniors::without(draft)));
+            let one_level = refused(juniors::of_one_level(draft));
+            self.note("sends done by a chain of two", one_level);
         }
     }
 
@@ -149,6 +190,17 @@ impl ChooseTally {
                 let cause = cause_if_counted(lent, [beside[0], 64]);
                 let past = !matches!(cause, Some(Cause::Lent(_)));
                 self.note("18 at place 0 for a made channel past the number", past);
+            }
+            Unfit::Mask => {
+                let clinic = Clinic::of(&lent.file);
+                let counted = threads[..beside[0].into()].iter();
+                let mut first =
+                    counted.skip_while(|thread| thread.mask & !clinic.assigned(thread) == 0);
+                let junior = first.next().is_some_and(|thread| {
+                    let reached = juniors::reached(&clinic.draft, clinic.assigned(thread));
+                    thread.mask & !reached == 0
+                });
+                self.note("18 at place 0 for a junior that isn't assigned", junior);
             }
             _ => {}
         }
@@ -175,11 +227,17 @@ impl ChooseTally {
 
     /// Prints the table, and fails if something came up too seldom.
     pub fn demand(&self) {
+        println!("version {}", self.version.number());
+        let of_juniors = match self.version {
+            Version::One => &[][..],
+            Version::Two => &LEAST_OF_JUNIORS,
+        };
+        let all = || LEAST.iter().chain(of_juniors);
         for ((number, at_choice), count) in &self.by_number {
-            let place = match (number, at_choice) {
-                (11.., true) => " at place 1",
-                (11.., false) => " at place 0",
-                _ => "",
+            let place = match (is_of_file(*number), at_choice) {
+                (true, _) => "",
+                (_, true) => " at place 1",
+                (_, false) => " at place 0",
             };
             println!("{count:>9} of {number}{place}");
         }
@@ -192,7 +250,7 @@ impl ChooseTally {
         for tag in TAGS {
             println!("{:>9} done of tag {tag}", of_tag(tag));
         }
-        for (what, _) in LEAST {
+        for (what, _) in all() {
             println!("{:>9} {what}", self.counts.get(what).copied().unwrap_or(0));
         }
         println!("{:>9} choices", self.by_number.values().sum::<u64>());
@@ -206,9 +264,9 @@ impl ChooseTally {
             let count = of_number((number, true));
             assert!(count >= LEAST_OF_EACH, "too few of {number} at place 1");
         }
-        for (what, least) in LEAST {
+        for (what, least) in all() {
             let count = self.counts.get(what).copied().unwrap_or(0);
-            assert!(count >= least, "too few {what}");
+            assert!(count >= *least, "too few {what}");
         }
     }
 }

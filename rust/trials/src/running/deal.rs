@@ -6,10 +6,11 @@ use crate::bare::filled;
 use crate::desk::{deal_desk, Use};
 use crate::rng::Rng;
 use crate::schedule::{any_choice, schedule, Goal, Steer, MOST_CHOICES};
-use second::{Halt, RUN_ROOM};
+use second::{Halt, Version, RUN_ROOM};
 
-/// Run `index` under `seed`.
-pub fn deal_run(seed: u64, index: u64) -> Dealt {
+/// Run `index` under `seed`, of a file of this version; some damaged files have
+/// another.
+pub fn deal_run(version: Version, seed: u64, index: u64) -> Dealt {
     let rng = &mut Rng::new(seed.rotate_left(1), index);
     // The rarest are tried for twice as often.
     let mut halts = Halt::all();
@@ -21,7 +22,7 @@ pub fn deal_run(seed: u64, index: u64) -> Dealt {
         Some(20) => Use::Crowd,
         _ => Use::Any,
     };
-    let file = deal_desk(rng, good_for);
+    let file = deal_desk(rng, version, good_for);
     let goal = Goal::of(rng, halt);
     let mut choices = schedule(rng, &file, goal);
     change_list(rng, &mut choices);
@@ -37,10 +38,10 @@ pub fn deal_run(seed: u64, index: u64) -> Dealt {
 /// A file and a list of choices that are all done. Most lists end where threads
 /// can meet, and many of these where a lower send or receive is passed over, if
 /// they come by such a state.
-pub fn deal_state(seed: u64, index: u64) -> (Vec<u8>, Vec<u16>) {
+pub fn deal_state(version: Version, seed: u64, index: u64) -> (Vec<u8>, Vec<u16>) {
     let rng = &mut Rng::new(seed.rotate_left(3), index);
     let good_for = *rng.of(&[Use::Any, Use::Permission]);
-    let file = deal_desk(rng, good_for);
+    let file = deal_desk(rng, version, good_for);
     let goal = Goal {
         steer: *rng.of(&[Steer::Any, Steer::Meet, Steer::Grow, Steer::Make]),
         most: rng.below(50),

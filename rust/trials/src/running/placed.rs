@@ -7,7 +7,7 @@ use crate::placing::agreed_placing;
 use crate::rng::Rng;
 use crate::schedule::{any_choice, halt_of, schedule, Goal, Steer};
 use second::draft::Draft;
-use second::{Halt, Run, ROOM, RUN_ROOM};
+use second::{Halt, Run, Version, ROOM, RUN_ROOM};
 
 /// What came up over the runs of placed files.
 #[derive(Debug, Default)]
@@ -19,13 +19,13 @@ pub struct PlacedRuns {
     pub tried: u64,
 }
 
-/// Places `files` files by both, and runs what can be placed on several lists.
-/// Panics where a run is stopped for a role.
-pub fn run_placed(seed: u64, files: u64) -> PlacedRuns {
+/// Places `files` files of a version by both, and runs what can be placed on
+/// several lists. Panics where a run is stopped for a role.
+pub fn run_placed(version: Version, seed: u64, files: u64) -> PlacedRuns {
     let mut came_up = PlacedRuns::default();
     for index in 0..files {
         let rng = &mut Rng::new(seed.rotate_left(2), index);
-        let bare = lively_bare(rng).bytes();
+        let bare = lively_bare(rng, version).bytes();
         let (placed, out) = agreed_placing(&bare, &[0; ROOM], index);
         if placed.number != 0 {
             continue;
@@ -39,7 +39,7 @@ pub fn run_placed(seed: u64, files: u64) -> PlacedRuns {
                 choices,
                 before: vec![turn; RUN_ROOM],
             };
-            let origin = format!("placed file {index}, list {turn}");
+            let origin = format!("placed file {index} of {version:?}, list {turn}");
             let (verdict, _) = agreed_run(&dealt, &origin);
             let for_a_role = matches!(verdict.number, 11..=13);
             assert!(

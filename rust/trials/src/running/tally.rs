@@ -2,16 +2,18 @@
 
 use super::replay::Replay;
 use super::{is_halted, Dealt};
+use crate::juniors;
 use crate::schedule::halt_of;
-use second::{Cause, Halt, Verdict, RUN_ROOM};
+use second::draft::Draft;
+use second::{Cause, Halt, Verdict, Version, RUN_ROOM};
 use std::collections::BTreeMap;
 
 /// The least number of runs for each cause.
 const LEAST_OF_CAUSE: u64 = 500;
 
-/// What came up over many runs.
-#[derive(Default)]
+/// What came up over many runs of files of a version.
 pub struct RunTally {
+    version: Version,
     counts: BTreeMap<&'static str, u64>,
     by_number: BTreeMap<u16, u64>,
     by_cause: BTreeMap<Cause, u64>,
@@ -43,7 +45,26 @@ const LEAST: [(&str, u64); 22] = [
     ("halted runs with choices left", 1_000),
 ];
 
+/// What has to come up in version 2 besides. A chain of two counts where the
+/// juniors of juniors make a difference.
+const LEAST_OF_JUNIORS: [(&str, u64); 5] = [
+    ("runs refused with 21", 500),
+    ("runs that go on by a junior", 500),
+    ("runs that go on by a chain of two", 500),
+    ("ready pairs by a junior", 500),
+    ("ready pairs by a chain of two", 500),
+];
+
 impl RunTally {
+    pub(super) fn new(version: Version) -> RunTally {
+        RunTally {
+            version,
+            counts: BTreeMap::new(),
+            by_number: BTreeMap::new(),
+            by_cause: BTreeMap::new(),
+        }
+    }
+
     fn note(&mut self, what: &'static str, shown: bool) {
         *self.counts.entry(what).or_default() += u64::from(shown);
     }
@@ -54,6 +75,11 @@ impl RunTally {
             choices,
             before,
         } = dealt;
+        if Version::claimed(file) != self.version {
+            self.note("files of another version", true);
+            return;
+        }
+        self.note("runs refused with 21", verdict.number == 21);
         *self.by_number.entry(verdict.number).or_default() += 1;
         if let Some(refusal) = second::cause_in_run(file, choices, before.len()) {
             *self.by_cause.entry(refusal.cause).or_default() += 1;
@@ -77,6 +103,32 @@ impl RunTally {
         if is_halted(verdict) {
             self.count_halt(&replay, [choices[last - 2], choices[last - 1]]);
         }
+        if self.version == Version::Two {
+            self.count_juniors(dealt, verdict, replay.run.ready());
+        }
+    }
+
+    /// Counts what would be refused, and who could not meet, without juniors and
+    /// without theirs.
+    fn count_juniors(&mut self, dealt: &Dealt, verdict: Verdict, ready: (u16, u16)) {
+        let draft = Draft::of(&dealt.file);
+        let done = match verdict.place {
+            0 => &dealt.choices[..],
+            place => &dealt.choices[..2 * (usize::from(place) - 1)],
+        };
+        let less = |draft: Draft| {
+            let file = draft.bytes();
+            let halted = second::run(&file, done, &mut [0; RUN_ROOM]).number == 13;
+            let pair = second::ready(&file, done);
+            let met = !halted && (pair.sender, pair.receiver) == ready;
+            (halted, !halted && !met)
+        };
+        let (halted, pair) = less(juniors::without(&draft));
+        self.note("runs that go on by a junior", halted);
+        self.note("ready pairs by a junior", pair);
+        let (halted, pair) = less(juniors::of_one_level(&draft));
+        self.note("runs that go on by a chain of two", halted);
+        self.note("ready pairs by a chain of two", pair);
     }
 
     fn count_state(&mut self, replay: &Replay) {
@@ -112,6 +164,12 @@ impl RunTally {
 
     /// Prints the table, and fails if something came up too seldom.
     pub fn demand(&self) {
+        println!("version {}", self.version.number());
+        let of_juniors = match self.version {
+            Version::One => &[][..],
+            Version::Two => &LEAST_OF_JUNIORS,
+        };
+        let all = || LEAST.iter().chain(of_juniors);
         for (number, count) in &self.by_number {
             println!("{count:>9} of {number}");
         }
@@ -119,7 +177,7 @@ impl RunTally {
             let count = self.by_cause.get(&cause).copied().unwrap_or(0);
             println!("{count:>9} {:>3} {cause:?}", cause.number());
         }
-        for (what, _) in LEAST {
+        for (what, _) in all() {
             println!("{:>9} {what}", self.counts.get(what).copied().unwrap_or(0));
         }
         println!("{:>9} runs", self.by_number.values().sum::<u64>());
@@ -127,9 +185,9 @@ impl RunTally {
             let count = self.by_cause.get(&cause).copied().unwrap_or(0);
             assert!(count >= LEAST_OF_CAUSE, "too few of {cause:?}");
         }
-        for (what, least) in LEAST {
+        for (what, least) in all() {
             let count = self.counts.get(what).copied().unwrap_or(0);
-            assert!(count >= least, "too few {what}");
+            assert!(count >= *least, "too few {what}");
         }
     }
 }

@@ -5,15 +5,16 @@ use crate::deal::{deal, largest};
 use crate::desk::{deal_desk, Use};
 use crate::lists::Lists;
 use crate::rng::Rng;
-use second::{BESIDE, RECORDS};
+use second::{Version, BESIDE, RECORDS};
 
-/// File `index` under `seed`, sound or not, and what is lent with it.
-pub fn deal_start(seed: u64, index: u64) -> (Vec<u8>, Lists) {
+/// File `index` of this version under `seed`, sound or not, and what is lent with
+/// it; some damaged files have another version.
+pub fn deal_start(version: Version, seed: u64, index: u64) -> (Vec<u8>, Lists) {
     let rng = &mut Rng::new(seed.rotate_left(5), index);
     let file = match rng.below(30) {
-        0 => largest(rng.number()),
-        1..=9 => deal_desk(rng, Use::Any),
-        _ => deal(rng.number(), index),
+        0 => largest(version, rng.number()),
+        1..=9 => deal_desk(rng, version, Use::Any),
+        _ => deal(version, rng.number(), index),
     };
     let mut lists = any_lists(rng, &file);
     if rng.once_in(6) {

@@ -2,7 +2,7 @@
 
 use crate::lists::Lists;
 use second::draft::Draft;
-use second::{Cause, Verdict, BESIDE, RECORDS};
+use second::{is_of_file, Cause, Verdict, Version, BESIDE, RECORDS};
 use std::collections::BTreeMap;
 
 /// The least number of starts for each number and cause.
@@ -20,27 +20,40 @@ const LEAST: [(&str, u64); 8] = [
     ("1 to 10 before 18 at place 0", 1_000),
 ];
 
-/// What came up over many starts.
-#[derive(Default)]
+/// What came up over many starts of files of a version.
 pub struct StartTally {
+    version: Version,
     counts: BTreeMap<&'static str, u64>,
     by_number: BTreeMap<u16, u64>,
     by_cause: BTreeMap<Cause, u64>,
 }
 
 impl StartTally {
+    pub(super) fn new(version: Version) -> StartTally {
+        StartTally {
+            version,
+            counts: BTreeMap::new(),
+            by_number: BTreeMap::new(),
+            by_cause: BTreeMap::new(),
+        }
+    }
+
     fn note(&mut self, what: &'static str, shown: bool) {
         *self.counts.entry(what).or_default() += u64::from(shown);
     }
 
     pub(super) fn count(&mut self, file: &[u8], Lists { threads, beside }: &Lists) {
+        if Version::claimed(file) != self.version {
+            self.note("files of another version", true);
+            return;
+        }
         let refusal = second::cause_in_starting(file, threads, beside);
         let number = refusal.map_or(0, |refusal| refusal.cause.number());
         *self.by_number.entry(number).or_default() += 1;
         if let Some(refusal) = refusal {
             *self.by_cause.entry(refusal.cause).or_default() += 1;
             let sized = threads.len() == RECORDS && beside.len() == BESIDE;
-            let before = number <= 10 && !sized;
+            let before = is_of_file(number) && !sized;
             self.note("1 to 10 before 18 at place 0", before);
             return;
         }
@@ -59,6 +72,7 @@ impl StartTally {
 
     /// Prints the table, and fails if something came up too seldom.
     pub fn demand(&self) {
+        println!("version {}", self.version.number());
         let of_number = |number| self.by_number.get(&number).copied().unwrap_or(0);
         let of_cause = |cause| self.by_cause.get(&cause).copied().unwrap_or(0);
         let of_count = |what| self.counts.get(what).copied().unwrap_or(0);
@@ -72,7 +86,11 @@ impl StartTally {
             println!("{:>9} {what}", of_count(what));
         }
         println!("{:>9} calls", self.by_number.values().sum::<u64>());
-        for number in (1..=10).chain([18]) {
+        let others: &[u16] = match self.version {
+            Version::One => &[2, 18],
+            Version::Two => &[21, 18],
+        };
+        for &number in [1, 3, 4, 5, 6, 7, 8, 9, 10].iter().chain(others) {
             assert!(of_number(number) >= LEAST_OF_EACH, "too few of {number}");
         }
         for cause in Cause::of_starting() {

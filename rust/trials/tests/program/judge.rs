@@ -1,6 +1,7 @@
 //! The program `judge`: the line `passes`, or the refusal.
 
 use crate::run::{of_any_length, refused, Program};
+use second::Version;
 use std::collections::BTreeSet;
 use trials::{largest, second_check, seed};
 
@@ -25,13 +26,15 @@ fn every_refusal_and_none() {
         .iter()
         .map(|case| assert_line(&case.file, case.name))
         .collect();
-    assert_eq!(numbers, (0..=13).collect());
+    assert_eq!(numbers, (0..=13).chain([21]).collect());
 }
 
 #[test]
 fn inputs_of_any_length() {
-    for (what, input) in of_any_length(largest(seed())) {
-        assert_line(&input, &what);
+    for version in Version::ALL {
+        for (what, input) in of_any_length(largest(version, seed())) {
+            assert_line(&input, &what);
+        }
     }
 }
 

@@ -2,9 +2,9 @@
 
 use crate::run::{of_any_length, refused, Program};
 use second::cases::{place_cases, Due};
-use second::ROOM;
+use second::{room_for, Version, ROOM};
 use std::collections::BTreeSet;
-use trials::{full_bare, seed};
+use trials::{full_bare, largest_bare, seed};
 
 const PLACE: Program = Program("place");
 
@@ -14,7 +14,7 @@ const PLACE: Program = Program("place");
 fn named_cases() {
     let mut numbers = BTreeSet::new();
     for case in place_cases() {
-        if case.room < ROOM {
+        if case.room < room_for(&case.file) {
             continue;
         }
         let (number, due) = match case.due {
@@ -24,14 +24,17 @@ fn named_cases() {
         PLACE.assert_writes(&case.file, &due, case.name);
         numbers.insert(number);
     }
-    assert_eq!(numbers, BTreeSet::from([0, 1, 8, 9, 10, 14, 15, 16]));
+    assert_eq!(numbers, BTreeSet::from([0, 1, 8, 9, 10, 14, 15, 16, 21]));
 }
 
 #[test]
 fn inputs_of_any_length() {
-    let full = full_bare(seed());
-    let itself = ("a large file".to_string(), full.clone());
-    for (what, input) in of_any_length(full).into_iter().chain([itself]) {
+    let larges = [full_bare(seed()), largest_bare(Version::Two, seed())];
+    let inputs = larges.map(|large| {
+        let itself = ("a large file".to_string(), large.clone());
+        [of_any_length(large), vec![itself]].concat()
+    });
+    for (what, input) in inputs.concat() {
         let mut out = [0; ROOM];
         let placed = second::place(&input, &mut out);
         let due = match placed.number {

@@ -50,7 +50,7 @@ impl Program {
     /// Asserts what it writes: on the input at once, in small pieces, and in
     /// small pieces behind as many bytes as the largest file has.
     pub fn assert_writes(&self, input: &[u8], due: &[u8], what: &str) {
-        let (start, rest) = input.split_at(input.len().min(6_874));
+        let (start, rest) = input.split_at(input.len().min(6_908));
         let ways = [
             vec![input],
             small(input),
@@ -91,16 +91,30 @@ pub fn refused(number: u16, place: u16) -> Vec<u8> {
     format!("refused {number} {place}\n").into_bytes()
 }
 
+fn head_of_version_2() -> Vec<u8> {
+    let juniors = Some(vec![]);
+    let draft = Draft {
+        juniors,
+        ..Draft::default()
+    };
+    draft.bytes()
+}
+
 /// Inputs of any length: zeros, and zeros behind a sound file, which is cut
 /// where it is longer.
 pub fn of_any_length(sound: Vec<u8>) -> Vec<(String, Vec<u8>)> {
     let starts = [
         ("zeros", vec![]),
+        ("a 2, then zeros", vec![2]),
         ("a sound head, then zeros", Draft::default().bytes()),
+        ("a sound head of version 2, then zeros", head_of_version_2()),
         ("a large file, then zeros", sound),
     ];
     let mut inputs = Vec::new();
-    for length in [0, 25, 26, 6_874, 6_875, 6_876, 6_877, 100_000, 100_001] {
+    for length in [
+        0, 1, 2, 25, 26, 27, 28, 6_874, 6_875, 6_876, 6_877, 6_908, 6_909, 6_910, 6_911, 100_000,
+        100_001,
+    ] {
         for (what, start) in &starts {
             let mut input = start.clone();
             input.resize(length, 0);

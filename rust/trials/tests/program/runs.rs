@@ -31,7 +31,7 @@
 use crate::run::{of_any_length, refused, Program};
 use second::cases::run_cases;
 use second::draft::{to_bytes, word_at, Draft};
-use second::RUN_ROOM;
+use second::{Version, RUN_ROOM};
 use std::collections::BTreeSet;
 use std::ffi::OsStr;
 use std::fs;
@@ -165,16 +165,17 @@ fn named_cases() {
             numbers.insert(files.assert_lines(&case.file, &case.choices, case.name));
         }
     }
-    let due = [0, 1, 8, 9, 10, 11, 12, 13, 17, 18, 19, 20];
+    let due = [0, 1, 8, 9, 10, 11, 12, 13, 17, 18, 19, 20, 21];
     assert_eq!(numbers, BTreeSet::from(due));
 }
 
 #[test]
 fn random_runs() {
     let files = Files::of("random");
-    for index in 0..300 {
-        let dealt = deal_run(seed(), index);
-        let what = format!("trials::deal_run({}, {index})", seed());
+    for index in 0..600 {
+        let version = Version::ALL[(index % 2) as usize];
+        let dealt = deal_run(version, seed(), index);
+        let what = format!("trials::deal_run({version:?}, {}, {index})", seed());
         files.assert_lines(&dealt.file, &dealt.choices, &what);
     }
 }
@@ -210,8 +211,10 @@ fn lists_with_a_lone_byte_at_the_end() {
 #[test]
 fn clinic_files_of_any_length() {
     let files = Files::of("clinics");
-    for (what, file) in of_any_length(largest(seed())) {
-        files.assert_lines(&file, &[1, 0], &what);
+    for version in Version::ALL {
+        for (what, file) in of_any_length(largest(version, seed())) {
+            files.assert_lines(&file, &[1, 0], &what);
+        }
     }
 }
 

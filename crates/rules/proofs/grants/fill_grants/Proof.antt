@@ -1,7 +1,7 @@
 -- The invariant: the tables have the roles 1 to n.
 use borrow.Author.Needs.{needs}
 use mathlib.Core.Path.{_≡_, refl, ap, _∙_}
-use Prim.Native.Nat.{_+_, _≤_, _-_}
+use Prim.Native.Nat.{_+_, _≤_, _<_, _-_}
 use native.Mathlib.Omega.{arith}
 use lib.ListN.{length}
 use Rattle.format.specs.Contents.{contentsAt}
@@ -16,6 +16,7 @@ use Rattle.rules.proofs.grants.fill_grants.Tie as tie
 use Rattle.rules.proofs.grants.fill_grants.Reads as reads
 use Rattle.rules.proofs.grants.fill_grants.Lts as lts
 use Rattle.format.proofs.sections.role.Reads as role-reads
+use Rattle.format.proofs.sections.juniors.Reads as juniors-reads
 use Rattle.rules.proofs.grants.add_role.Reads as add-role-reads
 
 abbrev Inv-loop : tie.InvT-loop
@@ -46,6 +47,9 @@ add-n c = search needs
 role-requires : tie.Need-role-requires Inv-loop μ-loop
 role-requires c κs = search needs
 
+juniors-requires : tie.Need-juniors-requires Inv-loop μ-loop
+juniors-requires c κs = search needs
+
 add-role-requires : tie.Need-add-role-requires Inv-loop μ-loop
 add-role-requires c κs = search needs
 
@@ -57,21 +61,25 @@ loop-less c = search needs
 
 loop-again : tie.Need-loop-again Inv-loop μ-loop
 loop-again c =
-    let a = c .before .before .before .before .before .before .before .before .before .before .before .before .before .before .before .args in
-    let l = c .before .before .before .before .before .before .before .before .before .before .before .loop in
-    let D = schemaOf (contentsAt (a .file .now) (a .head)) in
-    let it = c .before .before .before .before .before .before .before .before .role in
-    let s = c .before .before .before .before .before .before .add-role .ensures ∙ ap (addRole (it .result .sends) (l .n + 1) 0) (l .inv .3)
-    ∙ grants-more D Sends (it .result .sends) (l .n) 0 (length (a .sends .now)) (ap (λ (x : Role). x .sends) (it .ensures)) in
-    let r = c .before .before .add-role2 .ensures ∙ ap (addRole (it .result .receives) (l .n + 1) 0) (l .inv .4)
-    ∙ grants-more D Receives (it .result .receives) (l .n) 0 (length (a .receives .now)) (ap (λ (x : Role). x .receives) (it .ensures)) in (
+    let a = c .before .before .before .before .before .before .before .before .before .before .before .before .before .before .before .before .args in
+    let l = c .before .before .before .before .before .before .before .before .before .before .before .before .loop in
+    let C = contentsAt (a .file .now) (a .head) in
+    let it = c .before .before .before .before .before .before .before .before .before .role in
+    let j = c .before .before .before .before .before .before .before .before .juniors in
+    let within : l .n < length (C .roles) = omega (arith, roles-held (a .file .now) (a .head)) in
+    let own-sends = ap (λ (x : Role). x .sends) (it .ensures) in
+    let own-receives = ap (λ (x : Role). x .receives) (it .ensures) in
+    let s = c .before .before .before .before .before .before .add-role .ensures ∙ ap (addRole (it .result .sends) (j .result) (l .n + 1) 0) (l .inv .3)
+    ∙ grants-more C Sends (it .result .sends) (j .result) (l .n) 0 (length (a .sends .now)) within own-sends (j .ensures) in
+    let r = c .before .before .add-role2 .ensures ∙ ap (addRole (it .result .receives) (j .result) (l .n + 1) 0) (l .inv .4)
+    ∙ grants-more C Receives (it .result .receives) (j .result) (l .n) 0 (length (a .receives .now)) within own-receives (j .ensures) in (
       omega arith,
-      ap length s ∙ grants-length D Sends (l .n + 1) 0 (length (a .sends .now)),
-      ap length r ∙ grants-length D Receives (l .n + 1) 0 (length (a .receives .now)),
+      ap length s ∙ grants-length (schemaOf C) Sends (l .n + 1) 0 (length (a .sends .now)),
+      ap length r ∙ grants-length (schemaOf C) Receives (l .n + 1) 0 (length (a .receives .now)),
       s,
       r,
-      beyond-more D Sends (it .result .sends) (l .n) (ap (λ (x : Role). x .sends) (it .ensures)) (omega arith) (l .inv .5),
-      beyond-more D Receives (it .result .receives) (l .n) (ap (λ (x : Role). x .receives) (it .ensures)) (omega arith) (l .inv .6),
+      beyond-more C Sends (it .result .sends) (j .result) (l .n) within own-sends (j .ensures) (omega arith) (l .inv .5),
+      beyond-more C Receives (it .result .receives) (j .result) (l .n) within own-receives (j .ensures) (omega arith) (l .inv .6),
     )
 
 same-length : tie.Need-same-length Inv-loop μ-loop
@@ -96,6 +104,7 @@ fill-grants-spec =
     loop-holds
     add-n
     role-requires
+    juniors-requires
     add-role-requires
     add-role-requires-2
     loop-less

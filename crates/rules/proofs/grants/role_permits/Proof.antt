@@ -1,6 +1,10 @@
 use mathlib.Core.Path.{ap, _∙_}
+use mathlib.Core.Bool.{not, _||_}
+use Prim.Native.Nat.{ℕ}
+use lib.Bits.{bitAnd}
+use lib.Dec.{eqb}
 use Rattle.masks.specs.Mask.{has}
-use Rattle.rules.specs.Schema.{permits}
+use Rattle.rules.proofs.JuniorGrants.{joins-exactly}
 use borrow.Author.Needs.{needs}
 use Rattle.rules.proofs.grants.role_permits.Statement.{statement}
 use Rattle.rules.proofs.grants.role_permits.Tie as tie
@@ -16,11 +20,11 @@ has-kind-requires : tie.Need-has-kind-requires
 has-kind-requires c κs = search needs
 
 returns : tie.Need-returns
-unfolding permits
 returns c =
     let a = c .before .before .args in
-    let its = c .has-kind .ensures ∙ ap (λ g. has g (a .kind .0)) (c .before .granted-by .ensures) in
-    (its, λ D e. its ∙ ap (λ g. has g (a .kind .0)) e)
+    let own = c .has-kind .ensures ∙ ap (λ g. has g (a .kind .0)) (c .before .granted-by .ensures) in
+    let its = ap (λ b. b || not (eqb (bitAnd (a .lower) (a .juniors)) 0)) own in
+    (its, λ C here e. its ∙ joins-exactly C (a .way) (a .role) (a .kind) (a .it) (a .juniors) (a .lower) here e)
 
 pub role-permits-spec : {M : Type 1} → statement M
 role-permits-spec = tie.close (tie.spec granted-by-requires has-kind-requires returns)

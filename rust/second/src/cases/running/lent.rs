@@ -23,7 +23,7 @@ pub struct Lent {
 }
 
 impl Lent {
-    fn of(threads: &[Thread], made: &[[u16; 2]]) -> Lent {
+    pub fn of(threads: &[Thread], made: &[[u16; 2]]) -> Lent {
         Lent {
             counts: [threads.len() as u16, made.len() as u16],
             threads: threads.to_vec(),
@@ -118,7 +118,7 @@ impl ChooseCase {
 }
 
 /// A thread's record, with the variables that are bound.
-fn record(user: u16, node: u16, mask: u16, bound: &[u16]) -> Thread {
+pub fn record(user: u16, node: u16, mask: u16, bound: &[u16]) -> Thread {
     let mut variables = [0; 8];
     variables[..bound.len()].copy_from_slice(bound);
     Thread {
@@ -130,7 +130,13 @@ fn record(user: u16, node: u16, mask: u16, bound: &[u16]) -> Thread {
 }
 
 /// A choice that is done.
-fn done(name: &'static str, file: &Draft, choice: [u16; 2], lent: Lent, after: Lent) -> ChooseCase {
+pub fn done(
+    name: &'static str,
+    file: &Draft,
+    choice: [u16; 2],
+    lent: Lent,
+    after: Lent,
+) -> ChooseCase {
     ChooseCase {
         name,
         file: file.bytes(),
@@ -142,7 +148,7 @@ fn done(name: &'static str, file: &Draft, choice: [u16; 2], lent: Lent, after: L
 }
 
 /// A choice that is refused.
-fn refused(
+pub fn refused(
     name: &'static str,
     file: Vec<u8>,
     choice: [u16; 2],
@@ -180,6 +186,7 @@ pub fn cases() -> Vec<ChooseCase> {
         unfit::fitting(),
         unfit::cases(),
         refusals::cases(),
+        super::juniors::choices(),
         super::cases().into_iter().filter_map(of_halted).collect(),
     ]
     .into_iter()

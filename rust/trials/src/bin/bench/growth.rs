@@ -1,6 +1,7 @@
 //! The inputs of the tables of growth.
 
 use crate::case::{Case, Input};
+use second::Version;
 
 /// The counts of nodes, with the most roles.
 pub const NODES: [u16; 4] = [128, 256, 512, 1_024];
@@ -41,7 +42,7 @@ fn rows(seed: u64, sizes: &[(u16, u16)]) -> Vec<Row> {
         Input::Check(trials::sized(seed, roles, nodes))
     });
     let place = rows("place", |seed, roles, nodes| Input::Place {
-        file: trials::chain_bare(seed, roles, nodes),
+        file: trials::chain_bare(Version::One, seed, roles, nodes),
         number: 0,
     });
     read.chain(check).chain(place).collect()

@@ -2,7 +2,8 @@
 
 use crate::case::{Case, Input};
 use second::cases::run_cases;
-use trials::Lent;
+use second::Version;
+use trials::{juniors, Lent};
 
 type Run = (Vec<u8>, Vec<u16>);
 
@@ -17,6 +18,11 @@ pub struct Inputs {
     /// Of 1,024 nodes itself, so that it is refused.
     pub overfull_bare: Vec<u8>,
     pub typical_bare: Vec<u8>,
+    /// The same four in version 2.
+    pub largest_2: Vec<u8>,
+    pub typical_2: Vec<u8>,
+    pub largest_bare_2: Vec<u8>,
+    pub typical_bare_2: Vec<u8>,
     pub largest_run: Run,
     pub typical_run: Run,
     pub short_run: Run,
@@ -27,13 +33,22 @@ pub struct Inputs {
 
 impl Inputs {
     pub fn new(seed: u64) -> Inputs {
+        let version = Version::One;
+        let largest = trials::largest(version, seed);
+        let typical = trials::typical(version, seed);
+        let largest_bare = trials::largest_bare(version, seed);
+        let typical_bare = trials::typical_bare(version, seed);
         Inputs {
-            largest: trials::largest(seed),
-            typical: trials::typical(seed),
-            largest_bare: trials::largest_bare(seed),
+            largest_2: juniors::with_all(&largest),
+            typical_2: juniors::with_all(&typical),
+            largest_bare_2: juniors::with_all(&largest_bare),
+            typical_bare_2: juniors::with_all(&typical_bare),
+            largest,
+            typical,
+            largest_bare,
             full_bare: trials::full_bare(seed),
             overfull_bare: trials::overfull_bare(seed),
-            typical_bare: trials::typical_bare(seed),
+            typical_bare,
             largest_run: trials::largest_run(seed),
             typical_run: trials::typical_run(seed),
             short_run: short_run(),
@@ -73,6 +88,12 @@ impl Inputs {
             Case::new("choose largest", choose(&self.largest_lent), 50),
             Case::new("choose typical", choose(&self.typical_lent), 300),
             Case::new("ready crowded", ready, 100),
+            Case::new("read largest 2", read(&self.largest_2), 50),
+            Case::new("read typical 2", read(&self.typical_2), 300),
+            Case::new("check largest 2", check(&self.largest_2), 50),
+            Case::new("check typical 2", check(&self.typical_2), 300),
+            Case::new("place largest 2", place(&self.largest_bare_2, 0), 50),
+            Case::new("place typical 2", place(&self.typical_bare_2, 0), 300),
         ]
     }
 
@@ -97,7 +118,8 @@ impl Inputs {
              has {}.\n\
              Choose, a send in a lent list: largest has {};\n\
              typical has {}.\n\
-             Ready, crowded: 32 choices, then 64 threads of which no two can meet.\n",
+             Ready, crowded: 32 choices, then 64 threads of which no two can meet.\n\
+             Rows with a 2: the same file in version 2, with all lower roles as juniors of each.\n",
             run(&self.largest_run),
             run(&self.typical_run),
             run(&self.short_run),

@@ -67,7 +67,7 @@ fn head() -> String {
 
 fn print_table(cases: &[Case], times: &[Times]) {
     println!(
-        "{:<14} {:>6} {:>12} {:>9} {:>12} {:>9} {:>11} {:>13}",
+        "{:<15} {:>6} {:>12} {:>9} {:>12} {:>9} {:>11} {:>13}",
         "call",
         "bytes",
         "engine best",
@@ -79,7 +79,7 @@ fn print_table(cases: &[Case], times: &[Times]) {
     );
     for (case, Times { engine, second }) in cases.iter().zip(times) {
         println!(
-            "{:<14} {:>6} {:>12.0} {:>9.0} {:>12.0} {:>9.0} {:>11.2} {:>13.2}",
+            "{:<15} {:>6} {:>12.0} {:>9.0} {:>12.0} {:>9.0} {:>11.2} {:>13.2}",
             case.name,
             case.file().len(),
             engine.best,

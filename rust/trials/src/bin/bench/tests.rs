@@ -4,7 +4,7 @@ use crate::case::{Case, Input};
 use crate::growth::{by_nodes, by_roles, NODES, ROLES};
 use crate::inputs::Inputs;
 use second::draft::Draft;
-use second::ROOM;
+use second::Version;
 use trials::{seed, sends_in, Lent, MOST_CHOICES};
 
 fn nodes(file: &[u8]) -> usize {
@@ -31,10 +31,12 @@ fn the_largest_are_as_large_as_can_be() {
         &inputs.overfull_bare,
         run,
         &inputs.largest_lent.file,
+        &inputs.largest_2,
     ] {
-        assert_eq!(file.len(), ROOM);
+        assert_eq!(file.len(), Version::claimed(file).largest());
         assert_eq!((nodes(file), roles(file)), (1_024, 16));
     }
+    assert_eq!(Version::claimed(&inputs.largest_2), Version::Two);
     assert_eq!(choices.len(), 2 * MOST_CHOICES);
     assert!(sends_in(run, choices) > 16_000);
     let Lent { lists, .. } = &inputs.largest_lent;
@@ -46,6 +48,7 @@ fn what_is_placed_fills_the_output() {
     let inputs = Inputs::new(seed());
     for (file, nodes_before) in [
         (&inputs.largest_bare, Some(1_022)),
+        (&inputs.largest_bare_2, Some(1_022)),
         (&inputs.full_bare, None),
     ] {
         assert!(nodes_before.is_none_or(|due| due == nodes(file)));
@@ -66,6 +69,8 @@ fn the_typical_have_40_nodes() {
         &inputs.typical_bare,
         run,
         &inputs.typical_lent.file,
+        &inputs.typical_2,
+        &inputs.typical_bare_2,
     ] {
         assert_eq!((nodes(file), roles(file)), (40, 4));
     }
@@ -90,6 +95,25 @@ fn growth_has_its_counts() {
         match row.case.input {
             Input::Place { .. } => assert_eq!((nodes(file), nodes(&out)), (due - 2, due)),
             _ => assert_eq!(nodes(file), due),
+        }
+    }
+}
+
+/// The rows of version 2 are those of version 1 but for the juniors.
+#[test]
+fn version_2_has_the_same_records() {
+    let inputs = Inputs::new(seed());
+    for (file, second) in [
+        (&inputs.largest, &inputs.largest_2),
+        (&inputs.typical, &inputs.typical_2),
+        (&inputs.largest_bare, &inputs.largest_bare_2),
+        (&inputs.typical_bare, &inputs.typical_bare_2),
+    ] {
+        let mut draft = Draft::of(second);
+        let juniors = draft.juniors.take().expect("version 2");
+        assert_eq!(draft.bytes(), *file);
+        for (role, [mask]) in juniors.into_iter().enumerate() {
+            assert_eq!(mask.count_ones() as usize, role);
         }
     }
 }

@@ -1,5 +1,6 @@
 //! Starts: what is written over what, and what is refused.
 
+use super::super::juniors::{against_21, meeting};
 use super::super::{compare, desk, fork, new, on, send, REPEAT};
 use super::{record, Lent};
 use crate::cases::END;
@@ -114,6 +115,12 @@ fn starts() -> Vec<StartCase> {
             any(),
             &[record(3, 1, 0, &[])],
         ),
+        started(
+            "a file of version 2",
+            &meeting(true, 4, 2, 257),
+            any(),
+            &[record(1, 1, 4, &[]), record(2, 3, 2, &[])],
+        ),
     ]
 }
 
@@ -138,6 +145,8 @@ fn refusals() -> Vec<StartCase> {
             any(),
             (10, 2),
         ),
+        refused("a junior's number", against_21(), any(), (21, 30)),
+        refused("21 before 18", against_21(), sized(0, 0), (21, 30)),
         refused("1 before 18", vec![], sized(0, 0), (1, 0)),
         refused(
             "8 before 18",
