@@ -15,10 +15,11 @@
  * pointer, allocates, or has a memory of the last one, so that calls may be made
  * from several threads at once.
  *
- * A refusal is a number from 1 to 21 and a place, which goes by the number: 0 for 1
- * to 5, 16 and 17; for 6 and 21 the first word of a record, from 0; for 7 a session,
- * for 8 to 15 a node, from 1 (0 for a starting mask, with 14); for 18 to 20, and in a
- * run for 11 to 13 too, a choice, from 1. Where nothing is refused both are 0.
+ * A refusal is a number from 1 to 24 and a place, which goes by the number: 0 for 1
+ * to 5, 16, 17 and 22; for 6 and 21 the first word of a record, from 0; for 7 a
+ * session, for 8 to 15 and 24 a node, from 1 (0 for a starting mask, with 14); for 18
+ * to 20, and in a run for 11 to 13 too, a choice, from 1; for 23 a row, from 1. Where
+ * nothing is refused both are 0.
  *
  * Files have version 1, or version 2, in which a role has a word of junior roles.
  * Wherever refusals 1 to 10 are spoken of, 21 is among them, for a junior whose
@@ -39,6 +40,9 @@ extern "C" {
  * PILZDAMO_ROOM will do for any file. */
 #define PILZDAMO_ROOM 6908
 #define PILZDAMO_ROOM_1 6874
+/* The minutes of a week, and the most rows of a table of hours. */
+#define PILZDAMO_WEEK 10080
+#define PILZDAMO_ROWS 64
 /* The least bytes of the output of pilzdamo_run: those of the largest state. */
 #define PILZDAMO_RUN_ROOM 1800
 /* The records that are lent to pilzdamo_start and pilzdamo_choose, no more and no
@@ -91,6 +95,27 @@ pilzdamo_verdict pilzdamo_check(const uint8_t *file, size_t file_len);
  */
 pilzdamo_placed pilzdamo_place(const uint8_t *file, size_t file_len,
                                uint8_t *out, size_t out_len);
+
+/*
+ * The two at a minute of the week, counted from Monday 00:00 on, with a table of
+ * hours, three words a row: a role, its first minute and its end minute. A role is
+ * open at a minute if one of its rows has a first minute not after it and an end
+ * minute behind it; a role without rows is always open. A role that isn't open can't
+ * be put on. One with which a session starts goes on permitting, and so do the closed
+ * juniors of an open one.
+ *
+ * Refusal 22 comes before those of the file (and behind 17): a minute of
+ * PILZDAMO_WEEK or more, words that are no whole rows, over PILZDAMO_ROWS rows.
+ * Between 8 and 9 comes 23: a row with no such role, with a first minute not below its
+ * end, or with an end above PILZDAMO_WEEK. In the check 24, an on of a closed role,
+ * comes directly behind 11.
+ */
+pilzdamo_verdict pilzdamo_check_at(const uint8_t *file, size_t file_len,
+                                   const uint16_t *hours, size_t words,
+                                   uint16_t minute);
+pilzdamo_placed pilzdamo_place_at(const uint8_t *file, size_t file_len,
+                                  const uint16_t *hours, size_t words,
+                                  uint16_t minute, uint8_t *out, size_t out_len);
 
 /*
  * Runs a clinic file through a list of choices, two words each: a thread and its

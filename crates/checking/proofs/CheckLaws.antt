@@ -21,6 +21,7 @@ use Rattle.tables.specs.Records.{recordsAnswer}
 use Rattle.tables.proofs.RecordLaws.{owners-are-users, seated-are-users}
 use Rattle.trees.specs.Shape.{shapeAnswer}
 use Rattle.reading.specs.Reading.{bodyAnswer, reading, withHead, opened}
+use Rattle.reading.specs.declared.Opened.{Opened}
 use Rattle.reading.specs.declared.Opened.the-variants.{Fine, Refused}
 use Rattle.reading.proofs.LongLaws.{StandsFor, stands-judged}
 use Rattle.reading.proofs.ReadingLaws.{refused-by-head, by-body, head-given, refusal-given, opened-fine, opened-refused}
@@ -32,7 +33,7 @@ use Rattle.rules.specs.Rules.{wrong}
 use Rattle.rules.specs.Kept.{Owned}
 use Rattle.rules.proofs.PassLaws.{by-quiet}
 use Rattle.rules.specs.declared.Judged.{Judged}
-use Rattle.checking.specs.Check.{readingNames, checking, entered, scoped, examined, surveyed}
+use Rattle.checking.specs.Check.{readingNames, checking, entered, scoped, examined, surveyed, Admitted, examinedFrom, surveyedFrom}
 
 -- three answers in order
 in-order : (v n r : Verdict) → orElse v (orElse n r) ≡ orElse (orElse v n) r
@@ -142,6 +143,19 @@ module _ (f : List ℕ) where
         let records = both-quiet NoRefusal (recordsAnswer h (contentsAt f h)) (shapeAnswer (contentsAt f h)) (λ z. z) .0 body .0 in
         let few : (u : ℕ) → u ≤ length (contentsAt f h .users) → u < 65534 = λ u le. omega (arith, le, users-held f h, l .users) in
         (λ n. few _ (owners-are-users h (contentsAt f h) records n), λ n. few _ (seated-are-users h (contentsAt f h) records n))
+
+  -- a file that was opened, and examined from there
+  pub admitted : (a : Opened) → opened f ≡ a → Admitted f a
+  admitted (Fine h) e = e
+  admitted (Refused w) e = tt
+
+  pub examined-from : (a : Opened) → opened f ≡ a → examinedFrom f a ≡ examined f
+  examined-from (Fine h) e = examined-late h e (judgement (contentsAt f h)) refl
+  examined-from (Refused w) e = examined-early w e
+
+  pub surveyed-from : (a : Opened) → opened f ≡ a → (old : List ℕ) → surveyedFrom f a old ≡ surveyed f old
+  surveyed-from (Fine h) e old = surveyed-late h e old
+  surveyed-from (Refused w) e old = surveyed-early w e old
 
   -- and the check, from the way in
   check-by-names : checking f ≡ orElse (readingNames f) (rolesAnswer (contentsOf f))

@@ -7,7 +7,7 @@ use reading::with_head;
 use rules::judge::judge;
 ghost use mathlib.Core.Path.{_≡_};
 ghost use lib.ListN.{length};
-ghost use Rattle.checking.specs.Check.{readingNames, checking, entered, scoped, examined, surveyed};
+ghost use Rattle.checking.specs.Check.{readingNames, checking, entered, scoped, examined, surveyed, Admitted, examinedFrom, surveyedFrom};
 
 // The file's head or the first of 1 to 10, and where these refuse nothing the first of 11 to 13.
 pub struct Examined {
@@ -49,13 +49,12 @@ pub fn read_names(file: &[u8]) -> Verdict
     }
 }
 
-// What `check` and placing need: 1 to 13, and each node's candidates, where 1 to 8 refuse nothing, in the table from index 1 on, as far as 9 and 10
-// refuse nothing.
-pub fn examine(file: &[u8], roles: &mut [u16]) -> Examined
-    requires { ⌜ length (now roles) ≡ 1025 ⌝ }
-    ensures { λ r. ⌜ (r ≡ examined (now (file .entry))) × (now (roles .exit) ≡ surveyed (now (file .entry)) (now (roles .entry))) ⌝ }
+// Of a file whose way in was judged: 9 to 13, and each node's candidates in the table from index 1 on, as far as 9 and 10 refuse nothing. Where there is
+// no head, what refuses it.
+pub fn examine_opened(file: &[u8], answer: Opened, roles: &mut [u16]) -> Examined
+    requires { ⌜ Admitted (now file) answer × (length (now roles) ≡ 1025) ⌝ }
+    ensures { λ r. ⌜ (r ≡ examinedFrom (now (file .entry)) answer) × (now (roles .exit) ≡ surveyedFrom (now (file .entry)) answer (now (roles .entry))) ⌝ }
 {
-    let answer = open(file);
     match answer {
         Opened::Refused(first) => Examined {
             names: Opened::Refused(first),
@@ -74,6 +73,15 @@ pub fn examine(file: &[u8], roles: &mut [u16]) -> Examined
             }
         }
     }
+}
+
+// What `check` and placing need: 1 to 13, and each node's candidates, where 1 to 8 refuse nothing, in the table from index 1 on, as far as 9 and 10
+// refuse nothing.
+pub fn examine(file: &[u8], roles: &mut [u16]) -> Examined
+    requires { ⌜ length (now roles) ≡ 1025 ⌝ }
+    ensures { λ r. ⌜ (r ≡ examined (now (file .entry))) × (now (roles .exit) ≡ surveyed (now (file .entry)) (now (roles .entry))) ⌝ }
+{
+    examine_opened(file, open(file), roles)
 }
 
 // The first of the refusals 1 to 13.

@@ -17,7 +17,7 @@ use Rattle.checking_exact.proofs.FileRules.{names-iff, rules-iff}
 use Rattle.checking_exact.proofs.CheckFirst.{names-fine, check-fine}
 
 -- what holds of the contents of a well formed file where the file as data has Q
-read-with : (P : Contents → Type 0) (Q : File → Type 0) → ((F : File) → WellFormed F → P (contentsFor F) ↔ Q F) → (f : List ℕ) → All (λ b. b < 256) f
+pub read-with : (P : Contents → Type 0) (Q : File → Type 0) → ((F : File) → WellFormed F → P (contentsFor F) ↔ Q F) → (f : List ℕ) → All (λ b. b < 256) f
     → ((reading f ≡ fine) × P (contentsOf f)) ↔ ((F : File) × WellFormed F × (encode F ≡ f) × Q F)
 read-with P Q same f bytes = (to, back)
   where

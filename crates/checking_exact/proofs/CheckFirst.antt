@@ -38,17 +38,17 @@ use Rattle.checking_exact.proofs.RoleFaults.{barred-fault, fault-barred
 abbrev stage : ℕ → ℕ
 stage = checkOrder .stage
 
-low-stage : (n : ℕ) → inTurn n ≤ 16 → stage n ≡ inTurn n
+pub low-stage : (n : ℕ) → inTurn n ≤ 16 → stage n ≡ inTurn n
 low-stage n l = rw (le-leb (inTurn n) 16 l)
 
-names-stage : (n : ℕ) → 16 < inTurn n → inTurn n ≤ 20 → stage n ≡ 18
+pub names-stage : (n : ℕ) → 16 < inTurn n → inTurn n ≤ 20 → stage n ≡ 18
 names-stage n l h = go (eqb n 21) refl
   where
     go : (b : Bool) → eqb n 21 ≡ b → stage n ≡ 18
     go true e = let z : inTurn n ≡ 13 = rw e in absurd (omega (arith, l, z))
     go false e = let z : inTurn n ≡ 2 * n = turn-of n (eqb-false n 21 e) in rw (lt-leb (inTurn n) 16 l, le-leb n 10 (omega (arith, h, z)))
 
-roles-stage : (n : ℕ) → 20 < inTurn n → stage n ≡ 22
+pub roles-stage : (n : ℕ) → 20 < inTurn n → stage n ≡ 22
 roles-stage n l = go (eqb n 21) refl
   where
     go : (b : Bool) → eqb n 21 ≡ b → stage n ≡ 22
@@ -72,12 +72,12 @@ past-eight n m l h = go (leb (inTurn m) 20) refl
     go false e = omega (arith, l, low-stage n l, roles-stage m (leb-false (inTurn m) 20 e))
 
 -- among 1 to 8 and 21 the order is that of reading
-reading-sooner : (n p m q : ℕ) → inTurn n ≤ 16 → inTurn m ≤ 16 → Sooner readingOrder n p m q → Sooner checkOrder n p m q
+pub reading-sooner : (n p m q : ℕ) → inTurn n ≤ 16 → inTurn m ≤ 16 → Sooner readingOrder n p m q → Sooner checkOrder n p m q
 reading-sooner n p m q l h (inl b) = inl (omega (arith, b, low-stage n l, low-stage m h))
 reading-sooner n p m q l h (inr (e, b)) = inr (low-stage n l ∙ e ∙ sym (low-stage m h), b)
 
 -- a node's refusals come after those, each by its number
-fault-turn : (D : Schema) (c : Context) (x : Node) (n : ℕ) → Fault D c x n → (1 ≤ n) × (16 < inTurn n) × (inTurn n ≡ 2 * n)
+pub fault-turn : (D : Schema) (c : Context) (x : Node) (n : ℕ) → Fault D c x n → (1 ≤ n) × (16 < inTurn n) × (inTurn n ≡ 2 * n)
 fault-turn D c x n h =
     let (low, high) = fault-number D c x n h in
     let z : inTurn n ≡ 2 * n = turn-of n (λ e. omega (arith, high, e)) in

@@ -31,7 +31,7 @@ openings-for F = go 1 (F .sessions)
 pub ranged : (F : File) → WellFormed F → Ranged (schemaFor F)
 ranged F W = record { users = omega (arith, W .few-users); channels = omega (arith, W .few-channels) }
 
-module _ (F : File) (W : WellFormed F) where
+module _ (F : File) (R : Ranged (schemaFor F)) where
   abbrev D : Schema
   D = schemaFor F
 
@@ -54,10 +54,17 @@ module _ (F : File) (W : WellFormed F) where
   unfolding rolesAnswer barred
   barred-iff = rule-iff (barred D) (λ c. refl) (λ c j. refl)
 
-  pub names-iff : (namesAnswer (contentsFor F) ≡ fine) ↔ WellKinded F
-  names-iff = Iff·trans wrong-iff (all-iff (F .sessions) (λ s. kinded-iff D (ranged F W) (s .user) [] (s .mask) (s .tree)))
+  -- that its starting masks are its users' plays no part
+  pub names-ranged : (namesAnswer (contentsFor F) ≡ fine) ↔ WellKinded F
+  names-ranged = Iff·trans wrong-iff (all-iff (F .sessions) (λ s. kinded-iff D R (s .user) [] (s .mask) (s .tree)))
 
-  pub rules-iff : ((namesAnswer (contentsFor F) ≡ fine) × (rolesAnswer (contentsFor F) ≡ fine)) ↔ Obeys F
-  rules-iff =
+  pub rules-ranged : ((namesAnswer (contentsFor F) ≡ fine) × (rolesAnswer (contentsFor F) ≡ fine)) ↔ Obeys F
+  rules-ranged =
       Iff·trans (Iff·and wrong-iff barred-iff)
-      (Iff·trans (all-and _ _ (F .sessions)) (all-iff (F .sessions) (λ s. typed-iff D (ranged F W) (s .user) [] (s .mask) (s .tree))))
+      (Iff·trans (all-and _ _ (F .sessions)) (all-iff (F .sessions) (λ s. typed-iff D R (s .user) [] (s .mask) (s .tree))))
+
+pub names-iff : (F : File) → WellFormed F → (namesAnswer (contentsFor F) ≡ fine) ↔ WellKinded F
+names-iff F W = names-ranged F (ranged F W)
+
+pub rules-iff : (F : File) → WellFormed F → ((namesAnswer (contentsFor F) ≡ fine) × (rolesAnswer (contentsFor F) ≡ fine)) ↔ Obeys F
+rules-iff F W = rules-ranged F (ranged F W)

@@ -1,4 +1,5 @@
 pub mod SameContents
+pub mod LongHours
 pub mod LongInputs
 pub mod Promises
 -- walks by hand: calls of covered functions, calls that lend a list again, the records of a list, a local array

@@ -28,6 +28,7 @@ use Rattle.running.proofs.StandLaws.{stands-run, stands-over as stands-ran}
 use Rattle.lending.specs.Lent.{lending, choosing, recordsOver, besideOver}
 use Rattle.lending.specs.Starting.{starting, recordsStarted, besideStarted}
 use Rattle.engine.specs.Alike.{Alike}
+use Rattle.engine.proofs.LongHours.{stands-check-at, stands-place-at, stands-over-at}
 
 -- no pair, for a refusal
 abbrev noPair : Verdict → Ready
@@ -89,6 +90,7 @@ kept-alike f = record {
     measured =
         let same = stands-measured kept f stands in
         (ap (λ (a : Placed). a .number) same, ap (λ (a : Placed). a .place) same, ap (λ (a : Placed). a .«on_steps») same);
+    check-at = λ t m. stands-check-at t m kept f stands;
     run = λ ws room. stands-run ws room kept f stands;
     ran = λ ws out. stands-ran ws out kept f stands;
     pair = λ ws. judged (λ n. noPair (cond (listed (length ws)) (refused n 0) (refused 17 0))) (λ g. ready g ws) (λ g n e. pair-refused g n e ws) f;
@@ -101,6 +103,8 @@ kept-alike f = record {
   };
   place = λ room. stands-placed room kept f stands;
   placed = λ out. stands-over out kept f stands;
+  place-at = λ t m room. stands-place-at t m room kept f stands;
+  placed-at = λ t m out. stands-over-at t m out kept f stands;
 }
   where
     kept : List ℕ

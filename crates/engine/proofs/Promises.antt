@@ -1,6 +1,7 @@
 -- What the engine promises, each promise under a sentence of the paper (01), of the demands or of a request (K1 ..); nothing else stands here. Where "1 to 8" or "1 to 10" is written, 21 is among them.
 -- What a caller gets is in the contracts of the exported functions (src/lib.rt): of any bytes handed over `pilzdamo_read` answers `readingNames`, the refusals 1 to 10,
--- `pilzdamo_check` `checking`, the refusals 1 to 13, `pilzdamo_place` `placing`, with `placedOver` in the output, `pilzdamo_run`
+-- `pilzdamo_check` `checking`, the refusals 1 to 13, `pilzdamo_place` `placing`, with `placedOver` in the output, for a minute of the week `pilzdamo_check_at` `checkingAt`
+-- and `pilzdamo_place_at` `placingAt`, with `placedOverAt`, `pilzdamo_run`
 -- `running`, with `runOver` in the output, `pilzdamo_ready` `ready`, `pilzdamo_start` `starting`, with `recordsStarted` in the lent list and
 -- `besideStarted` beside it, and `pilzdamo_choose` `choosing`, with `recordsOver` and `besideOver`.
 use Prim.Native.Nat.{ℕ, _+_, _*_, _-_, _/_, _%_, _^_, _≤_, _<_}
@@ -19,11 +20,12 @@ use Rattle.format.specs.Header.{Counted, versionAt, roomFor}
 use Rattle.format.specs.declared.Six.{Six}
 use Rattle.reading.specs.Reading.{reading}
 use Rattle.reading_exact.specs.Lists.{All}
-use Rattle.reading_exact.specs.File.{InCount, File, WellFormed, asSecond, contentsFor, encode}
+use Rattle.reading_exact.specs.File.{InCount, rolesOf, File, WellFormed, asSecond, contentsFor, encode}
 use Rattle.reading_exact.specs.ByWords.{CountedByWords, ByWords}
 use Rattle.reading_exact.specs.Order.{OfFile, First}
 use Rattle.reading_exact.specs.Refusals.{OneChild, lengthOf, Refusable, readingOrder}
 use Rattle.checking.specs.Check.{readingNames, checking}
+use Rattle.checking_exact.specs.Tables.{schemaFor}
 use Rattle.checking_exact.specs.Typing.{WellKinded, ByRoles, Obeys}
 use Rattle.checking_exact.specs.Faults.{Nameless, Objection, checkOrder}
 use Rattle.checking_exact.specs.ByWords.{TablesByWords, May, ownMask, juniorMask, GrantedByWords}
@@ -83,6 +85,22 @@ use Rattle.lending_exact.proofs.LentSteps.{lent-free, lent-steps}
 use Rattle.lending_exact.proofs.Unchanged.{refused-unchanged, past-kept}
 use Rattle.lending_exact.proofs.LentStarts.{start-lends, start-lendable, start-records-past, start-words-past, refused-start}
 use Rattle.lending_exact.proofs.StartAnswers.{start-ten, start-eighteen, start-fine}
+use Rattle.hours.specs.Hours.{rowAt, TableFits, shut, Open}
+use Rattle.hours.proofs.ShutLaws.{open-exactly}
+use Rattle.checking_at.specs.CheckAt.{checkingAt}
+use Rattle.placing_at.specs.PlaceAt.{openContents, placingAt, placedBytesAt, placedOverAt}
+use Rattle.hours_exact.specs.OpenFile.{openFile, RowsFit}
+use Rattle.hours_exact.specs.HourFaults.{ObjectionAt, withHours}
+use Rattle.hours_exact.specs.PromisedAt.{WellPlacedAt, UnrefusedAt, Standing, CauseAt, RuledAt}
+use Rattle.hours_exact.specs.HourCases.{Shown as HourShown, cases as hour-cases}
+use Rattle.hours_exact.proofs.OpenFiles.{open-masks, users-open}
+use Rattle.hours_exact.proofs.CheckAtExact.{check-at-exact, passes-plain}
+use Rattle.hours_exact.proofs.CheckAtFirst.{check-at-first}
+use Rattle.hours_exact.proofs.StandingPlaced.{left-at, placed-standing}
+use Rattle.hours_exact.proofs.PlaceAtFirst.{place-at-first}
+use Rattle.hours_exact.proofs.PlaceAtExact.{well-at, fewest-at, fifteen-at, none-at, fifteen-place-at, ruled-at, sixteen-at, seventeen-at, placed-at, written-over-at, kept-at}
+use Rattle.hours_exact.proofs.EmptyTable.{check-empty, place-empty, over-empty}
+use Rattle.hours_exact.proofs.CasesShown.{hours-shown}
 use Rattle.engine.specs.Alike.{AlikeBesideForm, Alike}
 use Rattle.engine.proofs.SameContents.{alike-beside-form, alike, second-alike}
 use Rattle.engine.proofs.LongInputs.{kept-alike}
@@ -524,3 +542,113 @@ rule-six-by-words f e m w k = (
   λ (r, (low, high), held, may). let c : InCount (wordAt f 2) r = (low, omega (arith, high, counted-by-words f .roles)) in (r, c, held, grants-through-juniors f e w r k c .0 may),
   λ (r, c, held, g). (r, (c .0, omega (arith, c .1, counted-by-words f .roles)), held, grants-through-juniors f e w r k c .1 g),
 )
+
+-- Request K2, hours. "A table of hours is lent beside the file, three words a row: role, first minute, end minute of the week": row i, from 0, of the table t.
+pub rows-by-words : (t : List ℕ) (i : ℕ) → rowAt t i ≡ record { role = getD t (3 * i) 0; first = getD t (3 * i + 1) 0; end = getD t (3 * i + 2) 0 }
+rows-by-words t i = refl
+
+-- "A role is open at minute m if some row has first ≤ m and m < end. A role without rows is always open": `Open` says so, and exactly the roles that are not open are shut.
+pub open-by-rows : (t : List ℕ) (m r : ℕ) → 1 ≤ r → r ≤ 16 → (has (shut t m) r ≡ false) ↔ Open t m r
+open-by-rows = open-exactly
+
+-- A file as it stands at a minute: of the roles assigned each user has exactly those that are open ..
+pub stands-with-open-roles : (t : List ℕ) (m : ℕ) (F : File) → WellFormed F → (u r : ℕ)
+    → (has (item 0 (openFile t m F .users) u) r ≡ true) ↔ ((has (item 0 (F .users) u) r ≡ true) × Open t m r)
+stands-with-open-roles = open-masks
+
+-- .. and nothing else changes: "A senior role that is open keeps what its closed juniors permit, and a starting mask is judged, and permits, without hours".
+pub grants-without-hours : (t : List ℕ) (m : ℕ) (F : File) → schemaFor (openFile t m F) .grants ≡ schemaFor F .grants
+grants-without-hours t m F = refl
+
+pub sessions-without-hours : (t : List ℕ) (m : ℕ) (F : File) → openFile t m F .sessions ≡ F .sessions
+sessions-without-hours t m F = refl
+
+pub tables-without-hours : (t : List ℕ) (m : ℕ) (F : File)
+    → (length (openFile t m F .users) ≡ length (F .users)) × (openFile t m F .grants ≡ F .grants) × (openFile t m F .kinds ≡ F .kinds) × (openFile t m F .channels ≡ F .channels)
+tables-without-hours t m F = (users-open t m F, refl, refl, refl)
+
+-- "Check .. can be called for a minute": nothing is refused exactly where the table is of whole rows, at most 64, and the minute one of the week, where the bytes are the encoding of a well formed file (7 by
+-- the whole masks), every row fits its roles, and the file as it stands at the minute obeys the rules.
+pub checks-at-exactly : (f : List ℕ) → All (λ b. b < 256) f → (t : List ℕ) (m : ℕ)
+    → (checkingAt f t m ≡ fine) ↔ (TableFits t m × ((F : File) × WellFormed F × (encode F ≡ f) × (RowsFit (length (rolesOf (F .grants))) t × Obeys (openFile t m F))))
+checks-at-exactly f bytes t m = check-at-exact f t m bytes
+
+-- "22 .. directly after 17; 23 .. after 8; 24, on of a closed role, place the node, in the check only, directly after 11": the refusal answered is the first in that order that has its cause, each in the request's own
+-- words, and none is answered where none has.
+pub first-of-check-at : (f t : List ℕ) (m : ℕ) → First (withHours checkOrder) (ObjectionAt f t m) (checkingAt f t m)
+first-of-check-at = check-at-first
+
+-- "placing, the placements it is compared with, and 15 then count open roles only". Where nothing before 15 refuses, the answer is that for the file as it stands at the minute ..
+pub placed-as-it-stands : (f : List ℕ) → All (λ b. b < 256) f → (t : List ℕ) (m room : ℕ) → UnrefusedAt f t m room → (F : File) → encode F ≡ f
+    → placingAt f t m room ≡ placing (encode (openFile t m F)) (roomFor (encode (openFile t m F)))
+placed-as-it-stands f bytes t m room u F e = placed-standing f bytes t m F (left-at f bytes t m u F e) u
+
+-- .. and what is placed has its input's users, whole masks, roles, kinds and channels, its sessions' users and starting masks, and the trees that are placed of the file as it stands, well placed: a placement with open
+-- roles only, with the fewest on steps of all, by the tie rule. It passes the check at that minute, and the length and the count returned are its own.
+pub places-well-at : (f : List ℕ) → All (λ b. b < 256) f → (t : List ℕ) (m room : ℕ) → placingAt f t m room .number ≡ 0 → WellPlacedAt f t m (placingAt f t m room) (placedBytesAt f t m)
+places-well-at = well-at
+
+-- No placement with open roles only, of those that pass by rules 5 and 6, has fewer on steps; 15 is the answer exactly where nothing before it refuses and there is none of these (by all rules, and by 5 and 6 alone), and
+-- its place is the lowest send or receive that no open role of the user permits.
+pub fewest-of-open-rivals : (f : List ℕ) → All (λ b. b < 256) f → (t : List ℕ) (m room : ℕ) → placingAt f t m room .number ≡ 0 → (F : File) → encode F ≡ f → (ts : List Tree)
+    → PlacementByRoles (openFile t m F) ts → placingAt f t m room .«on_steps» ≤ onStepsOf ts
+fewest-of-open-rivals = fewest-at
+
+pub no-open-role-exactly : (f : List ℕ) → All (λ b. b < 256) f → (t : List ℕ) (m room : ℕ)
+    → ((p : ℕ) × (placingAt f t m room ≡ noPlace 15 p)) ↔ (UnrefusedAt f t m room × ((F : File) → encode F ≡ f → (ts : List Tree) → Placement (openFile t m F) ts → ⊥))
+no-open-role-exactly = fifteen-at
+
+pub no-open-role-no-rival : (f : List ℕ) → All (λ b. b < 256) f → (t : List ℕ) (m room : ℕ)
+    → ((p : ℕ) × (placingAt f t m room ≡ noPlace 15 p)) ↔ (UnrefusedAt f t m room × ((F : File) → encode F ≡ f → (ts : List Tree) → PlacementByRoles (openFile t m F) ts → ⊥))
+no-open-role-no-rival = none-at
+
+pub lowest-unserved-at : (f : List ℕ) → All (λ b. b < 256) f → (t : List ℕ) (m room p : ℕ)
+    → (placingAt f t m room ≡ noPlace 15 p) ↔ (UnrefusedAt f t m room × Lowest (Unserved (openContents (shut t m) (contentsOf f))) p)
+lowest-unserved-at = fifteen-place-at
+
+-- The tie rule, 16, 17, and that a file is placed in all other cases.
+pub tie-rule-at : (f : List ℕ) → All (λ b. b < 256) f → (t : List ℕ) (m room : ℕ) → UnrefusedAt f t m room → (F : File) → encode F ≡ f → (ts : List Tree) → Placement (openFile t m F) ts → RuledAt f t m F
+tie-rule-at = ruled-at
+
+pub too-large-at-exactly : (f : List ℕ) → All (λ b. b < 256) f → (t : List ℕ) (m room p : ℕ)
+    → (placingAt f t m room ≡ noPlace 16 p) ↔ ((p ≡ 0) × UnrefusedAt f t m room × Standing (PlacedWith (λ n. 1024 < n)) f t m)
+too-large-at-exactly = sixteen-at
+
+pub no-room-at : (f : List ℕ) → All (λ b. b < 256) f → (t : List ℕ) (m room : ℕ) → (placingAt f t m room ≡ noPlace 17 0) ↔ (room < roomFor f)
+no-room-at = seventeen-at
+
+pub placed-otherwise-at : (f : List ℕ) → All (λ b. b < 256) f → (t : List ℕ) (m room : ℕ) → (placingAt f t m room .number ≡ 0) ↔ (UnrefusedAt f t m room × Standing (PlacedWith (λ n. n ≤ 1024)) f t m)
+placed-otherwise-at = placed-at
+
+-- The order: 17, 22, 1 to 8, 23, 9 and 10, then 14, 15, 16.
+pub first-of-placing-at : (f : List ℕ) → All (λ b. b < 256) f → (t : List ℕ) (m room : ℕ) → First (withHours placingOrder) (CauseAt f t m room) (refusalIn (placingAt f t m room))
+first-of-placing-at = place-at-first
+
+-- Output bytes past the placed file keep what they held, and nothing is written where anything is refused.
+pub rest-kept-at : (f : List ℕ) → All (λ b. b < 256) f → (t : List ℕ) (m : ℕ) (out : List ℕ) → placingAt f t m (length out) .number ≡ 0
+    → placedOverAt f t m out ≡ placedBytesAt f t m ++ drop (length (placedBytesAt f t m)) out
+rest-kept-at = written-over-at
+
+pub nothing-written-at : (f t : List ℕ) (m : ℕ) (out : List ℕ) → placingAt f t m (length out) .number ≢ 0 → placedOverAt f t m out ≡ out
+nothing-written-at = kept-at
+
+-- With an empty table, at a minute of the week, both answer as without hours.
+pub without-rows : (f : List ℕ) (m : ℕ) → m ≤ 10079
+    → (checkingAt f [] m ≡ checking f) × ((room : ℕ) → placingAt f [] m room ≡ placing f room) × ((out : List ℕ) → placedOverAt f [] m out ≡ placedOver f out)
+without-rows f m week = (check-empty f m week, place-empty f m week, over-empty f m week)
+
+-- Runs know no hours, and a file placed for a minute is not stopped for a role in any of them, whatever the list; nor is any file that passes for some minute.
+pub never-for-a-role-at : (f : List ℕ) → All (λ b. b < 256) f → (t : List ℕ) (m room : ℕ) → placingAt f t m room .number ≡ 0 → (ws : List ℕ)
+    → (ranOf (placedBytesAt f t m) ws .refusal ≢ 11) × (ranOf (placedBytesAt f t m) ws .refusal ≢ 12) × (ranOf (placedBytesAt f t m) ws .refusal ≢ 13)
+never-for-a-role-at f bytes t m room placed = run-safe (placedBytesAt f t m) (passes-plain (placedBytesAt f t m) t m (well-at f bytes t m room placed .passes))
+
+pub checked-at-never-for-a-role : (f t : List ℕ) (m : ℕ) → checkingAt f t m ≡ fine → (ws : List ℕ) → (ranOf f ws .refusal ≢ 11) × (ranOf f ws .refusal ≢ 12) × (ranOf f ws .refusal ≢ 13)
+checked-at-never-for-a-role f t m passes = run-safe f (passes-plain f t m passes)
+
+-- What passes for some minute passes the check without hours.
+pub checked-at-checked : (f t : List ℕ) (m : ℕ) → checkingAt f t m ≡ fine → checking f ≡ fine
+checked-at-checked = passes-plain
+
+-- Files, tables and minutes in literal words.
+pub hours-in-words : All HourShown hour-cases
+hours-in-words = hours-shown

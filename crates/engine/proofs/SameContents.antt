@@ -7,7 +7,7 @@ use Rattle.format.specs.Words.{wordAt}
 use Rattle.format.proofs.HeadLaws.{IsVersion, Headed}
 use Rattle.format.proofs.AnswerLaws.{NoRefusal, both-quiet}
 use Rattle.checking.proofs.CheckLaws.{names-headed}
-use Rattle.placing.proofs.PlaceLaws.{room-by-word}
+use Rattle.placing.proofs.PlaceLaws.{room-by-word, over-room}
 use Prim.Native.Nat.{ℕ}
 use mathlib.Core.Bool.{Bool, true, false, cond}
 use mathlib.Core.List.{List}
@@ -16,13 +16,16 @@ use lib.ListN.{length}
 use lib.Seq.{sets}
 use Rattle.format.specs.Answers.{orElse}
 use Rattle.format.specs.Header.{Laid, headAt, versionAt, roomFor}
-use Rattle.format.specs.Writing.{encoded}
 use Rattle.format.specs.declared.Verdict.{Verdict}
-use Rattle.groups.specs.Groups.{startsOf, placedContents}
+use Rattle.rules.specs.Checking.{namesAnswer}
+use Rattle.states.specs.declared.Turn.{Turn}
+use Rattle.hours.specs.Hours.{tableAnswer, rowsAnswer, shut}
 use Rattle.format.specs.Contents.{Contents, contentsOf}
 use Rattle.reading.specs.Reading.{reading}
 use Rattle.checking.specs.Check.{readingNames, checking}
-use Rattle.placing.specs.Placing.{turnsFor, placeable, judging, noPlace, placedIn, placedAnswer, measuring, placing, placedBytes, placedOver}
+use Rattle.checking_at.specs.CheckAt.{readingAt, readingNamesAt, checkingAt}
+use Rattle.placing.specs.Placing.{turnsFor, placeable, judging, noPlace, placedBy, answerBy, bytesBy, overBy, measuring, placing, placedBytes, placedOver}
+use Rattle.placing_at.specs.PlaceAt.{openContents, turnsAt, judgingAt, placingAt, placedBytesAt, placedOverAt}
 use Rattle.running.specs.Run.{running, runOver, ready}
 use Rattle.lending.specs.Lent.{lending, choosing, recordsOver, besideOver}
 use Rattle.lending.specs.Starting.{starting, recordsStarted, besideStarted}
@@ -41,22 +44,28 @@ module _ (f g : List ℕ) (r : reading f ≡ reading g) (c : contentsOf f ≡ co
   unfolding judging
   judged = ap₂ (λ v C. orElse v (placeable C)) names c
 
+  judged-at : (t : List ℕ) (m : ℕ) → judgingAt f t m ≡ judgingAt g t m
+  unfolding judgingAt readingNamesAt readingAt
+  judged-at t m = rw (r, c)
+
   -- refused or not by the same verdict, whatever the version
-  measured-alike : (v w : ℕ) (C : Contents) (x : Verdict) → (placedAnswer v C x .number ≡ placedAnswer w C x .number) × (placedAnswer v C x .place ≡ placedAnswer w C x .place) × (placedAnswer v C x .«on_steps» ≡ placedAnswer w C x .«on_steps»)
-  measured-alike v w C x = go (eqb (x .number) 0)
+  measured-alike : (v w : ℕ) (C : Contents) (ts : List Turn) (x : Verdict)
+      → (answerBy v C ts x .number ≡ answerBy w C ts x .number) × (answerBy v C ts x .place ≡ answerBy w C ts x .place) × (answerBy v C ts x .«on_steps» ≡ answerBy w C ts x .«on_steps»)
+  measured-alike v w C ts x = go (eqb (x .number) 0)
     where
-      go : (b : Bool) → (cond b (placedIn v C) (noPlace (x .number) (x .place)) .number ≡ cond b (placedIn w C) (noPlace (x .number) (x .place)) .number)
-          × (cond b (placedIn v C) (noPlace (x .number) (x .place)) .place ≡ cond b (placedIn w C) (noPlace (x .number) (x .place)) .place)
-          × (cond b (placedIn v C) (noPlace (x .number) (x .place)) .«on_steps» ≡ cond b (placedIn w C) (noPlace (x .number) (x .place)) .«on_steps»)
+      go : (b : Bool) → (cond b (placedBy v C ts) (noPlace (x .number) (x .place)) .number ≡ cond b (placedBy w C ts) (noPlace (x .number) (x .place)) .number)
+          × (cond b (placedBy v C ts) (noPlace (x .number) (x .place)) .place ≡ cond b (placedBy w C ts) (noPlace (x .number) (x .place)) .place)
+          × (cond b (placedBy v C ts) (noPlace (x .number) (x .place)) .«on_steps» ≡ cond b (placedBy w C ts) (noPlace (x .number) (x .place)) .«on_steps»)
       go true = (refl, refl, refl)
       go false = (refl, refl, refl)
 
   pub alike-beside-form : AlikeBesideForm f g
-  unfolding readingNames checking measuring running runOver ready lending choosing recordsOver besideOver starting recordsStarted besideStarted
+  unfolding readingNames checking readingAt readingNamesAt checkingAt measuring running runOver ready lending choosing recordsOver besideOver starting recordsStarted besideStarted
   alike-beside-form = record {
     read = names;
     check = rw (r, c);
-    measured = rw (judged, c) (measured-alike (versionAt f) (versionAt g) (contentsOf g) (judging g));
+    measured = rw (judged, c) (measured-alike (versionAt f) (versionAt g) (contentsOf g) (turnsFor (contentsOf g)) (judging g));
+    check-at = λ t m. rw (r, c);
     run = λ ws room. rw (r, c);
     ran = λ ws out. rw (r, c);
     pair = λ ws. rw (r, c);
@@ -90,37 +99,67 @@ module _ (f g : List ℕ) (r : reading f ≡ reading g) (c : contentsOf f ≡ co
     unfolding judging
     unrefused q = both-quiet NoRefusal (readingNames g) (placeable (contentsOf g)) (λ z. z) .0 q .0
 
-    measures : measuring f ≡ measuring g
-    unfolding measuring
-    measures = go (eqb (judging g .number) 0) refl
-      where
-        go : (b : Bool) → eqb (judging g .number) 0 ≡ b → placedAnswer (versionAt f) (contentsOf f) (judging f) ≡ placedAnswer (versionAt g) (contentsOf g) (judging g)
-        go true e = λ i. placedAnswer (versions (unrefused (eqb-true (judging g .number) 0 e)) i) (c i) (judged i)
-        go false e = ap₂ (placedAnswer (versionAt f)) c judged ∙ rw e
+    unrefused-at : (t : List ℕ) (m : ℕ) → NoRefusal (judgingAt g t m) → NoRefusal (readingNames g)
+    unfolding judgingAt readingNamesAt readingAt readingNames
+    unrefused-at t m q =
+        let C : Contents = contentsOf g in
+        let rest = both-quiet NoRefusal (tableAnswer t m) (orElse (readingNamesAt g t) (placeable (openContents (shut t m) C))) (λ z. z) .0 q .1 in
+        let named = both-quiet NoRefusal (readingNamesAt g t) (placeable (openContents (shut t m) C)) (λ z. z) .0 rest .0 in
+        let (rows, right) = both-quiet NoRefusal (readingAt g t) (namesAnswer C) (λ z. z) .0 named in
+        both-quiet NoRefusal (reading g) (namesAnswer C) (λ z. z) .1 (both-quiet NoRefusal (reading g) (rowsAnswer (length (C .roles)) t) (λ z. z) .0 rows .0, right)
+
+    -- by one verdict, and turns by what a file holds
+    module _ (turns : Contents → List Turn) (x : Verdict) (quiet : NoRefusal x → NoRefusal (readingNames g)) where
+      answered : answerBy (versionAt f) (contentsOf f) (turns (contentsOf f)) x ≡ answerBy (versionAt g) (contentsOf g) (turns (contentsOf g)) x
+      answered = go (eqb (x .number) 0) refl
+        where
+          go : (b : Bool) → eqb (x .number) 0 ≡ b
+              → cond b (placedBy (versionAt f) (contentsOf f) (turns (contentsOf f))) (noPlace (x .number) (x .place)) ≡ cond b (placedBy (versionAt g) (contentsOf g) (turns (contentsOf g))) (noPlace (x .number) (x .place))
+          go true e = λ i. placedBy (versions (quiet (eqb-true (x .number) 0 e)) i) (c i) (turns (c i))
+          go false e = refl
+
+      written : (out : List ℕ) → overBy (versionAt f) (contentsOf f) (turns (contentsOf f)) x out ≡ overBy (versionAt g) (contentsOf g) (turns (contentsOf g)) x out
+      written out = go (eqb (x .number) 0) refl
+        where
+          go : (b : Bool) → eqb (x .number) 0 ≡ b
+              → cond b (sets out 0 (bytesBy (versionAt f) (contentsOf f) (turns (contentsOf f)))) out ≡ cond b (sets out 0 (bytesBy (versionAt g) (contentsOf g) (turns (contentsOf g)))) out
+          go true e = λ i. sets out 0 (bytesBy (versions (quiet (eqb-true (x .number) 0 e)) i) (c i) (turns (c i)))
+          go false e = refl
 
     places : (room : ℕ) → placing f room ≡ placing g room
-    unfolding placing
-    places room = ap₂ (λ n a. cond (ltb room n) (noPlace 17 0) a) w measures
+    unfolding placing measuring
+    places room =
+        let same = ap (answerBy (versionAt f) (contentsOf f) (turnsFor (contentsOf f))) judged ∙ answered turnsFor (judging g) unrefused in
+        ap₂ (λ n a. cond (ltb room n) (noPlace 17 0) a) w same
 
     over : (out : List ℕ) → placedOver f out ≡ placedOver g out
     unfolding placedOver placedBytes placing measuring
-    over out = go (eqb (judging g .number) 0) refl
-      where
-        go : (b : Bool) → eqb (judging g .number) 0 ≡ b → placedOver f out ≡ placedOver g out
-        go true e =
-            let v = versions (unrefused (eqb-true (judging g .number) 0 e)) in
-            λ i. cond (eqb (places (length out) i .number) 0) (sets out 0 (encoded (v i) (placedContents (c i) (turnsFor (c i)) (startsOf (turnsFor (c i)))))) out
-        go false e = kept f (ap (λ (x : Verdict). eqb (x .number) 0) judged ∙ e) ∙ sym (kept g e)
-          where
-            kept : (h : List ℕ) → eqb (judging h .number) 0 ≡ false → placedOver h out ≡ out
-            kept h z = loud (ltb (length out) (roomFor h)) refl
-              where
-                loud : (b : Bool) → ltb (length out) (roomFor h) ≡ b → placedOver h out ≡ out
-                loud true t = rw t
-                loud false t = rw (t, z) (rw z)
+    over out =
+        let same = ap (λ (x : Verdict). overBy (versionAt f) (contentsOf f) (turnsFor (contentsOf f)) x out) judged ∙ written turnsFor (judging g) unrefused out in
+        over-room (ltb (length out) (roomFor f)) (versionAt f) (contentsOf f) (turnsFor (contentsOf f)) (judging f) out
+        ∙ ap₂ (λ n o. cond (ltb (length out) n) out o) w same
+        ∙ sym (over-room (ltb (length out) (roomFor g)) (versionAt g) (contentsOf g) (turnsFor (contentsOf g)) (judging g) out)
+
+    module _ (t : List ℕ) (m : ℕ) where
+      abbrev turns : Contents → List Turn
+      turns C = turnsFor (openContents (shut t m) C)
+
+      places-at : (room : ℕ) → placingAt f t m room ≡ placingAt g t m room
+      unfolding placingAt
+      places-at room =
+          let same = ap (answerBy (versionAt f) (contentsOf f) (turns (contentsOf f))) (judged-at t m) ∙ answered turns (judgingAt g t m) (unrefused-at t m) in
+          ap₂ (λ n a. cond (ltb room n) (noPlace 17 0) a) w same
+
+      over-at : (out : List ℕ) → placedOverAt f t m out ≡ placedOverAt g t m out
+      unfolding placedOverAt placedBytesAt placingAt
+      over-at out =
+          let same = ap (λ (x : Verdict). overBy (versionAt f) (contentsOf f) (turns (contentsOf f)) x out) (judged-at t m) ∙ written turns (judgingAt g t m) (unrefused-at t m) out in
+          over-room (ltb (length out) (roomFor f)) (versionAt f) (contentsOf f) (turns (contentsOf f)) (judgingAt f t m) out
+          ∙ ap₂ (λ n o. cond (ltb (length out) n) out o) w same
+          ∙ sym (over-room (ltb (length out) (roomFor g)) (versionAt g) (contentsOf g) (turns (contentsOf g)) (judgingAt g t m) out)
 
     pub alike : Alike f g
-    alike = record { answers = alike-beside-form; place = places; placed = over }
+    alike = record { answers = alike-beside-form; place = places; placed = over; place-at = places-at; placed-at = over-at }
 
 -- a file of version 1 in version 2
 pub second-alike : (F : File) → WellFormed F → (contentsOf (encode (asSecond F)) ≡ contentsOf (encode F)) × AlikeBesideForm (encode (asSecond F)) (encode F)

@@ -3,7 +3,9 @@ use Prim.Native.Nat.{ℕ}
 use mathlib.Core.Path.{_≡_}
 use mathlib.Core.List.{List}
 use Rattle.checking.specs.Check.{readingNames, checking}
+use Rattle.checking_at.specs.CheckAt.{checkingAt}
 use Rattle.placing.specs.Placing.{measuring, placing, placedOver}
+use Rattle.placing_at.specs.PlaceAt.{placingAt, placedOverAt}
 use Rattle.steps.specs.declared.Thread.{Thread}
 use Rattle.running.specs.Run.{running, runOver, ready}
 use Rattle.lending.specs.Lent.{choosing, recordsOver, besideOver}
@@ -15,6 +17,7 @@ pub record AlikeBesideForm (f g : List ℕ) : Type 0 where
   pub check : checking f ≡ checking g
   -- the refusal of placing in an output long enough, and the on steps
   pub measured : (measuring f .number ≡ measuring g .number) × (measuring f .place ≡ measuring g .place) × (measuring f .«on_steps» ≡ measuring g .«on_steps»)
+  pub check-at : (t : List ℕ) (m : ℕ) → checkingAt f t m ≡ checkingAt g t m
   pub run : (ws : List ℕ) (room : ℕ) → running f ws room ≡ running g ws room
   pub ran : (ws out : List ℕ) → runOver f ws out ≡ runOver g ws out
   pub pair : (ws : List ℕ) → ready f ws ≡ ready g ws
@@ -30,3 +33,5 @@ pub record Alike (f g : List ℕ) : Type 0 where
   pub answers : AlikeBesideForm f g
   pub place : (room : ℕ) → placing f room ≡ placing g room
   pub placed : (out : List ℕ) → placedOver f out ≡ placedOver g out
+  pub place-at : (t : List ℕ) (m room : ℕ) → placingAt f t m room ≡ placingAt g t m room
+  pub placed-at : (t : List ℕ) (m : ℕ) (out : List ℕ) → placedOverAt f t m out ≡ placedOverAt g t m out

@@ -19,7 +19,9 @@ use steps::Thread;
 ghost use mathlib.Core.Path.{_≡_};
 ghost use lib.ListN.{length};
 ghost use Rattle.checking.specs.Check.{readingNames, checking};
+ghost use Rattle.checking_at.specs.CheckAt.{checkingAt};
 ghost use Rattle.placing.specs.Placing.{placing, placedOver};
+ghost use Rattle.placing_at.specs.PlaceAt.{placingAt, placedOverAt};
 ghost use Rattle.running.specs.Run.{running, runOver, ready};
 ghost use Rattle.lending.specs.Lent.{choosing, recordsOver, besideOver};
 ghost use Rattle.lending.specs.Starting.{starting, recordsStarted, besideStarted};
@@ -47,6 +49,29 @@ pub extern "C" fn pilzdamo_place(file: &[u8], out: &mut [u8]) -> Placed
     ensures { λ r. ⌜ (r ≡ placing (now (file .entry)) (length (now (out .entry)))) × (now (out .exit) ≡ placedOver (now (file .entry)) (now (out .entry))) ⌝ }
 {
     placing::place(file, out)
+}
+
+// Checks a clinic file for a minute of the week, counted from Monday 00:00, with a table of opening hours, three words a row: role, first minute, end
+// minute. The first of 22, 1 to 8, 23, 9 and 10, then 11 to 13 and 24 by node, or 0 and 0 where it passes.
+#[no_mangle]
+pub extern "C" fn pilzdamo_check_at(file: &[u8], hours: &[u16], minute: u16) -> Verdict
+    ensures { λ r. ⌜ r ≡ checkingAt (now (file .entry)) (now (hours .entry)) minute ⌝ }
+{
+    checking_at::check_at(file, hours, minute)
+}
+
+// Places the roles of a clinic file that are open at the minute: the first of 17, 22, 1 to 8, 23, 9, 10, 14 to 16; or the placed file, as without hours.
+// Every other byte of the output stays.
+#[no_mangle]
+pub extern "C" fn pilzdamo_place_at(
+    file: &[u8],
+    hours: &[u16],
+    minute: u16,
+    out: &mut [u8],
+) -> Placed
+    ensures { λ r. ⌜ (r ≡ placingAt (now (file .entry)) (now (hours .entry)) minute (length (now (out .entry)))) × (now (out .exit) ≡ placedOverAt (now (file .entry)) (now (hours .entry)) minute (now (out .entry))) ⌝ }
+{
+    placing_at::place_at(file, hours, minute, out)
 }
 
 // Runs a clinic file through a list of choices, two words each: thread, partner. The first of 17 and 1 to 10; or the refusal that halted the run, with

@@ -21,7 +21,7 @@ use Rattle.states.specs.declared.Turn.{Turn}
 use Rattle.groups.specs.Groups.{sizesOf, startsFrom, startsOf, placedContents, turnsIn}
 use Rattle.states.proofs.TurnLaws.{turns-length, turns-unpacked}
 use Rattle.groups.proofs.GroupLaws.{placed-same, starts-table}
-use Rattle.placing.specs.Placing.{labelsIn, Labelled, turnsFor, masksAnswer, switchesAnswer, unservedFrom, sizeAnswer, unsettled, Settled, settling, placeable, decided, noSums, summed}
+use Rattle.placing.specs.Placing.{Labelled, masksAnswer, switchesAnswer, unservedFrom, sizeAnswer, unsettled, Settled, settling, placeableBy, decided, noSums, summed}
 use Rattle.placing.proofs.CandidateLaws.{candidates-length, labelled-more}
 
 pub decided-loud : (v : Verdict) (ts : List Turn) → (NoRefusal v → ⊥) → decided v ts ≡ record { verdict = v; sums = noSums }
@@ -130,43 +130,32 @@ module _ (C : Contents) where
       go true e loud = first-number (λ n. ltb (item noNode (C .nodes) n .tag) 7) (λ n. refused 14 n) 14 (λ n. refl) 1 (length (C .nodes)) loud
       go false e loud = first-number (λ n. eqb (item noSession (C .sessions) n .mask) 0) (λ n. refused 14 0) 14 (λ n. refl) 1 (length (C .sessions)) loud
 
-  pub bare-loud : (NoRefusal bare → ⊥) → placeable C ≡ bare
-  unfolding placeable
-  bare-loud l = loud-first bare (settling (labelsIn C)) l
+  -- where the nodes are seen so
+  module _ (ls : List Label) where
+    pub bare-loud : (NoRefusal bare → ⊥) → placeableBy C ls ≡ bare
+    bare-loud l = loud-first bare (settling ls) l
 
-  pub bare-quiet : NoRefusal bare → placeable C ≡ settling (labelsIn C)
-  unfolding placeable
-  bare-quiet b = quiet-first bare (settling (labelsIn C)) b
+    pub bare-quiet : NoRefusal bare → placeableBy C ls ≡ settling ls
+    bare-quiet b = quiet-first bare (settling ls) b
 
-  pub few-nodes : NoRefusal (placeable C) → sizesOf (turnsFor C) ≤ 1024
-  unfolding placeable
-  few-nodes q = go (leb (sizesOf (turnsFor C)) 1024) refl
-    where
-      size : NoRefusal (sizeAnswer (sizesOf (turnsFor C)))
-      size =
-          let settled = both-quiet NoRefusal bare (settling (labelsIn C)) (λ z. z) .0 q .1 in
-          both-quiet NoRefusal (unservedFrom 1 (labelsIn C)) (sizeAnswer (sizesOf (turnsFor C))) (λ z. z) .0 settled .1
+    pub few-nodes : NoRefusal (placeableBy C ls) → sizesOf (turnsOf ls) ≤ 1024
+    few-nodes q = go (leb (sizesOf (turnsOf ls)) 1024) refl
+      where
+        size : NoRefusal (sizeAnswer (sizesOf (turnsOf ls)))
+        size =
+            let settled = both-quiet NoRefusal bare (settling ls) (λ z. z) .0 q .1 in
+            both-quiet NoRefusal (unservedFrom 1 ls) (sizeAnswer (sizesOf (turnsOf ls))) (λ z. z) .0 settled .1
 
-      go : (b : Bool) → leb (sizesOf (turnsFor C)) 1024 ≡ b → sizesOf (turnsFor C) ≤ 1024
-      go true e = leb-true (sizesOf (turnsFor C)) 1024 e
-      go false e =
-          let bad : _≡_ {A = ℕ} 16 0 = rw e at size in
-          let no-way : ⊥ = omega (arith, bad) in
-          absurd no-way
+        go : (b : Bool) → leb (sizesOf (turnsOf ls)) 1024 ≡ b → sizesOf (turnsOf ls) ≤ 1024
+        go true e = leb-true (sizesOf (turnsOf ls)) 1024 e
+        go false e =
+            let bad : _≡_ {A = ℕ} 16 0 = rw e at size in
+            let no-way : ⊥ = omega (arith, bad) in
+            absurd no-way
 
-  -- each node has a turn
-  module _ (roles : List ℕ) (l : Labelled C roles) (room : length (C .nodes) < length roles) where
-    labels-length : length (labelsIn C) ≡ length (C .nodes)
-    labels-length = ap length (sym l) ∙ labelled-length (C .nodes) (drop 1 roles) (omega (arith, length-drop 1 roles, room))
-
-    pub turns-kept : (t t′ : List ℕ) → t′ ≡ sets t 1 (map packed (turnsFor C)) → length (C .nodes) < length t → turnsIn t′ (length (C .nodes)) ≡ turnsFor C
-    turns-kept t t′ e fits =
-        ap (λ r. turnsIn r (length (C .nodes))) e ∙ ap (turnsIn (sets t 1 (map packed (turnsFor C)))) (sym labels-length)
-        ∙ turns-read (labelsIn C) t (omega (arith, labels-length, fits))
-
-    pub starts-kept : (s : List ℕ) → length (C .nodes) ≤ 1024 → s ≡ sets (replicate 1025 0) 1 (startsFrom 1 (turnsFor C))
-        → placedContents C (turnsFor C) s ≡ placedContents C (turnsFor C) (startsOf (turnsFor C))
-    starts-kept s few e =
-        let n : length (turnsFor C) ≡ length (C .nodes) = turns-length (labelsIn C) ∙ labels-length in
-        ap (placedContents C (turnsFor C)) e
-        ∙ placed-same C (turnsFor C) (sets (replicate 1025 0) 1 (startsFrom 1 (turnsFor C))) (startsOf (turnsFor C)) (starts-table (turnsFor C) (omega (arith, n, few)))
+    -- each node has a turn
+    pub starts-kept : length ls ≤ 1024 → (s : List ℕ) → s ≡ sets (replicate 1025 0) 1 (startsFrom 1 (turnsOf ls))
+        → placedContents C (turnsOf ls) s ≡ placedContents C (turnsOf ls) (startsOf (turnsOf ls))
+    starts-kept few s e =
+        ap (placedContents C (turnsOf ls)) e
+        ∙ placed-same C (turnsOf ls) (sets (replicate 1025 0) 1 (startsFrom 1 (turnsOf ls))) (startsOf (turnsOf ls)) (starts-table (turnsOf ls) (omega (arith, turns-length ls, few)))

@@ -8,10 +8,10 @@ use lib.Dec.{eqb, ltb}
 use lib.ListN.{length}
 use lib.Seq.{sets, length-sets}
 use borrow.Author.Tests.{eq-eqb, ne-eqb, lt-ltb, le-ltb, ltb-true, ltb-false, eqb-true, eqb-false}
-use Rattle.format.specs.Contents.{contentsAt, contentsOf}
-use Rattle.format.specs.Writing.{headFor, encoded}
+use Rattle.format.specs.Contents.{Contents, contentsAt, contentsOf}
+use Rattle.format.specs.Writing.{headFor}
 use Rattle.format.specs.Answers.{refused, orElse}
-use Rattle.format.specs.Header.{more, juniorRecords, headAt, headOf, lengthFor, largest, roomFor, Laid}
+use Rattle.format.specs.Header.{more, juniorRecords, headAt, versionAt, headOf, lengthFor, largest, roomFor, Laid}
 use Rattle.format.specs.Words.{wordAt}
 use Rattle.format.specs.declared.Verdict.{Verdict}
 use Rattle.format.specs.declared.Head.{Head}
@@ -28,8 +28,10 @@ use Rattle.reading.proofs.ReadingLaws.{by-body}
 use Rattle.rules.specs.Candidates.{candidatesIn}
 use Rattle.checking.specs.Check.{readingNames, entered, surveyed}
 use Rattle.checking.proofs.CheckLaws.{names-refused, names-parts, names-headed, entered-fine, entered-refused}
-use Rattle.groups.specs.Groups.{sizesOf, onsOf, startsOf, placedContents}
-use Rattle.placing.specs.Placing.{Labelled, turnsFor, placeable, judging, noPlace, placedIn, placedAnswer, measuring, placing, placedBytes, placedOver}
+use Rattle.states.specs.declared.Turn.{Turn}
+use Rattle.states.specs.States.{turnsOf}
+use Rattle.groups.specs.Groups.{sizesOf, onsOf}
+use Rattle.placing.specs.Placing.{labelsIn, labelsFrom, Labelled, turnsFor, placeableBy, placeable, judging, noPlace, placedBy, placedIn, answerBy, answerFrom, placedAnswer, measuring, placing, bytesBy, placedBytes, overBy, overFrom, placedOver}
 use Rattle.placing.specs.declared.Placed.{Placed}
 use Rattle.placing.proofs.DecideLaws.{labels-kept, few-nodes}
 
@@ -82,6 +84,28 @@ room-enough f n d few = go (eqb (wordAt f 0) 2) refl
         let first : more (wordAt f 0) ≡ 0 = rw e in
         omega (arith, room-least f, none, first, few, l)
 
+-- an answer, and the output, by a verdict
+module _ (version : ℕ) (C : Contents) (ts : List Turn) (v : Verdict) where
+  pub answer-loud : (NoRefusal v → ⊥) → answerBy version C ts v ≡ noPlace (v .number) (v .place)
+  answer-loud l = rw (ne-eqb (v .number) 0 l)
+
+  pub answer-quiet : NoRefusal v → answerBy version C ts v ≡ placedBy version C ts
+  answer-quiet q = rw (eq-eqb (v .number) 0 q)
+
+  pub over-loud : (out : List ℕ) → (NoRefusal v → ⊥) → overBy version C ts v out ≡ out
+  over-loud out l = rw (ne-eqb (v .number) 0 l)
+
+  pub over-quiet : (out : List ℕ) → NoRefusal v → overBy version C ts v out ≡ sets out 0 (bytesBy version C ts)
+  over-quiet out q = rw (eq-eqb (v .number) 0 q)
+
+  -- the output is written where the answer refuses nothing
+  pub over-answered : (out : List ℕ) → overBy version C ts v out ≡ cond (eqb (answerBy version C ts v .number) 0) (sets out 0 (bytesBy version C ts)) out
+  over-answered out = go (eqb (v .number) 0) refl
+    where
+      go : (b : Bool) → eqb (v .number) 0 ≡ b → cond b (sets out 0 (bytesBy version C ts)) out ≡ cond (eqb (cond b (placedBy version C ts) (noPlace (v .number) (v .place)) .number) 0) (sets out 0 (bytesBy version C ts)) out
+      go true e = refl
+      go false e = rw e
+
 module _ (f : List ℕ) where
   pub too-small : (room : ℕ) → room < roomFor f → placing f room ≡ noPlace 17 0
   unfolding placing
@@ -118,13 +142,9 @@ module _ (f : List ℕ) where
       let (l, same) = entered-refused f w e in (loud-first (readingNames f) (placeable (contentsOf f)) l ∙ sym same, λ q. l (subst NoRefusal same q))
 
   -- where nothing is refused
-  pub placing-placed : (room : ℕ) → roomFor f ≤ room → NoRefusal (judging f) → placing f room ≡ placedIn (wordAt f 0) (contentsOf f)
+  placing-placed : (room : ℕ) → roomFor f ≤ room → NoRefusal (judging f) → placing f room ≡ placedIn (versionAt f) (contentsOf f)
   unfolding measuring
-  placing-placed room r q = answers room r ∙ rw (eq-eqb (judging f .number) 0 q)
-
-  pub over-placed : (out : List ℕ) → roomFor f ≤ length out → NoRefusal (judging f) → placedOver f out ≡ sets out 0 (placedBytes f)
-  unfolding placedOver
-  over-placed out r q = ap (λ a. cond (eqb (a .number) 0) (sets out 0 (placedBytes f)) out) (placing-placed (length out) r q)
+  placing-placed room r q = answers room r ∙ answer-quiet (versionAt f) (contentsOf f) (turnsFor (contentsOf f)) (judging f) q
 
   -- a file that 1 to 10 leave clean, by its head
   module _ (h : Head) (e : entered f ≡ Opened·Fine h) where
@@ -141,20 +161,30 @@ module _ (f : List ℕ) where
     unfolding judging
     judged = quiet-first (readingNames f) (placeable (contentsOf f)) names-quiet ∙ ap (λ (k : Head). placeable (contentsAt f k)) (sym same)
 
-    pub placed-here : _≡_ {A = Placed} (record {
-      number = 0;
-      place = 0;
-      length = lengthFor (h .at .nodes) (sizesOf (turnsFor (contentsAt f h)));
-      «on_steps» = onsOf (turnsFor (contentsAt f h));
-    }) (placedIn (wordAt f 0) (contentsOf f))
-    placed-here =
-        ap (λ (n : ℕ). record { number = 0; place = 0; length = lengthFor n (sizesOf (turnsFor (contentsAt f h))); «on_steps» = onsOf (turnsFor (contentsAt f h)) })
+    pub placed-here : (ts : List Turn) → _≡_ {A = Placed} (record { number = 0; place = 0; length = lengthFor (h .at .nodes) (sizesOf ts); «on_steps» = onsOf ts }) (placedBy (h .version) (contentsAt f h) ts)
+    placed-here ts =
+        ap (λ (n : ℕ). record { number = 0; place = 0; length = lengthFor n (sizesOf ts); «on_steps» = onsOf ts })
         (nodes-begin f h (entered-fine f h e .0))
-        ∙ ap (λ (k : Head). placedIn (k .version) (contentsAt f k)) same
 
-    pub bytes-here : encoded (h .version) (placedContents (contentsAt f h) (turnsFor (contentsAt f h)) (startsOf (turnsFor (contentsAt f h)))) ≡ placedBytes f
-    unfolding placedBytes
-    bytes-here = ap (λ (k : Head). encoded (k .version) (placedContents (contentsAt f k) (turnsFor (contentsAt f k)) (startsOf (turnsFor (contentsAt f k))))) same
+    -- where the table has each node's candidates, what is placed from it is what is placed
+    module _ (roles : List ℕ) (l : Labelled (contentsAt f h) roles) where
+      seen : {A : Type 0} (g : ℕ → Contents → List Turn → Verdict → A)
+          → g (h .version) (contentsAt f h) (turnsOf (labelsFrom (contentsAt f h) roles)) (placeableBy (contentsAt f h) (labelsFrom (contentsAt f h) roles)) ≡ g (versionAt f) (contentsOf f) (turnsFor (contentsOf f)) (judging f)
+      unfolding placeable
+      seen g =
+          ap (λ ls. g (h .version) (contentsAt f h) (turnsOf ls) (placeableBy (contentsAt f h) ls)) l
+          ∙ ap (g (h .version) (contentsAt f h) (turnsFor (contentsAt f h))) (sym judged)
+          ∙ ap (λ (k : Head). g (k .version) (contentsAt f k) (turnsFor (contentsAt f k)) (judging f)) same
+
+      pub answer-from : (room : ℕ) → roomFor f ≤ room → answerFrom (h .version) (contentsAt f h) roles ≡ placing f room
+      unfolding measuring
+      answer-from room wide = seen answerBy ∙ sym (answers room wide)
+
+      pub over-from : (out : List ℕ) → roomFor f ≤ length out → overFrom (h .version) (contentsAt f h) roles out ≡ placedOver f out
+      unfolding placedOver placedBytes measuring
+      over-from out wide =
+          seen (λ v C ts x. overBy v C ts x out) ∙ over-answered (versionAt f) (contentsOf f) (turnsFor (contentsOf f)) (judging f) out
+          ∙ ap (λ a. cond (eqb (a .number) 0) (sets out 0 (placedBytes f)) out) (sym (answers (length out) wide))
 
     -- the candidates of its nodes
     pub surveyed-labels : (t t′ : List ℕ) → t′ ≡ surveyed f t → length (contentsAt f h .nodes) < length t → Labelled (contentsAt f h) t′ × (length t′ ≡ length t)
@@ -197,9 +227,20 @@ stands-over out kept input s =
     refused-over : (f : List ℕ) (n : ℕ) → headOf f ≡ Refused n → over out f ≡ out
     refused-over f n h = rw (head-refused f n h, ne-eqb n 0 (λ z. let no-way : ⊥ = omega (arith, head-number f n h, z) in no-way))
 
+-- the output, by room and verdict
+pub over-room : (short : Bool) (v : ℕ) (C : Contents) (ts : List Turn) (x : Verdict) (out : List ℕ)
+    → cond (eqb (cond short (noPlace 17 0) (answerBy v C ts x) .number) 0) (sets out 0 (bytesBy v C ts)) out ≡ cond short out (overBy v C ts x out)
+over-room true v C ts x out = refl
+over-room false v C ts x out = go (eqb (x .number) 0) refl
+  where
+    go : (b : Bool) → eqb (x .number) 0 ≡ b
+        → cond (eqb (cond b (placedBy v C ts) (noPlace (x .number) (x .place)) .number) 0) (sets out 0 (bytesBy v C ts)) out ≡ cond b (sets out 0 (bytesBy v C ts)) out
+    go true e = refl
+    go false e = rw e
+
 -- no answer is longer than the largest file, nor than the room that was asked for it
 pub length-within : (f : List ℕ) (room : ℕ) → placing f room .length ≤ roomFor f
-unfolding judging
+unfolding judging placeable
 length-within f room = go (ltb room (roomFor f)) refl (eqb (judging f .number) 0) refl
   where
     none : (n p : ℕ) → placing f room ≡ noPlace n p → placing f room .length ≤ roomFor f
@@ -215,7 +256,7 @@ length-within f room = go (ltb room (roomFor f)) refl (eqb (judging f .number) 0
         let headed : Headed f = names-headed f names in
         let size : placing f room .length ≡ 2 * (headFor (wordAt f 0) (contentsOf f) .at .nodes + 3 * sizesOf (turnsFor (contentsOf f))) =
         ap (λ (a : Placed). a .length) (placing-placed f room (ltb-false room (roomFor f) r) quiet) in
-        omega (arith, size, nodes-begin f (headAt f) (headed .laid), room-enough f (sizesOf (turnsFor (contentsOf f))) headed (few-nodes (contentsOf f) rest))
+        omega (arith, size, nodes-begin f (headAt f) (headed .laid), room-enough f (sizesOf (turnsFor (contentsOf f))) headed (few-nodes (contentsOf f) (labelsIn (contentsOf f)) rest))
 
 pub length-most : (f : List ℕ) (room : ℕ) → placing f room .length ≤ largest
 length-most f room = omega (arith, length-within f room, room-most f)

@@ -24,9 +24,12 @@ use Rattle.placing.specs.declared.Decision.{Decision}
 abbrev pub labelsIn : Contents → List Label
 labelsIn C = labelled (C .nodes) (candidatesIn C)
 
--- each node's candidates stand in a table, at its number
+-- each node's roles stand in a table, at its number; and these are its candidates
+abbrev pub labelsFrom : Contents → List ℕ → List Label
+labelsFrom C roles = labelled (C .nodes) (drop 1 roles)
+
 abbrev pub Labelled : Contents → List ℕ → Type 0
-Labelled C roles = labelled (C .nodes) (drop 1 roles) ≡ labelsIn C
+Labelled C roles = labelsFrom C roles ≡ labelsIn C
 
 abbrev pub turnsFor : Contents → List Turn
 turnsFor C = turnsOf (labelsIn C)
@@ -61,9 +64,12 @@ Settled number ts turns turns′ starts starts′ =
 abbrev pub settling : List Label → Verdict
 settling ls = orElse (unservedFrom 1 ls) (sizeAnswer (sizesOf (turnsOf ls)))
 
--- 14 (masks before nodes), 15, 16
+-- 14 (masks before nodes), 15, 16, where the nodes are seen so
+abbrev pub placeableBy : Contents → List Label → Verdict
+placeableBy C ls = orElse (orElse (masksAnswer C) (switchesAnswer C)) (settling ls)
+
 unfoldable pub placeable : Contents → Verdict
-placeable C = orElse (orElse (masksAnswer C) (switchesAnswer C)) (settling (labelsIn C))
+placeable C = placeableBy C (labelsIn C)
 
 -- all that a file can be refused for: 1 to 10, then 14 to 16
 unfoldable pub judging : List ℕ → Verdict
@@ -82,17 +88,22 @@ decided v ts = record { verdict = v; sums = cond (eqb (v .number) 0) (summed ts)
 abbrev pub noPlace : ℕ → ℕ → Placed
 noPlace n p = record { number = n; place = p; length = 0; «on_steps» = 0 }
 
--- where nothing is refused: the length of the placed file in bytes, and the number of on steps
+-- where nothing is refused: the length of the file placed by these turns in bytes, and the number of on steps
+abbrev pub placedBy : ℕ → Contents → List Turn → Placed
+placedBy version C ts = record { number = 0; place = 0; length = lengthFor (headFor version C .at .nodes) (sizesOf ts); «on_steps» = onsOf ts }
+
 abbrev pub placedIn : ℕ → Contents → Placed
-placedIn version C = record {
-  number = 0;
-  place = 0;
-  length = lengthFor (headFor version C .at .nodes) (sizesOf (turnsFor C));
-  «on_steps» = onsOf (turnsFor C);
-}
+placedIn version C = placedBy version C (turnsFor C)
+
+abbrev pub answerBy : ℕ → Contents → List Turn → Verdict → Placed
+answerBy version C ts v = cond (eqb (v .number) 0) (placedBy version C ts) (noPlace (v .number) (v .place))
+
+-- of a file that 1 to 10 leave clean, with each node's roles in a table
+abbrev pub answerFrom : ℕ → Contents → List ℕ → Placed
+answerFrom version C roles = answerBy version C (turnsOf (labelsFrom C roles)) (placeableBy C (labelsFrom C roles))
 
 abbrev pub placedAnswer : ℕ → Contents → Verdict → Placed
-placedAnswer version C v = cond (eqb (v .number) 0) (placedIn version C) (noPlace (v .number) (v .place))
+placedAnswer version C v = answerBy version C (turnsFor C) v
 
 -- what a file comes to in an output long enough
 unfoldable pub measuring : List ℕ → Placed
@@ -102,10 +113,19 @@ measuring f = placedAnswer (versionAt f) (contentsOf f) (judging f)
 unfoldable pub placing : List ℕ → ℕ → Placed
 placing f room = cond (ltb room (roomFor f)) (noPlace 17 0) (measuring f)
 
--- the bytes of the placed file, which keeps its version
+-- the bytes of the file placed by these turns, which keeps its version
+abbrev pub bytesBy : ℕ → Contents → List Turn → List ℕ
+bytesBy version C ts = encoded version (placedContents C ts (startsOf ts))
+
 unfoldable pub placedBytes : List ℕ → List ℕ
-placedBytes f = encoded (versionAt f) (placedContents (contentsOf f) (turnsFor (contentsOf f)) (startsOf (turnsFor (contentsOf f))))
+placedBytes f = bytesBy (versionAt f) (contentsOf f) (turnsFor (contentsOf f))
 
 -- the output: the placed file, and past it what was there; where anything is refused, all of what was there
+abbrev pub overBy : ℕ → Contents → List Turn → Verdict → List ℕ → List ℕ
+overBy version C ts v out = cond (eqb (v .number) 0) (sets out 0 (bytesBy version C ts)) out
+
+abbrev pub overFrom : ℕ → Contents → List ℕ → List ℕ → List ℕ
+overFrom version C roles out = overBy version C (turnsOf (labelsFrom C roles)) (placeableBy C (labelsFrom C roles)) out
+
 unfoldable pub placedOver : List ℕ → List ℕ → List ℕ
 placedOver f out = cond (eqb (placing f (length out) .number) 0) (sets out 0 (placedBytes f)) out

@@ -8,11 +8,11 @@ use groups::Sums;
 use groups::starts as put_starts;
 use states::turns as put_turns;
 ghost use mathlib.Core.Path.{_≡_};
-ghost use lib.ListN.{length, drop};
+ghost use lib.ListN.{length};
 ghost use Rattle.format.specs.Header.{Laid};
 ghost use Rattle.format.specs.Contents.{contentsAt};
-ghost use Rattle.states.specs.States.{labelled, turnsOf};
-ghost use Rattle.placing.specs.Placing.{Labelled, turnsFor, placeable, settling, decided, noSums, Settled};
+ghost use Rattle.states.specs.States.{turnsOf};
+ghost use Rattle.placing.specs.Placing.{labelsFrom, placeableBy, settling, decided, noSums, Settled};
 
 fn refused(verdict: Verdict) -> Decision
     ensures { λ r. ⌜ r ≡ record { verdict = verdict; sums = noSums } ⌝ }
@@ -29,8 +29,8 @@ fn refused(verdict: Verdict) -> Decision
 // 15 and 16, with each node's roles at its number; each node's turn, and where its group starts.
 fn settle(file: &[u8], head: Head, roles: &[u16], turns: &mut [u16], starts: &mut [u16]) -> Decision
     requires { ⌜ Laid (now file) head × (length (now roles) ≡ 1025) × (length (now turns) ≡ 1025) × (length (now starts) ≡ 1025) ⌝ }
-    ensures { λ r. ⌜ (r ≡ decided (settling (labelled (contentsAt (now (file .entry)) head .nodes) (drop 1 (now (roles .entry))))) (turnsOf (labelled (contentsAt (now (file .entry)) head .nodes) (drop 1 (now (roles .entry))))))
-        × Settled (r .verdict .number) (turnsOf (labelled (contentsAt (now (file .entry)) head .nodes) (drop 1 (now (roles .entry))))) (now (turns .entry)) (now (turns .exit)) (now (starts .entry)) (now (starts .exit)) ⌝ }
+    ensures { λ r. ⌜ (r ≡ decided (settling (labelsFrom (contentsAt (now (file .entry)) head) (now (roles .entry)))) (turnsOf (labelsFrom (contentsAt (now (file .entry)) head) (now (roles .entry)))))
+        × Settled (r .verdict .number) (turnsOf (labelsFrom (contentsAt (now (file .entry)) head) (now (roles .entry)))) (now (turns .entry)) (now (turns .exit)) (now (starts .entry)) (now (starts .exit)) ⌝ }
 {
     let first = unserved(file, head, roles);
     if first.number != 0 {
@@ -53,7 +53,7 @@ fn settle(file: &[u8], head: Head, roles: &[u16], turns: &mut [u16], starts: &mu
     }
 }
 
-// 14 to 16, with each node's candidates at its number.
+// 14 to 16, with each node's roles at its number.
 pub fn decide(
     file: &[u8],
     head: Head,
@@ -61,9 +61,9 @@ pub fn decide(
     turns: &mut [u16],
     starts: &mut [u16],
 ) -> Decision
-    requires { ⌜ Laid (now file) head × Labelled (contentsAt (now file) head) (now roles) × (length (now roles) ≡ 1025) × (length (now turns) ≡ 1025) × (length (now starts) ≡ 1025) ⌝ }
-    ensures { λ r. ⌜ (r ≡ decided (placeable (contentsAt (now (file .entry)) head)) (turnsFor (contentsAt (now (file .entry)) head)))
-        × Settled (r .verdict .number) (turnsFor (contentsAt (now (file .entry)) head)) (now (turns .entry)) (now (turns .exit)) (now (starts .entry)) (now (starts .exit)) ⌝ }
+    requires { ⌜ Laid (now file) head × (length (now roles) ≡ 1025) × (length (now turns) ≡ 1025) × (length (now starts) ≡ 1025) ⌝ }
+    ensures { λ r. ⌜ (r ≡ decided (placeableBy (contentsAt (now (file .entry)) head) (labelsFrom (contentsAt (now (file .entry)) head) (now (roles .entry)))) (turnsOf (labelsFrom (contentsAt (now (file .entry)) head) (now (roles .entry)))))
+        × Settled (r .verdict .number) (turnsOf (labelsFrom (contentsAt (now (file .entry)) head) (now (roles .entry)))) (now (turns .entry)) (now (turns .exit)) (now (starts .entry)) (now (starts .exit)) ⌝ }
 {
     let first = bare(file, head);
     if first.number != 0 {

@@ -20,7 +20,7 @@ ghost use Rattle.format.specs.Header.{roomFor};
 ghost use Rattle.format.specs.Contents.{contentsAt};
 ghost use Rattle.reading.specs.declared.Opened.the-variants.{Fine};
 ghost use Rattle.checking.specs.Check.{entered};
-ghost use Rattle.placing.specs.Placing.{Labelled, noPlace, placing, placedOver};
+ghost use Rattle.placing.specs.Placing.{answerFrom, overFrom, noPlace, placing, placedOver};
 
 // What a caller gets: a refusal's number and place, or 0 and 0 with the length of the placed file in bytes and its on steps.
 #[repr(C)]
@@ -37,7 +37,7 @@ pub struct Decision {
     pub sums: Sums,
 }
 
-fn no_place(number: u16, place: u16) -> Placed
+pub fn no_place(number: u16, place: u16) -> Placed
     ensures { λ r. ⌜ r ≡ noPlace number place ⌝ }
 {
     Placed {
@@ -48,10 +48,11 @@ fn no_place(number: u16, place: u16) -> Placed
     }
 }
 
-// The same for a file that 1 to 10 leave clean, with each node's candidates at its number, into an output with room for the largest file of its version.
-fn place_body(file: &[u8], head: Head, roles: &[u16], out: &mut [u8]) -> Placed
-    requires { ⌜ (entered (now file) ≡ Fine head) × Labelled (contentsAt (now file) head) (now roles) × (length (now roles) ≡ 1025) × (roomFor (now file) ≤ length (now out)) ⌝ }
-    ensures { λ r. ⌜ (r ≡ placing (now (file .entry)) (length (now (out .entry)))) × (now (out .exit) ≡ placedOver (now (file .entry)) (now (out .entry))) ⌝ }
+// For a file that 1 to 10 leave clean, with each node's roles at its number, into an output with room for the largest file of its version: 14 to 16, else the placed
+// file. What the output has past it, or where anything is refused, stays.
+pub fn place_body(file: &[u8], head: Head, roles: &[u16], out: &mut [u8]) -> Placed
+    requires { ⌜ (entered (now file) ≡ Fine head) × (length (now roles) ≡ 1025) × (roomFor (now file) ≤ length (now out)) ⌝ }
+    ensures { λ r. ⌜ (r ≡ answerFrom (head .version) (contentsAt (now (file .entry)) head) (now (roles .entry))) × (now (out .exit) ≡ overFrom (head .version) (contentsAt (now (file .entry)) head) (now (roles .entry)) (now (out .entry))) ⌝ }
 {
     let mut turns = [0u16; 1025];
     let mut starts = [0u16; 1025];

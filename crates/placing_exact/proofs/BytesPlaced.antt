@@ -50,7 +50,7 @@ module _ (F : File) (W : WellFormed F) (N : WellKinded F) (B : Bare F) where
   file-read : graft F (insertAll D (F .sessions) states) ≡ placedFile F
   file-read = ap (graft F) (sym (placed-inserted D (F .sessions)))
 
-  placed-contents : placedContents C (turnsFor C) (startsOf (turnsFor C)) ≡ contentsFor (placedFile F)
+  pub placed-contents : placedContents (contentsFor F) (turnsFor (contentsFor F)) (startsOf (turnsFor (contentsFor F))) ≡ contentsFor (placedFile F)
   placed-contents =
       ap (λ (ts : List Turn). placedContents C ts (startsOf ts)) turns-read ∙ contents-placed F D states (bare-free F B) ∙ ap (λ (G : File). contentsFor G) file-read
 

@@ -34,7 +34,7 @@ abbrev stage : ℕ → ℕ
 stage = placingOrder .stage
 
 -- those of the file are the check's
-stage-same : (n : ℕ) → OfFile n → stage n ≡ checkOrder .stage n
+pub stage-same : (n : ℕ) → OfFile n → stage n ≡ checkOrder .stage n
 stage-same n o = go (leb (inTurn n) 16) refl o
   where
     go : (b : Bool) → leb (inTurn n) 16 ≡ b → OfFile n → stage n ≡ checkOrder .stage n
@@ -42,7 +42,7 @@ stage-same n o = go (leb (inTurn n) 16) refl o
     go false e (inl (l, h)) = rw (ne-eqb n 17 (λ z. omega (arith, h, z)), e, le-leb n 10 h)
     go false e (inr z) = let w : inTurn n ≡ 13 = ap inTurn z in absurd (omega (arith, w, leb-false (inTurn n) 16 e))
 
-stage-low : (n : ℕ) → OfFile n → (1 ≤ stage n) × (stage n ≤ 18)
+pub stage-low : (n : ℕ) → OfFile n → (1 ≤ stage n) × (stage n ≤ 18)
 stage-low n o = go (leb (inTurn n) 16) refl o
   where
     go : (b : Bool) → leb (inTurn n) 16 ≡ b → OfFile n → (1 ≤ stage n) × (stage n ≤ 18)
@@ -154,7 +154,7 @@ module _ (f : List ℕ) (bytes : All (λ b. b < 256) f) (room : ℕ) where
           inr (16, 0, e, ((refl, (refl, placement-read f bytes room (λ k. 1024 < k) u s l)), λ m q (a, _). lowest placingOrder 16 0 m q (sym a) (omega arith)))
 
   -- 15 and 16
-  settled : Unrefused f room → First placingOrder Settling (settling (labelsIn C))
+  pub settled : Unrefused f room → First placingOrder Settling (settling (labelsIn C))
   settled u =
       let lacking = unserved-first f (u .names) placingOrder in
       first-or placingOrder Lacking Large (unservedFrom 1 (labelsIn C)) (sizeAnswer (sizesOf (turnsFor C))) (λ n p h. omega (arith, h .0))

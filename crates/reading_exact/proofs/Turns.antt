@@ -2,7 +2,7 @@
 use Prim.Native.Nat.{ℕ, _*_, _≤_, _<_}
 use mathlib.Core.Path.{_≡_, refl, ap}
 use mathlib.Core.Logic.{_↔_, _⊎_, inl, inr, _≢_}
-use mathlib.Core.Bool.{Bool, true, false}
+use mathlib.Core.Bool.{Bool, true, false, cond}
 use native.Mathlib.Omega.{arith}
 use lib.Dec.{eqb}
 use borrow.Author.Tests.{eqb-true, eqb-false, ne-eqb}
@@ -30,3 +30,10 @@ not-of-file n k (inr is) a b e = omega (arith, is, b, e)
 
 pub some-of-file : (n : ℕ) → OfFile n → 1 ≤ n
 some-of-file n o = of-file-turn n o .0
+
+pub turn-some : (n : ℕ) → 1 ≤ n → 2 ≤ inTurn n
+turn-some n l = go (eqb n 21)
+  where
+    go : (b : Bool) → 2 ≤ cond b 13 (2 * n)
+    go true = omega arith
+    go false = omega (arith, l)

@@ -2,10 +2,11 @@
 
 use crate::choices::{self, Flaw};
 use crate::clinic::Clinic;
+use crate::hours::{self, Table};
 use crate::output;
 use crate::source::Source;
 use crate::state::State;
-use crate::words::Job;
+use crate::words::{At, Job};
 use crate::{explain, names, refusals, report, show};
 use crate::{Outcome, WrongUse};
 use pilzdamo::{Verdict, ROOM, RUN_ROOM};
@@ -14,8 +15,8 @@ use std::path::Path;
 /// Does a job.
 pub fn carry_out(job: Job) -> Result<Outcome, WrongUse> {
     match job {
-        Job::Check { file } => check(&file),
-        Job::Place { file, out } => place(&file, out.as_deref()),
+        Job::Check { file, at } => check(&file, at.as_ref()),
+        Job::Place { file, at, out } => place(&file, at.as_ref(), out.as_deref()),
         Job::Run { file, choices } => run(&file, &choices),
         Job::Show { file } => answer(&show::text(&file.read()?)),
         Job::Explain { number } => explain(number),
@@ -34,38 +35,88 @@ fn refusal(message: &str) -> Result<Outcome, WrongUse> {
     Ok(Outcome::Refusal)
 }
 
-fn check(file: &Source) -> Result<Outcome, WrongUse> {
-    let bytes = file.read()?;
-    let name = file.name();
-    let verdict = pilzdamo::check(&bytes);
-    if verdict.is_clean() {
-        return answer(&format!("{name}: passes\n"));
+/// A table of hours with its source, and the minute that is asked for.
+struct Hours {
+    name: String,
+    table: Table,
+    minute: u16,
+}
+
+impl Hours {
+    fn read(at: &At) -> Result<Hours, WrongUse> {
+        let name = at.hours.name();
+        let table = Table::of(&at.hours.read()?).map_err(|flaw| {
+            let hours::Flaw { line, what } = flaw;
+            let form =
+                "opening hours are text, a line for each stretch: role 2 Mon-Fri 07:00-15:00";
+            WrongUse(format!("{name}: line {line}: {what}\n  {form}"))
+        })?;
+        Ok(Hours {
+            name,
+            table,
+            minute: at.minute,
+        })
     }
-    let mut message = report::of_file(&name, &bytes, verdict);
+
+    /// The message for what is refused of a file or of these hours.
+    fn report(&self, file: &Source, bytes: &[u8], verdict: Verdict) -> String {
+        match verdict.number {
+            22 | 23 => report::of_hours(&self.name, &self.table.lines, verdict),
+            _ => report::of_file(&file.name(), bytes, verdict),
+        }
+    }
+
+    /// The minute in an answer.
+    fn when(&self, word: &str) -> String {
+        format!(" {word} {}", hours::clock(self.minute))
+    }
+}
+
+fn check(file: &Source, at: Option<&At>) -> Result<Outcome, WrongUse> {
+    let bytes = file.read()?;
+    let hours = at.map(Hours::read).transpose()?;
+    let verdict = match &hours {
+        None => pilzdamo::check(&bytes),
+        Some(hours) => pilzdamo::check_at(&bytes, &hours.table.words, hours.minute),
+    };
+    if verdict.is_clean() {
+        let when = hours.map_or(String::new(), |hours| hours.when("at"));
+        return answer(&format!("{}: passes{when}\n", file.name()));
+    }
+    let mut message = refused(file, &bytes, hours.as_ref(), verdict);
     if verdict.number == 13 && Clinic::of(&bytes).is_bare() {
         message += "\n  the routine has no on or off yet: pilzdamo place puts them in";
     }
     refusal(&message)
 }
 
-fn place(file: &Source, out: Option<&Path>) -> Result<Outcome, WrongUse> {
+/// The message for what check or placing refuses.
+fn refused(file: &Source, bytes: &[u8], hours: Option<&Hours>, verdict: Verdict) -> String {
+    match hours {
+        None => report::of_file(&file.name(), bytes, verdict),
+        Some(hours) => hours.report(file, bytes, verdict),
+    }
+}
+
+fn place(file: &Source, at: Option<&At>, out: Option<&Path>) -> Result<Outcome, WrongUse> {
     let bytes = file.read()?;
-    let name = file.name();
+    let hours = at.map(Hours::read).transpose()?;
     let mut room = [0; ROOM];
-    let placed = pilzdamo::place(&bytes, &mut room);
+    let placed = match &hours {
+        None => pilzdamo::place(&bytes, &mut room),
+        Some(hours) => pilzdamo::place_at(&bytes, &hours.table.words, hours.minute, &mut room),
+    };
     if !placed.is_placed() {
-        let verdict = Verdict {
-            number: placed.number,
-            place: placed.place,
-        };
-        return refusal(&report::of_file(&name, &bytes, verdict));
+        return refusal(&refused(file, &bytes, hours.as_ref(), placed.verdict()));
     }
     let length = usize::from(placed.length);
     output::deliver(&room[..length.min(ROOM)], out)?;
+    let name = file.name();
+    let when = hours.map_or(String::new(), |hours| hours.when("for"));
     let on_steps = names::several(usize::from(placed.on_steps), "on step");
     let written = out.map_or(String::new(), |path| format!(" in {}", path.display()));
     output::say(&format!(
-        "{name}: placed, {on_steps}, {length} bytes{written}"
+        "{name}: placed{when}, {on_steps}, {length} bytes{written}"
     ));
     Ok(Outcome::Answer)
 }

@@ -6,6 +6,7 @@
 mod choices;
 mod clinic;
 mod explain;
+mod hours;
 mod jobs;
 mod names;
 mod output;

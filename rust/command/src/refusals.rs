@@ -22,6 +22,7 @@ pub enum Counts {
     Session,
     Node,
     Choice,
+    Row,
 }
 
 const WRITER: &str = "the file's writer";
@@ -36,6 +37,7 @@ const SESSION: &str = "sessions, from 1";
 const NODE: &str = "nodes, from 1";
 const NODE_OR_CHOICE: &str = "nodes, from 1; in a run choices, from 1";
 const CHOICE: &str = "choices, from 1";
+const ROW: &str = "rows of the table of hours, from 1";
 
 /// The refusal of this number.
 pub fn of(number: u16) -> Option<&'static Refusal> {
@@ -49,14 +51,15 @@ pub fn counts(number: u16, place: u16, in_run: bool) -> Counts {
         7 => Counts::Session,
         11..=13 if in_run => Counts::Choice,
         14 if place == 0 => Counts::Nothing,
-        8..=15 => Counts::Node,
+        8..=15 | 24 => Counts::Node,
         18..=20 => Counts::Choice,
+        23 => Counts::Row,
         _ => Counts::Nothing,
     }
 }
 
 /// The refusals from 1 on.
-pub const ALL: [Refusal; 21] = [
+pub const ALL: [Refusal; 24] = [
     Refusal {
         short: "the file has under 26 bytes (28 in version 2), or an odd number",
         place: NOTHING,
@@ -265,5 +268,38 @@ pub const ALL: [Refusal; 21] = [
         mend:
             "Take the junior out, or number the roles anew, juniors first. `pilzdamo show` marks \
             the role.",
+    },
+    Refusal {
+        short: "a minute that no week has, or a table of hours that can't be one",
+        place: NOTHING,
+        who: CALLER,
+        wrong: "Minutes are counted from Monday 00:00, 0 to 10,079. A table of hours has three \
+            words a row, and at most 64 rows. One of these doesn't hold. (A line of text with \
+            several days has a row for each, and two where it goes over midnight.)",
+        mend: "Write fewer lines or days: a role without rows is always open, and a stretch that \
+            lies in another can go.",
+    },
+    Refusal {
+        short: "a row of the table of hours names no role, or no stretch of the week",
+        place: ROW,
+        who: CALLER,
+        wrong:
+            "The row's role is 0 or above the file's count, its first minute isn't below its end \
+            minute, or its end minute is above 10,080. It is judged behind 8 and before 9.",
+        mend:
+            "Correct the row's role. If the table was written for another file, take that file's \
+            own.",
+    },
+    Refusal {
+        short: "the role put on isn't open at this minute",
+        place: NODE,
+        who: AUTHOR,
+        wrong:
+            "The role has rows in the table of hours, and none of them has this minute in it. It \
+            can't be put on then, though it is assigned, and also where it is on already. A role \
+            with which a session starts, and the juniors of an open role, go on permitting.",
+        mend:
+            "Place the routine for this minute (`pilzdamo place` with the same --at and --hours), \
+            put on a role that is open, or change the hours.",
     },
 ];

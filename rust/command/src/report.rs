@@ -30,6 +30,17 @@ pub fn of_run(name: &str, bytes: &[u8], choices: &[u16], verdict: Verdict) -> St
     message(name, verdict, &place)
 }
 
+/// The message for a refused table of hours, whose rows come from these lines.
+pub fn of_hours(name: &str, lines: &[usize], verdict: Verdict) -> String {
+    let Verdict { number, place } = verdict;
+    let row = usize::from(place).checked_sub(1);
+    let place = match row.and_then(|row| lines.get(row)) {
+        Some(line) if number == 23 => format!("row {place} (line {line})"),
+        _ => format!("place {place} (the table as a whole)"),
+    };
+    message(name, verdict, &place)
+}
+
 /// The line that marks a refusal in a shown file.
 pub fn mark(verdict: Verdict) -> String {
     let Verdict { number, place } = verdict;
@@ -57,6 +68,7 @@ fn spot(verdict: Verdict, place: u16) -> String {
         Counts::Session => format!("session {place}"),
         Counts::Node => format!("node {place}"),
         Counts::Choice => format!("choice {place}"),
+        Counts::Row => format!("row {place}"),
     }
 }
 

@@ -1,5 +1,6 @@
 //! The words of the command line.
 
+use crate::hours;
 use crate::refusals;
 use crate::source::Source;
 use crate::WrongUse;
@@ -8,13 +9,33 @@ use std::path::PathBuf;
 
 /// What is asked for.
 pub enum Job {
-    Check { file: Source },
-    Place { file: Source, out: Option<PathBuf> },
-    Run { file: Source, choices: Source },
-    Show { file: Source },
-    Explain { number: u16 },
+    Check {
+        file: Source,
+        at: Option<At>,
+    },
+    Place {
+        file: Source,
+        at: Option<At>,
+        out: Option<PathBuf>,
+    },
+    Run {
+        file: Source,
+        choices: Source,
+    },
+    Show {
+        file: Source,
+    },
+    Explain {
+        number: u16,
+    },
     Help,
     Version,
+}
+
+/// A minute of the week, and where the table of hours is.
+pub struct At {
+    pub minute: u16,
+    pub hours: Source,
 }
 
 /// The words behind the first, sorted.
@@ -22,6 +43,8 @@ pub enum Job {
 struct Operands {
     plain: Vec<OsString>,
     out: Option<OsString>,
+    at: Option<OsString>,
+    hours: Option<OsString>,
     help: bool,
 }
 
@@ -46,14 +69,51 @@ pub fn job(mut words: impl Iterator<Item = OsString>) -> Result<Job, WrongUse> {
 
 /// The job of a word that is known.
 fn named(verb: &str, operands: Operands) -> Result<Job, WrongUse> {
-    let out = operands.out.filter(|out| out != "-").map(PathBuf::from);
-    let plain = operands.plain;
+    let Operands {
+        plain,
+        out,
+        at,
+        hours,
+        ..
+    } = operands;
     match verb {
-        "check" => one(verb, "FILE", plain).map(|file| Job::Check { file }),
-        "place" => one(verb, "FILE", plain).map(|file| Job::Place { file, out }),
         "show" => one(verb, "FILE", plain).map(|file| Job::Show { file }),
         "run" => file_and_choices(plain),
-        _ => number(plain).map(|number| Job::Explain { number }),
+        "explain" => number(plain).map(|number| Job::Explain { number }),
+        _ => {
+            let file = one(verb, "FILE", plain)?;
+            let at = minute_and_hours(verb, &file, at, hours)?;
+            let out = out.filter(|out| out != "-").map(PathBuf::from);
+            Ok(match verb {
+                "check" => Job::Check { file, at },
+                _ => Job::Place { file, at, out },
+            })
+        }
+    }
+}
+
+/// Both or neither of `--at` and `--hours`.
+fn minute_and_hours(
+    verb: &str,
+    file: &Source,
+    at: Option<OsString>,
+    hours: Option<OsString>,
+) -> Result<Option<At>, WrongUse> {
+    let (at, hours) = match (at, hours) {
+        (None, None) => return Ok(None),
+        (Some(at), Some(hours)) => (at, Source::named(hours)),
+        _ => return misused(&format!("{verb}: --at and --hours go together")),
+    };
+    let text = at.to_string_lossy();
+    let Some(minute) = hours::minute(&text) else {
+        let due = "a day and a time such as \"Mon 07:30\"";
+        return misused(&format!("{verb}: --at wants {due}, not '{text}'"));
+    };
+    match (file, &hours) {
+        (Source::StandardInput, Source::StandardInput) => misused(&format!(
+            "{verb}: only one of FILE and HOURS can be standard input"
+        )),
+        _ => Ok(Some(At { minute, hours })),
     }
 }
 
@@ -64,7 +124,20 @@ fn sorted(verb: &str, mut words: impl Iterator<Item = OsString>) -> Result<Opera
         let text = word.to_string_lossy();
         match text.as_ref() {
             "-h" | "--help" => operands.help = true,
-            "-o" if verb == "place" => out_file(&mut operands, words.next())?,
+            "-o" if verb == "place" => {
+                let wants = "place: -o wants the name of a file behind it";
+                keep("place: -o", wants, &mut operands.out, words.next())?;
+            }
+            "--at" if has_hours(verb) => {
+                let name = format!("{verb}: --at");
+                let wants = format!("{name} wants a day and a time behind it");
+                keep(&name, &wants, &mut operands.at, words.next())?;
+            }
+            "--hours" if has_hours(verb) => {
+                let name = format!("{verb}: --hours");
+                let wants = format!("{name} wants the name of a file behind it");
+                keep(&name, &wants, &mut operands.hours, words.next())?;
+            }
             option if is_option(option) && verb != "explain" => {
                 return misused(&format!("{verb} has no option '{option}'"));
             }
@@ -78,14 +151,24 @@ fn is_option(word: &str) -> bool {
     word.starts_with('-') && word != "-"
 }
 
-/// Keeps the file behind `-o`.
-fn out_file(operands: &mut Operands, file: Option<OsString>) -> Result<(), WrongUse> {
-    let Some(file) = file else {
-        return misused("place: -o wants the name of a file behind it");
+/// Whether roles may have hours for this word.
+fn has_hours(verb: &str) -> bool {
+    matches!(verb, "check" | "place")
+}
+
+/// Keeps the word behind an option.
+fn keep(
+    name: &str,
+    wants: &str,
+    kept: &mut Option<OsString>,
+    word: Option<OsString>,
+) -> Result<(), WrongUse> {
+    let Some(word) = word else {
+        return misused(wants);
     };
-    match operands.out.replace(file) {
+    match kept.replace(word) {
         None => Ok(()),
-        Some(_) => misused("place: -o stands there twice"),
+        Some(_) => misused(&format!("{name} stands there twice")),
     }
 }
 

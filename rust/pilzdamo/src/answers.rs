@@ -19,6 +19,9 @@ use std::fmt;
 /// | 15 | the node |
 /// | 16 | 0: the placed file would have over 1,024 nodes |
 /// | 17 | 0: an output that is too short, or a list of choices that can't be one |
+/// | 22 | 0: a minute that no week has, or a table of hours that can't be one |
+/// | 23 | the row of the table of hours, from 1 |
+/// | 24 | the node |
 /// | 18 to 20 | the choice; 18 at 0 for a lent list that is none of the file's, or of another length |
 ///
 /// In [`choose`](crate::choose) the choice has number 1.

@@ -11,6 +11,13 @@ pub const ROOM: usize = 6_908;
 /// the largest.
 pub const ROOM_1: usize = 6_874;
 
+/// The minutes of a week. A minute is counted from Monday 00:00 on, so that it is
+/// below this.
+pub const WEEK: u16 = 10_080;
+
+/// The most rows of a table of hours.
+pub const ROWS: usize = 64;
+
 /// The bytes that [`run`] wants of its output: those of the largest state.
 pub const RUN_ROOM: usize = 1_800;
 
@@ -81,6 +88,43 @@ pub fn check(file: &[u8]) -> Verdict {
     raw::check(file)
 }
 
+/// [`check`] at a minute of the week, counted from Monday 00:00 on, with a table of
+/// hours: a role that isn't open then can't be put on.
+///
+/// `hours` has three words a row, at most [`ROWS`] rows: a role, its first minute and
+/// its end minute. A role is open at a minute if one of its rows has a first minute
+/// not after it, and an end minute behind it; a role without rows is always open. A
+/// closed role with which a session starts goes on permitting, and so do the closed
+/// juniors of an open one.
+///
+/// Refusal 22 comes first, for a minute that no week has, a table that ends within a
+/// row, or too many rows; then 1 to 8; then 23, for a row with no such role, or with a
+/// first minute not below its end, or an end behind the week's; then 9 and 10; and
+/// then 11 to 13 with 24, for an on of a closed role, which comes behind 11. Any
+/// words will do, of any length.
+///
+/// ```
+/// // Admissions, role 1, from 07:00 to 15:00 on Monday.
+/// let hours = [1, 7 * 60, 15 * 60];
+/// let file = std::fs::read("../../examples/hours/by-day.clinic")?;
+/// assert!(pilzdamo::check_at(&file, &hours, 7 * 60).is_clean());
+///
+/// // Its first node puts role 1 on.
+/// let verdict = pilzdamo::check_at(&file, &hours, 15 * 60);
+/// assert_eq!(verdict.to_string(), "refused 24 1");
+///
+/// // There is no role 9; and no minute behind the week's last.
+/// let verdict = pilzdamo::check_at(&file, &[9, 0, 1], 0);
+/// assert_eq!(verdict.to_string(), "refused 23 1");
+/// let verdict = pilzdamo::check_at(&file, &hours, pilzdamo::WEEK);
+/// assert_eq!(verdict.to_string(), "refused 22 0");
+/// # Ok::<(), std::io::Error>(())
+/// ```
+#[inline]
+pub fn check_at(file: &[u8], hours: &[u16], minute: u16) -> Verdict {
+    raw::check_at(file, hours, minute)
+}
+
 /// Places the roles of a clinic file: by refusal 17, by 1 to 10, and then by
 /// 14 to 16. If none refuses it, the placed file stands at the start of `out`.
 ///
@@ -118,6 +162,60 @@ pub fn place(file: &[u8], out: &mut [u8]) -> Placed {
     raw::place(file, out)
 }
 
+/// [`place`] at a minute of the week, with a table of hours as [`check_at`] has it:
+/// only roles that are open then are put on.
+///
+/// Refusal 17 comes first, then 22, 1 to 8, 23, 9 and 10, and then 14 to 16, of
+/// which 15 is for a send or receive that no open role of the user permits. The
+/// placed file has its input's users, with all their roles.
+///
+/// ```
+/// // Admissions, role 1, closes at 15:00 on Monday. Role 2 is the night desk's.
+/// let hours = [1, 7 * 60, 15 * 60];
+/// let file = std::fs::read("../../examples/hours/desk.clinic")?;
+/// let mut out = [0; pilzdamo::ROOM];
+/// let role_at = |minute, out: &mut [u8]| {
+///     let placed = pilzdamo::place_at(&file, &hours, minute, out);
+///     assert_eq!((placed.number, placed.on_steps), (0, 1));
+///     // The role that its first node puts on: the nodes stand behind the rest.
+///     let nodes = file.len() - 3 * 6;
+///     u16::from_le_bytes([out[nodes + 2], out[nodes + 3]])
+/// };
+/// assert_eq!(role_at(12 * 60, &mut out), 1);
+/// assert_eq!(role_at(20 * 60, &mut out), 2);
+/// # Ok::<(), std::io::Error>(())
+/// ```
+#[inline]
+pub fn place_at(file: &[u8], hours: &[u16], minute: u16, out: &mut [u8]) -> Placed {
+    raw::place_at(file, hours, minute, out)
+}
+
+/// [`place_at`] with an output of its own: the placed file and its on steps.
+///
+/// ```
+/// let file = std::fs::read("../../examples/hours/desk.clinic")?;
+/// let (placed, on_steps) = pilzdamo::placed_at(&file, &[1, 420, 900], 600)?;
+/// assert_eq!(on_steps, 1);
+/// assert!(pilzdamo::check_at(&placed, &[1, 420, 900], 600).is_clean());
+///
+/// // Both its roles closed.
+/// let refusal = pilzdamo::placed_at(&file, &[1, 0, 9, 2, 0, 9], 9).unwrap_err();
+/// assert_eq!(refusal.to_string(), "refused 15 1");
+/// # Ok::<(), Box<dyn std::error::Error>>(())
+/// ```
+pub fn placed_at(file: &[u8], hours: &[u16], minute: u16) -> Result<(Vec<u8>, u16), Verdict> {
+    let mut out = vec![0; ROOM];
+    let placed = place_at(file, hours, minute, &mut out);
+    kept(placed, out)
+}
+
+/// What was placed in an output, cut to its length.
+fn kept(placed: Placed, mut out: Vec<u8>) -> Result<(Vec<u8>, u16), Verdict> {
+    placed.verdict().result()?;
+    out.truncate(placed.length.into());
+    Ok((out, placed.on_steps))
+}
+
 /// [`place`] with an output of its own: the placed file and its on steps.
 ///
 /// ```
@@ -133,9 +231,7 @@ pub fn place(file: &[u8], out: &mut [u8]) -> Placed {
 pub fn placed(file: &[u8]) -> Result<(Vec<u8>, u16), Verdict> {
     let mut out = vec![0; ROOM];
     let placed = place(file, &mut out);
-    placed.verdict().result()?;
-    out.truncate(placed.length.into());
-    Ok((out, placed.on_steps))
+    kept(placed, out)
 }
 
 /// Runs a clinic file through a list of choices, two words each: a thread and

@@ -14,6 +14,7 @@
 //! | judge a file's form, names and kinds: refusals 1 to 10 | [`read`] |
 //! | judge the roles as well: 1 to 13 | [`check`] |
 //! | put the roles into a file that has none | [`place`], [`placed`] |
+//! | do either for a minute of the week, with roles that have hours | [`check_at`], [`place_at`], [`placed_at`] |
 //! | carry out a list of choices | [`run`], and [`State`] for what it wrote |
 //! | find the two threads that can meet | [`ready`] |
 //! | go on choice by choice | [`Desk`]; [`start`] and [`choose`] in a list of one's own |
@@ -66,6 +67,29 @@
 //! let (placed, on_steps) = pilzdamo::placed(&file)?;
 //! assert_eq!((placed[0], on_steps), (2, 3));
 //! assert!(pilzdamo::check(&placed).is_clean());
+//! # Ok::<(), Box<dyn std::error::Error>>(())
+//! ```
+//!
+//! # Roles with opening hours
+//!
+//! A table of hours is lent beside the file, three words a row: a role, its first
+//! minute and its end minute, counted from Monday 00:00.
+//!
+//! ```
+//! // Admissions, role 1, is open on weekdays from 07:00 to 15:00.
+//! let day = |day: u16| [1, 24 * 60 * day + 7 * 60, 24 * 60 * day + 15 * 60];
+//! let hours = [0, 1, 2, 3, 4].map(day).concat();
+//! let (monday_noon, sunday_noon) = (12 * 60, 6 * 24 * 60 + 12 * 60);
+//!
+//! // At noon it is put on; on Sunday the file is placed in role 2.
+//! let file = std::fs::read("../../examples/hours/desk.clinic")?;
+//! let (by_day, _) = pilzdamo::placed_at(&file, &hours, monday_noon)?;
+//! let (on_sunday, _) = pilzdamo::placed_at(&file, &hours, sunday_noon)?;
+//! assert_ne!(by_day, on_sunday);
+//!
+//! // The file of a weekday doesn't do for Sunday.
+//! let verdict = pilzdamo::check_at(&by_day, &hours, sunday_noon);
+//! assert_eq!(verdict.to_string(), "refused 24 1");
 //! # Ok::<(), Box<dyn std::error::Error>>(())
 //! ```
 //!
@@ -191,7 +215,8 @@ mod raw;
 mod state;
 
 pub use answers::{Placed, Ready, Verdict};
-pub use calls::{check, choose, place, placed, read, ready, room, run, start};
-pub use calls::{BESIDE, RECORDS, ROOM, ROOM_1, RUN_ROOM};
+pub use calls::{check, check_at, choose, place, place_at, placed, placed_at};
+pub use calls::{read, ready, room, run, start};
+pub use calls::{BESIDE, RECORDS, ROOM, ROOM_1, ROWS, RUN_ROOM, WEEK};
 pub use desk::Desk;
 pub use state::{Channel, State, Thread};

@@ -10,7 +10,23 @@ use crate::{Placed, Ready, Thread, Verdict};
 extern "C" {
     fn pilzdamo_read(file: *const u8, len: usize) -> Verdict;
     fn pilzdamo_check(file: *const u8, len: usize) -> Verdict;
+    fn pilzdamo_check_at(
+        file: *const u8,
+        len: usize,
+        hours: *const u16,
+        words: usize,
+        minute: u16,
+    ) -> Verdict;
     fn pilzdamo_place(file: *const u8, len: usize, out: *mut u8, out_len: usize) -> Placed;
+    fn pilzdamo_place_at(
+        file: *const u8,
+        len: usize,
+        hours: *const u16,
+        words: usize,
+        minute: u16,
+        out: *mut u8,
+        out_len: usize,
+    ) -> Placed;
     fn pilzdamo_run(
         file: *const u8,
         len: usize,
@@ -62,11 +78,45 @@ pub fn check(file: &[u8]) -> Verdict {
 }
 
 #[inline]
+pub fn check_at(file: &[u8], hours: &[u16], minute: u16) -> Verdict {
+    // SAFETY: the engine only reads the `len` bytes from `file` on and the
+    // `words` words from `hours` on, during the call; the slices vouch for them.
+    unsafe {
+        pilzdamo_check_at(
+            file.as_ptr(),
+            file.len(),
+            hours.as_ptr(),
+            hours.len(),
+            minute,
+        )
+    }
+}
+
+#[inline]
 pub fn place(file: &[u8], out: &mut [u8]) -> Placed {
     // SAFETY: the engine only reads the `len` bytes from `file` on, and only
     // reads and writes the `out_len` bytes from `out` on, during the call. The
     // slices vouch for them, and that no byte is in both.
     unsafe { pilzdamo_place(file.as_ptr(), file.len(), out.as_mut_ptr(), out.len()) }
+}
+
+#[inline]
+pub fn place_at(file: &[u8], hours: &[u16], minute: u16, out: &mut [u8]) -> Placed {
+    // SAFETY: the engine only reads the `len` bytes from `file` on and the
+    // `words` words from `hours` on, and only reads and writes the `out_len`
+    // bytes from `out` on, during the call. The slices vouch for them, and that
+    // nothing of `out` is in the other two.
+    unsafe {
+        pilzdamo_place_at(
+            file.as_ptr(),
+            file.len(),
+            hours.as_ptr(),
+            hours.len(),
+            minute,
+            out.as_mut_ptr(),
+            out.len(),
+        )
+    }
 }
 
 #[inline]

@@ -1,7 +1,7 @@
 //! The header, tried by a C program: what it prints.
 
 use pilzdamo::{Placed, Ready, Thread, Verdict};
-use pilzdamo::{BESIDE, RECORDS, ROOM, ROOM_1, RUN_ROOM};
+use pilzdamo::{BESIDE, RECORDS, ROOM, ROOM_1, ROWS, RUN_ROOM, WEEK};
 use std::process::{Command, Output};
 
 const FOLDER: &str = env!("CARGO_MANIFEST_DIR");
@@ -23,6 +23,15 @@ a junior: refusal 0 0, 204 bytes, on steps: 3
 check it: clean
 a junior in less: refusal 17 0, 0 bytes, on steps: 0
 a junior that is no lower: refused 21 24
+noon: clean
+evening: refused 24 1
+no such role: refused 23 1
+no such minute: refused 22 0
+place for noon: refusal 0 0, 94 bytes, on steps: 1
+role: 1
+place for the evening: refusal 0 0, 94 bytes, on steps: 1
+role: 2
+part of a row: refusal 22 0, 0 bytes, on steps: 0
 run: clean
 choices done: 12, refusal: 0
 thread 1: user 1, node 4, mask 0, roles 0, first variable 4
@@ -87,6 +96,7 @@ fn a_c_program_calls_the_engine() {
     };
     let sizes = line("sizes", &sizes);
     let rooms = line("rooms", &[ROOM, ROOM_1, RUN_ROOM, RECORDS, BESIDE]);
+    let hours = line("hours", &[WEEK.into(), ROWS]);
     let printed = String::from_utf8_lossy(&output.stdout);
-    assert_eq!(printed, sizes + &rooms + PRINTED);
+    assert_eq!(printed, sizes + &rooms + &hours + PRINTED);
 }

@@ -2,11 +2,13 @@
 //! implementations.
 
 mod checking;
+mod hours;
 mod juniors;
 mod placing;
 mod reading;
 mod running;
 
+pub use hours::{CheckAtCase, PlaceAtCase};
 pub use placing::{Due, PlaceCase};
 pub use running::{booking, choose_cases, placed_booking, start_cases};
 pub use running::{ChooseCase, Lent, RunCase, StartCase};
@@ -95,6 +97,19 @@ pub fn place_cases() -> Vec<PlaceCase> {
     .into_iter()
     .flatten()
     .collect()
+}
+
+/// All of the check at a minute.
+pub fn check_at_cases() -> Vec<CheckAtCase> {
+    [hours::open(), hours::roles(), hours::tables()]
+        .into_iter()
+        .flatten()
+        .collect()
+}
+
+/// All of placing at a minute.
+pub fn place_at_cases() -> Vec<PlaceAtCase> {
+    hours::placing()
 }
 
 /// All of runs.

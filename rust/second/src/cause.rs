@@ -8,6 +8,11 @@ use crate::Verdict;
 /// second branch.
 #[derive(Clone, Copy, Debug, PartialEq, Eq, PartialOrd, Ord)]
 pub enum Cause {
+    /// A minute that no week has.
+    MinuteAbove,
+    /// A table of hours that ends within a row.
+    PartOfRow,
+    TooManyRows,
     Short,
     Odd,
     /// A version 2 file with room for a version 1 header alone.
@@ -45,6 +50,10 @@ pub enum Cause {
     PastLast,
     LeftOver,
     NinthVariable,
+    RowRoleZero,
+    RowRoleAbove,
+    RowFirstNotBelow,
+    RowEndAbove,
     UserOperandAbove,
     ChannelOperandAbove,
     Unbound,
@@ -65,6 +74,10 @@ pub enum Cause {
     ComparePlain,
     CompareKinds,
     OnNotAssigned {
+        second: bool,
+    },
+    /// On of a role that is assigned and not open.
+    OnClosed {
         second: bool,
     },
     OffNotActive {
@@ -151,7 +164,10 @@ impl Cause {
             | ReceiveOnReceived
             | ComparePlain
             | CompareKinds => 10,
+            MinuteAbove | PartOfRow | TooManyRows => 22,
+            RowRoleZero | RowRoleAbove | RowFirstNotBelow | RowEndAbove => 23,
             OnNotAssigned { .. } => 11,
+            OnClosed { .. } => 24,
             OffNotActive { .. } => 12,
             SendNotAllowed { .. } | ReceiveNotAllowed { .. } => 13,
             StartPresent | OnPresent | OffPresent => 14,
@@ -213,7 +229,29 @@ impl Cause {
             .collect()
     }
 
-    /// Every cause of the check, in the order in which refusals come.
+    /// The causes that a table of hours and its minute bring to the check and to
+    /// placing.
+    pub fn of_hours() -> Vec<Cause> {
+        use Cause::*;
+        vec![
+            MinuteAbove,
+            PartOfRow,
+            TooManyRows,
+            RowRoleZero,
+            RowRoleAbove,
+            RowFirstNotBelow,
+            RowEndAbove,
+        ]
+    }
+
+    /// The causes that they bring to the check alone.
+    pub fn of_closed() -> Vec<Cause> {
+        [false, true]
+            .map(|second| Cause::OnClosed { second })
+            .to_vec()
+    }
+
+    /// Every cause of the check without hours, in the order in which refusals come.
     pub fn all() -> Vec<Cause> {
         use Cause::*;
         let mut all = vec![Short, Odd, ShortForSecond, Version];

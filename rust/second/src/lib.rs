@@ -3,8 +3,9 @@
 //! It is written from the paper alone and shares nothing with the engine, so
 //! that the two can be compared. Where 1 to 8 or 1 to 10 are spoken of, 21 is
 //! among them. The timed functions, [`read`],
-//! [`read_names`], [`check`], [`place`], [`run`], [`ready`], [`start`] and
-//! [`choose`], go over the file a few times, in place, and allocate nothing.
+//! [`read_names`], [`check`], [`check_at`], [`place`], [`place_at`], [`run`],
+//! [`ready`], [`start`] and [`choose`], go over the file a few times, in place, and
+//! allocate nothing.
 
 #![forbid(unsafe_code)]
 
@@ -12,6 +13,7 @@ pub mod cases;
 mod cause;
 pub mod draft;
 mod file;
+mod hours;
 mod names;
 mod placing;
 mod roles;
@@ -25,6 +27,7 @@ pub use placing::{room_for, ROOM};
 pub use running::{Halt, Run, Thread, Unfit, BESIDE, RECORDS, RUN_ROOM};
 
 use file::File;
+use hours::{Hours, ALWAYS};
 use placing::Plan;
 use roles::Grants;
 use running::{Lent, Scopes, State};
@@ -130,11 +133,32 @@ pub fn check(file: &[u8]) -> Verdict {
     Verdict::of(judge_check(file))
 }
 
+/// Refusal 22, 1 to 8, 23, 9 to 13, and 24 among 11 to 13, for a table of hours,
+/// three words a row, and a minute of the week.
+pub fn check_at(file: &[u8], hours: &[u16], minute: u16) -> Verdict {
+    Verdict::of(judge_check_at(file, hours, minute))
+}
+
 /// Refusal 17, 1 to 10 and 14 to 16; without one, the placed file is written
 /// at the start of `out`.
 pub fn place(file: &[u8], out: &mut [u8]) -> Placed {
     let mut plan = Plan::new();
-    match judge_placing(file, out.len(), &mut plan) {
+    let judged = judge_placing(file, out.len(), &mut plan);
+    placed(file, judged, &plan, out)
+}
+
+/// Refusal 17, 22, 1 to 8, 23, 9 and 10, and 14 to 16 with the roles that are open
+/// at this minute of the week by a table of hours; without one, the placed file is
+/// written at the start of `out`.
+pub fn place_at(file: &[u8], hours: &[u16], minute: u16, out: &mut [u8]) -> Placed {
+    let mut plan = Plan::new();
+    let judged = judge_placing_at(file, hours, minute, out.len(), &mut plan);
+    placed(file, judged, &plan, out)
+}
+
+/// Writes what was planned, if nothing is refused.
+fn placed(file: &[u8], judged: Result<File<'_>, Refusal>, plan: &Plan, out: &mut [u8]) -> Placed {
+    match judged {
         Ok(read) => plan.write(file, &read, out),
         Err(refusal) => {
             let Verdict { number, place } = refusal.verdict();
@@ -242,6 +266,21 @@ pub fn cause_in_placing(file: &[u8], room: usize) -> Option<Refusal> {
     judge_placing(file, room, &mut Plan::new()).err()
 }
 
+/// Why [`check_at`] refuses, if it does.
+pub fn cause_at(file: &[u8], hours: &[u16], minute: u16) -> Option<Refusal> {
+    judge_check_at(file, hours, minute).err()
+}
+
+/// Why [`place_at`] refuses where the output has this many bytes, if it does.
+pub fn cause_in_placing_at(
+    file: &[u8],
+    hours: &[u16],
+    minute: u16,
+    room: usize,
+) -> Option<Refusal> {
+    judge_placing_at(file, hours, minute, room, &mut Plan::new()).err()
+}
+
 /// Why [`check`] refuses the file, if it does. As 1 to 8 come first, this is
 /// also why [`read`] refuses it.
 pub fn cause(file: &[u8]) -> Option<Refusal> {
@@ -256,13 +295,33 @@ fn judge_reading(file: &[u8]) -> Result<File<'_>, Refusal> {
 }
 
 fn judge_check(file: &[u8]) -> Result<(), Refusal> {
-    names::judge_with_roles(&judge_reading(file)?)
+    names::judge_with_roles(&judge_reading(file)?, ALWAYS)
+}
+
+fn judge_check_at(file: &[u8], hours: &[u16], minute: u16) -> Result<(), Refusal> {
+    let hours = Hours::of(hours, minute)?;
+    let file = judge_reading(file)?;
+    names::judge_with_roles(&file, hours.open(&file)?)
 }
 
 fn judge_placing<'a>(file: &'a [u8], room: usize, plan: &mut Plan) -> Result<File<'a>, Refusal> {
     placing::judge_room(file, room)?;
     let file = judge_reading(file)?;
-    plan.draw_up(&file)?;
+    plan.draw_up(&file, ALWAYS)?;
+    Ok(file)
+}
+
+fn judge_placing_at<'a>(
+    file: &'a [u8],
+    hours: &[u16],
+    minute: u16,
+    room: usize,
+    plan: &mut Plan,
+) -> Result<File<'a>, Refusal> {
+    placing::judge_room(file, room)?;
+    let hours = Hours::of(hours, minute)?;
+    let file = judge_reading(file)?;
+    plan.draw_up(&file, hours.open(&file)?)?;
     Ok(file)
 }
 

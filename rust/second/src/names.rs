@@ -2,7 +2,7 @@
 
 use crate::cause::{Cause, Refusal};
 use crate::file::{numbered, three, word, File};
-use crate::roles::{self, Act, Grants};
+use crate::roles::{self, Act, Grants, Whose};
 use crate::tree::VARIABLES;
 
 /// A sound file of 1,024 nodes has at most 511 forks that wait.
@@ -39,14 +39,14 @@ pub fn judge(file: &File) -> Result<(), Refusal> {
     each_act(file, |_, _, _| {})
 }
 
-/// Judges 9 to 13 on a file that 1 to 8 leave clean. A 9 or 10 anywhere comes
-/// before every 11 to 13.
-pub fn judge_with_roles(file: &File) -> Result<(), Refusal> {
+/// Judges 9 to 13, and 24, on a file that 1 to 8 leave clean, where these roles are
+/// open. A 9 or 10 anywhere comes before all others.
+pub fn judge_with_roles(file: &File, open: u16) -> Result<(), Refusal> {
     let grants = Grants::of(file);
     let mut first_of_roles = Ok(());
     each_act(file, |context, place, act| {
         if first_of_roles.is_ok() {
-            let acted = context.act(&grants, act);
+            let acted = context.act(&grants, open, act);
             first_of_roles = acted.map_err(|cause| Refusal { cause, place });
         }
     })?;
@@ -215,10 +215,14 @@ impl<'a> Context<'a> {
         self.point.bound += 1;
     }
 
-    /// Rules 5 and 6.
-    fn act(&mut self, grants: &Grants, act: Act) -> Result<(), Cause> {
-        let active = self.point.active;
-        self.point.active = roles::step(grants, self.assigned, active, act, self.second)?;
+    /// Rules 5 and 6, where these roles are open.
+    fn act(&mut self, grants: &Grants, open: u16, act: Act) -> Result<(), Cause> {
+        let whose = Whose {
+            assigned: self.assigned,
+            open,
+            second: self.second,
+        };
+        self.point.active = roles::step(grants, whose, self.point.active, act)?;
         Ok(())
     }
 }

@@ -70,10 +70,11 @@ impl Plan {
         }
     }
 
-    /// Judges 9 and 10, then 14 to 16, on a file that 1 to 8 leave clean.
-    pub fn draw_up(&mut self, file: &File) -> Result<(), Refusal> {
-        let needs = Needs::of(file)?;
-        let choices = choose(file, &needs);
+    /// Judges 9 and 10, then 14 to 16, on a file that 1 to 8 leave clean, where
+    /// these roles are open.
+    pub fn draw_up(&mut self, file: &File, open: u16) -> Result<(), Refusal> {
+        let needs = Needs::of(file, open)?;
+        let choices = choose(file, open, &needs);
         self.take_states(file, &choices);
         if self.nodes > Section::Nodes.most() {
             return refuse(Cause::ResultTooLarge, 0);
@@ -165,7 +166,7 @@ fn node_of(tag: u16, role: u16) -> [u8; BYTES] {
 }
 
 /// Every node's choice, tree by tree from the right.
-fn choose(file: &File, needs: &Needs) -> [Choice; MOST_NODES] {
+fn choose(file: &File, open: u16, needs: &Needs) -> [Choice; MOST_NODES] {
     let mut choices = [Choice::default(); MOST_NODES];
     let mut waiting = Waiting::new();
     let mut end = file.nodes.len();
@@ -175,7 +176,7 @@ fn choose(file: &File, needs: &Needs) -> [Choice; MOST_NODES] {
         end = tree.start;
         states::choose(
             &file.nodes[tree.clone()],
-            word(&file.users[usize::from(user) - 1], 0),
+            open & word(&file.users[usize::from(user) - 1], 0),
             &needs.roles[tree.clone()],
             &mut waiting,
             &mut choices[tree],

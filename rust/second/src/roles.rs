@@ -15,16 +15,24 @@ pub enum Act {
     Receive { kind: u16 },
 }
 
+/// Whose roles are asked for, and which roles are open.
+pub struct Whose {
+    pub assigned: u16,
+    pub open: u16,
+    /// Whether the node stands in a fork's second branch.
+    pub second: bool,
+}
+
 /// The active set after the act, or why it is refused.
-pub fn step(
-    rights: &impl Rights,
-    assigned: u16,
-    active: u16,
-    act: Act,
-    second: bool,
-) -> Result<u16, Cause> {
+pub fn step(rights: &impl Rights, whose: Whose, active: u16, act: Act) -> Result<u16, Cause> {
+    let Whose {
+        assigned,
+        open,
+        second,
+    } = whose;
     match act {
         Act::On { role } if !has(assigned.into(), role) => Err(Cause::OnNotAssigned { second }),
+        Act::On { role } if !has(open.into(), role) => Err(Cause::OnClosed { second }),
         Act::On { role } => Ok(active | 1 << (role - 1)),
         Act::Off { role } if !has(active.into(), role) => Err(Cause::OffNotActive { second }),
         Act::Off { role } => Ok(active & !(1 << (role - 1))),

@@ -1,7 +1,8 @@
 use crate::cases::{booking, cases, choose_cases, place_cases, placed_booking, run_cases};
-use crate::cases::{start_cases, Due, BOOKING};
+use crate::cases::{check_at_cases, place_at_cases, start_cases, Due, BOOKING};
 use crate::draft::to_bytes;
 use crate::{cause, cause_in_choosing, cause_in_placing, cause_in_run, cause_in_starting};
+use crate::{cause_at, cause_in_placing_at, check_at, place_at};
 use crate::{check, choose, is_of_file, is_of_reading, place, read, read_names, ready, run, start};
 use crate::{Cause, Placed, Verdict, Version, ROOM};
 use std::collections::BTreeSet;
@@ -35,6 +36,52 @@ fn named_cases_of_placing() {
                 assert_eq!(check(&file), Verdict::CLEAN, "{}", case.name);
             }
         }
+    }
+}
+
+#[test]
+fn named_cases_of_the_check_at_a_minute() {
+    let mut causes = BTreeSet::new();
+    for case in check_at_cases() {
+        case.demand("second", check_at);
+        let refusal = cause_at(&case.file, &case.hours, case.minute);
+        let told = refusal.map_or(Verdict::CLEAN, |refusal| refusal.verdict());
+        assert_eq!((told.number, told.place), case.answer, "{}", case.name);
+        causes.extend(refusal.map(|refusal| refusal.cause));
+    }
+    for cause in [Cause::of_hours(), Cause::of_closed()].concat() {
+        assert!(causes.contains(&cause), "no case of {cause:?}");
+    }
+}
+
+#[test]
+fn named_cases_of_placing_at_a_minute() {
+    for case in place_at_cases() {
+        case.demand("second", place_at);
+        let (file, room) = (&case.case.file, case.case.room);
+        let refusal = cause_in_placing_at(file, &case.hours, case.minute, room);
+        let told = refusal.map(|refusal| refusal.verdict());
+        match &case.case.due {
+            &Due::Refused(number, place) => assert_eq!(told, Some(Verdict { number, place })),
+            Due::Placed(placed, _) => {
+                assert_eq!(told, None);
+                let checked = check_at(placed, &case.hours, case.minute);
+                assert_eq!(checked, Verdict::CLEAN, "{}", case.case.name);
+            }
+        }
+    }
+}
+
+/// Without rows all roles are open, whatever the minute.
+#[test]
+fn an_empty_table_changes_nothing() {
+    for case in cases() {
+        for minute in [0, 5_000, 10_079] {
+            assert_eq!(check_at(&case.file, &[], minute), check(&case.file));
+        }
+    }
+    for case in place_cases() {
+        case.demand("second", |file, out| place_at(file, &[], 10_079, out));
     }
 }
 

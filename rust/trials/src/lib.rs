@@ -11,6 +11,7 @@ mod choosing;
 mod deal;
 mod desk;
 mod grow;
+mod hours;
 pub mod juniors;
 mod lists;
 mod placing;
@@ -32,6 +33,9 @@ pub use choosing::{agreed_choice, compare_choosing, deal_lent, engine_choose, fu
 pub use choosing::{long_run_by_choices, run_by_choices, typical_lent};
 pub use choosing::{ChooseTally, Lent, Steps};
 pub use deal::{deal, largest, sized, typical};
+pub use hours::{agreed_check_at, agreed_placing_at, closed, without_roles, At};
+pub use hours::{compare_checking_at, compare_placing_at, deal_at, deal_bare_at, grant_more};
+pub use hours::{engine_check_at, engine_place_at, CheckAtTally, PlaceAtTally};
 pub use lists::{to_engine, Lists};
 pub use placing::{agreed_placing, compare_placing, engine_place, PlaceTally};
 pub use rng::Rng;

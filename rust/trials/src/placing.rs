@@ -12,7 +12,11 @@ use std::fmt::Display;
 
 /// The engine's answer, in the second implementation's form.
 pub fn engine_place(file: &[u8], out: &mut [u8]) -> Placed {
-    let placed = pilzdamo::place(file, out);
+    in_form(pilzdamo::place(file, out))
+}
+
+/// The same answer in the second implementation's form.
+pub fn in_form(placed: pilzdamo::Placed) -> Placed {
     Placed {
         number: placed.number,
         place: placed.place,
@@ -28,30 +32,42 @@ pub fn agreed_placing(file: &[u8], before: &[u8], origin: impl Display) -> (Plac
     let (mut out, mut of_second) = (before.to_vec(), before.to_vec());
     let placed = engine_place(file, &mut out);
     let second = second::place(file, &mut of_second);
-    let hex = || -> String { file.iter().map(|byte| format!("{byte:02x}")).collect() };
-    let fail = |what: &str| -> ! {
+    let fault = differences((placed, &out), (second, &of_second)).or_else(|| {
+        let judged = judge(file, before, &out, placed, second::check);
+        judged.err().map(str::to_string)
+    });
+    if let Some(fault) = fault {
+        let hex: String = file.iter().map(|byte| format!("{byte:02x}")).collect();
         panic!(
-            "{what} at {origin}: engine {placed:?}, second {second:?}, output of {} bytes, on {} \
-             bytes, to be had back by `xxd -r -p`:\n{}",
+            "{fault} at {origin}: engine {placed:?}, second {second:?}, output of {} bytes, on {} \
+             bytes, to be had back by `xxd -r -p`:\n{hex}",
             before.len(),
             file.len(),
-            hex()
         )
-    };
-    if placed != second {
-        fail("place differs");
-    }
-    if let Some(at) = (0..out.len()).find(|&at| out[at] != of_second[at]) {
-        fail(&format!("output byte {at} differs"));
-    }
-    if let Err(fault) = judge(file, before, &out, placed) {
-        fail(fault);
     }
     (placed, out)
 }
 
+/// How two answers and outputs differ, if they do.
+pub fn differences(
+    (placed, out): (Placed, &[u8]),
+    (second, of_second): (Placed, &[u8]),
+) -> Option<String> {
+    if placed != second {
+        return Some("place differs".to_string());
+    }
+    let at = (0..out.len()).find(|&at| out[at] != of_second[at])?;
+    Some(format!("output byte {at} differs"))
+}
+
 /// Judges what is known of every answer without doing the placing anew.
-fn judge(file: &[u8], before: &[u8], out: &[u8], placed: Placed) -> Result<(), &'static str> {
+pub fn judge(
+    file: &[u8],
+    before: &[u8],
+    out: &[u8],
+    placed: Placed,
+    check: impl Fn(&[u8]) -> Verdict,
+) -> Result<(), &'static str> {
     let unless = |wrong: bool, fault| if wrong { Err(fault) } else { Ok(()) };
     let length = usize::from(placed.length);
     unless(out[length..] != before[length..], "a byte past the length")?;
@@ -60,7 +76,7 @@ fn judge(file: &[u8], before: &[u8], out: &[u8], placed: Placed) -> Result<(), &
     }
     let out = &out[..length];
     unless(placed.place != 0, "a place, but no refusal")?;
-    unless(second::check(out) != Verdict::CLEAN, "the check refuses it")?;
+    unless(check(out) != Verdict::CLEAN, "the check refuses it")?;
     let draft = Draft::of(out);
     let on_nodes = draft.nodes.iter().filter(|node| node[0] == 7).count();
     unless(on_nodes != placed.on_steps.into(), "other on steps")?;

@@ -50,7 +50,7 @@ fn commands() -> Vec<(String, String)> {
 #[test]
 fn the_readme_names_every_example() {
     let commands: String = commands().into_iter().map(|(_, command)| command).collect();
-    for folder in ["", "head-nurse/", "spring/", "refused/"] {
+    for folder in ["", "head-nurse/", "hours/", "spring/", "refused/"] {
         for entry in fs::read_dir(example(folder)).expect("a folder") {
             let entry = entry.expect("an entry");
             let name = entry.file_name().display().to_string();

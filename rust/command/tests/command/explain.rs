@@ -7,17 +7,18 @@ fn every_refusal_is_explained() {
     let who = |number| match number {
         1..=5 => "the file's writer",
         6 | 21 => "the schema's keeper",
-        7..=16 => "the routine's author",
+        7..=16 | 24 => "the routine's author",
         _ => "the caller",
     };
     let counts = |number| match number {
         6 | 21 => "words",
         7 => "sessions",
-        8..=15 => "nodes",
+        8..=15 | 24 => "nodes",
         18..=20 => "choices",
+        23 => "rows",
         _ => "nothing",
     };
-    for number in 1..=21 {
+    for number in 1..=24 {
         let answer = pilzdamo(&["explain", &number.to_string()]);
         assert_eq!((answer.status, answer.err.as_str()), (0, ""));
         let text = answer.text();
@@ -34,11 +35,11 @@ fn every_refusal_is_explained() {
 
 #[test]
 fn no_other_number() {
-    for word in ["0", "22", "-", "-1", "x", "13 ", "65536", "1.0"] {
+    for word in ["0", "25", "-", "-1", "x", "13 ", "65536", "1.0"] {
         let answer = pilzdamo(&["explain", word]);
         assert_eq!((answer.status, answer.text()), (2, ""), "{word}");
         assert!(
-            answer.err.contains("the refusals have the numbers 1 to 21"),
+            answer.err.contains("the refusals have the numbers 1 to 24"),
             "{word}"
         );
     }

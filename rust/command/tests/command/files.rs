@@ -11,6 +11,8 @@ pub fn all() -> Vec<(&'static str, Vec<u8>)> {
         ("transfer.clinic", transfer().bytes()),
         ("head-nurse/copied.clinic", copied_grants().bytes()),
         ("head-nurse/juniors.clinic", by_juniors().bytes()),
+        ("hours/desk.clinic", hours_desk(&BOTH_SENDS).bytes()),
+        ("hours/by-day.clinic", hours_desk_in(1).bytes()),
         ("spring/bare.clinic", spring(&READ_AND_WRITE, false).bytes()),
         ("spring/cut.clinic", spring(&READ_CUT_WRITE, true).bytes()),
     ];
@@ -143,6 +145,22 @@ fn copied_grants() -> Draft {
 /// hers alone.
 pub fn by_juniors() -> Draft {
     ward(&[3]).juniors(&[&[], &[1], &[]])
+}
+
+/// The sends of the booking.
+const BOTH_SENDS: [[u16; 3]; 3] = [send(channel(1), 2), send(channel(2), 2), END];
+
+/// The booking's tables, with both sends permitted by role 1, admissions, and by
+/// role 2, the night desk's.
+fn hours_desk(nodes: &[[u16; 3]]) -> Draft {
+    let mut draft = booking_of(nodes);
+    draft.roles[0] = draft.roles[1];
+    draft
+}
+
+/// Placed in one of these roles.
+pub fn hours_desk_in(role: u16) -> Draft {
+    hours_desk(&holding(role, &BOTH_SENDS))
 }
 
 /// A scheduler's steps: reads the free bed, writes the booking.

@@ -7,6 +7,7 @@ mod draft;
 mod examples;
 mod explain;
 mod files;
+mod hours;
 mod place;
 mod refused;
 mod run;

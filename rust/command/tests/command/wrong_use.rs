@@ -21,7 +21,7 @@ fn help_and_version() {
 
 #[test]
 fn words() {
-    let wrong: [(&[&str], &str); 20] = [
+    let wrong: [(&[&str], &str); 31] = [
         (&[], "what to do?"),
         (&[""], "there is no word ''"),
         (&["judge", "a"], "there is no word 'judge'"),
@@ -36,6 +36,47 @@ fn words() {
         (
             &["place", "a", "-o", "b", "-o", "c"],
             "place: -o stands there twice",
+        ),
+        (
+            &["check", "a", "--at", "Mon 07:30"],
+            "check: --at and --hours go together",
+        ),
+        (
+            &["place", "a", "--hours", "b"],
+            "place: --at and --hours go together",
+        ),
+        (
+            &["check", "a", "--at", "noon", "--hours", "b"],
+            "check: --at wants a day and a time such as \"Mon 07:30\", not 'noon'",
+        ),
+        (
+            &["place", "a", "--at", "Sun 24:00", "--hours", "b"],
+            "place: --at wants a day and a time such as \"Mon 07:30\", not 'Sun 24:00'",
+        ),
+        (
+            &["check", "a", "--at"],
+            "check: --at wants a day and a time behind it",
+        ),
+        (
+            &["place", "a", "--hours"],
+            "place: --hours wants the name of a file behind it",
+        ),
+        (
+            &["check", "a", "--at", "b", "--at", "c"],
+            "check: --at stands there twice",
+        ),
+        (
+            &["check", "a", "--hours", "b", "--hours", "c"],
+            "check: --hours stands there twice",
+        ),
+        (
+            &["check", "-", "--at", "Mon 07:30", "--hours", "-"],
+            "check: only one of FILE and HOURS can be standard input",
+        ),
+        (&["run", "--at", "Mon 07:30"], "run has no option '--at'"),
+        (
+            &["show", "a", "--hours", "b"],
+            "show has no option '--hours'",
         ),
         (&["run"], "run: FILE is missing"),
         (&["run", "a"], "run: CHOICES is missing"),

@@ -87,6 +87,29 @@ static void head_nurse(const char *folder) {
     print("a junior that is no lower", pilzdamo_read(wrong.bytes, wrong.len));
 }
 
+/* Admissions, role 1, has hours; the night desk's role 2 has none. */
+static void hours(const char *folder) {
+    static const uint16_t monday[] = {1, 7 * 60, 15 * 60}, no_role[] = {3, 0, 1};
+    const uint16_t noon = 12 * 60, evening = 20 * 60;
+    clinic by_day = example(folder, "hours/by-day.clinic");
+    clinic desk = example(folder, "hours/desk.clinic");
+    uint8_t out[PILZDAMO_ROOM];
+    print("noon", pilzdamo_check_at(by_day.bytes, by_day.len, monday, 3, noon));
+    print("evening", pilzdamo_check_at(by_day.bytes, by_day.len, monday, 3, evening));
+    print("no such role", pilzdamo_check_at(by_day.bytes, by_day.len, no_role, 3, noon));
+    print("no such minute",
+          pilzdamo_check_at(by_day.bytes, by_day.len, monday, 3, PILZDAMO_WEEK));
+    print_placed("place for noon", pilzdamo_place_at(desk.bytes, desk.len, monday, 3, noon,
+                                                     out, sizeof out));
+    printf("role: %d\n", word_at(out, 33));
+    print_placed("place for the evening",
+                 pilzdamo_place_at(desk.bytes, desk.len, monday, 3, evening, out,
+                                   sizeof out));
+    printf("role: %d\n", word_at(out, 33));
+    print_placed("part of a row", pilzdamo_place_at(desk.bytes, desk.len, monday, 2, noon,
+                                                    out, sizeof out));
+}
+
 /* What a run wrote. */
 static void print_state(const uint8_t *state) {
     size_t made = word_at(state, 3), i;
@@ -175,8 +198,10 @@ int main(int argc, char **argv) {
            (int)sizeof(pilzdamo_thread));
     printf("rooms: %d %d %d %d %d\n", PILZDAMO_ROOM, PILZDAMO_ROOM_1, PILZDAMO_RUN_ROOM,
            PILZDAMO_RECORDS, PILZDAMO_BESIDE);
+    printf("hours: %d %d\n", PILZDAMO_WEEK, PILZDAMO_ROWS);
     booking(argv[1]);
     head_nurse(argv[1]);
+    hours(argv[1]);
     both_read(argv[1]);
     refusals(argv[1]);
     return 0;

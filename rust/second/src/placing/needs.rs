@@ -8,8 +8,8 @@ use crate::roles::{Act, Permitted};
 
 /// What the nodes ask for.
 pub struct Needs {
-    /// For each send and receive the roles of its user that permit it; 0 for
-    /// the other nodes.
+    /// For each send and receive the open roles of its user that permit it; 0
+    /// for the other nodes.
     pub roles: [u16; MOST_NODES],
     /// The first 14 and the first 15 among the nodes.
     changes: Result<(), Refusal>,
@@ -17,8 +17,9 @@ pub struct Needs {
 }
 
 impl Needs {
-    /// Judges 9 and 10, then 14 and 15, on a file that 1 to 8 leave clean.
-    pub fn of(file: &File) -> Result<Needs, Refusal> {
+    /// Judges 9 and 10, then 14 and 15, on a file that 1 to 8 leave clean, where
+    /// these roles are open.
+    pub fn of(file: &File, open: u16) -> Result<Needs, Refusal> {
         let permitted = Permitted::of(file);
         let mut needs = Needs {
             roles: [0; MOST_NODES],
@@ -26,7 +27,7 @@ impl Needs {
             unmet: Ok(()),
         };
         names::each_act(file, |context, place, act| {
-            needs.note(&permitted, context, place, act);
+            needs.note(&permitted, open, context, place, act);
         })?;
         if file.sessions.iter().any(|session| word(session, 1) != 0) {
             return refuse(Cause::StartPresent, 0);
@@ -36,7 +37,7 @@ impl Needs {
         Ok(needs)
     }
 
-    fn note(&mut self, permitted: &Permitted, context: &Context, place: u16, act: Act) {
+    fn note(&mut self, permitted: &Permitted, open: u16, context: &Context, place: u16, act: Act) {
         let second = context.second;
         let (roles, cause) = match act {
             Act::On { .. } => return self.note_change(Cause::OnPresent, place),
@@ -50,7 +51,7 @@ impl Needs {
                 Cause::NoRoleReceives { second },
             ),
         };
-        let roles = roles & context.assigned;
+        let roles = roles & open & context.assigned;
         if roles == 0 && self.unmet.is_ok() {
             self.unmet = refuse(cause, place);
         }

@@ -3,6 +3,7 @@
 use super::replay::Replay;
 use super::{agreed_run, Dealt};
 use crate::bare::lively_bare;
+use crate::hours::{agreed_placing_at, grant_more, with_hours};
 use crate::placing::agreed_placing;
 use crate::rng::Rng;
 use crate::schedule::{any_choice, halt_of, schedule, Goal, Steer};
@@ -13,23 +14,33 @@ use second::{Halt, Run, Version, ROOM, RUN_ROOM};
 #[derive(Debug, Default)]
 pub struct PlacedRuns {
     pub files: u64,
+    /// Those of them that were placed for a minute, with roles that have hours.
+    pub at_a_minute: u64,
     pub runs: u64,
     pub sends: u64,
     /// Choices tried one by one in the states of these runs.
     pub tried: u64,
 }
 
-/// Places `files` files of a version by both, and runs what can be placed on
-/// several lists. Panics where a run is stopped for a role.
+/// Places `files` files of a version by both, half of them for a minute, and runs
+/// what can be placed on several lists. Panics where a run is stopped for a role.
 pub fn run_placed(version: Version, seed: u64, files: u64) -> PlacedRuns {
     let mut came_up = PlacedRuns::default();
     for index in 0..files {
         let rng = &mut Rng::new(seed.rotate_left(2), index);
-        let bare = lively_bare(rng, version).bytes();
-        let (placed, out) = agreed_placing(&bare, &[0; ROOM], index);
+        let mut bare = lively_bare(rng, version);
+        let with_table = index % 2 == 1;
+        let (placed, out) = if with_table {
+            grant_more(rng, &mut bare);
+            let at = with_hours(rng, bare.bytes());
+            agreed_placing_at(&at, &[0; ROOM], index)
+        } else {
+            agreed_placing(&bare.bytes(), &[0; ROOM], index)
+        };
         if placed.number != 0 {
             continue;
         }
+        came_up.at_a_minute += u64::from(with_table);
         let file = out[..placed.length.into()].to_vec();
         came_up.files += 1;
         for turn in 0..6 {

@@ -3,7 +3,7 @@
 use crate::timing::{Samples, Times, ROUNDS};
 use second::{Ready, Verdict, ROOM, RUN_ROOM};
 use std::hint::black_box;
-use trials::{Dealt, Lent, Lists};
+use trials::{At, Dealt, Lent, Lists};
 
 /// A question and what it is asked of.
 #[derive(Clone)]
@@ -15,6 +15,10 @@ pub enum Input {
         /// What it is refused with, 0 if it is placed.
         number: u16,
     },
+    /// A file that passes at the minute.
+    CheckAt(At),
+    /// A file that is placed at the minute.
+    PlaceAt(At),
     /// A run to the end of its list.
     Run {
         file: Vec<u8>,
@@ -48,6 +52,7 @@ impl Case {
             Input::Read(file) | Input::Check(file) => file,
             Input::Place { file, .. } | Input::Run { file, .. } => file,
             Input::Ready { file, .. } | Input::Choose(Lent { file, .. }) => file,
+            Input::CheckAt(At { file, .. }) | Input::PlaceAt(At { file, .. }) => file,
         }
     }
 
@@ -62,6 +67,17 @@ impl Case {
             Input::Place { file, number } => {
                 let (placed, mut out) = trials::agreed_placing(file, &[0; ROOM], name);
                 assert_eq!(placed.number, *number, "{name}");
+                out.truncate(placed.length.into());
+                out
+            }
+            Input::CheckAt(at) => {
+                let verdict = trials::agreed_check_at(at, name);
+                assert_eq!(verdict, Verdict::CLEAN, "{name}");
+                Vec::new()
+            }
+            Input::PlaceAt(at) => {
+                let (placed, mut out) = trials::agreed_placing_at(at, &[0; ROOM], name);
+                assert_eq!(placed.number, 0, "{name}");
                 out.truncate(placed.length.into());
                 out
             }
@@ -114,6 +130,16 @@ impl Case {
                     || second::place(black_box(file), black_box(&mut of_second)),
                 );
             }
+            Input::CheckAt(At {
+                file,
+                hours,
+                minute,
+            }) => samples.take(
+                self.calls,
+                || pilzdamo::check_at(black_box(file), black_box(hours), *minute),
+                || second::check_at(black_box(file), black_box(hours), *minute),
+            ),
+            Input::PlaceAt(at) => place_at(at, self.calls, samples),
             Input::Run { file, choices } => {
                 let input = || (black_box(&file[..]), black_box(&choices[..]));
                 let (mut out, mut of_second) = (vec![0; RUN_ROOM], vec![0; RUN_ROOM]);
@@ -135,6 +161,25 @@ impl Case {
             Input::Choose(lent) => choose(lent, self.calls, samples),
         }
     }
+}
+
+fn place_at(at: &At, calls: u32, samples: &mut Samples) {
+    let At {
+        file,
+        hours,
+        minute,
+    } = at;
+    let (mut out, mut of_second) = (vec![0; ROOM], vec![0; ROOM]);
+    let input = || (black_box(&file[..]), black_box(&hours[..]));
+    let engine = || {
+        let (file, hours) = input();
+        pilzdamo::place_at(file, hours, *minute, black_box(&mut out))
+    };
+    let second = || {
+        let (file, hours) = input();
+        second::place_at(file, hours, *minute, black_box(&mut of_second))
+    };
+    samples.take(calls, engine, second);
 }
 
 /// Before each call the two threads that the send moves are put back; nothing

@@ -3,7 +3,7 @@
 use crate::case::{Case, Input};
 use second::cases::run_cases;
 use second::Version;
-use trials::{juniors, Lent};
+use trials::{juniors, At, Lent};
 
 type Run = (Vec<u8>, Vec<u16>);
 
@@ -94,6 +94,12 @@ impl Inputs {
             Case::new("check typical 2", check(&self.typical_2), 300),
             Case::new("place largest 2", place(&self.largest_bare_2, 0), 50),
             Case::new("place typical 2", place(&self.typical_bare_2, 0), 300),
+            Case::new("check at", Input::CheckAt(with_hours(&self.largest)), 50),
+            Case::new(
+                "place at",
+                Input::PlaceAt(with_hours(&self.largest_bare)),
+                50,
+            ),
         ]
     }
 
@@ -119,7 +125,8 @@ impl Inputs {
              Choose, a send in a lent list: largest has {};\n\
              typical has {}.\n\
              Ready, crowded: 32 choices, then 64 threads of which no two can meet.\n\
-             Rows with a 2: the same file in version 2, with all lower roles as juniors of each.\n",
+             Rows with a 2: the same file in version 2, with all lower roles as juniors of each.\n\
+             Check at and place at: the largest, with 64 rows of hours, four to each role.\n",
             run(&self.largest_run),
             run(&self.typical_run),
             run(&self.short_run),
@@ -135,6 +142,19 @@ fn short_run() -> Run {
     let case = cases.find(|case| case.name == "the booking to its end");
     let case = case.expect("a case of that name");
     (case.file, case.choices)
+}
+
+/// With a table of 64 rows, four to each of 16 roles, which are all open by their
+/// last.
+fn with_hours(file: &[u8]) -> At {
+    let minute = 5_000;
+    let stretches = [[0, 100], [200, 300], [9_000, 10_080], [4_000, 6_000]];
+    let row = |[first, end]: [u16; 2]| (1..=16).flat_map(move |role| [role, first, end]);
+    At {
+        file: file.to_vec(),
+        hours: stretches.into_iter().flat_map(row).collect(),
+        minute,
+    }
 }
 
 /// How many variables of the threads that count are bound.

@@ -1,0 +1,64 @@
+use mathlib.Core.Path.{_≡_, sym, ap, subst, _∙_}
+use denote.Ref.{now}
+use Rattle.reading.specs.Reading.{opened, withHead}
+use Rattle.reading.specs.declared.Opened.{Opened}
+use Rattle.reading.specs.declared.Opened.the-variants.{Fine}
+use Rattle.reading.proofs.ReadingLaws.{opened-fine}
+use Rattle.rules.specs.declared.Judged.{Judged}
+use Rattle.checking.specs.Check.{Admitted, examinedFrom, surveyedFrom}
+use Rattle.checking.proofs.CheckLaws.{owned}
+use borrow.Author.Needs.{needs}
+use Rattle.checking.proofs.examine_opened.Statement.{statement}
+use Rattle.checking.proofs.examine_opened.Tie as tie
+use Rattle.checking.proofs.examine_opened.Reads as reads
+use Rattle.checking.proofs.examine_opened.Lts as lts
+use Rattle.reading.proofs.with_head.Reads as with-head-reads
+use Rattle.rules.proofs.judge.judge.Reads as judge-reads
+
+enum-known-answer : tie.Need-enum-known-answer
+enum-known-answer c = search needs
+
+enum-known-answer-2 : tie.Need-enum-known-answer-2
+enum-known-answer-2 c = search needs
+
+judge-requires : tie.Need-judge-requires
+judge-requires c κs =
+    let f = now (c .before .before .before .before .before .before .args .file) in
+    let told : opened f ≡ Fine (c .before .before .answer2 .given .0 .0) = subst (Admitted f) (c .before .before .answer2 .given .1) (c .before .before .before .before .before .before .pre .0) in
+    (opened-fine f _ told .0, owned f _ told, c .before .before .before .before .before .before .pre .1)
+
+with-head-requires : tie.Need-with-head-requires
+with-head-requires c κs = search needs
+
+returns : tie.Need-returns
+returns c =
+    let a = c .before .before .before .before .before .args in
+    let is = sym (c .before .answer .given .1) in
+    (ap (examinedFrom (now (a .file))) is, ap (λ (o : Opened). surveyedFrom (now (a .file)) o (a .roles .now)) is)
+
+same-length : tie.Need-same-length
+same-length c = search needs
+
+returns-2 : tie.Need-returns-2
+returns-2 c =
+    let a = c .before .before .before .before .before .before .before .before .before .before .before .before .args in
+    let h = c .before .before .before .before .before .before .before .before .answer2 .given .0 .0 in
+    let is = sym (c .before .before .before .before .before .before .before .before .answer2 .given .1) in
+    let j = c .before .before .before .before .before .judge in (
+      ap (λ (x : Opened). record { names = x; roles = j .result .roles }) (c .with-head .ensures)
+          ∙ ap (λ (x : Judged). record { names = withHead h (x .names); roles = x .roles }) (j .ensures .0)
+          ∙ ap (examinedFrom (now (a .file))) is,
+      j .ensures .1 ∙ ap (λ (o : Opened). surveyedFrom (now (a .file)) o (a .roles .now)) is,
+    )
+
+pub examine-opened-spec : {M : Type 1} → statement M
+examine-opened-spec =
+    tie.close
+    (tie.spec
+    enum-known-answer
+    enum-known-answer-2
+    judge-requires
+    with-head-requires
+    returns
+    same-length
+    returns-2)

@@ -1,0 +1,3 @@
+pub mod StepLaws
+pub mod ShutLaws
+pub mod TableLaws

@@ -1,0 +1,11 @@
+pub mod OpenFiles
+pub mod HourFirst
+pub mod HourOrder
+pub mod CheckAtFirst
+pub mod OpenRules
+pub mod CheckAtExact
+pub mod StandingPlaced
+pub mod PlaceAtFirst
+pub mod PlaceAtExact
+pub mod EmptyTable
+pub mod CasesShown

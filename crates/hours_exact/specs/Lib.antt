@@ -1,0 +1,4 @@
+pub mod OpenFile
+pub mod HourFaults
+pub mod PromisedAt
+pub mod HourCases

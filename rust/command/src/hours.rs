@@ -1,0 +1,303 @@
+//! Opening hours as text, and minutes of the week.
+
+const DAYS: [&str; 7] = ["Mon", "Tue", "Wed", "Thu", "Fri", "Sat", "Sun"];
+
+/// The minutes of a day.
+const DAY: u16 = 24 * 60;
+
+/// A table of hours, read from text.
+#[derive(Debug, Default, PartialEq)]
+pub struct Table {
+    /// Three words a row: role, first minute, end minute.
+    pub words: Vec<u16>,
+    /// The line that each row comes from, from 1.
+    pub lines: Vec<usize>,
+}
+
+/// What is wrong in a line of the text.
+#[derive(Debug, PartialEq)]
+pub struct Flaw {
+    /// Its line, from 1.
+    pub line: usize,
+    pub what: String,
+}
+
+impl Table {
+    /// The rows of the text: `role 2 Mon-Fri 07:00-15:00` is a row for each day,
+    /// and two where it goes over midnight, also over that of the week's end. `#`
+    /// starts a comment.
+    pub fn of(text: &[u8]) -> Result<Table, Flaw> {
+        let text = String::from_utf8_lossy(text);
+        let mut table = Table::default();
+        for (line, text) in (1..).zip(text.lines()) {
+            let words: Vec<&str> = text
+                .split('#')
+                .next()
+                .unwrap_or("")
+                .split_whitespace()
+                .collect();
+            if !words.is_empty() {
+                let rows = rows(&words).map_err(|what| Flaw { line, what })?;
+                table.lines.extend(rows.iter().map(|_| line));
+                table.words.extend(rows.as_flattened());
+            }
+        }
+        Ok(table)
+    }
+}
+
+/// The rows of a line that isn't empty.
+fn rows(words: &[&str]) -> Result<Vec<[u16; 3]>, String> {
+    let &[start, role, days, times] = words else {
+        return Err(format!("'{}' has not four words", shown(&words.join(" "))));
+    };
+    if !start.eq_ignore_ascii_case("role") {
+        return Err(format!("'{}' is not the word 'role'", shown(start)));
+    }
+    let role = number(role).ok_or_else(|| format!("'{}' is no number of a role", shown(role)))?;
+    let (first, last) = days.split_once('-').unwrap_or((days, days));
+    let [first, last] = [first, last].map(|name| {
+        day(name)
+            .ok_or_else(|| format!("'{}' is no day, which are {}", shown(name), DAYS.join(", ")))
+    });
+    let (begin, end) = stretch(times)?;
+    let mut rows = Vec::new();
+    for day in days_from(first?, last?) {
+        let at = |day: u16, minute: u16| DAY * day + minute;
+        if begin < end {
+            rows.push([role, at(day, begin), at(day, end)]);
+            continue;
+        }
+        rows.push([role, at(day, begin), at(day, DAY)]);
+        let next = (day + 1) % 7;
+        if end > 0 {
+            rows.push([role, at(next, 0), at(next, end)]);
+        }
+    }
+    Ok(rows)
+}
+
+/// The days from one to another, over the week's end if need be.
+fn days_from(first: u16, last: u16) -> impl Iterator<Item = u16> {
+    let count = (last + 7 - first) % 7;
+    (0..=count).map(move |more| (first + more) % 7)
+}
+
+/// Where a stretch such as `07:00-15:00` begins and ends, in minutes of the day; it
+/// ends on the next where it ends before it begins.
+fn stretch(text: &str) -> Result<(u16, u16), String> {
+    let times = text.split_once('-').and_then(|(begin, end)| {
+        let begin = time(begin).filter(|begin| *begin < DAY)?;
+        Some((begin, time(end)?))
+    });
+    match times {
+        None => Err(format!(
+            "'{}' is no stretch such as 07:00-15:00",
+            shown(text)
+        )),
+        Some((begin, end)) if begin == end => Err(format!("'{}' ends as it begins", shown(text))),
+        Some(times) => Ok(times),
+    }
+}
+
+/// The minute of the week that a day and a time, such as `Mon 07:30`, name.
+pub fn minute(text: &str) -> Option<u16> {
+    let mut words = text.split_whitespace();
+    let (name, clock) = (words.next()?, words.next()?);
+    let time = time(clock).filter(|time| *time < DAY)?;
+    let day = day(name)?;
+    words.next().is_none().then_some(DAY * day + time)
+}
+
+/// A minute of the week as a day and a time.
+pub fn clock(minute: u16) -> String {
+    let (day, time) = (minute / DAY, minute % DAY);
+    let name = DAYS.get(usize::from(day)).unwrap_or(&"?");
+    format!("{name} {:02}:{:02}", time / 60, time % 60)
+}
+
+/// The day of this name, from 0.
+fn day(name: &str) -> Option<u16> {
+    let at = DAYS.iter().position(|day| day.eq_ignore_ascii_case(name))?;
+    Some(at as u16)
+}
+
+/// The minute of the day, up to 24:00.
+fn time(text: &str) -> Option<u16> {
+    let (hours, minutes) = text.split_once(':')?;
+    let whole = (1..=2).contains(&hours.len()) && minutes.len() == 2;
+    let [hours, minutes] = [hours, minutes].map(number);
+    let time = 60 * hours? + minutes.filter(|minutes| *minutes < 60)?;
+    (whole && time <= DAY).then_some(time)
+}
+
+/// A number from 0 to 65,535, in digits.
+fn number(text: &str) -> Option<u16> {
+    let digits = text.bytes().all(|byte| byte.is_ascii_digit());
+    text.parse().ok().filter(|_| digits)
+}
+
+/// A word of the text, or its start if it is long.
+fn shown(word: &str) -> String {
+    word.chars().take(30).flat_map(char::escape_debug).collect()
+}
+
+#[cfg(test)]
+mod tests {
+    use super::*;
+
+    /// The rows of a text, and their lines.
+    fn read(text: &str) -> (Vec<[u16; 3]>, Vec<usize>) {
+        let table = Table::of(text.as_bytes()).expect("a table");
+        let (rows, rest) = table.words.as_chunks();
+        assert!(rest.is_empty());
+        (rows.to_vec(), table.lines)
+    }
+
+    #[test]
+    fn days_and_times() {
+        let weekdays = [0, 1, 2, 3, 4].map(|day| [1, 1_440 * day + 420, 1_440 * day + 900]);
+        let text = "# admissions\n\nrole 1 Mon-Fri 07:00-15:00 # weekdays\n";
+        assert_eq!(read(text), (weekdays.to_vec(), vec![3; 5]));
+        let text = "ROLE 2 sun 0:00-24:00\nrole 16 Sat 23:59-24:00";
+        let due = vec![[2, 8_640, 10_080], [16, 8_639, 8_640]];
+        assert_eq!(read(text), (due, vec![1, 2]));
+        let over_the_end = vec![[3, 8_640, 8_641], [3, 0, 1]];
+        assert_eq!(read("role 3 Sun-Mon 00:00-00:01").0, over_the_end);
+        assert_eq!(read("").0, Vec::<[u16; 3]>::new());
+    }
+
+    #[test]
+    fn over_midnight() {
+        let due = vec![[2, 1_320, 1_440], [2, 1_440, 1_800]];
+        assert_eq!(read("role 2 Mon 22:00-06:00").0, due);
+        let due = vec![[2, 9_960, 10_080], [2, 0, 360]];
+        assert_eq!(read("role 2 Sun 22:00-06:00").0, due);
+        assert_eq!(read("role 2 Sun 22:00-00:00").0, vec![[2, 9_960, 10_080]]);
+        assert_eq!(read("role 2 Sun 22:00-24:00").0, vec![[2, 9_960, 10_080]]);
+        assert_eq!(read("role 2 Mon-Sun 22:00-06:00").0.len(), 14);
+    }
+
+    #[test]
+    fn lines_that_are_no_row() {
+        let flaw = |text: &str| {
+            let flaw = Table::of(text.as_bytes()).expect_err("a flaw");
+            (flaw.line, flaw.what)
+        };
+        let days = "Mon, Tue, Wed, Thu, Fri, Sat, Sun";
+        for (text, line, what) in [
+            (
+                "role 1 Mon",
+                1,
+                "'role 1 Mon' has not four words".to_string(),
+            ),
+            (
+                "\nrole 1 Mon 1:00-2:00 x",
+                2,
+                "'role 1 Mon 1:00-2:00 x' has not four words".into(),
+            ),
+            (
+                "rolle 1 Mon 1:00-2:00",
+                1,
+                "'rolle' is not the word 'role'".into(),
+            ),
+            (
+                "role x Mon 1:00-2:00",
+                1,
+                "'x' is no number of a role".into(),
+            ),
+            (
+                "role -1 Mon 1:00-2:00",
+                1,
+                "'-1' is no number of a role".into(),
+            ),
+            (
+                "role 65536 Mon 1:00-2:00",
+                1,
+                "'65536' is no number of a role".into(),
+            ),
+            (
+                "role 1 Mo 1:00-2:00",
+                1,
+                format!("'Mo' is no day, which are {days}"),
+            ),
+            (
+                "role 1 Mon- 1:00-2:00",
+                1,
+                format!("'' is no day, which are {days}"),
+            ),
+            (
+                "role 1 Mon-Fri-Sun 1:00-2:00",
+                1,
+                format!("'Fri-Sun' is no day, which are {days}"),
+            ),
+            (
+                "role 1 Mon 1:00",
+                1,
+                "'1:00' is no stretch such as 07:00-15:00".into(),
+            ),
+            (
+                "role 1 Mon 1:60-2:00",
+                1,
+                "'1:60-2:00' is no stretch such as 07:00-15:00".into(),
+            ),
+            (
+                "role 1 Mon 1:0-2:00",
+                1,
+                "'1:0-2:00' is no stretch such as 07:00-15:00".into(),
+            ),
+            (
+                "role 1 Mon 24:00-2:00",
+                1,
+                "'24:00-2:00' is no stretch such as 07:00-15:00".into(),
+            ),
+            (
+                "role 1 Mon 1:00-24:01",
+                1,
+                "'1:00-24:01' is no stretch such as 07:00-15:00".into(),
+            ),
+            (
+                "role 1 Mon 001:00-2:00",
+                1,
+                "'001:00-2:00' is no stretch such as 07:00-15:00".into(),
+            ),
+            (
+                "role 1 Mon 1:00-01:00",
+                1,
+                "'1:00-01:00' ends as it begins".into(),
+            ),
+        ] {
+            assert_eq!(flaw(text), (line, what), "{text}");
+        }
+        assert_eq!(
+            Table::of(b"role \xff Mon 1:00-2:00")
+                .expect_err("a flaw")
+                .line,
+            1
+        );
+    }
+
+    #[test]
+    fn minutes_of_the_week() {
+        for (text, due) in [
+            ("Mon 00:00", Some(0)),
+            ("Mon 07:30", Some(450)),
+            (" tue  7:30 ", Some(1_890)),
+            ("Sun 23:59", Some(10_079)),
+            ("Sun 24:00", None),
+            ("Mon", None),
+            ("07:30", None),
+            ("Mon 7", None),
+            ("Mon 07:30 x", None),
+            ("Monday 07:30", None),
+            ("", None),
+        ] {
+            assert_eq!(minute(text), due, "{text}");
+        }
+        assert_eq!(clock(450), "Mon 07:30");
+        assert_eq!(clock(10_079), "Sun 23:59");
+        for minute in 0..10_080 {
+            assert_eq!(super::minute(&clock(minute)), Some(minute));
+        }
+    }
+}
