@@ -118,6 +118,15 @@ pilzdamo_placed pilzdamo_place_at(const uint8_t *file, size_t file_len,
                                   uint16_t minute, uint8_t *out, size_t out_len);
 
 /*
+ * What pilzdamo_place and pilzdamo_place_at answer in an output that is long enough.
+ * Nothing is written, and 17 is never answered.
+ */
+pilzdamo_placed pilzdamo_measure(const uint8_t *file, size_t file_len);
+pilzdamo_placed pilzdamo_measure_at(const uint8_t *file, size_t file_len,
+                                    const uint16_t *hours, size_t words,
+                                    uint16_t minute);
+
+/*
  * Runs a clinic file through a list of choices, two words each: a thread and its
  * partner, 0 where it steps alone. Refusals 17, 1 to 10, and then that of the choice
  * which halts the run, with its number from 1 as place. out has PILZDAMO_RUN_ROOM

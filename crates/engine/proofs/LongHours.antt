@@ -19,10 +19,9 @@ use Rattle.reading.proofs.LongLaws.{StandsFor, stands-room, stands-judged}
 use Rattle.rules.specs.Checking.{namesAnswer}
 use Rattle.hours.specs.Hours.{tableAnswer, rowsAnswer, shut}
 use Rattle.checking_at.specs.CheckAt.{rolesAnswerAt, readingAt, readingNamesAt, checkingAt}
-use Rattle.placing.specs.declared.Placed.{Placed}
 use Rattle.placing.specs.Placing.{placeable, noPlace, answerBy, overBy}
 use Rattle.placing.proofs.PlaceLaws.{over-room}
-use Rattle.placing_at.specs.PlaceAt.{openContents, turnsAt, judgingAt, placingAt, placedBytesAt, placedOverAt}
+use Rattle.placing_at.specs.PlaceAt.{openContents, turnsAt, judgingAt, measuringAt, placingAt, placedBytesAt, placedOverAt}
 
 module _ (t : List ℕ) (m : ℕ) where
   -- the answer where a head is refused with n: 22 comes before it
@@ -30,9 +29,6 @@ module _ (t : List ℕ) (m : ℕ) where
   early n = orElse (tableAnswer t m) (refused n 0)
 
   -- where there is room
-  abbrev answer : List ℕ → Placed
-  answer f = answerBy (versionAt f) (contentsOf f) (turnsAt f t m) (judgingAt f t m)
-
   abbrev over : List ℕ → List ℕ → List ℕ
   over out f = overBy (versionAt f) (contentsOf f) (turnsAt f t m) (judgingAt f t m) out
 
@@ -69,7 +65,8 @@ module _ (t : List ℕ) (m : ℕ) where
     quiet-not : eqb (early n .number) 0 ≡ false
     quiet-not = ne-eqb (early n .number) 0 early-loud
 
-    place-early : answer f ≡ noPlace (early n .number) (early n .place)
+    place-early : measuringAt f t m ≡ noPlace (early n .number) (early n .place)
+    unfolding measuringAt
     place-early = ap (answerBy (versionAt f) (contentsOf f) (turnsAt f t m)) judged-early ∙ rw quiet-not
 
     over-early : (out : List ℕ) → over out f ≡ out
@@ -78,13 +75,16 @@ module _ (t : List ℕ) (m : ℕ) where
   pub stands-check-at : (kept input : List ℕ) → StandsFor kept input → checkingAt kept t m ≡ checkingAt input t m
   stands-check-at = stands-judged early (λ f. checkingAt f t m) check-early
 
+  pub stands-measured-at : (kept input : List ℕ) → StandsFor kept input → measuringAt kept t m ≡ measuringAt input t m
+  stands-measured-at = stands-judged (λ n. noPlace (early n .number) (early n .place)) (λ f. measuringAt f t m) place-early
+
   pub stands-place-at : (room : ℕ) (kept input : List ℕ) → StandsFor kept input → placingAt kept t m room ≡ placingAt input t m room
   unfolding placingAt
   stands-place-at room kept input s =
-      ap₂ (λ r a. cond (ltb room r) (noPlace 17 0) a) (stands-room kept input s) (stands-judged (λ n. noPlace (early n .number) (early n .place)) answer place-early kept input s)
+      ap₂ (λ r a. cond (ltb room r) (noPlace 17 0) a) (stands-room kept input s) (stands-measured-at kept input s)
 
   pub stands-over-at : (out kept input : List ℕ) → StandsFor kept input → placedOverAt kept t m out ≡ placedOverAt input t m out
-  unfolding placedOverAt placedBytesAt placingAt
+  unfolding placedOverAt placedBytesAt placingAt measuringAt
   stands-over-at out kept input s =
       by-room kept ∙ ap₂ (λ r o. cond (ltb (length out) r) out o) (stands-room kept input s) (stands-judged (λ n. out) (over out) (λ f n h. over-early f n h out) kept input s)
       ∙ sym (by-room input)

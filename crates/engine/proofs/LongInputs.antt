@@ -28,7 +28,7 @@ use Rattle.running.proofs.StandLaws.{stands-run, stands-over as stands-ran}
 use Rattle.lending.specs.Lent.{lending, choosing, recordsOver, besideOver}
 use Rattle.lending.specs.Starting.{starting, recordsStarted, besideStarted}
 use Rattle.engine.specs.Alike.{Alike}
-use Rattle.engine.proofs.LongHours.{stands-check-at, stands-place-at, stands-over-at}
+use Rattle.engine.proofs.LongHours.{stands-check-at, stands-measured-at, stands-place-at, stands-over-at}
 
 -- no pair, for a refusal
 abbrev noPair : Verdict → Ready
@@ -90,6 +90,9 @@ kept-alike f = record {
     measured =
         let same = stands-measured kept f stands in
         (ap (λ (a : Placed). a .number) same, ap (λ (a : Placed). a .place) same, ap (λ (a : Placed). a .«on_steps») same);
+    measured-at = λ t m.
+        let same = stands-measured-at t m kept f stands in
+        (ap (λ (a : Placed). a .number) same, ap (λ (a : Placed). a .place) same, ap (λ (a : Placed). a .«on_steps») same);
     check-at = λ t m. stands-check-at t m kept f stands;
     run = λ ws room. stands-run ws room kept f stands;
     ran = λ ws out. stands-ran ws out kept f stands;
@@ -101,8 +104,10 @@ kept-alike f = record {
     started = λ l b. judged (λ n. l) (λ g. recordsStarted g l b) (λ g n e. started-kept g n e l b) f;
     counts = λ l b. judged (λ n. b) (λ g. besideStarted g l b) (λ g n e. counts-kept g n e l b) f;
   };
+  measure = stands-measured kept f stands;
   place = λ room. stands-placed room kept f stands;
   placed = λ out. stands-over out kept f stands;
+  measure-at = λ t m. stands-measured-at t m kept f stands;
   place-at = λ t m room. stands-place-at t m room kept f stands;
   placed-at = λ t m out. stands-over-at t m out kept f stands;
 }

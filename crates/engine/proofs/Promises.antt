@@ -5,7 +5,7 @@
 -- `running`, with `runOver` in the output, `pilzdamo_ready` `ready`, `pilzdamo_start` `starting`, with `recordsStarted` in the lent list and
 -- `besideStarted` beside it, and `pilzdamo_choose` `choosing`, with `recordsOver` and `besideOver`.
 use Prim.Native.Nat.{ℕ, _+_, _*_, _-_, _/_, _%_, _^_, _≤_, _<_}
-use mathlib.Core.Path.{_≡_, refl}
+use mathlib.Core.Path.{_≡_, refl, sym}
 use mathlib.Core.Logic.{_↔_, _≢_, _⊎_}
 use mathlib.Core.Bool.{true, false, cond}
 use mathlib.Core.List.{List, [], _∷_, _++_}
@@ -35,7 +35,7 @@ use Rattle.rules.specs.Juniors.{Granted}
 use Rattle.rules.specs.Names.{Bound}
 use Rattle.rules.specs.Schema.{Schema, schemaOf, Permitted}
 use Rattle.reading_exact.specs.Tree.{on, Tree, switch}
-use Rattle.placing.specs.Placing.{placing, noPlace, placedBytes, placedOver}
+use Rattle.placing.specs.Placing.{measuring, placing, noPlace, placedBytes, placedOver}
 use Rattle.placing_exact.specs.Placement.{onSteps, onStepsOf, Placement, PlacementByRoles}
 use Rattle.placing_exact.specs.Causes.{SomeMask, IsSwitch, Unserved, PlacedWith, Cause, refusalIn, placingOrder}
 use Rattle.placing_exact.specs.Promised.{WellPlaced, Ruled, Clean, Lowest, Unrefused, NoPlacement, session, Covers}
@@ -63,8 +63,11 @@ use Rattle.checking_exact.proofs.GrantWords.{tables-by-words, has-bit, has-zero
 use Rattle.checking_exact.proofs.BelowLaws.{on-assigned, with-adds, without-removes, child-below}
 use Rattle.checking_exact.proofs.CheckExact.{check-exact, names-exact}
 use Rattle.checking_exact.proofs.CheckFirst.{check-first, names-first}
-use Rattle.placing.proofs.PlaceLaws.{room-by-word}
+use Rattle.placing.proofs.PlaceLaws.{room-by-word, answers}
+use Rattle.placing_at.proofs.PlaceAtLaws.{answers-at}
+use Rattle.placing_at.specs.PlaceAt.{measuringAt, placingAt}
 use Rattle.placing_exact.proofs.PlacingExact.{placed-well, placed-exactly, ruled, fourteen-masks, fourteen-node, fifteen-exactly, fifteen-place, sixteen-exactly, seventeen-exactly, ten-exactly, out-kept, out-written}
+use Rattle.placing_exact.proofs.AnswerStages.{measuring-roomless}
 use Rattle.placing_exact.proofs.PlacingFirst.{placing-first}
 use Rattle.placing_exact.proofs.OneRole.{one-role-written}
 use Rattle.placing_exact.proofs.RivalsByRoles.{rivals-all, fewest-of-all, none-at-all}
@@ -98,7 +101,7 @@ use Rattle.hours_exact.proofs.CheckAtExact.{check-at-exact, passes-plain}
 use Rattle.hours_exact.proofs.CheckAtFirst.{check-at-first}
 use Rattle.hours_exact.proofs.StandingPlaced.{left-at, placed-standing}
 use Rattle.hours_exact.proofs.PlaceAtFirst.{place-at-first}
-use Rattle.hours_exact.proofs.PlaceAtExact.{well-at, fewest-at, fifteen-at, none-at, fifteen-place-at, ruled-at, sixteen-at, seventeen-at, placed-at, written-over-at, kept-at}
+use Rattle.hours_exact.proofs.PlaceAtExact.{roomless-at, well-at, fewest-at, fifteen-at, none-at, fifteen-place-at, ruled-at, sixteen-at, seventeen-at, placed-at, written-over-at, kept-at}
 use Rattle.hours_exact.proofs.EmptyTable.{check-empty, place-empty, over-empty}
 use Rattle.hours_exact.proofs.CasesShown.{hours-shown}
 use Rattle.engine.specs.Alike.{AlikeBesideForm, Alike}
@@ -652,3 +655,17 @@ checked-at-checked = passes-plain
 -- Files, tables and minutes in literal words.
 pub hours-in-words : All HourShown hour-cases
 hours-in-words = hours-shown
+
+-- Request K3. "A second call, without output, gives the length and on steps, or the refusal, that placing gives in an output long enough": for all bytes, and for a minute too.
+pub measures-as-placing : (f : List ℕ) (room : ℕ) → roomFor f ≤ room → measuring f ≡ placing f room
+measures-as-placing f room wide = sym (answers f room wide)
+
+pub measures-as-placing-at : (f t : List ℕ) (m room : ℕ) → roomFor f ≤ room → measuringAt f t m ≡ placingAt f t m room
+measures-as-placing-at f t m room wide = sym (answers-at f t m room wide)
+
+-- .. so it never answers 17.
+pub measures-without-room : (f : List ℕ) → measuring f .number ≢ 17
+measures-without-room = measuring-roomless
+
+pub measures-without-room-at : (f : List ℕ) → All (λ b. b < 256) f → (t : List ℕ) (m : ℕ) → measuringAt f t m .number ≢ 17
+measures-without-room-at = roomless-at

@@ -25,7 +25,7 @@ use Rattle.reading.specs.Reading.{reading}
 use Rattle.checking.specs.Check.{readingNames, checking}
 use Rattle.checking_at.specs.CheckAt.{readingAt, readingNamesAt, checkingAt}
 use Rattle.placing.specs.Placing.{turnsFor, placeable, judging, noPlace, placedBy, answerBy, bytesBy, overBy, measuring, placing, placedBytes, placedOver}
-use Rattle.placing_at.specs.PlaceAt.{openContents, turnsAt, judgingAt, placingAt, placedBytesAt, placedOverAt}
+use Rattle.placing_at.specs.PlaceAt.{openContents, turnsAt, judgingAt, measuringAt, placingAt, placedBytesAt, placedOverAt}
 use Rattle.running.specs.Run.{running, runOver, ready}
 use Rattle.lending.specs.Lent.{lending, choosing, recordsOver, besideOver}
 use Rattle.lending.specs.Starting.{starting, recordsStarted, besideStarted}
@@ -60,11 +60,12 @@ module _ (f g : List ℕ) (r : reading f ≡ reading g) (c : contentsOf f ≡ co
       go false = (refl, refl, refl)
 
   pub alike-beside-form : AlikeBesideForm f g
-  unfolding readingNames checking readingAt readingNamesAt checkingAt measuring running runOver ready lending choosing recordsOver besideOver starting recordsStarted besideStarted
+  unfolding readingNames checking readingAt readingNamesAt checkingAt measuring measuringAt running runOver ready lending choosing recordsOver besideOver starting recordsStarted besideStarted
   alike-beside-form = record {
     read = names;
     check = rw (r, c);
     measured = rw (judged, c) (measured-alike (versionAt f) (versionAt g) (contentsOf g) (turnsFor (contentsOf g)) (judging g));
+    measured-at = λ t m. rw (judged-at t m, c) (measured-alike (versionAt f) (versionAt g) (contentsOf g) (turnsAt g t m) (judgingAt g t m));
     check-at = λ t m. rw (r, c);
     run = λ ws room. rw (r, c);
     ran = λ ws out. rw (r, c);
@@ -126,11 +127,13 @@ module _ (f g : List ℕ) (r : reading f ≡ reading g) (c : contentsOf f ≡ co
           go true e = λ i. sets out 0 (bytesBy (versions (quiet (eqb-true (x .number) 0 e)) i) (c i) (turns (c i)))
           go false e = refl
 
+    measures : measuring f ≡ measuring g
+    unfolding measuring
+    measures = ap (answerBy (versionAt f) (contentsOf f) (turnsFor (contentsOf f))) judged ∙ answered turnsFor (judging g) unrefused
+
     places : (room : ℕ) → placing f room ≡ placing g room
-    unfolding placing measuring
-    places room =
-        let same = ap (answerBy (versionAt f) (contentsOf f) (turnsFor (contentsOf f))) judged ∙ answered turnsFor (judging g) unrefused in
-        ap₂ (λ n a. cond (ltb room n) (noPlace 17 0) a) w same
+    unfolding placing
+    places room = ap₂ (λ n a. cond (ltb room n) (noPlace 17 0) a) w measures
 
     over : (out : List ℕ) → placedOver f out ≡ placedOver g out
     unfolding placedOver placedBytes placing measuring
@@ -144,14 +147,16 @@ module _ (f g : List ℕ) (r : reading f ≡ reading g) (c : contentsOf f ≡ co
       abbrev turns : Contents → List Turn
       turns C = turnsFor (openContents (shut t m) C)
 
+      measures-at : measuringAt f t m ≡ measuringAt g t m
+      unfolding measuringAt
+      measures-at = ap (answerBy (versionAt f) (contentsOf f) (turns (contentsOf f))) (judged-at t m) ∙ answered turns (judgingAt g t m) (unrefused-at t m)
+
       places-at : (room : ℕ) → placingAt f t m room ≡ placingAt g t m room
       unfolding placingAt
-      places-at room =
-          let same = ap (answerBy (versionAt f) (contentsOf f) (turns (contentsOf f))) (judged-at t m) ∙ answered turns (judgingAt g t m) (unrefused-at t m) in
-          ap₂ (λ n a. cond (ltb room n) (noPlace 17 0) a) w same
+      places-at room = ap₂ (λ n a. cond (ltb room n) (noPlace 17 0) a) w measures-at
 
       over-at : (out : List ℕ) → placedOverAt f t m out ≡ placedOverAt g t m out
-      unfolding placedOverAt placedBytesAt placingAt
+      unfolding placedOverAt placedBytesAt placingAt measuringAt
       over-at out =
           let same = ap (λ (x : Verdict). overBy (versionAt f) (contentsOf f) (turns (contentsOf f)) x out) (judged-at t m) ∙ written turns (judgingAt g t m) (unrefused-at t m) out in
           over-room (ltb (length out) (roomFor f)) (versionAt f) (contentsOf f) (turns (contentsOf f)) (judgingAt f t m) out
@@ -159,7 +164,7 @@ module _ (f g : List ℕ) (r : reading f ≡ reading g) (c : contentsOf f ≡ co
           ∙ sym (over-room (ltb (length out) (roomFor g)) (versionAt g) (contentsOf g) (turns (contentsOf g)) (judgingAt g t m) out)
 
     pub alike : Alike f g
-    alike = record { answers = alike-beside-form; place = places; placed = over; place-at = places-at; placed-at = over-at }
+    alike = record { answers = alike-beside-form; measure = measures; place = places; placed = over; measure-at = measures-at; place-at = places-at; placed-at = over-at }
 
 -- a file of version 1 in version 2
 pub second-alike : (F : File) → WellFormed F → (contentsOf (encode (asSecond F)) ≡ contentsOf (encode F)) × AlikeBesideForm (encode (asSecond F)) (encode F)

@@ -5,7 +5,7 @@ use mathlib.Core.List.{List}
 use Rattle.checking.specs.Check.{readingNames, checking}
 use Rattle.checking_at.specs.CheckAt.{checkingAt}
 use Rattle.placing.specs.Placing.{measuring, placing, placedOver}
-use Rattle.placing_at.specs.PlaceAt.{placingAt, placedOverAt}
+use Rattle.placing_at.specs.PlaceAt.{measuringAt, placingAt, placedOverAt}
 use Rattle.steps.specs.declared.Thread.{Thread}
 use Rattle.running.specs.Run.{running, runOver, ready}
 use Rattle.lending.specs.Lent.{choosing, recordsOver, besideOver}
@@ -17,6 +17,8 @@ pub record AlikeBesideForm (f g : List ℕ) : Type 0 where
   pub check : checking f ≡ checking g
   -- the refusal of placing in an output long enough, and the on steps
   pub measured : (measuring f .number ≡ measuring g .number) × (measuring f .place ≡ measuring g .place) × (measuring f .«on_steps» ≡ measuring g .«on_steps»)
+  pub measured-at : (t : List ℕ) (m : ℕ)
+      → (measuringAt f t m .number ≡ measuringAt g t m .number) × (measuringAt f t m .place ≡ measuringAt g t m .place) × (measuringAt f t m .«on_steps» ≡ measuringAt g t m .«on_steps»)
   pub check-at : (t : List ℕ) (m : ℕ) → checkingAt f t m ≡ checkingAt g t m
   pub run : (ws : List ℕ) (room : ℕ) → running f ws room ≡ running g ws room
   pub ran : (ws out : List ℕ) → runOver f ws out ≡ runOver g ws out
@@ -31,7 +33,9 @@ pub record AlikeBesideForm (f g : List ℕ) : Type 0 where
 -- and in all
 pub record Alike (f g : List ℕ) : Type 0 where
   pub answers : AlikeBesideForm f g
+  pub measure : measuring f ≡ measuring g
   pub place : (room : ℕ) → placing f room ≡ placing g room
   pub placed : (out : List ℕ) → placedOver f out ≡ placedOver g out
+  pub measure-at : (t : List ℕ) (m : ℕ) → measuringAt f t m ≡ measuringAt g t m
   pub place-at : (t : List ℕ) (m room : ℕ) → placingAt f t m room ≡ placingAt g t m room
   pub placed-at : (t : List ℕ) (m : ℕ) (out : List ℕ) → placedOverAt f t m out ≡ placedOverAt g t m out

@@ -20,8 +20,8 @@ ghost use mathlib.Core.Path.{_≡_};
 ghost use lib.ListN.{length};
 ghost use Rattle.checking.specs.Check.{readingNames, checking};
 ghost use Rattle.checking_at.specs.CheckAt.{checkingAt};
-ghost use Rattle.placing.specs.Placing.{placing, placedOver};
-ghost use Rattle.placing_at.specs.PlaceAt.{placingAt, placedOverAt};
+ghost use Rattle.placing.specs.Placing.{measuring, placing, placedOver};
+ghost use Rattle.placing_at.specs.PlaceAt.{measuringAt, placingAt, placedOverAt};
 ghost use Rattle.running.specs.Run.{running, runOver, ready};
 ghost use Rattle.lending.specs.Lent.{choosing, recordsOver, besideOver};
 ghost use Rattle.lending.specs.Starting.{starting, recordsStarted, besideStarted};
@@ -72,6 +72,23 @@ pub extern "C" fn pilzdamo_place_at(
     ensures { λ r. ⌜ (r ≡ placingAt (now (file .entry)) (now (hours .entry)) minute (length (now (out .entry)))) × (now (out .exit) ≡ placedOverAt (now (file .entry)) (now (hours .entry)) minute (now (out .entry))) ⌝ }
 {
     placing_at::place_at(file, hours, minute, out)
+}
+
+// The answer that `pilzdamo_place` gives in an output long enough, without one: the first of 1 to 10, 14 to 16; or the placed file's length in bytes and
+// its on steps.
+#[no_mangle]
+pub extern "C" fn pilzdamo_measure(file: &[u8]) -> Placed
+    ensures { λ r. ⌜ r ≡ measuring (now (file .entry)) ⌝ }
+{
+    placing::measure(file)
+}
+
+// The same for a minute of the week: that of `pilzdamo_place_at`.
+#[no_mangle]
+pub extern "C" fn pilzdamo_measure_at(file: &[u8], hours: &[u16], minute: u16) -> Placed
+    ensures { λ r. ⌜ r ≡ measuringAt (now (file .entry)) (now (hours .entry)) minute ⌝ }
+{
+    placing_at::measure_at(file, hours, minute)
 }
 
 // Runs a clinic file through a list of choices, two words each: thread, partner. The first of 17 and 1 to 10; or the refusal that halted the run, with

@@ -22,11 +22,11 @@ use Rattle.optimum.specs.Optimum.{scan, gate}
 use Rattle.states.specs.States.{suits, up, rowOf, taken, rows, turnsFrom, turnsOf, labelled}
 use Rattle.groups.specs.Groups.{before, sizesOf, onsOf, startsFrom, groupsFrom, sessionsFrom}
 use Rattle.placing.specs.Placing.{masksAnswer, switchesAnswer, unservedFrom, placeable}
-use Rattle.placing_at.specs.PlaceAt.{judgingAt, placingAt, placedBytesAt}
+use Rattle.placing_at.specs.PlaceAt.{judgingAt, measuringAt, placingAt, placedBytesAt}
 use Rattle.reading_exact.specs.Lists.{All}
 use Rattle.hours_exact.specs.HourCases.{Shown, cases}
 
 pub hours-shown : All Shown cases
-unfolding has with without minus namesOnly within bytesOf firstOf from2 from3 from4 from5 headOf tabled item contentsAt roleWords channelWords sessionWords nodeWords tableWords fileWords encoded recordFits sectionAnswer recordsAnswer following nodeFits shapeFrom roots shapeAnswer reading together effective permits permittingTo named kindOf mine namesFit kindsFit able wrong barred childOf reached openingsFrom firstBy rightly namesAnswer rolesAnswer candidates candidatesIn tableAnswer rowsAnswer rolesOf shut shutAnswer rolesAnswerAt readingAt readingNamesAt checkingAt scan gate suits up rowOf taken rows turnsFrom turnsOf labelled before sizesOf onsOf startsFrom groupsFrom sessionsFrom masksAnswer switchesAnswer unservedFrom placeable judgingAt placingAt placedBytesAt
+unfolding has with without minus namesOnly within bytesOf firstOf from2 from3 from4 from5 headOf tabled item contentsAt roleWords channelWords sessionWords nodeWords tableWords fileWords encoded recordFits sectionAnswer recordsAnswer following nodeFits shapeFrom roots shapeAnswer reading together effective permits permittingTo named kindOf mine namesFit kindsFit able wrong barred childOf reached openingsFrom firstBy rightly namesAnswer rolesAnswer candidates candidatesIn tableAnswer rowsAnswer rolesOf shut shutAnswer rolesAnswerAt readingAt readingNamesAt checkingAt scan gate suits up rowOf taken rows turnsFrom turnsOf labelled before sizesOf onsOf startsFrom groupsFrom sessionsFrom masksAnswer switchesAnswer unservedFrom placeable judgingAt measuringAt placingAt placedBytesAt
 hours-shown =
     (refl, (refl, (refl, (refl, (refl, ((refl, refl), (refl, ((refl, refl), ((refl, refl), (refl, ((refl, refl), (refl, (refl, (refl, (refl, (refl, (refl, (refl, (refl, (refl, (refl, (refl, (refl, (refl, (refl, (refl, tt))))))))))))))))))))))))))

@@ -27,7 +27,7 @@ use Rattle.hours.specs.Hours.{tableAnswer, rowsAnswer, rolesOf, shut}
 use Rattle.checking_at.specs.CheckAt.{opensShut, shutAnswer, sooner, rolesAnswerAt, readingAt, readingNamesAt, checkingAt}
 use Rattle.placing.specs.declared.Placed.{Placed}
 use Rattle.placing.specs.Placing.{turnsFor, placeable, judging, noPlace, answerBy, measuring, placing, bytesBy, placedBytes, placedOver}
-use Rattle.placing_at.specs.PlaceAt.{openContents, turnsAt, judgingAt, placingAt, placedBytesAt, placedOverAt}
+use Rattle.placing_at.specs.PlaceAt.{openContents, turnsAt, judgingAt, measuringAt, placingAt, placedBytesAt, placedOverAt}
 use Rattle.placing_at.proofs.OpenLaws.{open-none}
 use Rattle.reading_exact.specs.Lists.{All}
 use Rattle.reading_exact.proofs.FirstLaws.{number-of}
@@ -107,7 +107,7 @@ module _ (f : List ℕ) (m : ℕ) (week : m ≤ 10079) where
       ∙ ap₂ (λ (v : Verdict) (X : Contents). orElse v (placeable X)) names-alike open-alike
 
   pub place-empty : (room : ℕ) → placingAt f [] m room ≡ placing f room
-  unfolding placingAt placing measuring
+  unfolding placingAt measuringAt placing measuring
   place-empty room =
       ap₂ (λ (X : Contents) (v : Verdict). cond (ltb room (roomFor f)) (noPlace 17 0) (answerBy (versionAt f) C (turnsFor X) v)) open-alike judged-alike
 

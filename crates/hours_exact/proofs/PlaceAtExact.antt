@@ -21,8 +21,8 @@ use Rattle.hours.specs.Hours.{tableAnswer, rowsAnswer, shut}
 use Rattle.placing.specs.declared.Placed.{Placed}
 use Rattle.placing.specs.Placing.{turnsFor, noPlace, placing}
 use Rattle.placing.proofs.PlaceLaws.{length-within}
-use Rattle.placing_at.specs.PlaceAt.{openContents, turnsAt, placingAt, placedBytesAt, placedOverAt}
-use Rattle.placing_at.proofs.PlaceAtLaws.{too-small-at}
+use Rattle.placing_at.specs.PlaceAt.{openContents, turnsAt, measuringAt, placingAt, placedBytesAt, placedOverAt}
+use Rattle.placing_at.proofs.PlaceAtLaws.{too-small-at, answers-at}
 use Rattle.reading_exact.specs.Lists.{All}
 use Rattle.reading_exact.specs.Tree.{Tree}
 use Rattle.reading_exact.specs.File.{File, encode}
@@ -277,6 +277,27 @@ module _ (f : List ℕ) (bytes : All (λ b. b < 256) f) (t : List ℕ) (m room :
         let there = names-headed (g u F e) (number-of (clear u F e .names)) in
         let wanted = room-of (g u F e) there ∙ ap (λ (v : ℕ). cond (eqb v 2) largest largestFirst) version ∙ sym (room-of f (names-headed f (number-of (u .names)))) in
         omega (arith, well-at .sized, ap (λ (a : Placed). a .length) (same u F e), length-within (g u F e) (roomFor (g u F e)), wanted, u .wide)
+
+-- measuring wants no room
+pub roomless-at : (f : List ℕ) → All (λ b. b < 256) f → (t : List ℕ) (m : ℕ) → measuringAt f t m .number ≢ 17
+roomless-at f bytes t m e = go (place-at-first f bytes t m (roomFor f))
+  where
+    same : placingAt f t m (roomFor f) .number ≡ measuringAt f t m .number
+    same = ap (λ (a : Placed). a .number) (answers-at f t m (roomFor f) (omega arith))
+
+    none : (n p : ℕ) → n ≡ 17 → CauseAt f t m (roomFor f) n p → ⊥
+    none n p z (no-room a b h) = omega (arith, h)
+    none n p z (bad-table a b h) = omega (arith, a, z)
+    none n p z (objected h x) = not-of-file n 17 h (omega arith) (omega arith) z
+    none n p z (bad-row a h) = omega (arith, a, z)
+    none n p z (masked a b h) = omega (arith, a, z)
+    none n p z (switched a h) = omega (arith, a, z)
+    none n p z (unserved a h) = omega (arith, a, z)
+    none n p z (too-large a b h) = omega (arith, a, z)
+
+    go : First o (CauseAt f t m (roomFor f)) (refusalIn (placingAt f t m (roomFor f))) → ⊥
+    go (inl (z, _)) = omega (arith, e, same, number-of z)
+    go (inr (k, q, z, (r, _))) = none k q (sym (number-of z) ∙ same ∙ e) r
 
 -- a refusal leaves the output as it was
 pub kept-at : (f t : List ℕ) (m : ℕ) (out : List ℕ) → placingAt f t m (length out) .number ≢ 0 → placedOverAt f t m out ≡ out

@@ -17,7 +17,7 @@ use Rattle.rules.specs.Schema.{schemaOf}
 use Rattle.hours.specs.Hours.{tableAnswer, shut}
 use Rattle.checking_at.specs.CheckAt.{readingNamesAt}
 use Rattle.placing.specs.Placing.{labelsIn, masksAnswer, switchesAnswer, settling, placeable, noPlace, placedBy}
-use Rattle.placing_at.specs.PlaceAt.{openContents, turnsAt, judgingAt, placingAt}
+use Rattle.placing_at.specs.PlaceAt.{openContents, turnsAt, judgingAt, measuringAt, placingAt}
 use Rattle.reading_exact.specs.Lists.{All}
 use Rattle.reading_exact.specs.File.{File, InCount, encode}
 use Rattle.reading_exact.specs.Order.{OfFile, Order, Sooner, First}
@@ -225,7 +225,7 @@ module _ (f : List ℕ) (bytes : All (λ b. b < 256) f) (t : List ℕ) (m : ℕ)
         go false e = inl (refl, λ n p (a, (b, l)). omega (arith, l, ltb-false room (roomFor f) e))
 
     in-turn : refusalIn (placingAt f t m room) ≡ orElse roomAnswer (judgingAt f t m)
-    unfolding placingAt
+    unfolding placingAt measuringAt
     in-turn = go (ltb room (roomFor f)) (eqb (judgingAt f t m .number) 0) refl
       where
         go : (b c : Bool) → eqb (judgingAt f t m .number) 0 ≡ c

@@ -24,7 +24,7 @@ use Rattle.hours.specs.Hours.{tableAnswer, TableFits, shut}
 use Rattle.checking_at.specs.CheckAt.{readingNamesAt, checkingAt}
 use Rattle.placing.specs.declared.Placed.{Placed}
 use Rattle.placing.specs.Placing.{turnsFor, placeable, judging, noPlace, placedBy, answerBy, measuring, placing, placedBytes}
-use Rattle.placing_at.specs.PlaceAt.{openContents, turnsAt, judgingAt, placingAt, placedBytesAt}
+use Rattle.placing_at.specs.PlaceAt.{openContents, turnsAt, judgingAt, measuringAt, placingAt, placedBytesAt}
 use Rattle.placing_at.proofs.OpenLaws.{get-minus}
 use Rattle.placing_at.proofs.PlaceAtLaws.{answers-at}
 use Rattle.reading_exact.specs.Lists.{All}
@@ -154,7 +154,7 @@ module _ (f : List ℕ) (bytes : All (λ b. b < 256) f) (t : List ℕ) (m : ℕ)
         ∙ (λ i. answerBy ((version-back G ∙ sym read-version) i) (standing-held i) (turnsFor (standing-held i)) (placeable (standing-held i)))
 
     pub placed-standing : {room : ℕ} → UnrefusedAt f t m room → placingAt f t m room ≡ placing (encode (openFile t m F)) (roomFor (encode (openFile t m F)))
-    unfolding judgingAt
+    unfolding judgingAt measuringAt
     placed-standing {room} u =
         let C′ : Contents = openContents (shut t m) (contentsOf f) in
         let (r, n) = names-fine f .0 (u .names) in

@@ -29,9 +29,9 @@ use Rattle.rules.specs.Candidates.{candidatesIn}
 use Rattle.checking.specs.Check.{readingNames, entered, surveyed}
 use Rattle.checking.proofs.CheckLaws.{names-refused, names-parts, names-headed, entered-fine, entered-refused}
 use Rattle.states.specs.declared.Turn.{Turn}
-use Rattle.states.specs.States.{turnsOf}
+use Rattle.states.specs.States.{Label, turnsOf}
 use Rattle.groups.specs.Groups.{sizesOf, onsOf}
-use Rattle.placing.specs.Placing.{labelsIn, labelsFrom, Labelled, turnsFor, placeableBy, placeable, judging, noPlace, placedBy, placedIn, answerBy, answerFrom, placedAnswer, measuring, placing, bytesBy, placedBytes, overBy, overFrom, placedOver}
+use Rattle.placing.specs.Placing.{labelsIn, labelsFrom, Labelled, turnsFor, placeableBy, placeable, judging, noPlace, noSums, summed, decided, answered, placedBy, placedIn, answerBy, answerFrom, placedAnswer, measuring, placing, bytesBy, placedBytes, overBy, overFrom, placedOver}
 use Rattle.placing.specs.declared.Placed.{Placed}
 use Rattle.placing.proofs.DecideLaws.{labels-kept, few-nodes}
 
@@ -83,6 +83,34 @@ room-enough f n d few = go (eqb (wordAt f 0) 2) refl
         let none : juniorRecords (wordAt f 0) (wordAt f 2) ≡ 0 = rw e in
         let first : more (wordAt f 0) ≡ 0 = rw e in
         omega (arith, room-least f, none, first, few, l)
+
+-- what is answered of a decision
+decided-answered : (at : ℕ) (v : Verdict) (ts : List Turn)
+    → answered at (decided v ts) ≡ cond (eqb (v .number) 0) (record { number = 0; place = 0; length = lengthFor at (sizesOf ts); «on_steps» = onsOf ts }) (noPlace (v .number) (v .place))
+decided-answered at v ts = go (eqb (v .number) 0)
+  where
+    go : (b : Bool)
+        → cond b (record { number = 0; place = 0; length = lengthFor at (cond b (summed ts) noSums .nodes); «on_steps» = cond b (summed ts) noSums .«on_steps» }) (noPlace (v .number) (v .place))
+        ≡ cond b (record { number = 0; place = 0; length = lengthFor at (sizesOf ts); «on_steps» = onsOf ts }) (noPlace (v .number) (v .place))
+    go true = refl
+    go false = refl
+
+pub body-answered : (f : List ℕ) (h : Head) → Laid f h → (roles : List ℕ)
+    → answered (h .at .nodes) (decided (placeableBy (contentsAt f h) (labelsFrom (contentsAt f h) roles)) (turnsOf (labelsFrom (contentsAt f h) roles))) ≡ answerFrom (h .version) (contentsAt f h) roles
+body-answered f h l roles =
+    let C : Contents = contentsAt f h in
+    let ts : List Turn = turnsOf (labelsFrom C roles) in
+    let v : Verdict = placeableBy C (labelsFrom C roles) in
+    decided-answered (h .at .nodes) v ts
+    ∙ ap (λ (n : ℕ). cond (eqb (v .number) 0) (record { number = 0; place = 0; length = lengthFor n (sizesOf ts); «on_steps» = onsOf ts }) (noPlace (v .number) (v .place))) (nodes-begin f h l)
+
+-- and it has no more nodes than a file may have
+pub few-decided : (C : Contents) (ls : List Label) → decided (placeableBy C ls) (turnsOf ls) .sums .nodes ≤ 1024
+few-decided C ls = go (eqb (placeableBy C ls .number) 0) refl
+  where
+    go : (b : Bool) → eqb (placeableBy C ls .number) 0 ≡ b → cond b (summed (turnsOf ls)) noSums .nodes ≤ 1024
+    go true e = few-nodes C ls (eqb-true (placeableBy C ls .number) 0 e)
+    go false e = omega arith
 
 -- an answer, and the output, by a verdict
 module _ (version : ℕ) (C : Contents) (ts : List Turn) (v : Verdict) where
@@ -176,9 +204,12 @@ module _ (f : List ℕ) where
           ∙ ap (g (h .version) (contentsAt f h) (turnsFor (contentsAt f h))) (sym judged)
           ∙ ap (λ (k : Head). g (k .version) (contentsAt f k) (turnsFor (contentsAt f k)) (judging f)) same
 
-      pub answer-from : (room : ℕ) → roomFor f ≤ room → answerFrom (h .version) (contentsAt f h) roles ≡ placing f room
+      pub measure-from : answerFrom (h .version) (contentsAt f h) roles ≡ measuring f
       unfolding measuring
-      answer-from room wide = seen answerBy ∙ sym (answers room wide)
+      measure-from = seen answerBy
+
+      pub answer-from : (room : ℕ) → roomFor f ≤ room → answerFrom (h .version) (contentsAt f h) roles ≡ placing f room
+      answer-from room wide = measure-from ∙ sym (answers room wide)
 
       pub over-from : (out : List ℕ) → roomFor f ≤ length out → overFrom (h .version) (contentsAt f h) roles out ≡ placedOver f out
       unfolding placedOver placedBytes measuring

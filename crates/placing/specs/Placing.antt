@@ -98,6 +98,11 @@ placedIn version C = placedBy version C (turnsFor C)
 abbrev pub answerBy : ℕ → Contents → List Turn → Verdict → Placed
 answerBy version C ts v = cond (eqb (v .number) 0) (placedBy version C ts) (noPlace (v .number) (v .place))
 
+-- the same of a decision, for a file whose nodes begin at an offset
+abbrev pub answered : ℕ → Decision → Placed
+answered at d =
+    cond (eqb (d .verdict .number) 0) (record { number = 0; place = 0; length = lengthFor at (d .sums .nodes); «on_steps» = d .sums .«on_steps» }) (noPlace (d .verdict .number) (d .verdict .place))
+
 -- of a file that 1 to 10 leave clean, with each node's roles in a table
 abbrev pub answerFrom : ℕ → Contents → List ℕ → Placed
 answerFrom version C roles = answerBy version C (turnsOf (labelsFrom C roles)) (placeableBy C (labelsFrom C roles))

@@ -20,7 +20,7 @@ ghost use Rattle.format.specs.Header.{roomFor};
 ghost use Rattle.format.specs.Contents.{contentsAt};
 ghost use Rattle.reading.specs.declared.Opened.the-variants.{Fine};
 ghost use Rattle.checking.specs.Check.{entered};
-ghost use Rattle.placing.specs.Placing.{answerFrom, overFrom, noPlace, placing, placedOver};
+ghost use Rattle.placing.specs.Placing.{answerFrom, overFrom, noPlace, answered, measuring, placing, placedOver};
 
 // What a caller gets: a refusal's number and place, or 0 and 0 with the length of the placed file in bytes and its on steps.
 #[repr(C)]
@@ -68,6 +68,48 @@ pub fn place_body(file: &[u8], head: Head, roles: &[u16], out: &mut [u8]) -> Pla
         place: 0,
         length: narrow(length_for(head.at.nodes, nodes)),
         on_steps: decision.sums.on_steps,
+    }
+}
+
+// What is answered of a decision.
+fn answer_of(head: Head, decision: Decision) -> Placed
+    requires { ⌜ (head .at .nodes ≤ 2000) × (decision .sums .nodes ≤ 1024) ⌝ }
+    ensures { λ r. ⌜ r ≡ answered (head .at .nodes) decision ⌝ }
+{
+    let verdict = decision.verdict;
+    if verdict.number != 0 {
+        return no_place(verdict.number, verdict.place);
+    }
+    let nodes = decision.sums.nodes;
+    Placed {
+        number: 0,
+        place: 0,
+        length: narrow(length_for(head.at.nodes, nodes)),
+        on_steps: decision.sums.on_steps,
+    }
+}
+
+// The answer of `place_body`, without an output.
+pub fn measure_body(file: &[u8], head: Head, roles: &[u16]) -> Placed
+    requires { ⌜ (entered (now file) ≡ Fine head) × (length (now roles) ≡ 1025) ⌝ }
+    ensures { λ r. ⌜ r ≡ answerFrom (head .version) (contentsAt (now (file .entry)) head) (now (roles .entry)) ⌝ }
+{
+    let mut turns = [0u16; 1025];
+    let mut starts = [0u16; 1025];
+    let decision = decide(file, head, roles, &mut turns, &mut starts);
+    answer_of(head, decision)
+}
+
+// The answer that placing gives in an output long enough: 1 to 10, then 14 to 16, else length and on steps.
+pub fn measure(file: &[u8]) -> Placed
+    ensures { λ r. ⌜ r ≡ measuring (now (file .entry)) ⌝ }
+{
+    let mut roles = [0u16; 1025];
+    let found = examine(file, &mut roles);
+    let names = found.names;
+    match names {
+        Opened::Refused(first) => no_place(first.number, first.place),
+        Opened::Fine(head) => measure_body(file, head, &roles),
     }
 }
 

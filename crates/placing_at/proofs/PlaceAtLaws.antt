@@ -32,7 +32,7 @@ use Rattle.states.specs.declared.Turn.{Turn}
 use Rattle.placing.specs.Placing.{labelsIn, labelsFrom, turnsFor, masksAnswer, switchesAnswer, placeableBy, placeable, noPlace, answerBy, answerFrom, overBy, overFrom}
 use Rattle.placing.proofs.DecideLaws.{labels-kept}
 use Rattle.placing.proofs.PlaceLaws.{answer-loud, over-answered}
-use Rattle.placing_at.specs.PlaceAt.{openContents, turnsAt, judgingAt, placingAt, placedBytesAt, placedOverAt}
+use Rattle.placing_at.specs.PlaceAt.{openContents, turnsAt, judgingAt, measuringAt, placingAt, placedBytesAt, placedOverAt}
 use Rattle.placing_at.proofs.OpenLaws.{open-candidates}
 
 -- nodes whose roles are all changed alike
@@ -76,12 +76,16 @@ module _ (f t : List ℕ) (m : ℕ) where
   unfolding placingAt
   too-small-at room h = rw (lt-ltb room (roomFor f) h)
 
-  pub answers-at : (room : ℕ) → roomFor f ≤ room → placingAt f t m room ≡ answerBy (versionAt f) (contentsOf f) (turnsAt f t m) (judgingAt f t m)
+  pub answers-at : (room : ℕ) → roomFor f ≤ room → placingAt f t m room ≡ measuringAt f t m
   unfolding placingAt
   answers-at room h = rw (le-ltb room (roomFor f) h)
 
+  pub measuring-refused-at : (v : Verdict) → judgingAt f t m ≡ v → (NoRefusal v → ⊥) → measuringAt f t m ≡ noPlace (v .number) (v .place)
+  unfolding measuringAt
+  measuring-refused-at v e l = ap (answerBy (versionAt f) (contentsOf f) (turnsAt f t m)) e ∙ answer-loud (versionAt f) (contentsOf f) (turnsAt f t m) v l
+
   pub refused-at : (room : ℕ) (v : Verdict) → roomFor f ≤ room → judgingAt f t m ≡ v → (NoRefusal v → ⊥) → placingAt f t m room ≡ noPlace (v .number) (v .place)
-  refused-at room v h e l = answers-at room h ∙ ap (answerBy (versionAt f) (contentsOf f) (turnsAt f t m)) e ∙ answer-loud (versionAt f) (contentsOf f) (turnsAt f t m) v l
+  refused-at room v h e l = answers-at room h ∙ measuring-refused-at v e l
 
   -- where anything is refused the output stays
   pub over-kept-at : (out : List ℕ) (n p : ℕ) → (n ≡ 0 → ⊥) → placingAt f t m (length out) ≡ noPlace n p → placedOverAt f t m out ≡ out
@@ -138,11 +142,15 @@ module _ (f t : List ℕ) (m : ℕ) where
             ∙ ap (g (h .version) (contentsAt f h) (turnsFor (openContents s (contentsAt f h)))) (open-placeable s (contentsAt f h) ∙ sym judged-at)
             ∙ ap (λ (k : Head). g (k .version) (contentsAt f k) (turnsFor (openContents s (contentsAt f k))) (judgingAt f t m)) same
 
+        pub measure-from-at : answerFrom (h .version) (contentsAt f h) roles ≡ measuringAt f t m
+        unfolding measuringAt
+        measure-from-at = seen answerBy
+
         pub answer-from-at : (room : ℕ) → roomFor f ≤ room → answerFrom (h .version) (contentsAt f h) roles ≡ placingAt f t m room
-        answer-from-at room wide = seen answerBy ∙ sym (answers-at room wide)
+        answer-from-at room wide = measure-from-at ∙ sym (answers-at room wide)
 
         pub over-from-at : (out : List ℕ) → roomFor f ≤ length out → overFrom (h .version) (contentsAt f h) roles out ≡ placedOverAt f t m out
-        unfolding placedOverAt placedBytesAt
+        unfolding placedOverAt placedBytesAt measuringAt
         over-from-at out wide =
             seen (λ v C ts x. overBy v C ts x out) ∙ over-answered (versionAt f) (contentsOf f) (turnsAt f t m) (judgingAt f t m) out
             ∙ ap (λ a. cond (eqb (a .number) 0) (sets out 0 (placedBytesAt f t m)) out) (sym (answers-at (length out) wide))

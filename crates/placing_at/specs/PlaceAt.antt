@@ -36,9 +36,13 @@ turnsAt f t m = turnsFor (openContents (shut t m) (contentsOf f))
 unfoldable pub judgingAt : List ℕ → List ℕ → ℕ → Verdict
 judgingAt f t m = orElse (tableAnswer t m) (orElse (readingNamesAt f t) (placeable (openContents (shut t m) (contentsOf f))))
 
+-- what a file comes to in an output long enough
+unfoldable pub measuringAt : List ℕ → List ℕ → ℕ → Placed
+measuringAt f t m = answerBy (versionAt f) (contentsOf f) (turnsAt f t m) (judgingAt f t m)
+
 -- 17 first of all
 unfoldable pub placingAt : List ℕ → List ℕ → ℕ → ℕ → Placed
-placingAt f t m room = cond (ltb room (roomFor f)) (noPlace 17 0) (answerBy (versionAt f) (contentsOf f) (turnsAt f t m) (judgingAt f t m))
+placingAt f t m room = cond (ltb room (roomFor f)) (noPlace 17 0) (measuringAt f t m)
 
 -- the bytes of the placed file: its users' masks are the input's
 unfoldable pub placedBytesAt : List ℕ → List ℕ → ℕ → List ℕ

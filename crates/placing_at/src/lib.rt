@@ -6,6 +6,7 @@ use hours::shut;
 use hours::table_answer;
 use masks::roles_minus;
 use placing::Placed;
+use placing::measure_body;
 use placing::no_place;
 use placing::place_body;
 use reading::Opened;
@@ -13,7 +14,7 @@ ghost use mathlib.Core.Path.{_≡_};
 ghost use mathlib.Core.List.{map};
 ghost use lib.ListN.{length};
 ghost use Rattle.masks.specs.Mask.{minus};
-ghost use Rattle.placing_at.specs.PlaceAt.{placingAt, placedOverAt};
+ghost use Rattle.placing_at.specs.PlaceAt.{measuringAt, placingAt, placedOverAt};
 
 // Each entry without the roles that are shut.
 fn close(roles: &mut [u16], shut: u16)
@@ -24,6 +25,26 @@ fn close(roles: &mut [u16], shut: u16)
     while i < count {
         roles[i] = roles_minus(roles[i], shut);
         i += 1;
+    }
+}
+
+// The answer that `place_at` gives in an output long enough: 22, then 1 to 8, 23, 9 and 10, then 14 to 16, else length and on steps.
+pub fn measure_at(file: &[u8], hours: &[u16], minute: u16) -> Placed
+    ensures { λ r. ⌜ r ≡ measuringAt (now (file .entry)) (now (hours .entry)) minute ⌝ }
+{
+    let first = table_answer(hours, minute);
+    if first.number != 0 {
+        return no_place(first.number, first.place);
+    }
+    let mut roles = [0u16; 1025];
+    let found = examine_opened(file, open_at(file, hours), &mut roles);
+    let names = found.names;
+    match names {
+        Opened::Refused(first) => no_place(first.number, first.place),
+        Opened::Fine(head) => {
+            close(&mut roles, shut(hours, minute));
+            measure_body(file, head, &roles)
+        }
     }
 }
 

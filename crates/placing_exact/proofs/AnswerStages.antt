@@ -11,7 +11,7 @@ use borrow.Author.Tests.{eqb-true, eqb-false, eq-eqb, ne-eqb, leb-true, leb-fals
 use Rattle.format.specs.Contents.{Contents, contentsOf}
 use Rattle.format.specs.Words.{wordAt}
 use Rattle.format.specs.Answers.{fine, refused, orElse}
-use Rattle.format.specs.Header.{roomFor}
+use Rattle.format.specs.Header.{versionAt, roomFor}
 use Rattle.format.specs.declared.Verdict.{Verdict}
 use Rattle.format.proofs.AnswerLaws.{quiet-first, loud-first, both-quiet}
 use Rattle.checking.specs.Check.{readingNames}
@@ -366,3 +366,12 @@ module _ (f : List ℕ) (room : ℕ) where
       fits : ((sizeAnswer sizes ≡ fine) × (sizes ≤ 1024)) ⊎ ((sizeAnswer sizes ≡ refused 16 0) × (1024 < sizes)) → sizes ≤ 1024 → sizeAnswer sizes .number ≡ 0
       fits (inl (e, l)) q = number-of e
       fits (inr (e, l)) q = absurd (omega (arith, l, q))
+
+-- without an output nothing is refused for want of room
+pub measuring-roomless : (f : List ℕ) → measuring f .number ≢ 17
+unfolding measuring
+measuring-roomless f = go (eqb (judging f .number) 0)
+  where
+    go : (b : Bool) → cond b (placedIn (versionAt f) (contentsOf f)) (noPlace (judging f .number) (judging f .place)) .number ≢ 17
+    go true e = omega (arith, e)
+    go false e = past-number 2 32 (judging f) 17 (judging f .place) (omega arith) (judging-among f 0) (ap (λ (n : ℕ). refused n (judging f .place)) e)

@@ -9,7 +9,7 @@ use crate::state::State;
 use crate::words::{At, Job};
 use crate::{explain, names, refusals, report, show};
 use crate::{Outcome, WrongUse};
-use pilzdamo::{Verdict, ROOM, RUN_ROOM};
+use pilzdamo::{Placed, Verdict, ROOM, RUN_ROOM};
 use std::path::Path;
 
 /// Does a job.
@@ -17,6 +17,7 @@ pub fn carry_out(job: Job) -> Result<Outcome, WrongUse> {
     match job {
         Job::Check { file, at } => check(&file, at.as_ref()),
         Job::Place { file, at, out } => place(&file, at.as_ref(), out.as_deref()),
+        Job::Measure { file, at } => measure(&file, at.as_ref()),
         Job::Run { file, choices } => run(&file, &choices),
         Job::Show { file } => answer(&show::text(&file.read()?)),
         Job::Explain { number } => explain(number),
@@ -111,14 +112,32 @@ fn place(file: &Source, at: Option<&At>, out: Option<&Path>) -> Result<Outcome, 
     }
     let length = usize::from(placed.length);
     output::deliver(&room[..length.min(ROOM)], out)?;
-    let name = file.name();
+    let (name, told) = (file.name(), size(placed));
     let when = hours.map_or(String::new(), |hours| hours.when("for"));
-    let on_steps = names::several(usize::from(placed.on_steps), "on step");
     let written = out.map_or(String::new(), |path| format!(" in {}", path.display()));
-    output::say(&format!(
-        "{name}: placed{when}, {on_steps}, {length} bytes{written}"
-    ));
+    output::say(&format!("{name}: placed{when}, {told}{written}"));
     Ok(Outcome::Answer)
+}
+
+fn measure(file: &Source, at: Option<&At>) -> Result<Outcome, WrongUse> {
+    let bytes = file.read()?;
+    let hours = at.map(Hours::read).transpose()?;
+    let placed = match &hours {
+        None => pilzdamo::measure(&bytes),
+        Some(hours) => pilzdamo::measure_at(&bytes, &hours.table.words, hours.minute),
+    };
+    if !placed.is_placed() {
+        return refusal(&refused(file, &bytes, hours.as_ref(), placed.verdict()));
+    }
+    let when = hours.map_or(String::new(), |hours| hours.when("for"));
+    let told = size(placed);
+    answer(&format!("{}: can be placed{when}, {told}\n", file.name()))
+}
+
+/// The on steps and the length of a placed file.
+fn size(placed: Placed) -> String {
+    let on_steps = names::several(usize::from(placed.on_steps), "on step");
+    format!("{on_steps}, {} bytes", placed.length)
 }
 
 fn run(file: &Source, list: &Source) -> Result<Outcome, WrongUse> {

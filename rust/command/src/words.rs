@@ -18,6 +18,10 @@ pub enum Job {
         at: Option<At>,
         out: Option<PathBuf>,
     },
+    Measure {
+        file: Source,
+        at: Option<At>,
+    },
     Run {
         file: Source,
         choices: Source,
@@ -51,13 +55,13 @@ struct Operands {
 /// The job that the words name.
 pub fn job(mut words: impl Iterator<Item = OsString>) -> Result<Job, WrongUse> {
     let Some(first) = words.next() else {
-        return misused("what to do? One of check, place, run, show and explain");
+        return misused("what to do? One of check, place, measure, run, show and explain");
     };
     let verb = first.to_string_lossy();
     match verb.as_ref() {
         "-h" | "--help" => return Ok(Job::Help),
         "-V" | "--version" => return Ok(Job::Version),
-        "check" | "place" | "run" | "show" | "explain" => (),
+        "check" | "place" | "measure" | "run" | "show" | "explain" => (),
         _ => return misused(&format!("there is no word '{verb}'")),
     }
     let operands = sorted(&verb, words)?;
@@ -86,6 +90,7 @@ fn named(verb: &str, operands: Operands) -> Result<Job, WrongUse> {
             let out = out.filter(|out| out != "-").map(PathBuf::from);
             Ok(match verb {
                 "check" => Job::Check { file, at },
+                "measure" => Job::Measure { file, at },
                 _ => Job::Place { file, at, out },
             })
         }
@@ -153,7 +158,7 @@ fn is_option(word: &str) -> bool {
 
 /// Whether roles may have hours for this word.
 fn has_hours(verb: &str) -> bool {
-    matches!(verb, "check" | "place")
+    matches!(verb, "check" | "place" | "measure")
 }
 
 /// Keeps the word behind an option.

@@ -89,8 +89,9 @@ impl fmt::Display for Verdict {
 
 impl Error for Verdict {}
 
-/// What [`place`](crate::place) answers: a refusal's number and place, or the
-/// length of the placed file and its on steps. The two that don't apply are 0.
+/// What [`place`](crate::place) and [`measure`](crate::measure) answer: a refusal's
+/// number and place, or the length of the placed file and its on steps. The two that
+/// don't apply are 0.
 #[repr(C)]
 #[must_use]
 #[derive(Clone, Copy, Debug, PartialEq, Eq, Hash)]
@@ -99,14 +100,14 @@ pub struct Placed {
     pub number: u16,
     /// Where it stands: a word, a session or a node, as its number says.
     pub place: u16,
-    /// How many bytes of the output hold the placed file.
+    /// How many bytes the placed file has, in the output if there is one.
     pub length: u16,
     /// How many nodes of it put a role on.
     pub on_steps: u16,
 }
 
 impl Placed {
-    /// Whether the output holds a placed file.
+    /// Whether the file is placed, or can be.
     ///
     /// ```
     /// assert!(!pilzdamo::place(&[], &mut [0; pilzdamo::ROOM]).is_placed());

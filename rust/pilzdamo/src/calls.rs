@@ -209,6 +209,44 @@ pub fn placed_at(file: &[u8], hours: &[u16], minute: u16) -> Result<(Vec<u8>, u1
     kept(placed, out)
 }
 
+/// What [`place`] answers in an output that is long enough: the length and on
+/// steps of the placed file, or the refusal. Nothing is written, and 17 is never
+/// answered.
+///
+/// ```
+/// use pilzdamo::{measure, place, ROOM};
+///
+/// let file = std::fs::read("../../examples/booking.clinic")?;
+/// assert_eq!(measure(&file).to_string(), "placed in 94 bytes, on steps: 1");
+/// assert_eq!(measure(&file), place(&file, &mut [0; ROOM]));
+///
+/// // No role of user 2 permits node 4.
+/// let file = std::fs::read("../../examples/refused/15-no-role.clinic")?;
+/// assert_eq!(measure(&file).to_string(), "refused 15 4");
+/// # Ok::<(), std::io::Error>(())
+/// ```
+#[inline]
+pub fn measure(file: &[u8]) -> Placed {
+    raw::measure(file)
+}
+
+/// What [`place_at`] answers in an output that is long enough.
+///
+/// ```
+/// // Both roles that permit its sends are closed at minute 9.
+/// let hours = [1, 0, 9, 2, 0, 9];
+/// let file = std::fs::read("../../examples/hours/desk.clinic")?;
+/// let told = |minute| pilzdamo::measure_at(&file, &hours, minute).to_string();
+/// assert_eq!(told(8), "placed in 94 bytes, on steps: 1");
+/// assert_eq!(told(9), "refused 15 1");
+/// assert_eq!(told(pilzdamo::WEEK), "refused 22 0");
+/// # Ok::<(), std::io::Error>(())
+/// ```
+#[inline]
+pub fn measure_at(file: &[u8], hours: &[u16], minute: u16) -> Placed {
+    raw::measure_at(file, hours, minute)
+}
+
 /// What was placed in an output, cut to its length.
 fn kept(placed: Placed, mut out: Vec<u8>) -> Result<(Vec<u8>, u16), Verdict> {
     placed.verdict().result()?;

@@ -14,7 +14,8 @@
 //! | judge a file's form, names and kinds: refusals 1 to 10 | [`read`] |
 //! | judge the roles as well: 1 to 13 | [`check`] |
 //! | put the roles into a file that has none | [`place`], [`placed`] |
-//! | do either for a minute of the week, with roles that have hours | [`check_at`], [`place_at`], [`placed_at`] |
+//! | know the length and on steps that placing would give | [`measure`] |
+//! | do these for a minute of the week, with roles that have hours | [`check_at`], [`place_at`], [`placed_at`], [`measure_at`] |
 //! | carry out a list of choices | [`run`], and [`State`] for what it wrote |
 //! | find the two threads that can meet | [`ready`] |
 //! | go on choice by choice | [`Desk`]; [`start`] and [`choose`] in a list of one's own |
@@ -215,8 +216,8 @@ mod raw;
 mod state;
 
 pub use answers::{Placed, Ready, Verdict};
-pub use calls::{check, check_at, choose, place, place_at, placed, placed_at};
-pub use calls::{read, ready, room, run, start};
+pub use calls::{check, check_at, choose, measure, measure_at};
+pub use calls::{place, place_at, placed, placed_at, read, ready, room, run, start};
 pub use calls::{BESIDE, RECORDS, ROOM, ROOM_1, ROWS, RUN_ROOM, WEEK};
 pub use desk::Desk;
 pub use state::{Channel, State, Thread};

@@ -27,6 +27,14 @@ extern "C" {
         out: *mut u8,
         out_len: usize,
     ) -> Placed;
+    fn pilzdamo_measure(file: *const u8, len: usize) -> Placed;
+    fn pilzdamo_measure_at(
+        file: *const u8,
+        len: usize,
+        hours: *const u16,
+        words: usize,
+        minute: u16,
+    ) -> Placed;
     fn pilzdamo_run(
         file: *const u8,
         len: usize,
@@ -115,6 +123,26 @@ pub fn place_at(file: &[u8], hours: &[u16], minute: u16, out: &mut [u8]) -> Plac
             minute,
             out.as_mut_ptr(),
             out.len(),
+        )
+    }
+}
+
+#[inline]
+pub fn measure(file: &[u8]) -> Placed {
+    // SAFETY: as in `read`.
+    unsafe { pilzdamo_measure(file.as_ptr(), file.len()) }
+}
+
+#[inline]
+pub fn measure_at(file: &[u8], hours: &[u16], minute: u16) -> Placed {
+    // SAFETY: as in `check_at`.
+    unsafe {
+        pilzdamo_measure_at(
+            file.as_ptr(),
+            file.len(),
+            hours.as_ptr(),
+            hours.len(),
+            minute,
         )
     }
 }

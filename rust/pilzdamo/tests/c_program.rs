@@ -11,6 +11,7 @@ const PROGRAM: &str = concat!(env!("CARGO_TARGET_TMPDIR"), "/desk");
 const PRINTED: &str = "\
 read the booking: clean
 check it: refused 13 1
+measure it: refusal 0 0, 94 bytes, on steps: 1
 place it: refusal 0 0, 94 bytes, on steps: 1
 its nodes: 7 2 0 6 257 2 6 258 2 8 2 0 0 0 0
 behind it: ab
@@ -31,6 +32,8 @@ place for noon: refusal 0 0, 94 bytes, on steps: 1
 role: 1
 place for the evening: refusal 0 0, 94 bytes, on steps: 1
 role: 2
+measure for noon: refusal 0 0, 94 bytes, on steps: 1
+measure part of a row: refusal 22 0, 0 bytes, on steps: 0
 part of a row: refusal 22 0, 0 bytes, on steps: 0
 run: clean
 choices done: 12, refusal: 0

@@ -1,14 +1,15 @@
 //! The second implementation of the clinic file's judge, in plain Rust.
 //!
-//! It is written from the paper alone and shares nothing with the engine, so
-//! that the two can be compared. Where 1 to 8 or 1 to 10 are spoken of, 21 is
-//! among them. The timed functions, [`read`],
-//! [`read_names`], [`check`], [`check_at`], [`place`], [`place_at`], [`run`],
-//! [`ready`], [`start`] and [`choose`], go over the file a few times, in place, and
-//! allocate nothing.
+//! It is written from the paper and from the requests made after it, and shares
+//! nothing with the engine, so that the two can be compared. Where 1 to 8 or 1 to 10
+//! are spoken of, 21 is among them. The timed functions, [`read`], [`read_names`],
+//! [`check`], [`check_at`], [`place`], [`place_at`], [`measure`], [`measure_at`],
+//! [`run`], [`ready`], [`start`] and [`choose`], go over the file a few times, in
+//! place, and allocate nothing.
 
 #![forbid(unsafe_code)]
 
+mod answers;
 pub mod cases;
 mod cause;
 pub mod draft;
@@ -21,6 +22,7 @@ mod running;
 mod schema;
 mod tree;
 
+pub use answers::{Placed, Ready, Verdict};
 pub use cause::{is_of_file, is_of_reading, Cause, Refusal};
 pub use file::{Section, Version};
 pub use placing::{room_for, ROOM};
@@ -31,92 +33,6 @@ use hours::{Hours, ALWAYS};
 use placing::Plan;
 use roles::Grants;
 use running::{Lent, Scopes, State};
-
-/// A refusal's number and place; 0 and 0 where nothing is refused.
-#[derive(Clone, Copy, Debug, PartialEq, Eq)]
-pub struct Verdict {
-    pub number: u16,
-    pub place: u16,
-}
-
-impl Verdict {
-    /// The verdict on a file that is not refused.
-    pub const CLEAN: Verdict = Verdict {
-        number: 0,
-        place: 0,
-    };
-
-    fn of<T>(judged: Result<T, Refusal>) -> Verdict {
-        match judged {
-            Ok(_) => Verdict::CLEAN,
-            Err(refusal) => refusal.verdict(),
-        }
-    }
-}
-
-/// What placing answers. Refused, it has a length and on steps of 0; placed,
-/// a number and place of 0.
-#[derive(Clone, Copy, Debug, PartialEq, Eq)]
-pub struct Placed {
-    pub number: u16,
-    pub place: u16,
-    pub length: u16,
-    pub on_steps: u16,
-}
-
-impl Placed {
-    /// The answer where nothing is placed.
-    pub const fn refused(number: u16, place: u16) -> Placed {
-        Placed {
-            number,
-            place,
-            length: 0,
-            on_steps: 0,
-        }
-    }
-
-    /// The answer where this many bytes are written, with so many on steps.
-    pub const fn written(length: u16, on_steps: u16) -> Placed {
-        Placed {
-            number: 0,
-            place: 0,
-            length,
-            on_steps,
-        }
-    }
-}
-
-/// What is ready after a list of choices. Refused, it has a sender and
-/// receiver of 0; where no pair can meet, all four are 0.
-#[derive(Clone, Copy, Debug, PartialEq, Eq)]
-pub struct Ready {
-    pub number: u16,
-    pub place: u16,
-    pub sender: u16,
-    pub receiver: u16,
-}
-
-impl Ready {
-    /// The answer where the list, or the file, is refused.
-    pub const fn refused(number: u16, place: u16) -> Ready {
-        Ready {
-            number,
-            place,
-            sender: 0,
-            receiver: 0,
-        }
-    }
-
-    /// The answer where these two can meet; 0 and 0 for none.
-    pub const fn pair(sender: u16, receiver: u16) -> Ready {
-        Ready {
-            number: 0,
-            place: 0,
-            sender,
-            receiver,
-        }
-    }
-}
 
 /// Refusals 1 to 8.
 pub fn read(file: &[u8]) -> Verdict {
@@ -143,8 +59,9 @@ pub fn check_at(file: &[u8], hours: &[u16], minute: u16) -> Verdict {
 /// at the start of `out`.
 pub fn place(file: &[u8], out: &mut [u8]) -> Placed {
     let mut plan = Plan::new();
-    let judged = judge_placing(file, out.len(), &mut plan);
-    placed(file, judged, &plan, out)
+    let judged = placing::judge_room(file, out.len());
+    let judged = judged.and_then(|()| judge_measuring(file, &mut plan));
+    answered(judged, |read| plan.write(file, read, out))
 }
 
 /// Refusal 17, 22, 1 to 8, 23, 9 and 10, and 14 to 16 with the roles that are open
@@ -152,14 +69,29 @@ pub fn place(file: &[u8], out: &mut [u8]) -> Placed {
 /// written at the start of `out`.
 pub fn place_at(file: &[u8], hours: &[u16], minute: u16, out: &mut [u8]) -> Placed {
     let mut plan = Plan::new();
-    let judged = judge_placing_at(file, hours, minute, out.len(), &mut plan);
-    placed(file, judged, &plan, out)
+    let judged = placing::judge_room(file, out.len());
+    let judged = judged.and_then(|()| judge_measuring_at(file, hours, minute, &mut plan));
+    answered(judged, |read| plan.write(file, read, out))
 }
 
-/// Writes what was planned, if nothing is refused.
-fn placed(file: &[u8], judged: Result<File<'_>, Refusal>, plan: &Plan, out: &mut [u8]) -> Placed {
+/// What [`place`] answers in an output that is long enough.
+pub fn measure(file: &[u8]) -> Placed {
+    let mut plan = Plan::new();
+    let judged = judge_measuring(file, &mut plan);
+    answered(judged, |read| plan.measure(file, read))
+}
+
+/// What [`place_at`] answers in an output that is long enough.
+pub fn measure_at(file: &[u8], hours: &[u16], minute: u16) -> Placed {
+    let mut plan = Plan::new();
+    let judged = judge_measuring_at(file, hours, minute, &mut plan);
+    answered(judged, |read| plan.measure(file, read))
+}
+
+/// The refusal, or what is answered where the file can be placed.
+fn answered(judged: Result<File<'_>, Refusal>, place: impl FnOnce(&File<'_>) -> Placed) -> Placed {
     match judged {
-        Ok(read) => plan.write(file, &read, out),
+        Ok(read) => place(&read),
         Err(refusal) => {
             let Verdict { number, place } = refusal.verdict();
             Placed::refused(number, place)
@@ -263,7 +195,10 @@ pub fn cause_in_choosing(
 /// Why [`place`] refuses the file where the output has this many bytes, if it
 /// does.
 pub fn cause_in_placing(file: &[u8], room: usize) -> Option<Refusal> {
-    judge_placing(file, room, &mut Plan::new()).err()
+    let judged = placing::judge_room(file, room);
+    judged
+        .and_then(|()| judge_measuring(file, &mut Plan::new()))
+        .err()
 }
 
 /// Why [`check_at`] refuses, if it does.
@@ -278,7 +213,9 @@ pub fn cause_in_placing_at(
     minute: u16,
     room: usize,
 ) -> Option<Refusal> {
-    judge_placing_at(file, hours, minute, room, &mut Plan::new()).err()
+    let judged = placing::judge_room(file, room);
+    let judged = judged.and_then(|()| judge_measuring_at(file, hours, minute, &mut Plan::new()));
+    judged.err()
 }
 
 /// Why [`check`] refuses the file, if it does. As 1 to 8 come first, this is
@@ -304,21 +241,18 @@ fn judge_check_at(file: &[u8], hours: &[u16], minute: u16) -> Result<(), Refusal
     names::judge_with_roles(&file, hours.open(&file)?)
 }
 
-fn judge_placing<'a>(file: &'a [u8], room: usize, plan: &mut Plan) -> Result<File<'a>, Refusal> {
-    placing::judge_room(file, room)?;
+fn judge_measuring<'a>(file: &'a [u8], plan: &mut Plan) -> Result<File<'a>, Refusal> {
     let file = judge_reading(file)?;
     plan.draw_up(&file, ALWAYS)?;
     Ok(file)
 }
 
-fn judge_placing_at<'a>(
+fn judge_measuring_at<'a>(
     file: &'a [u8],
     hours: &[u16],
     minute: u16,
-    room: usize,
     plan: &mut Plan,
 ) -> Result<File<'a>, Refusal> {
-    placing::judge_room(file, room)?;
     let hours = Hours::of(hours, minute)?;
     let file = judge_reading(file)?;
     plan.draw_up(&file, hours.open(&file)?)?;

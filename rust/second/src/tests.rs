@@ -2,7 +2,7 @@ use crate::cases::{booking, cases, choose_cases, place_cases, placed_booking, ru
 use crate::cases::{check_at_cases, place_at_cases, start_cases, Due, BOOKING};
 use crate::draft::to_bytes;
 use crate::{cause, cause_in_choosing, cause_in_placing, cause_in_run, cause_in_starting};
-use crate::{cause_at, cause_in_placing_at, check_at, place_at};
+use crate::{cause_at, cause_in_placing_at, check_at, measure, measure_at, place_at};
 use crate::{check, choose, is_of_file, is_of_reading, place, read, read_names, ready, run, start};
 use crate::{Cause, Placed, Verdict, Version, ROOM};
 use std::collections::BTreeSet;
@@ -28,6 +28,7 @@ fn named_cases() {
 fn named_cases_of_placing() {
     for case in place_cases() {
         case.demand("second", place);
+        case.demand_measured("second", measure);
         let told = cause_in_placing(&case.file, case.room).map(|refusal| refusal.verdict());
         match case.due {
             Due::Refused(number, place) => assert_eq!(told, Some(Verdict { number, place })),
@@ -58,6 +59,7 @@ fn named_cases_of_the_check_at_a_minute() {
 fn named_cases_of_placing_at_a_minute() {
     for case in place_at_cases() {
         case.demand("second", place_at);
+        case.demand_measured("second", measure_at);
         let (file, room) = (&case.case.file, case.case.room);
         let refusal = cause_in_placing_at(file, &case.hours, case.minute, room);
         let told = refusal.map(|refusal| refusal.verdict());
@@ -69,6 +71,25 @@ fn named_cases_of_placing_at_a_minute() {
                 assert_eq!(checked, Verdict::CLEAN, "{}", case.case.name);
             }
         }
+    }
+}
+
+/// Measuring never answers 17.
+#[test]
+fn what_is_measured_is_what_is_placed_in_enough_room() {
+    for case in place_cases() {
+        let placed = place(&case.file, &mut [0; ROOM]);
+        assert_eq!(measure(&case.file), placed, "{}", case.name);
+    }
+    for case in place_at_cases() {
+        let (file, hours, minute) = (&case.case.file, &case.hours, case.minute);
+        let placed = place_at(file, hours, minute, &mut [0; ROOM]);
+        assert_eq!(
+            measure_at(file, hours, minute),
+            placed,
+            "{}",
+            case.case.name
+        );
     }
 }
 

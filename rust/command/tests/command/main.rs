@@ -8,6 +8,7 @@ mod examples;
 mod explain;
 mod files;
 mod hours;
+mod measure;
 mod place;
 mod refused;
 mod run;

@@ -12,7 +12,7 @@ fn help_and_version() {
             (0, help, "")
         );
     }
-    for word in ["check", "place", "run", "show", "explain"] {
+    for word in ["check", "place", "measure", "run", "show", "explain"] {
         assert!(help.contains(&format!("  pilzdamo {word} ")));
     }
     let version = concat!("pilzdamo ", env!("CARGO_PKG_VERSION"), "\n");
@@ -21,7 +21,7 @@ fn help_and_version() {
 
 #[test]
 fn words() {
-    let wrong: [(&[&str], &str); 31] = [
+    let wrong: [(&[&str], &str); 34] = [
         (&[], "what to do?"),
         (&[""], "there is no word ''"),
         (&["judge", "a"], "there is no word 'judge'"),
@@ -78,6 +78,12 @@ fn words() {
             &["show", "a", "--hours", "b"],
             "show has no option '--hours'",
         ),
+        (&["measure"], "measure: FILE is missing"),
+        (&["measure", "a", "-o", "b"], "measure has no option '-o'"),
+        (
+            &["measure", "a", "--at", "Mon 07:30"],
+            "measure: --at and --hours go together",
+        ),
         (&["run"], "run: FILE is missing"),
         (&["run", "a"], "run: CHOICES is missing"),
         (&["run", "a", "b", "c"], "run: 'c' is too many"),
@@ -115,9 +121,12 @@ fn files_that_cannot_be_read() {
         (&here, "it is a folder"),
     ] {
         let due = format!("pilzdamo: {file}: can't be read: {why}\n");
-        let uses: [&[&str]; 5] = [
+        let uses: [&[&str]; 8] = [
             &["check", file],
             &["place", file],
+            &["measure", file],
+            &["check", &sound, "--at", "Mon 07:30", "--hours", file],
+            &["place", &sound, "--at", "Mon 07:30", "--hours", file],
             &["show", file],
             &["run", file, &sound],
             &["run", &sound, file],

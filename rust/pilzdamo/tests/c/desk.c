@@ -54,6 +54,7 @@ static void booking(const char *folder) {
     memset(out, 0xab, sizeof out);
     print("read the booking", pilzdamo_read(file.bytes, file.len));
     print("check it", pilzdamo_check(file.bytes, file.len));
+    print_placed("measure it", pilzdamo_measure(file.bytes, file.len));
     placed = pilzdamo_place(file.bytes, file.len, out, sizeof out);
     print_placed("place it", placed);
     printf("its nodes:");
@@ -106,6 +107,10 @@ static void hours(const char *folder) {
                  pilzdamo_place_at(desk.bytes, desk.len, monday, 3, evening, out,
                                    sizeof out));
     printf("role: %d\n", word_at(out, 33));
+    print_placed("measure for noon",
+                 pilzdamo_measure_at(desk.bytes, desk.len, monday, 3, noon));
+    print_placed("measure part of a row",
+                 pilzdamo_measure_at(desk.bytes, desk.len, monday, 2, noon));
     print_placed("part of a row", pilzdamo_place_at(desk.bytes, desk.len, monday, 2, noon,
                                                     out, sizeof out));
 }

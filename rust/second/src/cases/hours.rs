@@ -38,6 +38,13 @@ impl PlaceAtCase {
         let place = |file: &[u8], out: &mut [u8]| place_at(file, &self.hours, self.minute, out);
         self.case.demand(who, place);
     }
+
+    /// Fails unless `measure_at` gives the answer that is due in an output that is
+    /// long enough, where this one is.
+    pub fn demand_measured(&self, who: &str, measure_at: impl Fn(&[u8], &[u16], u16) -> Placed) {
+        let measure = |file: &[u8]| measure_at(file, &self.hours, self.minute);
+        self.case.demand_measured(who, measure);
+    }
 }
 
 /// Role 1 is admissions: from 07:00 to 15:00, Monday to Friday.

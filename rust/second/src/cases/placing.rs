@@ -20,23 +20,35 @@ pub enum Due {
 }
 
 impl PlaceCase {
+    fn answer(&self) -> Placed {
+        match &self.due {
+            &Due::Refused(number, place) => Placed::refused(number, place),
+            Due::Placed(file, on_steps) => Placed::written(file.len() as u16, *on_steps),
+        }
+    }
+
     /// Fails unless `place` gives the answer that is due and leaves the output
     /// as it should be, whatever that held before.
     pub fn demand(&self, who: &str, place: impl Fn(&[u8], &mut [u8]) -> Placed) {
         let name = self.name;
         for fill in [0, 0xa5] {
             let mut due = vec![fill; self.room];
-            let answer = match &self.due {
-                &Due::Refused(number, place) => Placed::refused(number, place),
-                Due::Placed(file, on_steps) => {
-                    due[..file.len()].copy_from_slice(file);
-                    Placed::written(file.len() as u16, *on_steps)
-                }
-            };
+            if let Due::Placed(file, _) = &self.due {
+                due[..file.len()].copy_from_slice(file);
+            }
             let mut out = vec![fill; self.room];
-            assert_eq!(place(&self.file, &mut out), answer, "{who}: {name}");
+            assert_eq!(place(&self.file, &mut out), self.answer(), "{who}: {name}");
             let differs = out.iter().zip(&due).position(|(byte, due)| byte != due);
             assert_eq!(differs, None, "{who}: a byte of the output of {name}");
+        }
+    }
+
+    /// Fails unless `measure` gives the answer that is due in an output that is
+    /// long enough, where this one is.
+    pub fn demand_measured(&self, who: &str, measure: impl Fn(&[u8]) -> Placed) {
+        if self.room >= room_for(&self.file) {
+            let answer = measure(&self.file);
+            assert_eq!(answer, self.answer(), "{who}: {} measured", self.name);
         }
     }
 

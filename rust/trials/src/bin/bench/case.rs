@@ -15,6 +15,8 @@ pub enum Input {
         /// What it is refused with, 0 if it is placed.
         number: u16,
     },
+    /// A file that can be placed.
+    Measure(Vec<u8>),
     /// A file that passes at the minute.
     CheckAt(At),
     /// A file that is placed at the minute.
@@ -49,7 +51,7 @@ impl Case {
 
     pub fn file(&self) -> &[u8] {
         match &self.input {
-            Input::Read(file) | Input::Check(file) => file,
+            Input::Read(file) | Input::Check(file) | Input::Measure(file) => file,
             Input::Place { file, .. } | Input::Run { file, .. } => file,
             Input::Ready { file, .. } | Input::Choose(Lent { file, .. }) => file,
             Input::CheckAt(At { file, .. }) | Input::PlaceAt(At { file, .. }) => file,
@@ -69,6 +71,10 @@ impl Case {
                 assert_eq!(placed.number, *number, "{name}");
                 out.truncate(placed.length.into());
                 out
+            }
+            Input::Measure(file) => {
+                assert_eq!(trials::agreed_measure(file, name).number, 0, "{name}");
+                Vec::new()
             }
             Input::CheckAt(at) => {
                 let verdict = trials::agreed_check_at(at, name);
@@ -130,6 +136,11 @@ impl Case {
                     || second::place(black_box(file), black_box(&mut of_second)),
                 );
             }
+            Input::Measure(file) => samples.take(
+                self.calls,
+                || pilzdamo::measure(black_box(file)),
+                || second::measure(black_box(file)),
+            ),
             Input::CheckAt(At {
                 file,
                 hours,

@@ -62,6 +62,7 @@ impl Inputs {
     pub fn cases(&self) -> Vec<Case> {
         let read = |file: &Vec<u8>| Input::Read(file.clone());
         let check = |file: &Vec<u8>| Input::Check(file.clone());
+        let measure = |file: &Vec<u8>| Input::Measure(file.clone());
         let place = |file: &Vec<u8>, number| {
             let file = file.clone();
             Input::Place { file, number }
@@ -94,6 +95,8 @@ impl Inputs {
             Case::new("check typical 2", check(&self.typical_2), 300),
             Case::new("place largest 2", place(&self.largest_bare_2, 0), 50),
             Case::new("place typical 2", place(&self.typical_bare_2, 0), 300),
+            Case::new("measure largest", measure(&self.largest_bare), 50),
+            Case::new("measure typical", measure(&self.typical_bare), 300),
             Case::new("check at", Input::CheckAt(with_hours(&self.largest)), 50),
             Case::new(
                 "place at",
@@ -126,6 +129,7 @@ impl Inputs {
              typical has {}.\n\
              Ready, crowded: 32 choices, then 64 threads of which no two can meet.\n\
              Rows with a 2: the same file in version 2, with all lower roles as juniors of each.\n\
+             Measure: what place is asked of, without an output.\n\
              Check at and place at: the largest, with 64 rows of hours, four to each role.\n",
             run(&self.largest_run),
             run(&self.typical_run),

@@ -1,0 +1,89 @@
+//! What is answered.
+
+use crate::cause::Refusal;
+
+/// A refusal's number and place; 0 and 0 where nothing is refused.
+#[derive(Clone, Copy, Debug, PartialEq, Eq)]
+pub struct Verdict {
+    pub number: u16,
+    pub place: u16,
+}
+
+impl Verdict {
+    /// The verdict on a file that is not refused.
+    pub const CLEAN: Verdict = Verdict {
+        number: 0,
+        place: 0,
+    };
+
+    pub(crate) fn of<T>(judged: Result<T, Refusal>) -> Verdict {
+        match judged {
+            Ok(_) => Verdict::CLEAN,
+            Err(refusal) => refusal.verdict(),
+        }
+    }
+}
+
+/// What placing answers. Refused, it has a length and on steps of 0; placed,
+/// a number and place of 0.
+#[derive(Clone, Copy, Debug, PartialEq, Eq)]
+pub struct Placed {
+    pub number: u16,
+    pub place: u16,
+    pub length: u16,
+    pub on_steps: u16,
+}
+
+impl Placed {
+    /// The answer where nothing is placed.
+    pub const fn refused(number: u16, place: u16) -> Placed {
+        Placed {
+            number,
+            place,
+            length: 0,
+            on_steps: 0,
+        }
+    }
+
+    /// The answer where this many bytes are written, with so many on steps.
+    pub const fn written(length: u16, on_steps: u16) -> Placed {
+        Placed {
+            number: 0,
+            place: 0,
+            length,
+            on_steps,
+        }
+    }
+}
+
+/// What is ready after a list of choices. Refused, it has a sender and
+/// receiver of 0; where no pair can meet, all four are 0.
+#[derive(Clone, Copy, Debug, PartialEq, Eq)]
+pub struct Ready {
+    pub number: u16,
+    pub place: u16,
+    pub sender: u16,
+    pub receiver: u16,
+}
+
+impl Ready {
+    /// The answer where the list, or the file, is refused.
+    pub const fn refused(number: u16, place: u16) -> Ready {
+        Ready {
+            number,
+            place,
+            sender: 0,
+            receiver: 0,
+        }
+    }
+
+    /// The answer where these two can meet; 0 and 0 for none.
+    pub const fn pair(sender: u16, receiver: u16) -> Ready {
+        Ready {
+            number: 0,
+            place: 0,
+            sender,
+            receiver,
+        }
+    }
+}
