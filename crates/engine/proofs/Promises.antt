@@ -20,7 +20,7 @@ use Rattle.format.specs.Header.{Counted, versionAt, roomFor}
 use Rattle.format.specs.declared.Six.{Six}
 use Rattle.reading.specs.Reading.{reading}
 use Rattle.reading_exact.specs.Lists.{All}
-use Rattle.reading_exact.specs.File.{InCount, rolesOf, File, WellFormed, asSecond, contentsFor, encode}
+use Rattle.reading_exact.specs.File.{InCount, rolesOf, File, WellFormed, asSecond, nodesOf, contentsFor, encode}
 use Rattle.reading_exact.specs.ByWords.{CountedByWords, ByWords}
 use Rattle.reading_exact.specs.Order.{OfFile, First}
 use Rattle.reading_exact.specs.Refusals.{OneChild, lengthOf, Refusable, readingOrder}
@@ -37,6 +37,9 @@ use Rattle.rules.specs.Schema.{Schema, schemaOf, Permitted}
 use Rattle.reading_exact.specs.Tree.{on, Tree, switch}
 use Rattle.placing.specs.Placing.{measuring, placing, noPlace, placedBytes, placedOver}
 use Rattle.placing_exact.specs.Placement.{onSteps, onStepsOf, Placement, PlacementByRoles}
+use Rattle.checking_exact.specs.Tables.{schemaFor}
+use Rattle.placing_exact.specs.Placed.{AllStates, listedAll, insertAll, Bare}
+use Rattle.placing_exact.specs.Idle.{idleNodesOf, idleIn, idleAmong}
 use Rattle.placing_exact.specs.Causes.{SomeMask, IsSwitch, Unserved, PlacedWith, Cause, refusalIn, placingOrder}
 use Rattle.placing_exact.specs.Promised.{WellPlaced, Ruled, Clean, Lowest, Unrefused, NoPlacement, session, Covers}
 use Rattle.placing_exact.specs.Cases.{Shown, cases, juniorCases}
@@ -71,6 +74,7 @@ use Rattle.placing_exact.proofs.AnswerStages.{measuring-roomless}
 use Rattle.placing_exact.proofs.PlacingFirst.{placing-first}
 use Rattle.placing_exact.proofs.OneRole.{one-role-written}
 use Rattle.placing_exact.proofs.RivalsByRoles.{rivals-all, fewest-of-all, none-at-all}
+use Rattle.placing_exact.proofs.IdleRivals.{least-idle-of-all, idle-stated}
 use Rattle.placing_exact.proofs.StarredCases.{starred, ranked}
 use Rattle.running_exact.proofs.Operands.{stands-for}
 use Rattle.running_exact.proofs.Agree.{agree, one-result, refused-first, done-free}
@@ -101,7 +105,7 @@ use Rattle.hours_exact.proofs.CheckAtExact.{check-at-exact, passes-plain}
 use Rattle.hours_exact.proofs.CheckAtFirst.{check-at-first}
 use Rattle.hours_exact.proofs.StandingPlaced.{left-at, placed-standing}
 use Rattle.hours_exact.proofs.PlaceAtFirst.{place-at-first}
-use Rattle.hours_exact.proofs.PlaceAtExact.{roomless-at, well-at, fewest-at, fifteen-at, none-at, fifteen-place-at, ruled-at, sixteen-at, seventeen-at, placed-at, written-over-at, kept-at}
+use Rattle.hours_exact.proofs.PlaceAtExact.{roomless-at, well-at, fewest-at, least-idle-at, fifteen-at, none-at, fifteen-place-at, ruled-at, sixteen-at, seventeen-at, placed-at, written-over-at, kept-at}
 use Rattle.hours_exact.proofs.EmptyTable.{check-empty, place-empty, over-empty}
 use Rattle.hours_exact.proofs.CasesShown.{hours-shown}
 use Rattle.engine.specs.Alike.{AlikeBesideForm, Alike}
@@ -212,7 +216,7 @@ little-kept n = omega arith
 
 -- Placing. "A placed file has its input's users, roles, kinds and channels, its sessions' users and starting masks, and is a placement of its input that passes the check, each
 -- branch holding at most one role at any moment and none at its end; every other such placement has at least as many on steps, and the count returned is the number of on steps in the
--- file returned", and "among those, the list of states in node order that is smallest at the first difference": each is a field of `WellPlaced`.
+-- file returned"; "Among placements with fewest on steps, those with the fewest nodes of tags 0 to 4 in a state other than 0 are taken, and only then the smallest list" (02, K4): each is a field of `WellPlaced`.
 pub places-well : (f : List ℕ) → All (λ b. b < 256) f → (room : ℕ) → placing f room .number ≡ 0 → WellPlaced f (placing f room) (placedBytes f)
 places-well = placed-well
 
@@ -230,13 +234,23 @@ pub fewest-of-all-rivals : (f : List ℕ) → All (λ b. b < 256) f → (room : 
     → placing f room .«on_steps» ≤ onStepsOf ts
 fewest-of-all-rivals = fewest-of-all
 
+-- .. "no placement of demand 3's kind with as few on steps holds a role through fewer such nodes" (02, K4) than the file written, those by rules 5 and 6 alone among them, counted by the active set with which a node of
+-- tags 0 to 4 is reached; where on and off were put in by states these are the nodes of such a tag "in a state other than 0" ..
+pub least-idle-of-all-rivals : (f : List ℕ) → All (λ b. b < 256) f → (room : ℕ) → placing f room .number ≡ 0 → (F G : File) → encode F ≡ f → encode G ≡ placedBytes f
+    → (ts : List Tree) → PlacementByRoles F ts → onStepsOf ts ≤ placing f room .«on_steps» → idleNodesOf (G .sessions) ≤ idleIn F ts
+least-idle-of-all-rivals = least-idle-of-all
+
+pub idle-by-states : (F : File) → Bare F → (states : AllStates (schemaFor F) (F .sessions))
+    → idleIn F (insertAll (schemaFor F) (F .sessions) states) ≡ idleAmong (nodesOf F) (listedAll (schemaFor F) (F .sessions) states)
+idle-by-states = idle-stated
+
 -- .. and "15 is the answer exactly when nothing before it in the order below refuses and there is none of these".
 pub no-role-no-rival : (f : List ℕ) → All (λ b. b < 256) f → (room : ℕ)
     → ((p : ℕ) × (placing f room ≡ noPlace 15 p)) ↔ (Unrefused f room × ((F : File) → encode F ≡ f → (ts : List Tree) → PlacementByRoles F ts → ⊥))
 no-role-no-rival = none-at-all
 
--- "The states taken have the fewest on steps; among those, the list of states in node order that is smallest at the first difference": for every file that nothing before 15 refuses and that
--- has a placement there is exactly one such list of allowed states, it is the one taken, and the file measured by 16 and the one written have these states.
+-- "The states taken have the fewest on steps", then "the fewest nodes of tags 0 to 4 in a state other than 0 .., and only then the smallest list" (02, K4), in node order at the first difference: for every file that nothing
+-- before 15 refuses and that has a placement there is exactly one such list of allowed states, it is the one taken, and the file measured by 16 and the one written have these states.
 pub tie-rule : (f : List ℕ) → All (λ b. b < 256) f → (room : ℕ) → Unrefused f room → (F : File) → encode F ≡ f → (ts : List Tree) → Placement F ts → Ruled f F
 tie-rule = ruled
 
@@ -504,7 +518,7 @@ pub past-the-count : (f : List ℕ) (l : List Thread) (b : List ℕ) (i p : ℕ)
     × (drop (usedWords (madeCount (besideOver f l b i p))) (besideOver f l b i p) ≡ drop (usedWords (madeCount (besideOver f l b i p))) b)
 past-the-count = past-kept
 
--- "Starred cases belong to the proved set .. shown on the definitions through one theorem about their list."
+-- "Starred cases belong to the proved set .. shown on the definitions through one theorem about their list"; with them the five compares of the head of theatre (02, K4).
 pub starred-cases : All Shown cases
 starred-cases = starred
 
@@ -591,11 +605,15 @@ placed-as-it-stands f bytes t m room u F e = placed-standing f bytes t m F (left
 pub places-well-at : (f : List ℕ) → All (λ b. b < 256) f → (t : List ℕ) (m room : ℕ) → placingAt f t m room .number ≡ 0 → WellPlacedAt f t m (placingAt f t m room) (placedBytesAt f t m)
 places-well-at = well-at
 
--- No placement with open roles only, of those that pass by rules 5 and 6, has fewer on steps; 15 is the answer exactly where nothing before it refuses and there is none of these (by all rules, and by 5 and 6 alone), and
+-- No placement with open roles only, of those that pass by rules 5 and 6, has fewer on steps, nor, with as few, holds a role through fewer nodes of tags 0 to 4; 15 is the answer exactly where nothing before it refuses and there is none of these (by all rules, and by 5 and 6 alone), and
 -- its place is the lowest send or receive that no open role of the user permits.
 pub fewest-of-open-rivals : (f : List ℕ) → All (λ b. b < 256) f → (t : List ℕ) (m room : ℕ) → placingAt f t m room .number ≡ 0 → (F : File) → encode F ≡ f → (ts : List Tree)
     → PlacementByRoles (openFile t m F) ts → placingAt f t m room .«on_steps» ≤ onStepsOf ts
 fewest-of-open-rivals = fewest-at
+
+pub least-idle-of-open-rivals : (f : List ℕ) → All (λ b. b < 256) f → (t : List ℕ) (m room : ℕ) → placingAt f t m room .number ≡ 0 → (F G : File) → encode F ≡ f → encode G ≡ placedBytesAt f t m
+    → (ts : List Tree) → PlacementByRoles (openFile t m F) ts → onStepsOf ts ≤ placingAt f t m room .«on_steps» → idleNodesOf (G .sessions) ≤ idleIn F ts
+least-idle-of-open-rivals = least-idle-at
 
 pub no-open-role-exactly : (f : List ℕ) → All (λ b. b < 256) f → (t : List ℕ) (m room : ℕ)
     → ((p : ℕ) × (placingAt f t m room ≡ noPlace 15 p)) ↔ (UnrefusedAt f t m room × ((F : File) → encode F ≡ f → (ts : List Tree) → Placement (openFile t m F) ts → ⊥))

@@ -36,14 +36,16 @@ use Rattle.checking_exact.specs.Tables.{schemaFor}
 use Rattle.checking_exact.proofs.CheckExact.{names-exact}
 use Rattle.checking_exact.proofs.CheckFirst.{objection-number, names-first}
 use Rattle.placing_exact.specs.Placement.{onStepsOf, graft, Placement, PlacementByRoles}
-use Rattle.placing_exact.specs.Placed.{insertAll, takingAll}
+use Rattle.placing_exact.specs.Placed.{placedTrees, insertAll, takingAll}
+use Rattle.placing_exact.specs.Idle.{idleNodesOf, idleIn}
 use Rattle.placing_exact.specs.Causes.{Unserved, PlacedWith, refusalIn, placingOrder}
 use Rattle.placing_exact.specs.Promised.{Lowest, Unrefused, NoPlacement, Ruled}
 use Rattle.placing_exact.proofs.GroupSessions.{placed-inserted}
 use Rattle.placing_exact.proofs.FilePlaced.{placement-served}
 use Rattle.placing_exact.proofs.FixedStates.{taking-fixed}
 use Rattle.placing_exact.proofs.PlacingFirst.{stage-low}
-use Rattle.placing_exact.proofs.PlacingExact.{fifteen-exactly, fifteen-place, sixteen-exactly, placed-exactly, ruled}
+use Rattle.placing_exact.proofs.PlacingExact.{fifteen-exactly, fifteen-place, sixteen-exactly, placed-exactly, placed-written, ruled}
+use Rattle.placing_exact.proofs.IdleRivals.{least-idle-of-all}
 use Rattle.placing_exact.proofs.RivalsByRoles.{fewest-of-all, none-at-all}
 use Rattle.hours_exact.specs.OpenFile.{openFile}
 use Rattle.hours_exact.specs.HourFaults.{withHours}
@@ -267,6 +269,22 @@ module _ (f : List ℕ) (bytes : All (λ b. b < 256) f) (t : List ℕ) (m room :
         let u = unrefused-placed placed in
         let there = sym (ap (λ (a : Placed). a .number) (same u F e)) ∙ placed in
         omega (arith, ap (λ (a : Placed). a .«on_steps») (same u F e), fewest-of-all (g u F e) (gbytes u F e) (roomFor (g u F e)) there (openFile t m F) refl ts P)
+
+    -- nor one with as few holds a role through fewer nodes of tags 0 to 4
+    pub least-idle-at : (F H : File) → encode F ≡ f → encode H ≡ placedBytesAt f t m → (ts : List Tree) → PlacementByRoles (openFile t m F) ts → onStepsOf ts ≤ placingAt f t m room .«on_steps»
+        → idleNodesOf (H .sessions) ≤ idleIn F ts
+    least-idle-at F H e w ts P few =
+        let u = unrefused-placed placed in
+        let there = sym (ap (λ (a : Placed). a .number) (same u F e)) ∙ placed in
+        let trees : List Tree = placedTrees (schemaFor (openFile t m F)) (F .sessions) in
+        let written = sym (placed-written (g u F e) (gbytes u F e) (roomFor (g u F e)) there (openFile t m F) refl) in
+        let fewer : onStepsOf ts ≤ placing (g u F e) (roomFor (g u F e)) .«on_steps» = omega (arith, few, ap (λ (a : Placed). a .«on_steps») (same u F e)) in
+        let is : H ≡ graft F trees = single H (graft F trees) (w ∙ written-at f bytes t m F (l u F e)) in
+        omega (
+          arith,
+          least-idle-of-all (g u F e) (gbytes u F e) (roomFor (g u F e)) there (openFile t m F) (graft (openFile t m F) trees) refl written ts P fewer,
+          ap (λ (X : File). idleNodesOf (X .sessions)) is,
+        )
 
     -- the output has room for it: the file as it stands at the minute wants as much
     fits-at : length (placedBytesAt f t m) ≤ room

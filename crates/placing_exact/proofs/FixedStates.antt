@@ -12,9 +12,10 @@ use Rattle.reading_exact.specs.File.{Routine, File, WellFormed}
 use Rattle.checking_exact.specs.Tables.{schemaFor}
 use Rattle.checking_exact.specs.Typing.{WellKinded}
 use Rattle.placing_exact.specs.Placement.{onStepsOf}
+use Rattle.placing_exact.specs.Idle.{idleIn}
 use Rattle.placing_exact.specs.Placed.{labels, placedTrees, AllStates, listedAll, insertAll, takingAll, servedAll, Bare, Fixed}
 use Rattle.placing_exact.proofs.AllowedStates.{allowed-stated}
-use Rattle.placing_exact.proofs.FilePlaced.{states-allowed, least, smallest}
+use Rattle.placing_exact.proofs.FilePlaced.{states-allowed, least, states-idle, smallest}
 use Rattle.placing_exact.proofs.GroupSessions.{placed-inserted}
 
 -- of two lists neither is smaller than the other only where they are the same
@@ -49,7 +50,8 @@ all-single D (s ∷ ss) a b e =
 pub fixed-single : (F : File) (a b : AllStates (schemaFor F) (F .sessions)) → Fixed F a → Fixed F b → a ≡ b
 fixed-single F a b h k =
     all-single (schemaFor F) (F .sessions) a b
-    (lex-both _ _ (h .smallest b (k .allowed) (k .fewest a (h .allowed))) (k .smallest a (h .allowed) (h .fewest b (k .allowed))))
+    (lex-both _ _ (h .smallest b (k .allowed) (k .fewest a (h .allowed)) (k .least-idle a (h .allowed) (h .fewest b (k .allowed))))
+    (k .smallest a (h .allowed) (h .fewest b (k .allowed)) (h .least-idle b (k .allowed) (k .fewest a (h .allowed)))))
 
 -- and where each send and receive has a role it is the one taken
 pub taking-fixed : (F : File) → WellFormed F → WellKinded F → Bare F → servedAll (schemaFor F) (F .sessions) ≡ true → Fixed F (takingAll (schemaFor F) (F .sessions))
@@ -57,8 +59,10 @@ taking-fixed F W N B served =
     let D : Schema = schemaFor F in
     let same : placedTrees D (F .sessions) ≡ insertAll D (F .sessions) (takingAll D (F .sessions)) = placed-inserted D (F .sessions) in
     let steps : onStepsOf (placedTrees D (F .sessions)) ≡ onStepsOf (insertAll D (F .sessions) (takingAll D (F .sessions))) = ap onStepsOf same in
+    let idles : idleIn F (placedTrees D (F .sessions)) ≡ idleIn F (insertAll D (F .sessions) (takingAll D (F .sessions))) = ap (idleIn F) same in
     record {
       allowed = allowed-stated F W N (takingAll D (F .sessions)) .0 (states-allowed F W N B served);
       fewest = λ other h. omega (arith, steps, least F W N B other (allowed-stated F W N other .1 h));
-      smallest = λ other h l. smallest F W N B served other (allowed-stated F W N other .1 h) (omega (arith, steps, l));
+      least-idle = λ other h l. omega (arith, idles, states-idle F W N B other (allowed-stated F W N other .1 h) (omega (arith, steps, l)));
+      smallest = λ other h l k. smallest F W N B served other (allowed-stated F W N other .1 h) (omega (arith, steps, l)) (omega (arith, idles, k));
     }

@@ -2,6 +2,10 @@
 pub mod HeldRole
 pub mod StepCosts
 pub mod StateRules
+-- nodes held idly (idle-insert, all-idle)
+pub mod SwitchFree
+pub mod IdleCosts
+pub mod IdleTrees
 -- states give a placement, and a placement gives states
 pub mod InsertGood
 pub mod Rivals
@@ -13,7 +17,6 @@ pub mod SessionPlaced
 -- the whole file
 pub mod FilePlaced
 -- What placing sees in a file: trees without on and off, their nodes with the roles that they may be given (labels-read)
-pub mod SwitchFree
 pub mod Preorder
 pub mod ReadLabels
 -- The states taken from the rows are the choice's (all-turns)
@@ -44,5 +47,7 @@ pub mod OneRole
 -- A rival that is asked for rules 5 and 6 alone obeys every rule (rivals-by-roles, rivals-all): the fewest on steps of all, and 15 where there is none at all
 -- (fewest-of-all, none-at-all)
 pub mod RivalsByRoles
+-- nodes held idly: no rival with as few on steps has fewer (least-idle-of-all), and by states (idle-stated)
+pub mod IdleRivals
 -- the starred cases
 pub mod StarredCases

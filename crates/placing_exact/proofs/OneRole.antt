@@ -25,7 +25,7 @@ use Rattle.placing_exact.specs.Placed.{labels, varsBelow, placedTree, pl
 use Rattle.placing_exact.specs.Promised.{session, Covers}
 use Rattle.placing_exact.proofs.HeldRole.{Is, is-empty, is-with}
 use Rattle.placing_exact.proofs.StateRules.{Role, at, role-end, role-fork, step-suits, child-step}
-use Rattle.placing_exact.proofs.SoundSessions.{roles-fit}
+use Rattle.placing_exact.proofs.SoundSessions.{Sound, sound, roles-fit}
 use Rattle.placing_exact.proofs.SessionPlaced.{Throughout, one-role}
 use Rattle.placing_exact.proofs.SwitchFree.{Free, bare-free}
 use Rattle.placing_exact.proofs.PlacingExact.{found, placed-written}
@@ -64,7 +64,8 @@ module _ (F : File) (W : WellFormed F) (N : WellKinded F) (B : Bare F) where
       let low : suc r ≤ 16 = omega (arith, W .few-roles, roles-fit F W (s .user) (seat .0) (suc r) a) in
       let clear = by-roles-iff D (ranged F W) (s .user) [] (with 0 (suc r)) (s .tree) kinded .1 h in
       let all : Throughout (suc r) (labels D (s .user) [] (s .tree)) = throughout D (s .user) (with 0 (suc r)) (suc r) [] (s .tree) free (is-with 0 r is-empty) a clear in
-      omega (arith, ap onSteps (tree-placed D none (F .sessions) (k - 1) at-k), one-role D (s .user) (suc r) (s .tree) low all)
+      let S : Sound D s = all-get (Sound D) (F .sessions) (k - 1) none at-k (sound F W N B) in
+      omega (arith, ap onSteps (tree-placed D none (F .sessions) (k - 1) at-k), one-role D (ranged F W) (W .few-roles) s S (suc r) low all)
 
 pub one-role-written : (f : List ℕ) → All (λ b. b < 256) f → (room : ℕ) → placing f room .number ≡ 0 → (F G : File) → encode F ≡ f → encode G ≡ placedBytes f
     → (k r : ℕ) → InCount (length (F .sessions)) k → Covers F k r → onSteps (session G k .tree) ≤ 1

@@ -38,7 +38,7 @@ use Rattle.placing_exact.specs.Counts.{onNodes}
 use Rattle.placing_exact.specs.Causes.{SomeMask, IsSwitch, Unserved, PlacedWith}
 use Rattle.placing_exact.specs.Promised.{WellPlaced, Ruled, Clean, Lowest, Unrefused, NoPlacement}
 use Rattle.placing_exact.proofs.GroupSessions.{placed-inserted}
-use Rattle.placing_exact.proofs.FilePlaced.{placed-good, fewest, placement-served}
+use Rattle.placing_exact.proofs.FilePlaced.{placed-good, fewest, least-idle, placement-served}
 use Rattle.placing_exact.proofs.FixedStates.{fixed-single, taking-fixed}
 use Rattle.placing_exact.proofs.BytesPlaced.{
   placed-bytes,
@@ -300,6 +300,7 @@ module _ (F : File) (r : Ready F) (served : servedAll (schemaFor F) (F .sessions
         sized = long;
         counted = ons ∙ counted;
         fewest = λ ts P. omega (arith, fewest F (r .formed) (r .named) (r .bare) ts P);
+        least-idle = λ ts P q. least-idle F (r .formed) (r .named) (r .bare) ts P (omega (arith, q, steps));
         states = takingAll (schemaFor F) (F .sessions);
         fixed = taking-fixed F (r .formed) (r .named) (r .bare) served;
         taken = ap (λ (C : Contents). map (λ (t : Turn). t .to) (turnsFor C)) (contents-back F) ∙ placed-states F (r .formed) (r .named) (r .bare);

@@ -26,7 +26,7 @@ use Rattle.placing_exact.specs.Cases.{Shown, cases, juniorCases}
 
 pub starred : All Shown cases
 unfolding has with without namesOnly within bytesOf firstOf from2 from3 from4 from5 headOf tabled item contentsAt roleWords channelWords sessionWords nodeWords tableWords fileWords encoded recordFits sectionAnswer recordsAnswer following nodeFits shapeFrom roots shapeAnswer reading together effective permits permittingTo named kindOf mine namesFit kindsFit able wrong barred childOf reached openingsFrom firstBy rightly namesAnswer rolesAnswer candidates candidatesIn readingNames checking scan gate suits up rowOf taken rows turnsFrom turnsOf labelled before sizesOf onsOf startsFrom groupsFrom sessionsFrom masksAnswer switchesAnswer unservedFrom placeable judging measuring placing placedBytes
-starred = ((refl, refl), ((refl, refl), (refl, (refl, ((refl, refl), ((refl, refl), (refl, (refl, (refl, ((refl, refl), (refl, (refl, (refl, (refl, tt))))))))))))))
+starred = ((refl, refl), ((refl, refl), (refl, (refl, ((refl, refl), ((refl, refl), (refl, (refl, (refl, ((refl, refl), (refl, (refl, (refl, (refl, ((refl, refl), (refl, (refl, (refl, (refl, (refl, tt))))))))))))))))))))
 
 pub ranked : All Shown juniorCases
 unfolding has with without namesOnly within bytesOf firstOf from2 from3 from4 from5 headOf tabled item contentsAt roleWords channelWords sessionWords nodeWords tableWords fileWords encoded recordFits sectionAnswer recordsAnswer following nodeFits shapeFrom roots shapeAnswer reading together effective permits permittingTo named kindOf mine namesFit kindsFit able wrong barred childOf reached openingsFrom firstBy rightly namesAnswer rolesAnswer candidates candidatesIn readingNames checking scan gate suits up rowOf taken rows turnsFrom turnsOf labelled before sizesOf onsOf startsFrom groupsFrom sessionsFrom masksAnswer switchesAnswer unservedFrom placeable judging measuring placing placedBytes

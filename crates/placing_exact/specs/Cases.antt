@@ -1,4 +1,4 @@
--- The paper's starred cases. Braces hold the roles that permit a step.
+-- The paper's starred cases, and those of idle holding (02, K4). Braces hold the roles that permit a step.
 use Prim.Native.Nat.{ℕ, _*_}
 use mathlib.Core.Path.{_≡_}
 use mathlib.Core.List.{List, [], _∷_, _++_, map}
@@ -48,6 +48,11 @@ apart = 1 ∷ 0 ∷ 0 ∷ 0 ∷ 2 ∷ 0 ∷ 0 ∷ 0 ∷ []
 -- one user without a role, one kind, a channel of the user, and two nodes
 abbrev unroled : List ℕ → List ℕ
 unroled words = 1 ∷ 1 ∷ 0 ∷ 1 ∷ 1 ∷ 1 ∷ 2 ∷ 13 ∷ 14 ∷ 14 ∷ 15 ∷ 17 ∷ 20 ∷ 0 ∷ 0 ∷ 1 ∷ 1 ∷ 1 ∷ 0 ∷ 1 ∷ words
+
+-- two users, two roles, three kinds, a channel of each for user 2, and one session of user 1: role 1 may send on kinds 1 and 2, role 2 on kinds 1 and 3
+abbrev theatre : ℕ → List ℕ → List ℕ
+theatre nodes words =
+    1 ∷ 2 ∷ 2 ∷ 3 ∷ 3 ∷ 1 ∷ nodes ∷ 13 ∷ 15 ∷ 23 ∷ 26 ∷ 32 ∷ 35 ∷ 3 ∷ 0 ∷ 3 ∷ 0 ∷ 0 ∷ 0 ∷ 5 ∷ 0 ∷ 0 ∷ 0 ∷ 0 ∷ 0 ∷ 0 ∷ 2 ∷ 1 ∷ 2 ∷ 2 ∷ 2 ∷ 3 ∷ 1 ∷ 0 ∷ 1 ∷ words
 
 abbrev booking : List ℕ
 booking = file both 3 (6 ∷ 257 ∷ 2 ∷ 6 ∷ 258 ∷ 2 ∷ 0 ∷ 0 ∷ 0 ∷ [])
@@ -107,6 +112,16 @@ cases =
     ∷ checks (file apart 5 (7 ∷ 1 ∷ 0 ∷ 7 ∷ 1 ∷ 0 ∷ 8 ∷ 1 ∷ 0 ∷ 6 ∷ 257 ∷ 2 ∷ 0 ∷ 0 ∷ 0 ∷ [])) (refused 13 4)
     -- on 1, fork, off 1 in one branch, {1} in the other
     ∷ checks (file apart 6 (7 ∷ 1 ∷ 0 ∷ 1 ∷ 5 ∷ 0 ∷ 8 ∷ 1 ∷ 0 ∷ 0 ∷ 0 ∷ 0 ∷ 6 ∷ 257 ∷ 2 ∷ 0 ∷ 0 ∷ 0 ∷ [])) fine
+    -- {1, 2}, then a fork: five compares and {1} in one branch, {2} in the other; role 1 held through the compares costs as few on steps
+    ∷ places (theatre 11 (6 ∷ 257 ∷ 2 ∷ 1 ∷ 10 ∷ 0 ∷ 4 ∷ 1 ∷ 1 ∷ 4 ∷ 1 ∷ 1 ∷ 4 ∷ 1 ∷ 1 ∷ 4 ∷ 1 ∷ 1 ∷ 4 ∷ 1 ∷ 1 ∷ 6 ∷ 258 ∷ 2 ∷ 0 ∷ 0 ∷ 0 ∷ 6 ∷ 259 ∷ 2 ∷ 0 ∷ 0 ∷ 0 ∷ []))
+    (theatre 16 (7 ∷ 2 ∷ 0 ∷ 6 ∷ 257 ∷ 2 ∷ 1 ∷ 14 ∷ 0 ∷ 8 ∷ 2 ∷ 0 ∷ 4 ∷ 1 ∷ 1 ∷ 4 ∷ 1 ∷ 1 ∷ 4 ∷ 1 ∷ 1 ∷ 4 ∷ 1 ∷ 1 ∷ 4 ∷ 1 ∷ 1 ∷ 7 ∷ 1 ∷ 0 ∷ 6 ∷ 258 ∷ 2 ∷ 8 ∷ 1 ∷ 0 ∷ 0 ∷ 0 ∷ 0 ∷ 6 ∷ 259 ∷ 2 ∷ 8 ∷ 2 ∷ 0 ∷ 0 ∷ 0 ∷ 0 ∷ [])) 2
+    -- the same with one compare, a repeat, a new, and a fork that ends in its first branch, in place of the five
+    ∷ takes (theatre 7 (6 ∷ 257 ∷ 2 ∷ 1 ∷ 6 ∷ 0 ∷ 4 ∷ 1 ∷ 1 ∷ 6 ∷ 258 ∷ 2 ∷ 0 ∷ 0 ∷ 0 ∷ 6 ∷ 259 ∷ 2 ∷ 0 ∷ 0 ∷ 0 ∷ [])) (2 ∷ 2 ∷ 0 ∷ 1 ∷ 0 ∷ 2 ∷ 0 ∷ [])
+    ∷ takes (theatre 7 (6 ∷ 257 ∷ 2 ∷ 1 ∷ 6 ∷ 0 ∷ 2 ∷ 0 ∷ 0 ∷ 6 ∷ 258 ∷ 2 ∷ 0 ∷ 0 ∷ 0 ∷ 6 ∷ 259 ∷ 2 ∷ 0 ∷ 0 ∷ 0 ∷ [])) (2 ∷ 2 ∷ 0 ∷ 1 ∷ 0 ∷ 2 ∷ 0 ∷ [])
+    ∷ takes (theatre 7 (6 ∷ 257 ∷ 2 ∷ 1 ∷ 6 ∷ 0 ∷ 3 ∷ 1 ∷ 0 ∷ 6 ∷ 258 ∷ 2 ∷ 0 ∷ 0 ∷ 0 ∷ 6 ∷ 259 ∷ 2 ∷ 0 ∷ 0 ∷ 0 ∷ [])) (2 ∷ 2 ∷ 0 ∷ 1 ∷ 0 ∷ 2 ∷ 0 ∷ [])
+    ∷ takes (theatre 8 (6 ∷ 257 ∷ 2 ∷ 1 ∷ 7 ∷ 0 ∷ 1 ∷ 5 ∷ 0 ∷ 0 ∷ 0 ∷ 0 ∷ 6 ∷ 258 ∷ 2 ∷ 0 ∷ 0 ∷ 0 ∷ 6 ∷ 259 ∷ 2 ∷ 0 ∷ 0 ∷ 0 ∷ [])) (2 ∷ 2 ∷ 0 ∷ 0 ∷ 1 ∷ 0 ∷ 2 ∷ 0 ∷ [])
+    -- and with nothing in their place: as many of both, so that the smallest list is taken
+    ∷ takes (theatre 6 (6 ∷ 257 ∷ 2 ∷ 1 ∷ 5 ∷ 0 ∷ 6 ∷ 258 ∷ 2 ∷ 0 ∷ 0 ∷ 0 ∷ 6 ∷ 259 ∷ 2 ∷ 0 ∷ 0 ∷ 0 ∷ [])) (1 ∷ 1 ∷ 1 ∷ 0 ∷ 2 ∷ 0 ∷ [])
     ∷ []
 
 -- A file of version 2 in its words: the booking's tables with three roles and the masks of their juniors, one session of user 1, who has role 3 alone.

@@ -1,4 +1,5 @@
 pub mod Placement
+pub mod Idle
 pub mod Placed
 pub mod Counts
 pub mod Causes

@@ -21,6 +21,7 @@ use Rattle.reading_exact.specs.File.{Routine, File, InCount}
 use Rattle.checking_exact.specs.Tables.{schemaFor}
 use Rattle.checking_exact.specs.Typing.{HasKind}
 use Rattle.placing_exact.specs.Placement.{plain, onStepsOf, graft}
+use Rattle.placing_exact.specs.Idle.{idleIn}
 
 -- a context without roles
 abbrev pub context : ℕ → List Bound → Context
@@ -60,7 +61,7 @@ insert D u p vs (fork x y) a = turned p (a .0) (fork (insert D u (a .0) vs x (a 
 insert D u p vs (step s t) a = turned p (a .0) (step s (insert D u (a .0) (varsBelow D u vs s) t (a .1)))
 insert D u p vs (switch w r t) a = insert D u p vs t a
 
--- the states taken: the fewest on steps, and among those the smallest list
+-- the states taken: the fewest on steps, among those the fewest nodes held idly, and among those the smallest list
 unfoldable pub taking : (D : Schema) (u : ℕ) (t : Tree) → States (labels D u [] t)
 taking D u t = choose cost 16 0 (labels D u [] t)
 
@@ -117,13 +118,18 @@ abbrev pub takingAll : (D : Schema) (ss : List Routine) → AllStates D ss
 takingAll D [] = tt
 takingAll D (s ∷ ss) = (taking D (s .user) (s .tree), takingAll D ss)
 
--- The tie rule: "The states taken have the fewest on steps; among those, the list of states in node order that is smallest at the first difference."
+-- The tie rule: "The states taken have the fewest on steps"; "Among placements with fewest on steps, those with the fewest nodes of tags 0 to 4 in a state other than 0 are taken, and only
+-- then the smallest list" (02, K4), "the list of states in node order that is smallest at the first difference". Any allowed states are asked, those with a role at an end too.
 pub record Fixed (F : File) (states : AllStates (schemaFor F) (F .sessions)) : Type 0 where
   pub allowed : AllStated (schemaFor F) (F .sessions) states
   pub fewest : (other : AllStates (schemaFor F) (F .sessions)) → AllStated (schemaFor F) (F .sessions) other
       → onStepsOf (insertAll (schemaFor F) (F .sessions) states) ≤ onStepsOf (insertAll (schemaFor F) (F .sessions) other)
+  pub least-idle : (other : AllStates (schemaFor F) (F .sessions)) → AllStated (schemaFor F) (F .sessions) other
+      → onStepsOf (insertAll (schemaFor F) (F .sessions) other) ≤ onStepsOf (insertAll (schemaFor F) (F .sessions) states)
+      → idleIn F (insertAll (schemaFor F) (F .sessions) states) ≤ idleIn F (insertAll (schemaFor F) (F .sessions) other)
   pub smallest : (other : AllStates (schemaFor F) (F .sessions)) → AllStated (schemaFor F) (F .sessions) other
       → onStepsOf (insertAll (schemaFor F) (F .sessions) other) ≤ onStepsOf (insertAll (schemaFor F) (F .sessions) states)
+      → idleIn F (insertAll (schemaFor F) (F .sessions) other) ≤ idleIn F (insertAll (schemaFor F) (F .sessions) states)
       → LexLe (listedAll (schemaFor F) (F .sessions) states) (listedAll (schemaFor F) (F .sessions) other)
 
 -- no send or receive is without a role of the user that permits it

@@ -18,6 +18,7 @@ use Rattle.reading_exact.specs.File.{Routine, File, WellFormed, nodesOf, encode
 use Rattle.checking_exact.specs.Tables.{schemaFor}
 use Rattle.checking_exact.specs.Typing.{ByRoles}
 use Rattle.placing_exact.specs.Placement.{onStepsOf, graft, Placement}
+use Rattle.placing_exact.specs.Idle.{idleIn}
 use Rattle.placing_exact.specs.Placed.{AllStates, listedAll, insertAll, Fixed}
 use Rattle.placing_exact.specs.Counts.{onNodes}
 use Rattle.placing_exact.specs.Causes.{SomeMask, IsSwitch}
@@ -40,9 +41,11 @@ pub record WellPlaced (f : List ℕ) (a : Placed) (g : List ℕ) : Type 0 where
   pub counted : a .«on_steps» ≡ onNodes (contentsOf g .nodes)
   -- every other such placement has at least as many on steps
   pub fewest : (ts : List Tree) → Placement file ts → a .«on_steps» ≤ onStepsOf ts
+  -- and none with as few on steps holds a role through fewer nodes of tags 0 to 4
+  pub least-idle : (ts : List Tree) → Placement file ts → onStepsOf ts ≤ a .«on_steps» → idleIn file trees ≤ idleIn file ts
   -- each node has a state: 0 or one role assigned to the user, and send and receive one that permits them
   pub states : AllStates (schemaFor file) (file .sessions)
-  -- the states taken have the fewest on steps; among those, the list in node order that is smallest at the first difference
+  -- the states taken have the fewest on steps; among those, the fewest nodes of tags 0 to 4 in a state other than 0; and only then the list in node order is smallest at the first difference
   pub fixed : Fixed file states
   -- those taken from the bytes
   pub taken : map (λ (t : Turn). t .to) (turnsFor (contentsOf f)) ≡ listedAll (schemaFor file) (file .sessions) states

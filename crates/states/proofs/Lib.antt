@@ -1,6 +1,8 @@
+pub mod ShiftLaws
 pub mod KeptLaws
-pub mod LowestLaws
-pub mod CellLaws
+pub mod BitLaws
+pub mod RankLaws
 pub mod AgreeLaws
 pub mod PassLaws
 pub mod TurnLaws
+pub mod LaneLaws

@@ -1,77 +1,82 @@
--- One turn of the loop each way, with a stack in an array whose element 0 is 0 and as nothing.
-use Prim.Native.Nat.{ℕ, zero, suc, _+_, _*_, _-_, _/_, _≤_, _<_}
-use mathlib.Core.Path.{_≡_, refl, sym, ap, ap₂, _∙_}
+-- One turn of the loop each way, with a stack in an array whose element 0 is as nothing.
+use Prim.Native.Nat.{ℕ, zero, suc, _+_, _*_, _-_, _≤_, _<_}
+use mathlib.Core.Path.{_≡_, refl, sym, ap, ap₂, subst, _∙_}
 use mathlib.Core.Bool.{Bool, true, false, cond}
 use mathlib.Core.List.{List, [], _∷_, _++_, map}
 use native.Mathlib.Omega.{arith}
 use native.Mathlib.Numerals.{add-one}
 use lib.Dec.{eqb}
-use lib.ListN.{length, getD, drop, set, length-drop}
+use lib.ListN.{length, getD, drop, set}
 use lib.Seq.{sets, drop-cons, getD-set-other}
-use borrow.Author.Tests.{eqb-true}
 use Rattle.format.specs.Contents.{item, noNode}
 use Rattle.format.specs.declared.Node.{Node}
 use Rattle.format.specs.Stacks.{stacked, top, rest}
 use Rattle.format.proofs.ContentsLaws.{next-item, none-past, drop-set}
 use Rattle.format.proofs.StackLaws.{stacked-more, stacked-set, stacked-push}
-use Rattle.states.specs.States.{Label, statesAfter, labelled, packed}
-use Rattle.states.specs.Kept.{upper, lower, cellOf, wordOf, cellsPast, cells, keptAll, stateAfter, followed}
-use Rattle.states.proofs.CellLaws.{Roled, cell-most}
+use Rattle.states.specs.States.{Label, beyond, statesAfter, labelled, packed}
+use Rattle.states.specs.Kept.{savingOf, wordOf, Small, noSaving, saving, savings, keptAll, stateAfter, followed}
+use Rattle.states.proofs.AgreeLaws.{Roled, small-first, small-rest, all-small}
 
--- two lists that differ by zeros at their ends
-abbrev pub Same : List ℕ → List ℕ → Type 0
-Same cs ds = (k : ℕ) → getD cs k 0 ≡ getD ds k 0
+-- what is read within a list is there
+read-any : {A : Type 0} (l : List A) (i : ℕ) (x y : A) → i < length l → getD l i x ≡ getD l i y
+read-any [] i x y h = let no-way : ⊥ = omega arith in absurd no-way
+read-any (v ∷ l) zero x y h = refl
+read-any (v ∷ l) (suc i) x y h = read-any l i x y (omega arith)
 
-two-zeros : Same (0 ∷ 0 ∷ []) []
-two-zeros zero = refl
-two-zeros (suc zero) = refl
-two-zeros (suc (suc k)) = refl
+module _ {A : Type 0} (z : A) where
+  -- two lists that differ by nothings at their ends
+  abbrev pub Same : List A → List A → Type 0
+  Same cs ds = (k : ℕ) → getD cs k z ≡ getD ds k z
 
--- one fewer in use, but never fewer than the element 0
-one-less : (a : List ℕ) (d : ℕ) → getD a 0 0 ≡ 0 → Same (stacked 0 a (d - 1 + 1)) (stacked 0 a d)
-unfolding stacked
-one-less a zero e zero = e
-one-less a zero e (suc k) = refl
-one-less a (suc d) e k = let back : suc d - 1 + 1 ≡ suc d = omega arith in ap (λ j. getD (stacked 0 a j) k 0) back
+  two-nothings : Same (z ∷ z ∷ []) []
+  two-nothings zero = refl
+  two-nothings (suc zero) = refl
+  two-nothings (suc (suc k)) = refl
 
+  -- one fewer in use, but never fewer than the element 0
+  one-less : (a : List A) (d : ℕ) → getD a 0 z ≡ z → Same (stacked z a (d - 1 + 1)) (stacked z a d)
+  unfolding stacked
+  one-less a zero e zero = e
+  one-less a zero e (suc k) = refl
+  one-less a (suc d) e k = let back : suc d - 1 + 1 ≡ suc d = omega arith in ap (λ j. getD (stacked z a j) k z) back
+
+  rest-next : (cs : List A) (k : ℕ) → getD (rest cs) k z ≡ getD cs (suc k) z
+  rest-next [] k = refl
+  rest-next (c ∷ cs) k = refl
+
+  same-rest : (cs ds : List A) → Same cs ds → Same (rest cs) (rest ds)
+  same-rest cs ds h k = rest-next cs k ∙ h (suc k) ∙ sym (rest-next ds k)
+
+  same-cons : (c d : A) (cs ds : List A) → c ≡ d → Same cs ds → Same (c ∷ cs) (d ∷ ds)
+  same-cons c d cs ds e h zero = e
+  same-cons c d cs ds e h (suc k) = h k
+
+-- the first of them
 top-first : (cs : List ℕ) → top cs ≡ getD cs 0 0
 top-first [] = refl
 top-first (c ∷ cs) = refl
 
-rest-next : (cs : List ℕ) (k : ℕ) → getD (rest cs) k 0 ≡ getD cs (suc k) 0
-rest-next [] k = refl
-rest-next (c ∷ cs) k = refl
-
-same-top : (cs ds : List ℕ) → Same cs ds → top cs ≡ top ds
+same-top : (cs ds : List ℕ) → Same 0 cs ds → top cs ≡ top ds
 same-top cs ds h = top-first cs ∙ h 0 ∙ sym (top-first ds)
 
-same-rest : (cs ds : List ℕ) → Same cs ds → Same (rest cs) (rest ds)
-same-rest cs ds h k = rest-next cs k ∙ h (suc k) ∙ sym (rest-next ds k)
+saving-first : (ds : List (List ℕ)) → saving ds ≡ getD ds 0 noSaving
+saving-first [] = refl
+saving-first (d ∷ ds) = refl
 
-same-cons : (c d : ℕ) (cs ds : List ℕ) → c ≡ d → Same cs ds → Same (c ∷ cs) (d ∷ ds)
-same-cons c d cs ds e h zero = e
-same-cons c d cs ds e h (suc k) = h k
+same-saving : (cs ds : List (List ℕ)) → Same noSaving cs ds → saving cs ≡ saving ds
+same-saving cs ds h = saving-first cs ∙ h 0 ∙ sym (saving-first ds)
 
-same-past : (tag : ℕ) (cs ds : List ℕ) → Same cs ds → Same (cellsPast tag cs) (cellsPast tag ds)
+same-past : (tag : ℕ) (cs ds : List (List ℕ)) → Same noSaving cs ds → Same noSaving (beyond tag cs) (beyond tag ds)
 same-past tag cs ds h = go (eqb tag 0) (eqb tag 1)
   where
-    go : (x y : Bool) → Same (cond x cs (cond y (rest (rest cs)) (rest cs))) (cond x ds (cond y (rest (rest ds)) (rest ds)))
+    go : (x y : Bool) → Same noSaving (cond x cs (cond y (rest (rest cs)) (rest cs))) (cond x ds (cond y (rest (rest ds)) (rest ds)))
     go true y = h
-    go false true = same-rest (rest cs) (rest ds) (same-rest cs ds h)
-    go false false = same-rest cs ds h
+    go false true = same-rest noSaving (rest cs) (rest ds) (same-rest noSaving cs ds h)
+    go false false = same-rest noSaving cs ds h
 
 -- the nodes from the number i + 1 on, with their roles
 abbrev pub labelsFrom : List Node → List ℕ → ℕ → List Label
 labelsFrom ns roles i = labelled (drop i ns) (drop (suc i) roles)
-
-length-labelled : (ns : List Node) (rs : List ℕ) → length (labelled ns rs) ≤ length ns
-unfolding labelled
-length-labelled [] rs = omega arith
-length-labelled (n ∷ ns) [] = omega arith
-length-labelled (n ∷ ns) (r ∷ rs) = omega (arith, length-labelled ns rs)
-
-pub labels-few : (ns : List Node) (roles : List ℕ) (i : ℕ) → length (labelsFrom ns roles i) ≤ length ns
-labels-few ns roles i = omega (arith, length-labelled (drop i ns) (drop (suc i) roles), length-drop i ns)
 
 labels-next : (ns : List Node) (roles : List ℕ) (i : ℕ) → i < length ns → i + 1 < length roles
     → labelsFrom ns roles i ≡ record { tag = item noNode ns (i + 1) .tag; roles = getD roles (i + 1) 0 } ∷ labelsFrom ns roles (i + 1)
@@ -96,82 +101,55 @@ short-roled (n ∷ ns) (r ∷ rs) h = (h 0, short-roled ns rs (λ i. h (suc i)))
 pub labels-roled : (ns : List Node) (k : ℕ) (rs : List ℕ) → Short rs → Roled (labelled ns (drop k rs))
 labels-roled ns k rs h = short-roled ns (drop k rs) (short-drop k rs h)
 
--- what the trees in a list of rows cost at most
-unfoldable total : List ℕ → ℕ
-total [] = 0
-total (c ∷ cs) = c / 131072 + total cs
-
-shared : (tag : ℕ) (cs : List ℕ) → upper tag (top cs) / 131072 + lower tag (top (rest cs)) / 131072 + total (cellsPast tag cs) ≤ total cs
-unfolding total
-shared tag cs = go (eqb tag 0) refl (eqb tag 1) refl cs
-  where
-    go : (x : Bool) → eqb tag 0 ≡ x → (y : Bool) → eqb tag 1 ≡ y → (cs : List ℕ)
-        → cond x 0 (top cs) / 131072 + cond y (top (rest cs)) 0 / 131072 + total (cond x cs (cond y (rest (rest cs)) (rest cs))) ≤ total cs
-    go true e true g cs = let no-way : ⊥ = omega (arith, eqb-true tag 0 e, eqb-true tag 1 g) in absurd no-way
-    go true e false g cs = omega arith
-    go false e true g [] = omega arith
-    go false e true g (a ∷ []) = omega arith
-    go false e true g (a ∷ b ∷ cs) = omega arith
-    go false e false g [] = omega arith
-    go false e false g (a ∷ cs) = omega arith
-
--- no more than one for each node
-cells-total : (ls : List Label) → Roled ls → total (cells ls) ≤ length ls
-unfolding total cells Roled
-cells-total [] h = omega arith
-cells-total (l ∷ ls) h =
-    omega (arith, cell-most (l .tag) (l .roles) (top (cells ls)) (top (rest (cells ls))) (h .0), shared (l .tag) (cells ls), cells-total ls (h .1))
-
-two-cells : (cs : List ℕ) → top cs / 131072 + top (rest cs) / 131072 ≤ total cs
-unfolding total
-two-cells [] = omega arith
-two-cells (a ∷ []) = omega arith
-two-cells (a ∷ b ∷ cs) = omega arith
-
-pub cells-fit : (t : ℕ) (a : List ℕ) (d : ℕ) (ls : List Label) → Roled ls → Same (t ∷ stacked 0 a (d + 1)) (cells ls) → t / 131072 + getD a d 0 / 131072 ≤ length ls
-cells-fit t a d ls r h =
-    let rs : List ℕ = t ∷ stacked 0 a (d + 1) in
-    omega (arith, ap top (stacked-more 0 a d), same-top rs (cells ls) h, same-top (stacked 0 a (d + 1)) (rest (cells ls)) (same-rest rs (cells ls) h), two-cells (cells ls), cells-total ls r)
-
 -- the stack after a node: the row before it goes there, where it is no part of the node's tree
-right-past : (tag t : ℕ) (a : List ℕ) (d j : ℕ) → d + 1 < length a → getD a 0 0 ≡ 0 → j ≡ cond (eqb tag 0) (d + 1) (cond (eqb tag 1) (d - 1) d)
-    → Same (stacked 0 (set a (d + 1) t) (j + 1)) (cellsPast tag (t ∷ stacked 0 a (d + 1)))
-right-past tag t a d j h e je k = ap (λ j. getD (stacked 0 (set a (d + 1) t) (j + 1)) k 0) je ∙ go (eqb tag 0) (eqb tag 1)
+right-past : (tag : ℕ) (t : List ℕ) (a : List (List ℕ)) (d j : ℕ) → d + 1 < length a → getD a 0 noSaving ≡ noSaving → j ≡ cond (eqb tag 0) (d + 1) (cond (eqb tag 1) (d - 1) d)
+    → Same noSaving (stacked noSaving (set a (d + 1) t) (j + 1)) (beyond tag (t ∷ stacked noSaving a (d + 1)))
+right-past tag t a d j h e je k = ap (λ j. getD (stacked noSaving (set a (d + 1) t) (j + 1)) k noSaving) je ∙ go (eqb tag 0) (eqb tag 1)
   where
-    go : (x y : Bool) → getD (stacked 0 (set a (d + 1) t) (cond x (d + 1) (cond y (d - 1) d) + 1)) k 0
-        ≡ getD (cond x (t ∷ stacked 0 a (d + 1)) (cond y (rest (stacked 0 a (d + 1))) (stacked 0 a (d + 1)))) k 0
-    go true y = ap (λ l. getD l k 0) (stacked-push 0 a (d + 1) t h)
+    go : (x y : Bool) → getD (stacked noSaving (set a (d + 1) t) (cond x (d + 1) (cond y (d - 1) d) + 1)) k noSaving
+        ≡ getD (cond x (t ∷ stacked noSaving a (d + 1)) (cond y (rest (stacked noSaving a (d + 1))) (stacked noSaving a (d + 1)))) k noSaving
+    go true y = ap (λ l. getD l k noSaving) (stacked-push noSaving a (d + 1) t h)
     go false true =
-        ap (λ l. getD l k 0) (stacked-set 0 a (d + 1) t (d - 1 + 1) (omega arith)) ∙ one-less a d e k ∙ ap (λ l. getD (rest l) k 0) (sym (stacked-more 0 a d))
-    go false false = ap (λ l. getD l k 0) (stacked-set 0 a (d + 1) t (d + 1) (omega arith))
+        ap (λ l. getD l k noSaving) (stacked-set noSaving a (d + 1) t (d - 1 + 1) (omega arith)) ∙ one-less noSaving a d e k ∙ ap (λ l. getD (rest l) k noSaving) (sym (stacked-more noSaving a d))
+    go false false = ap (λ l. getD l k noSaving) (stacked-set noSaving a (d + 1) t (d + 1) (omega arith))
 
 -- from the right: node i + 1 is read, i of them are left
-module _ (ns : List Node) (roles : List ℕ) (i : ℕ) (h : i < length ns) (k : i + 1 < length roles) (t : ℕ) (a : List ℕ) (d : ℕ) (e : getD a 0 0 ≡ 0)
-    (st : Same (t ∷ stacked 0 a (d + 1)) (cells (labelsFrom ns roles (i + 1)))) (tag : ℕ) (its : tag ≡ item noNode ns (i + 1) .tag) where
+module _ (ns : List Node) (roles : List ℕ) (i : ℕ) (h : i < length ns) (k : i + 1 < length roles) (t : List ℕ) (a : List (List ℕ)) (d : ℕ) (e : getD a 0 noSaving ≡ noSaving)
+    (st : Same noSaving (t ∷ stacked noSaving a (d + 1)) (savings (labelsFrom ns roles (i + 1)))) (tag : ℕ) (its : tag ≡ item noNode ns (i + 1) .tag) (fits : d + 1 < length a) where
   abbrev ls : List Label
   ls = labelsFrom ns roles (i + 1)
 
   abbrev role : ℕ
   role = getD roles (i + 1) 0
 
-  one-is : t ≡ top (cells ls)
-  one-is = same-top (t ∷ stacked 0 a (d + 1)) (cells ls) st
+  one-is : t ≡ saving (savings ls)
+  one-is = same-saving (t ∷ stacked noSaving a (d + 1)) (savings ls) st
 
-  two-is : getD a d 0 ≡ top (rest (cells ls))
-  two-is = sym (ap top (stacked-more 0 a d)) ∙ same-top (stacked 0 a (d + 1)) (rest (cells ls)) (same-rest (t ∷ stacked 0 a (d + 1)) (cells ls) st)
+  -- as the code reads it
+  abbrev two : List ℕ
+  two = getD a d []
+
+  two-is : two ≡ saving (rest (savings ls))
+  two-is =
+      read-any a d [] noSaving (omega (arith, fits)) ∙ sym (ap saving (stacked-more noSaving a d))
+      ∙ same-saving (stacked noSaving a (d + 1)) (rest (savings ls)) (same-rest noSaving (t ∷ stacked noSaving a (d + 1)) (savings ls) st)
 
   this : labelsFrom ns roles i ≡ record { tag = tag; roles = role } ∷ ls
   this = labels-next ns roles i h k ∙ ap (λ t. record { tag = t; roles = role } ∷ ls) (sym its)
 
-  pub right-cells : (cell j : ℕ) → cell ≡ cellOf tag role t (getD a d 0) → j ≡ cond (eqb tag 0) (d + 1) (cond (eqb tag 1) (d - 1) d) → d + 1 < length a
-      → Same (cell ∷ stacked 0 (set a (d + 1) t) (j + 1)) (cells (labelsFrom ns roles i))
-  unfolding cells
-  right-cells cell j ce je fits q =
-      same-cons cell (cellOf tag role (top (cells ls)) (top (rest (cells ls)))) (stacked 0 (set a (d + 1) t) (j + 1)) (cellsPast tag (cells ls))
-      (ce ∙ ap₂ (cellOf tag role) one-is two-is) (λ k. right-past tag t a d j fits e je k ∙ same-past tag (t ∷ stacked 0 a (d + 1)) (cells ls) st k) q
-      ∙ ap (λ ls. getD (cells ls) q 0) (sym this)
+  -- no lane of either row saves more than an on step
+  pub right-small : Small t × Small two
+  right-small = (subst Small (sym one-is) (small-first (savings ls) (all-small ls)), subst Small (sym two-is) (small-first (rest (savings ls)) (small-rest (savings ls) (all-small ls))))
 
-  pub right-words : (words ends : List ℕ) (w : ℕ) → w ≡ wordOf tag role t (getD a d 0) → i < length words → drop (i + 1) words ≡ keptAll ls ++ ends
+  pub right-savings : (row : List ℕ) (j : ℕ) → row ≡ savingOf tag role t two → j ≡ cond (eqb tag 0) (d + 1) (cond (eqb tag 1) (d - 1) d)
+      → Same noSaving (row ∷ stacked noSaving (set a (d + 1) t) (j + 1)) (savings (labelsFrom ns roles i))
+  unfolding savings
+  right-savings row j ce je q =
+      same-cons noSaving row (savingOf tag role (saving (savings ls)) (saving (rest (savings ls)))) (stacked noSaving (set a (d + 1) t) (j + 1)) (beyond tag (savings ls))
+      (ce ∙ ap₂ (savingOf tag role) one-is two-is) (λ k. right-past tag t a d j fits e je k ∙ same-past tag (t ∷ stacked noSaving a (d + 1)) (savings ls) st k) q
+      ∙ ap (λ ls. getD (savings ls) q noSaving) (sym this)
+
+  pub right-words : (words ends : List ℕ) (w : ℕ) → w ≡ wordOf tag role t two → i < length words → drop (i + 1) words ≡ keptAll ls ++ ends
       → drop i (set words i w) ≡ keptAll (labelsFrom ns roles i) ++ ends
   unfolding keptAll
   right-words words ends w we len inv =
@@ -202,21 +180,21 @@ under-onward b tag s st le h = go (eqb tag 0) (eqb tag 1)
     go false true = (le, (le, under-rest b st h))
     go false false = (le, under-rest b st h)
 
-pub under-same : (b : ℕ) (cs ds : List ℕ) → Same cs ds → Under b ds → Under b cs
+pub under-same : (b : ℕ) (cs ds : List ℕ) → Same 0 cs ds → Under b ds → Under b cs
 unfolding Under
 under-same b [] ds h u = tt
 under-same b (c ∷ cs) ds h u =
-    (omega (arith, h 0, top-first ds, under-top b ds u), under-same b cs (rest ds) (λ k. h (suc k) ∙ sym (rest-next ds k)) (under-rest b ds u))
+    (omega (arith, h 0, top-first ds, under-top b ds u), under-same b cs (rest ds) (λ k. h (suc k) ∙ sym (rest-next 0 ds k)) (under-rest b ds u))
 
-same-onward : (tag s : ℕ) (cs ds : List ℕ) → Same cs ds → Same (statesAfter tag s cs) (statesAfter tag s ds)
+same-onward : (tag s : ℕ) (cs ds : List ℕ) → Same 0 cs ds → Same 0 (statesAfter tag s cs) (statesAfter tag s ds)
 same-onward tag s cs ds h = go (eqb tag 0) (eqb tag 1)
   where
-    go : (x y : Bool) → Same (cond x cs (cond y (s ∷ s ∷ cs) (s ∷ cs))) (cond x ds (cond y (s ∷ s ∷ ds) (s ∷ ds)))
+    go : (x y : Bool) → Same 0 (cond x cs (cond y (s ∷ s ∷ cs) (s ∷ cs))) (cond x ds (cond y (s ∷ s ∷ ds) (s ∷ ds)))
     go true y = h
-    go false true = same-cons s s (s ∷ cs) (s ∷ ds) refl (same-cons s s cs ds refl h)
-    go false false = same-cons s s cs ds refl h
+    go false true = same-cons 0 s s (s ∷ cs) (s ∷ ds) refl (same-cons 0 s s cs ds refl h)
+    go false false = same-cons 0 s s cs ds refl h
 
-pub same-followed : (ns : List Node) (ks cs ds : List ℕ) → Same cs ds → followed ns ks cs ≡ followed ns ks ds
+pub same-followed : (ns : List Node) (ks cs ds : List ℕ) → Same 0 cs ds → followed ns ks cs ≡ followed ns ks ds
 unfolding followed
 same-followed [] ks cs ds h = refl
 same-followed (n ∷ ns) [] cs ds h = refl
@@ -224,18 +202,18 @@ same-followed (n ∷ ns) (k ∷ ks) cs ds h =
     let s : ℕ = stateAfter k (top ds) in
     ap (λ p. record { from = p; to = stateAfter k p } ∷ followed ns ks (statesAfter (n .tag) (stateAfter k p) (rest cs))) (same-top cs ds h)
     ∙ ap (record { from = top ds; to = s } ∷_)
-    (same-followed ns ks (statesAfter (n .tag) s (rest cs)) (statesAfter (n .tag) s (rest ds)) (same-onward (n .tag) s (rest cs) (rest ds) (same-rest cs ds h)))
+    (same-followed ns ks (statesAfter (n .tag) s (rest cs)) (statesAfter (n .tag) s (rest ds)) (same-onward (n .tag) s (rest cs) (rest ds) (same-rest 0 cs ds h)))
 
 -- from the left
 pub left-stack : (tag s : ℕ) (a : List ℕ) (d f j : ℕ) → d + 1 < length a → getD a 0 0 ≡ 0 → f ≡ cond (eqb tag 0) (getD a d 0) s → j ≡ cond (eqb tag 0) (d - 1) (cond (eqb tag 1) (d + 1) d)
-    → Same (f ∷ stacked 0 (set a (d + 1) s) (j + 1)) (statesAfter tag s (stacked 0 a (d + 1)))
+    → Same 0 (f ∷ stacked 0 (set a (d + 1) s) (j + 1)) (statesAfter tag s (stacked 0 a (d + 1)))
 left-stack tag s a d f j h z fe je k = ap₂ (λ f j. getD (f ∷ stacked 0 (set a (d + 1) s) (j + 1)) k 0) fe je ∙ go (eqb tag 0) (eqb tag 1)
   where
     go : (x y : Bool) → getD (cond x (getD a d 0) s ∷ stacked 0 (set a (d + 1) s) (cond x (d - 1) (cond y (d + 1) d) + 1)) k 0
         ≡ getD (cond x (stacked 0 a (d + 1)) (cond y (s ∷ s ∷ stacked 0 a (d + 1)) (s ∷ stacked 0 a (d + 1)))) k 0
     go true y =
         ap (λ l. getD (getD a d 0 ∷ l) k 0) (stacked-set 0 a (d + 1) s (d - 1 + 1) (omega arith))
-        ∙ same-cons (getD a d 0) (getD a d 0) (stacked 0 a (d - 1 + 1)) (stacked 0 a d) refl (one-less a d z) k ∙ ap (λ l. getD l k 0) (sym (stacked-more 0 a d))
+        ∙ same-cons 0 (getD a d 0) (getD a d 0) (stacked 0 a (d - 1 + 1)) (stacked 0 a d) refl (one-less 0 a d z) k ∙ ap (λ l. getD l k 0) (sym (stacked-more 0 a d))
     go false true = ap (λ l. getD (s ∷ l) k 0) (stacked-push 0 a (d + 1) s h)
     go false false = ap (λ l. getD (s ∷ l) k 0) (stacked-set 0 a (d + 1) s (d + 1) (omega arith))
 
@@ -261,9 +239,9 @@ labels-none : (ns : List Node) (roles : List ℕ) (n : ℕ) → length ns ≤ n 
 unfolding labelled
 labels-none ns roles n h = ap (λ x. labelled x (drop (suc n) roles)) (none-past ns n h)
 
-pub right-begins : (ns : List Node) (roles : List ℕ) (n : ℕ) → length ns ≤ n → Same (0 ∷ 0 ∷ []) (cells (labelsFrom ns roles n))
-unfolding cells
-right-begins ns roles n h k = two-zeros k ∙ ap (λ ls. getD (cells ls) k 0) (sym (labels-none ns roles n h))
+pub right-begins : (ns : List Node) (roles : List ℕ) (n : ℕ) → length ns ≤ n → Same noSaving (noSaving ∷ noSaving ∷ []) (savings (labelsFrom ns roles n))
+unfolding savings
+right-begins ns roles n h k = two-nothings noSaving k ∙ ap (λ ls. getD (savings ls) k noSaving) (sym (labels-none ns roles n h))
 
 pub right-empty : (ns : List Node) (roles ends : List ℕ) (n : ℕ) → length ns ≤ n → ends ≡ keptAll (labelsFrom ns roles n) ++ ends
 unfolding keptAll
@@ -271,7 +249,7 @@ right-empty ns roles ends n h = ap (λ ls. keptAll ls ++ ends) (sym (labels-none
 
 pub left-begins : (ns : List Node) (words turns : List ℕ)
     → sets turns 1 (map packed (followed ns words (0 ∷ 0 ∷ []))) ≡ sets turns 1 (map packed (followed ns words []))
-left-begins ns words turns = ap (λ ts. sets turns 1 (map packed ts)) (same-followed ns words (0 ∷ 0 ∷ []) [] two-zeros)
+left-begins ns words turns = ap (λ ts. sets turns 1 (map packed ts)) (same-followed ns words (0 ∷ 0 ∷ []) [] (two-nothings 0))
 
 pub left-ends : (ns : List Node) (i : ℕ) (words turns st : List ℕ) → length ns ≤ i → turns ≡ sets turns (i + 1) (map packed (followed (drop i ns) words st))
 unfolding followed

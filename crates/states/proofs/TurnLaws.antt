@@ -9,10 +9,9 @@ use Rattle.format.specs.declared.Node.{Node}
 use Rattle.optimum.proofs.Optimal.{scan-least}
 use Rattle.format.specs.Stacks.{top, rest}
 use Rattle.states.specs.States.{Label, cost, taken, below, rows, statesAfter, turnsFrom, turnsOf, labelled, packed, unpacked}
-use Rattle.states.specs.Kept.{Served, wordOf, cells, keptAll, stateAfter, followed}
+use Rattle.states.specs.Kept.{Served, wordOf, saving, savings, keptAll, stateAfter, followed}
 use Rattle.states.specs.declared.Turn.{Turn}
-use Rattle.states.proofs.CellLaws.{Roled}
-use Rattle.states.proofs.AgreeLaws.{agrees, after-taken}
+use Rattle.states.proofs.AgreeLaws.{Roled, agrees, after-taken}
 use Rattle.states.proofs.PassLaws.{Under, under-top, under-onward}
 
 pub taken-within : (l : Label) (kids : ℕ → ℕ) (p : ℕ) → taken l kids p ≤ 16
@@ -71,8 +70,8 @@ follows-from (n ∷ ns) (r ∷ rs) ends st h f s u =
     let l : Label = record { tag = n .tag; roles = r } in
     let ls : List Label = labelled ns rs in
     let kids : ℕ → ℕ = below (n .tag) (rows ls) in
-    let e : stateAfter (wordOf (n .tag) r (top (cells ls)) (top (rest (cells ls)))) (top st) ≡ taken l kids (top st) =
-    after-taken l (cells ls) (rows ls) (f .0) (s .0) (agrees ls (f .1) (s .1)) (top st) (under-top 16 st u) in
+    let e : stateAfter (wordOf (n .tag) r (saving (savings ls)) (saving (rest (savings ls)))) (top st) ≡ taken l kids (top st) =
+    after-taken l (savings ls) (rows ls) (f .0) (s .0) (agrees ls (f .1) (s .1)) (top st) (under-top 16 st u) in
     let t : ℕ = taken l kids (top st) in
     ap (λ x. record { from = top st; to = x } ∷ followed ns (keptAll ls ++ ends) (statesAfter (n .tag) x (rest st))) e
     ∙ ap (record { from = top st; to = t } ∷_) (follows-from ns rs ends (statesAfter (n .tag) t (rest st)) (omega arith) (f .1) (s .1) (under-onward 16 (n .tag) t st (taken-within l kids (top st)) u))

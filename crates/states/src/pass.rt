@@ -9,12 +9,12 @@ ghost use mathlib.Core.Bool.{cond};
 ghost use mathlib.Core.List.{[], map, _++_};
 ghost use Prim.Native.Nat.{_+_, _*_, _-_, _≤_, _<_};
 ghost use lib.Dec.{eqb};
-ghost use lib.ListN.{length, drop};
+ghost use lib.ListN.{length, getD, drop};
 ghost use lib.Seq.{sets};
 ghost use Rattle.format.specs.Header.{Laid};
 ghost use Rattle.format.specs.Contents.{contentsAt};
 ghost use Rattle.states.specs.States.{labelled, packed};
-ghost use Rattle.states.specs.Kept.{keptAll, stateAfter, followed};
+ghost use Rattle.states.specs.Kept.{powers, keptAll, noSaving, stateAfter, followed};
 
 // The depth of a stack without its top.
 fn less(depth: usize) -> usize
@@ -38,21 +38,28 @@ fn by_tag(tag: u16, none: usize, two: usize, one: usize) -> usize
 }
 
 // From the right: the stack has the rows of the trees that follow, but for the first.
-pub fn decide(file: &[u8], head: Head, roles: &[u16], words: &mut [u32])
-    requires { ⌜ Laid (now file) head × (length (now roles) ≡ 1025) × (length (now words) ≡ 1024) ⌝ }
+pub fn decide(
+    file: &[u8],
+    head: Head,
+    roles: &[u16],
+    bits: &[u16; 16],
+    stack: &mut [[u16; 16]],
+    words: &mut [u32],
+)
+    requires { ⌜ Laid (now file) head × (length (now roles) ≡ 1025) × (now bits ≡ powers) × (head .count .nodes < length (now stack)) × (head .count .nodes ≤ length (now words)) × (getD (now stack) 0 noSaving ≡ noSaving) ⌝ }
     ensures { λ r. ⌜ now (words .exit) ≡ keptAll (labelled (contentsAt (now (file .entry)) head .nodes) (drop 1 (now (roles .entry)))) ++ drop (head .count .nodes) (now (words .entry)) ⌝ }
 {
-    let mut stack = [0u32; 1025];
     let mut depth: usize = 0;
-    let mut row: u32 = 0;
+    let mut row = [0u16; 16];
     let mut i = wide(head.count.nodes);
     while 0 < i {
         let tag = node_tag(file, head, narrow(i));
         i -= 1;
-        let it = keep(tag, roles[i + 1], row, stack[depth]);
+        let two = stack[depth];
+        let it = keep(tag, roles[i + 1], &row, &two, bits);
         stack[depth + 1] = row;
         depth = by_tag(tag, depth + 1, less(depth), depth);
-        row = it.cell;
+        row = it.row;
         words[i] = it.word;
     }
 }
@@ -79,11 +86,10 @@ fn above_next(tag: u16, waits: u16, to: u16) -> u16
 }
 
 // From the left: the stack has the states above the trees that wait, but for the next.
-pub fn follow(file: &[u8], head: Head, words: &[u32], turns: &mut [u16])
-    requires { ⌜ Laid (now file) head × (length (now words) ≡ 1024) × (length (now turns) ≡ 1025) ⌝ }
+pub fn follow(file: &[u8], head: Head, words: &[u32], stack: &mut [u16], turns: &mut [u16])
+    requires { ⌜ Laid (now file) head × (head .count .nodes ≤ length (now words)) × (head .count .nodes < length (now stack)) × (length (now turns) ≡ 1025) × (getD (now stack) 0 0 ≡ 0) ⌝ }
     ensures { λ r. ⌜ now (turns .exit) ≡ sets (now (turns .entry)) 1 (map packed (followed (contentsAt (now (file .entry)) head .nodes) (now (words .entry)) [])) ⌝ }
 {
-    let mut stack = [0u16; 1025];
     let mut depth: usize = 0;
     let mut from: u16 = 0;
     let n = wide(head.count.nodes);

@@ -20,6 +20,7 @@ const MOST_ENDS: usize = MOST_NODES / 2;
 
 const END: u16 = 0;
 const FORK: u16 = 1;
+const COMPARE: u16 = 4;
 const ON: u16 = 7;
 const OFF: u16 = 8;
 

@@ -13,7 +13,7 @@ use second::draft::Draft;
 use second::{room_for, Section, Version, ROOM};
 
 /// How many families of files take turns.
-const FAMILIES: u64 = 24;
+const FAMILIES: u64 = 26;
 
 const MOST_NODES: u16 = Section::Nodes.most();
 
@@ -44,7 +44,19 @@ pub fn deal_bare(version: Version, seed: u64, index: u64) -> (Vec<u8>, Vec<u8>) 
             change::any_bytes(rng, &mut file);
             file
         }
-        22 if version == Version::Two && rng.once_in(4) => few_bytes(rng),
+        22 => {
+            let nodes = rng.from(1, 40);
+            tied_bare(rng, version, nodes).bytes()
+        }
+        23 if rng.once_in(2) => long_tie(rng, version).bytes(),
+        23 => {
+            let nodes = rng.from(100, 300);
+            let mut draft = tied_bare(rng, version, nodes);
+            let nodes = rng.from(MOST_NODES, MOST_NODES + 1);
+            pad(rng, &mut draft, nodes);
+            draft.bytes()
+        }
+        24 if version == Version::Two && rng.once_in(4) => few_bytes(rng),
         _ => deal(version, seed, index),
     };
     let room = room(rng, &file);
@@ -105,6 +117,67 @@ pub fn small_bare(rng: &mut Rng, version: Version, nodes: u16) -> Draft {
     };
     let wild = rng.once_in(3).then_some(Wild::Permission);
     sound(rng, version, size, wild)
+}
+
+/// A file of one session with so many nodes, whose sends have one or two of three
+/// roles to choose from, so that several placements have the fewest on steps.
+pub fn tied_bare(rng: &mut Rng, version: Version, nodes: u16) -> Draft {
+    let roles = [0x15, 0x26, 0x38];
+    let mut draft = Draft {
+        users: vec![[7]],
+        roles: roles.map(|kinds| [kinds, 0, kinds, 0]).to_vec(),
+        juniors: (version == Version::Two).then(|| vec![[0]; 3]),
+        kinds: vec![[0]; 6],
+        channels: (1..=6).map(|kind| [1, kind]).collect(),
+        sessions: vec![[1, 0, 1]],
+        ..Draft::default()
+    };
+    grow_tied(rng, &mut draft.nodes, nodes);
+    draft
+}
+
+/// A file of one session whose placement with the fewest idle nodes is one node
+/// longer, or shorter, than that with the smallest list: mostly behind so many
+/// nodes that one of the two has 1,024 and the other 1,025.
+fn long_tie(rng: &mut Rng, version: Version) -> Draft {
+    const END: [u16; 3] = [0, 0, 0];
+    const COMPARE: [u16; 3] = [4, 1, 1];
+    let send = |channel: u16| [6, 256 + channel, 1];
+    let longer = rng.once_in(2);
+    let before = match (rng.once_in(3), longer) {
+        (true, _) => rng.from(0, 1_000),
+        (false, true) => 1_009,
+        (false, false) => 1_011,
+    };
+    let fork = |second: u16| [1, before + second, 0];
+    let mut draft = tied_bare(rng, version, 1);
+    draft.nodes = (0..before)
+        .map(|_| *rng.of(&[COMPARE, [2, 0, 0]]))
+        .collect();
+    draft.nodes.push(send(3));
+    draft.nodes.extend(if longer {
+        let first = [fork(7), COMPARE, COMPARE, send(1), END];
+        [&first[..], &[fork(10), send(2), END, END]].concat()
+    } else {
+        [fork(7), fork(6), send(1), END, END, send(2), END].to_vec()
+    });
+    draft
+}
+
+/// Adds a tree of so many nodes.
+fn grow_tied(rng: &mut Rng, tree: &mut Vec<[u16; 3]>, nodes: u16) {
+    if nodes == 1 {
+        return tree.push([0, 0, 0]);
+    }
+    if nodes > 2 && rng.once_in(4) {
+        let first = rng.from(1, nodes - 2);
+        tree.push([1, tree.len() as u16 + 2 + first, 0]);
+        grow_tied(rng, tree, first);
+        return grow_tied(rng, tree, nodes - 1 - first);
+    }
+    let send = [6, 257 + *rng.of(&[0, 0, 1, 1, 2, 2, 3, 4, 5]), 1];
+    tree.push(*rng.of(&[send, send, send, [4, 1, 1], [4, 1, 1], [2, 0, 0]]));
+    grow_tied(rng, tree, nodes - 1);
 }
 
 /// A file with several sessions that meet once it is placed.

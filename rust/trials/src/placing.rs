@@ -89,20 +89,25 @@ pub fn judge(
 
 /// Whether every node is reached with at most one role, and an end with none.
 fn holds_one_role(draft: &Draft) -> bool {
+    let mut nodes = active_sets(draft).zip(&draft.nodes);
+    nodes.all(|(active, node)| active.count_ones() <= u32::from(node[0] != 0))
+}
+
+/// The set of roles with which each node is reached, where none is active from
+/// the start.
+pub fn active_sets(draft: &Draft) -> impl Iterator<Item = u16> {
     let trees = Trees::of(draft);
-    let mut after: Vec<u16> = Vec::new();
+    let (mut sets, mut after) = (Vec::new(), Vec::new());
     for (at, &[tag, f1, _]) in draft.nodes.iter().enumerate() {
         let active = trees.above(&after, at);
-        if active.count_ones() > 1 || tag == 0 && active != 0 {
-            return false;
-        }
+        sets.push(active);
         after.push(match tag {
             7 => active | 1 << (f1 - 1),
             8 => active & !(1 << (f1 - 1)),
             _ => active,
         });
     }
-    true
+    sets.into_iter()
 }
 
 /// The file with each on and off node replaced by its child.

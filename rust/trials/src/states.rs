@@ -1,11 +1,12 @@
 //! Lists of states, one state a node, as the paper speaks of them.
 
+use crate::cost::Cost;
 use crate::trees::{Node, Trees};
 use second::draft::Draft;
 
 /// The states that a node can have: 0 unless it asks for a role, and the
 /// roles assigned to its user, if they permit it.
-fn possible(node: &Node) -> Vec<u16> {
+pub(crate) fn possible(node: &Node) -> Vec<u16> {
     let roles = node.assigned & node.permitted.unwrap_or(u16::MAX);
     let zero = node.permitted.is_none().then_some(0);
     let roles = (1..=16).filter(|role| roles >> (role - 1) & 1 != 0);
@@ -13,35 +14,50 @@ fn possible(node: &Node) -> Vec<u16> {
 }
 
 /// The nodes that get an on before them.
-pub fn on_steps(trees: &Trees, states: &[u16]) -> usize {
-    (0..states.len())
-        .filter(|&at| states[at] != 0 && states[at] != trees.above(states, at))
-        .count()
+pub fn on_steps(trees: &Trees, states: &[u16]) -> u32 {
+    let on = |&at: &usize| states[at] != 0 && states[at] != trees.above(states, at);
+    (0..states.len()).filter(on).count() as u32
 }
 
-/// The list with the fewest on steps and, among those, the smallest at the
-/// first difference: all lists are tried, from the smallest on. None if a node
-/// has no state.
-pub fn smallest(trees: &Trees) -> Option<Vec<u16>> {
+/// The cost of a list, in a file without on and off nodes.
+pub fn cost(trees: &Trees, states: &[u16]) -> Cost {
+    let nodes = trees.nodes.iter().zip(states);
+    let idle = nodes.filter(|(node, &state)| node.permitted.is_none() && state != 0);
+    Cost {
+        on_steps: on_steps(trees, states),
+        idle: idle.count() as u32,
+    }
+}
+
+/// All lists, from the smallest on; none if a node has no state.
+fn lists(trees: &Trees) -> impl Iterator<Item = Vec<u16>> {
     let possible: Vec<Vec<u16>> = trees.nodes.iter().map(possible).collect();
-    if possible.iter().any(Vec::is_empty) {
-        return None;
-    }
-    let mut turn = vec![0; possible.len()];
-    let mut best: Option<(usize, Vec<u16>)> = None;
-    loop {
-        let states: Vec<u16> = turn.iter().zip(&possible).map(|(&i, p)| p[i]).collect();
-        let steps = on_steps(trees, &states);
-        if best.as_ref().is_none_or(|(fewest, _)| steps < *fewest) {
-            best = Some((steps, states));
+    let count: usize = possible.iter().map(Vec::len).product();
+    (0..count).map(move |mut number| {
+        let mut states = vec![0; possible.len()];
+        for (state, possible) in states.iter_mut().zip(&possible).rev() {
+            *state = possible[number % possible.len()];
+            number /= possible.len();
         }
-        // The last node whose turn is not over moves on, all behind it begin anew.
-        let Some(at) = (0..turn.len()).rfind(|&at| turn[at] + 1 < possible[at].len()) else {
-            return best.map(|(_, states)| states);
-        };
-        turn[at] += 1;
-        turn[at + 1..].fill(0);
+        states
+    })
+}
+
+/// The lists that cost the least, from the smallest on.
+pub fn cheapest<C: Ord>(trees: &Trees, cost: impl Fn(&[u16]) -> C) -> Vec<Vec<u16>> {
+    let mut cheapest: Vec<Vec<u16>> = Vec::new();
+    let mut least = None;
+    for states in lists(trees) {
+        let cost = cost(&states);
+        if least.as_ref().is_none_or(|least| cost < *least) {
+            cheapest.clear();
+            least = Some(cost);
+        } else if least.as_ref() != Some(&cost) {
+            continue;
+        }
+        cheapest.push(states);
     }
+    cheapest
 }
 
 /// The lowest role that permits a send or receive of its user, step by step;

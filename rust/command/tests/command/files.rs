@@ -8,6 +8,8 @@ pub fn all() -> Vec<(&'static str, Vec<u8>)> {
         ("booking.clinic", booking().bytes()),
         ("overlap.clinic", overlap().bytes()),
         ("overlap-placed.clinic", placed_overlap().bytes()),
+        ("theatre.clinic", theatre().bytes()),
+        ("theatre-held.clinic", held_theatre().bytes()),
         ("transfer.clinic", transfer().bytes()),
         ("head-nurse/copied.clinic", copied_grants().bytes()),
         ("head-nurse/juniors.clinic", by_juniors().bytes()),
@@ -78,6 +80,32 @@ fn overlap_of(nodes: &[[u16; 3]]) -> Draft {
         .channel(2, 2)
         .channel(2, 3)
         .session(1, nodes)
+}
+
+/// In one branch of user 1's routine, five compares between sends that are
+/// permitted by role 2, by both roles, and by role 1.
+pub fn theatre() -> Draft {
+    let compares = [compare(2, 2); 5];
+    let before = [fork(11), send(channel(3), 2), send(channel(2), 2)];
+    let after = [send(channel(1), 2), END, END];
+    overlap_of(&[&before[..], &compares, &after].concat())
+}
+
+/// As it was placed before idle nodes counted: role 1 is on at the compares.
+fn held_theatre() -> Draft {
+    let compares = [compare(2, 2); 5];
+    let before = [fork(15), on(2), send(channel(3), 2), off(2)];
+    let held = [on(1), send(channel(2), 2)];
+    let after = [send(channel(1), 2), off(1), END, END];
+    overlap_of(&[&before[..], &held, &compares, &after].concat())
+}
+
+/// As placed: no role is on at the compares.
+pub fn placed_theatre() -> Draft {
+    let compares = [compare(2, 2); 5];
+    let before = [fork(15), on(2), send(channel(3), 2), send(channel(2), 2)];
+    let after = [on(1), send(channel(1), 2), off(1), END, END];
+    overlap_of(&[&before[..], &[off(2)], &compares, &after].concat())
 }
 
 /// Wards 1 and 2 ask ward 3 for a bed, each over a channel that it makes for

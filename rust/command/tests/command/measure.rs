@@ -9,6 +9,7 @@ fn what_place_would_say() {
     for name in [
         "booking.clinic",
         "overlap.clinic",
+        "theatre.clinic",
         "transfer.clinic",
         "head-nurse/juniors.clinic",
         "spring/bare.clinic",

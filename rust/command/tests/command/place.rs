@@ -98,12 +98,21 @@ fn sends_that_roles_share() {
     );
 }
 
+/// No role is held through the five compares.
+#[test]
+fn five_compares() {
+    let answer = pilzdamo(&["place", &example("theatre.clinic")]);
+    let placed = files::placed_theatre();
+    assert_eq!((answer.status, answer.out), (0, placed.bytes()));
+}
+
 /// What is placed passes, and is refused by 14 if it is to be placed again.
 #[test]
 fn what_is_placed_passes() {
     for name in [
         "booking.clinic",
         "overlap.clinic",
+        "theatre.clinic",
         "transfer.clinic",
         "head-nurse/juniors.clinic",
         "spring/bare.clinic",

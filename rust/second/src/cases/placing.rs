@@ -186,7 +186,8 @@ fn booking() -> PlaceCase {
     placing("the booking", to_bytes(&BOOKING), due)
 }
 
-/// Which states are taken among those with the fewest on steps, in a chain.
+/// Which states are taken among those with the fewest on steps, in a chain: those
+/// with the fewest idle nodes in a role, and then the smallest.
 pub fn chains() -> Vec<PlaceCase> {
     vec![
         same("a lone end", "end"),
@@ -237,6 +238,12 @@ pub fn chains() -> Vec<PlaceCase> {
             "{2}, idle, {1,2}, idle, {1}: 2, 0, 1, 1, 1",
             "send2 compare send3 compare send1 end",
             "on2 send2 off2 compare on1 send3 compare send1 off1 end",
+            2,
+        ),
+        placed(
+            "{2}, idle, {1,2}, two idle, {1}: 2, 2, 2, 0, 0, 1",
+            "send2 compare send3 repeat compare send1 end",
+            "on2 send2 compare send3 off2 repeat compare on1 send1 off1 end",
             2,
         ),
         placed(
@@ -325,6 +332,26 @@ pub fn forks() -> Vec<PlaceCase> {
             "a fork in a fork",
             "fork7 fork5 send1 end send1 end send2 end",
             "fork10 on1 fork7 send1 off1 end send1 off1 end on2 send2 off2 end",
+            2,
+        ),
+        placed(
+            "five compares in a branch without the role that is on behind them",
+            "fork11 send2 send3 compare compare compare compare compare send1 end end",
+            "fork15 on2 send2 send3 off2 compare compare compare compare compare on1 send1 off1 \
+             end end",
+            2,
+        ),
+        placed(
+            "role 2 at two forks, where role 1 would be at a fork and two compares",
+            "send3 fork7 compare compare send1 end fork10 send2 end end",
+            "on2 send3 fork11 off2 compare compare on1 send1 off1 end fork15 send2 off2 end off2 \
+             end",
+            2,
+        ),
+        placed(
+            "role 1 at a fork and a compare, as role 2 would be at two forks",
+            "send3 fork6 compare send1 end fork9 send2 end end",
+            "on1 send3 fork8 compare send1 off1 end off1 fork14 on2 send2 off2 end end",
             2,
         ),
         placing("no sessions", empty.clone(), Due::Placed(empty, 0)),
@@ -442,14 +469,14 @@ pub fn sizes() -> Vec<PlaceCase> {
             0,
         ),
         placed(
-            "1,024 nodes by the tie rule",
-            &idle(1_010, TIE),
-            &idle(1_010, PLACED_TIE),
+            "1,024 nodes by the fewest idle nodes, where the smallest list has 1,025",
+            &idle(1_011, SHORTER),
+            &idle(1_011, PLACED_SHORTER),
             2,
         ),
         refused(
-            "1,025 nodes by the tie rule, where 1,024 would do",
-            desk(&idle(1_011, TIE_NEXT)),
+            "1,025 nodes by the fewest idle nodes, where the smallest list has 1,024",
+            desk(&idle(1_009, LONGER)),
             16,
             0,
         ),
@@ -457,13 +484,15 @@ pub fn sizes() -> Vec<PlaceCase> {
 }
 
 /// Role 1 or role 2 at the first send, with 2 on steps either way. Role 1 is
-/// the smaller, and is then on at both forks; with role 2 the inner fork would
-/// have none, and the result one node less. It stands behind 1,010 nodes.
-const TIE: &str = "send3 fork1017 fork1016 send1 end end send2 end";
+/// the smaller, and is then on at both forks; with role 2 the inner fork has
+/// none, and the result is one node less. It stands behind 1,011 nodes.
+const SHORTER: &str = "send3 fork1018 fork1017 send1 end end send2 end";
 
 /// What that becomes.
-const PLACED_TIE: &str =
-    "on1 send3 fork1020 fork1018 send1 off1 end off1 end off1 on2 send2 off2 end";
+const PLACED_SHORTER: &str =
+    "on2 send3 fork1022 off2 fork1021 on1 send1 off1 end end send2 off2 end";
 
-/// The same behind 1,011 nodes.
-const TIE_NEXT: &str = "send3 fork1018 fork1017 send1 end end send2 end";
+/// Role 1 or role 2 at the first send, with 2 on steps either way. Role 1 is
+/// on at a fork and two compares; with role 2 both forks have it, and the
+/// result is one node more. It stands behind 1,009 nodes.
+const LONGER: &str = "send3 fork1016 compare compare send1 end fork1019 send2 end end";

@@ -1,11 +1,13 @@
-//! The states with the fewest on steps, and among those the smallest.
+//! The states with the fewest on steps, among those with the fewest idle nodes
+//! (tags 0 to 4 in a role), and among those the smallest list.
 //!
-//! A tree is gone through from the right. What a node's tree costs in on steps
-//! is known for each state of its parent once its children's trees are done:
-//! the parent's state is kept, or another is entered, and which one is entered
-//! is the same for all that are left.
+//! A tree is gone through from the right. What a node's tree costs is known for
+//! each state of its parent once its children's trees are done: the parent's
+//! state is kept, or another is entered, and which one is entered is the same
+//! for all that are left. Only what one state costs more or less than another
+//! matters, so a row is kept less what it costs to enter.
 
-use super::{END, FORK, MOST_ENDS};
+use super::{COMPARE, END, FORK, MOST_ENDS};
 use crate::file::{word, Section};
 
 const ROLES: usize = Section::Roles.most() as usize;
@@ -21,15 +23,20 @@ const BITS: [u16; ROLES] = {
     bits
 };
 
-/// A tree's on steps by a node's state: no role, or one of them. Signed, as
-/// that is what machines without more than SSE2 can compare at once.
+/// What an on step costs, where an idle node costs 1: more than all nodes of a
+/// tree that is 1,024 nodes large.
+const STEP: i16 = 1_025;
+
+/// A tree's cost by a node's state: no role, or one of them. Signed, as that is
+/// what machines without more than SSE2 can compare at once.
 #[derive(Clone, Copy)]
 struct Row {
     none: i16,
     roles: [i16; ROLES],
 }
 
-/// More on steps than any tree has.
+/// More than any state costs that a node can have: a row is within two on steps
+/// of 0, and a node adds one at most.
 const NEVER: i16 = 1 << 13;
 
 /// The state that a node takes: its parent's if that is a role in `kept`, else
@@ -90,7 +97,8 @@ pub fn choose(
     waiting.len = 0;
     let rows = nodes.iter().zip(needs).zip(choices);
     for ((node, &need), choice) in rows.rev() {
-        let mut own = match word(node, 0) {
+        let tag = word(node, 0);
+        let mut own = match tag {
             // The next node is a second child, or there is none.
             END => {
                 waiting.push(&next);
@@ -100,9 +108,9 @@ pub fn choose(
             _ => next,
         };
         if need == 0 {
-            own.allow(assigned);
+            own.allow(assigned, i16::from(tag <= COMPARE));
         } else {
-            own.allow(need);
+            own.allow(need, 0);
             own.none = NEVER;
         }
         let entering = own.entering();
@@ -124,10 +132,10 @@ impl Row {
         }
     }
 
-    /// Rules all other roles out.
-    fn allow(&mut self, mask: u16) {
+    /// Has these roles cost so much more, and rules all others out.
+    fn allow(&mut self, mask: u16, idle: i16) {
         for (cost, bit) in self.roles.iter_mut().zip(BITS) {
-            *cost = if mask & bit == 0 { NEVER } else { *cost };
+            *cost = if mask & bit == 0 { NEVER } else { *cost + idle };
         }
     }
 
@@ -138,20 +146,21 @@ impl Row {
             .roles
             .iter()
             .fold(NEVER, |least, cost| least.min(*cost));
-        self.none.min(role + 1)
+        self.none.min(role + STEP)
     }
 
-    /// To stay, or to enter if that is less.
+    /// To stay, or to enter if that is less; less what it costs to enter.
     fn or(&self, entering: i16) -> Row {
         Row {
-            none: self.none.min(entering),
-            roles: self.roles.map(|staying| staying.min(entering)),
+            none: self.none.min(entering) - entering,
+            roles: self.roles.map(|staying| staying.min(entering) - entering),
         }
     }
 
     /// A role is kept where that costs less than to enter, or as much and it is
     /// smaller than what would be entered. The smallest state is entered of
-    /// those that cost the least: no role, or one that costs one less to keep.
+    /// those that cost the least: no role, or one that costs a step less to
+    /// keep.
     fn choice(&self, entering: i16) -> Choice {
         let less = self.roles_where(|cost| cost < entering);
         if self.none == entering {
@@ -160,11 +169,12 @@ impl Row {
                 entered: 0,
             };
         }
-        let smaller = (less & less.wrapping_neg()) - 1;
+        let best = self.roles_where(|cost| cost + STEP == entering);
+        let smaller = (best & best.wrapping_neg()) - 1;
         let even = self.roles_where(|cost| cost == entering);
         Choice {
             kept: less | even & smaller,
-            entered: less.trailing_zeros() as u16 + 1,
+            entered: best.trailing_zeros() as u16 + 1,
         }
     }
 

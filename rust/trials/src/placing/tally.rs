@@ -1,11 +1,13 @@
 //! Counting placed files by number and cause, and by what they show.
 
-use crate::juniors;
-use crate::states::{greedy, on_steps};
+use crate::states::{self, greedy, on_steps};
 use crate::trees::Trees;
+use crate::{former, juniors};
 use second::draft::Draft;
 use second::{Cause, Placed, Section, Version, ROOM};
 use std::collections::BTreeMap;
+
+const MOST_NODES: usize = Section::Nodes.most() as usize;
 
 /// The least number of files for each cause that placing alone has.
 const LEAST_OF_CAUSE: u64 = 500;
@@ -14,13 +16,18 @@ const LEAST_OF_CAUSE: u64 = 500;
 /// fewer on steps than the lowest permitting role gives, step by step, and than if
 /// the role that is on is kept where it will do; placed in exactly 1,024 nodes, in
 /// all the bytes of the largest file, and in an output that is longer than need
-/// be.
-const LEAST: [(&str, u64); 5] = [
+/// be; and what comes of counting idle nodes before the smallest list.
+const LEAST: [(&str, u64); 10] = [
     ("better than greedy", 1_000),
     ("better than staying", 1_000),
     ("in 1,024 nodes", 1_000),
     ("in the bytes of the largest file", 100),
     ("in a longer output", 1_000),
+    ("other states than by the former rule", 1_000),
+    ("longer than by the former rule", 500),
+    ("shorter than by the former rule", 500),
+    ("16 by this rule alone", 500),
+    ("16 by the former rule alone", 500),
 ];
 
 /// What has to come up in version 2, and how often. A chain of two counts where
@@ -51,6 +58,12 @@ pub struct PlaceTally {
 fn fewest(draft: &Draft) -> Option<u16> {
     let placed = second::place(&draft.bytes(), &mut [0; ROOM]);
     (placed.number == 0).then_some(placed.on_steps)
+}
+
+/// What a file that has a placement becomes by the former rule, however large.
+fn former_placed(draft: &Draft) -> Draft {
+    let trees = Trees::of(draft);
+    states::placed(draft, &trees, &former::states(&trees))
 }
 
 impl PlaceTally {
@@ -85,6 +98,10 @@ impl PlaceTally {
         self.note("17, though version 1 would have room", short);
         if let Some(refusal) = second::cause_in_placing(file, out.len()) {
             *self.by_cause.entry(refusal.cause).or_default() += 1;
+            if refusal.cause == Cause::ResultTooLarge {
+                let fits = former_placed(&Draft::of(file)).nodes.len() <= MOST_NODES;
+                self.note("16 by this rule alone", fits);
+            }
             return;
         }
         self.count_placed(file, placed, out);
@@ -95,17 +112,28 @@ impl PlaceTally {
         let trees = Trees::of(&draft);
         let more = |stays| on_steps(&trees, &greedy(&trees, stays)) > placed.on_steps.into();
         let (greedy, staying) = (more(false), more(true));
-        let nodes = Draft::of(&out[..length]).nodes.len();
+        let result = Draft::of(&out[..length]);
         let largest = self.version.largest();
         self.placed += 1;
         self.note("better than greedy", greedy);
         self.note("better than staying", staying);
-        self.note("in 1,024 nodes", nodes == Section::Nodes.most().into());
+        self.note("in 1,024 nodes", result.nodes.len() == MOST_NODES);
         self.note("in the bytes of the largest file", length == largest);
         self.note("in a longer output", out.len() > largest);
+        self.count_former(&former_placed(&draft), &result);
         if self.version == Version::Two {
             self.count_juniors(&draft, placed.on_steps);
         }
+    }
+
+    /// Counts how a placed file differs from what the former rule gives.
+    fn count_former(&mut self, former: &Draft, result: &Draft) {
+        let (before, now) = (former.nodes.len(), result.nodes.len());
+        let other = former.nodes != result.nodes;
+        self.note("other states than by the former rule", other);
+        self.note("longer than by the former rule", now > before);
+        self.note("shorter than by the former rule", now < before);
+        self.note("16 by the former rule alone", before > MOST_NODES);
     }
 
     /// Counts what the juniors of a placed file bring.

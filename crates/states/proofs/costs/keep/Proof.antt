@@ -1,188 +1,131 @@
-use Prim.Native.Nat.{ℕ, _+_, _*_, _-_, _/_, _≤_, _<_}
-use mathlib.Core.Path.{_≡_, refl, ap, ap₂, _∙_}
-use mathlib.Core.Bool.{Bool, true, false, cond}
+use Prim.Native.Nat.{ℕ, _+_, _*_, _≤_}
+use mathlib.Core.Path.{_≡_, sym, ap, ap₂, subst, _∙_}
+use mathlib.Core.Bool.{cond}
+use mathlib.Core.List.{List}
 use native.Mathlib.Omega.{arith}
-use lib.Dec.{eqb}
-use borrow.Author.Tests.{eqb-true, eqb-false}
-use Rattle.states.specs.States.{needs}
-use Rattle.states.specs.Kept.{allowedStates, upper, lower, bothIn, someIn, bestOf, alsoOf, mostOf, wordBy, cellOf, wordOf}
-use Rattle.states.proofs.CellLaws.{mask-small, best-small, also-small, most-few}
-use borrow.Author.Needs as search-needs
+use lib.Dec.{eqb, ltb}
+use lib.ListN.{getD}
+use borrow.Author.Tests.{ne-eqb}
+use Rattle.states.specs.States as states
+use Rattle.states.specs.Kept.{noSaving, added, worthAt, worthsOf, rank, highest, above, leftOver, savingBy, savingOf, wordBy, wordOf}
+use Rattle.states.proofs.LaneLaws.{kids-most, worth-most, extra-most, floor-is, floor-least, idle-tag, idle-saving, idle-word, end-saving, end-word}
+use borrow.Author.Needs.{needs}
 use Rattle.states.proofs.costs.keep.Statement.{statement}
 use Rattle.states.proofs.costs.keep.Tie as tie
 use Rattle.states.proofs.costs.keep.Reads as reads
 use Rattle.states.proofs.costs.keep.Lts as lts
+use Rattle.states.proofs.costs.by_rank.Reads as by-rank-reads
 use Rattle.states.proofs.costs.either.Reads as either-reads
-use Rattle.states.proofs.costs.word_by.Reads as word-by-reads
+use Rattle.states.proofs.costs.kids_of.Reads as kids-of-reads
+use Rattle.states.proofs.costs.lanes_above.Reads as lanes-above-reads
+use Rattle.states.proofs.costs.left_over.Reads as left-over-reads
+use Rattle.states.proofs.costs.worths.Reads as worths-reads
 
-abbrev m : tie.After-either9 → ℕ
-m c = allowedStates (c .before .before .before .before .before .before .before .before .before .args .tag) (c .before .before .before .before .before .before .before .before .before .args .roles)
+-- an end
+returns : tie.Need-returns
+returns c =
+    let a = c .before .args in
+    let z = c .if1 .taken in (
+      sym (ap (λ t. savingOf t (a .roles) (a .one .now) (a .two .now)) z ∙ end-saving (a .roles) (a .one .now) (a .two .now)),
+      sym (ap (λ t. wordOf t (a .roles) (a .one .now) (a .two .now)) z ∙ end-word (a .roles) (a .one .now) (a .two .now)),
+    )
 
-abbrev a : tie.After-either9 → ℕ
-a c = upper (c .before .before .before .before .before .before .before .before .before .args .tag) (c .before .before .before .before .before .before .before .before .before .args .one)
-
-abbrev b : tie.After-either9 → ℕ
-b c = lower (c .before .before .before .before .before .before .before .before .before .args .tag) (c .before .before .before .before .before .before .before .before .before .args .two)
-
-bit-or-none : (t : Bool) → cond t 0 1 ≤ 1
-bit-or-none true = omega arith
-bit-or-none false = omega arith
+kids-of-requires : tie.Need-kids-of-requires
+kids-of-requires c κs = search needs
 
 either-requires : tie.Need-either-requires
-either-requires c κs = search search-needs.needs
+either-requires c κs = search needs
 
-mul-mask : tie.Need-mul-mask
-mul-mask c = search search-needs.needs
+-- what the children save, and what the states are worth
+most-saved : (c : tie.After-kids-of) (q : ℕ) → getD (c .kids-of .result) q 0 ≤ 2050
+most-saved c q =
+    let a = c .before .before .args in
+    omega (arith, ap (λ d. getD d q 0) (c .kids-of .ensures), kids-most (a .one .now) (a .two .now) (c .before .before .pre .0) (c .before .before .pre .1) (eqb (a .tag) 1) q)
 
-add-mask : tie.Need-add-mask
-add-mask c = omega (arith, c .either .ensures, bit-or-none (needs (c .before .args .tag)))
+worths-requires : tie.Need-worths-requires
+worths-requires c κs = (most-saved (c .before .before), omega (arith, c .either .ensures, extra-most (ltb 4 (c .before .before .before .before .args .tag))), c .before .before .before .before .pre .2)
+
+us-is : (c : tie.After-worths) → c .worths .result ≡ worthsOf (c .before .before .before .before .before .args .tag) (c .before .before .before .before .before .args .roles) (c .before .before .before .before .before .args .one .now) (c .before .before .before .before .before .args .two .now)
+unfolding worthsOf
+us-is c =
+    let a = c .before .before .before .before .before .args in
+    let no-end = ne-eqb (a .tag) 0 (c .before .before .before .before .if1 .left) in
+    c .worths .ensures
+    ∙ ap₂ (λ d m. states.up 0 16 (worthAt (a .roles) d m)) (c .before .before .before .kids-of .ensures ∙ sym (ap (λ b. cond b noSaving (cond (eqb (a .tag) 1) (added (a .one .now) (a .two .now)) (a .one .now))) no-end)) (c .before .either .ensures)
+
+most : (c : tie.After-worths) (q : ℕ) → getD (c .worths .result) q 0 ≤ 3076
+most c q =
+    omega (
+      arith,
+      ap (λ u. getD u q 0) (c .worths .ensures),
+      worth-most (c .before .before .before .before .before .args .roles) (c .before .before .before .kids-of .result) (c .before .either .result) 3076 (λ q. omega (arith, most-saved (c .before .before .before) q, c .before .either .ensures, extra-most (ltb 4 (c .before .before .before .before .before .args .tag)))) q,
+    )
 
 either-requires-2 : tie.Need-either-requires-2
-either-requires-2 c κs = search search-needs.needs
+either-requires-2 c κs = search needs
 
-either-requires-3 : tie.Need-either-requires-3
-either-requires-3 c κs = search search-needs.needs
+by-rank-requires : tie.Need-by-rank-requires
+by-rank-requires c κs = (omega (arith, c .before .either2 .ensures, floor-least (states.needs (c .before .before .before .before .before .before .before .before .args .tag))), most (c .before .before .before), c .before .before .before .before .before .before .before .before .pre .2)
 
-either-requires-4 : tie.Need-either-requires-4
-either-requires-4 c κs = search search-needs.needs
+returns-2 : tie.Need-returns-2
+unfolding savingOf wordOf
+returns-2 c =
+    let a = c .before .before .before .before .before .before .before .before .before .args in
+    let u = us-is (c .before .before .before .before) in
+    let base = c .before .before .either2 .ensures ∙ floor-is (states.needs (a .tag)) in (
+      c .by-rank .ensures .0 ∙ ap₂ (λ b u. savingBy (highest b 16 (rank u)) u) base u,
+      c .by-rank .ensures .1 ∙ ap₂ (λ b u. wordBy (highest b 16 (rank u)) u) base u,
+    )
 
-either-requires-5 : tie.Need-either-requires-5
-either-requires-5 c κs = search search-needs.needs
+left-over-requires : tie.Need-left-over-requires
+left-over-requires c κs = search needs
 
-either-requires-6 : tie.Need-either-requires-6
-either-requires-6 c κs = search search-needs.needs
+lanes-above-requires : tie.Need-lanes-above-requires
+lanes-above-requires c κs = search needs
 
-add-most : tie.Need-add-most
-add-most c = search search-needs.needs
+cast-t22 : tie.Need-cast-t22
+cast-t22 c = search needs
 
-either-requires-7 : tie.Need-either-requires-7
-either-requires-7 c κs = search search-needs.needs
+mul-t23 : tie.Need-mul-t23
+mul-t23 c = search needs
 
-either-requires-8 : tie.Need-either-requires-8
-either-requires-8 c κs = search search-needs.needs
+-- no state is worth as much as none
+few : (c : tie.After-lanes-above) (q : ℕ) → getD (c .before .before .before .before .before .worths .result) q 0 ≤ 2050
+few c q =
+    let a = c .before .before .before .before .before .before .before .before .before .before .args in
+    let (one, low, _) = idle-tag (a .tag) (c .before .before .before .before .if2 .left) in
+    let saves : c .before .before .before .before .before .before .before .before .kids-of .result ≡ a .one .now = c .before .before .before .before .before .before .before .before .kids-of .ensures ∙ ap (λ b. cond b (added (a .one .now) (a .two .now)) (a .one .now)) one in
+    let more : c .before .before .before .before .before .before .either .result ≡ 1025 = c .before .before .before .before .before .before .either .ensures ∙ ap (λ b. cond b 1026 1025) low in
+    omega (
+      arith,
+      ap (λ u. getD u q 0) (c .before .before .before .before .before .worths .ensures),
+      worth-most (a .roles) (c .before .before .before .before .before .before .before .before .kids-of .result) (c .before .before .before .before .before .before .either .result) 2050 (λ q. omega (arith, ap (λ d. getD d q 0) saves, more, c .before .before .before .before .before .before .before .before .before .before .pre .0 q)) q,
+    )
 
-fewer : (t : Bool) (x : ℕ) → (cond t 0 x / 131072 ≤ x / 131072) × (cond t x 0 / 131072 ≤ x / 131072)
-fewer true x = (omega arith, omega arith)
-fewer false x = (omega arith, omega arith)
-
-at-most : (t u : Bool) (x y : ℕ) → x ≡ cond u 2 1 → y ≡ cond t x 0 → y ≤ 2
-at-most true true x y e g = omega (arith, e, g)
-at-most true false x y e g = omega (arith, e, g)
-at-most false u x y e g = omega (arith, g)
-
-two : (c : tie.After-either8) → c .either8 .result ≤ 2
-two c = at-most (eqb (bothIn (c .before .before .before .before .before .before .before .either .result + 2 * c .before .before .before .before .before .before .before .before .args .roles) (c .before .before .before .before .before .before .either2 .result) (c .before .before .before .before .before .either3 .result)) 0) (eqb (someIn (c .before .before .before .before .before .before .before .either .result + 2 * c .before .before .before .before .before .before .before .before .args .roles) (c .before .before .before .before .before .before .either2 .result) (c .before .before .before .before .before .either3 .result)) 0) (c .before .either7 .result) (c .either8 .result) (c .before .either7 .ensures) (c .either8 .ensures)
-
-add-most-2 : tie.Need-add-most-2
-add-most-2 c = omega (arith, c .before .before .before .before .before .before .either2 .ensures, c .before .before .before .before .before .either3 .ensures, fewer (eqb (c .before .before .before .before .before .before .before .before .args .tag) 0) (c .before .before .before .before .before .before .before .before .args .one) .0, fewer (eqb (c .before .before .before .before .before .before .before .before .args .tag) 1) (c .before .before .before .before .before .before .before .before .args .two) .1, two c)
-
-mul-t17 : tie.Need-mul-t17
-mul-t17 c = search search-needs.needs
-
-either-requires-9 : tie.Need-either-requires-9
-either-requires-9 c κs = search search-needs.needs
-
-module _ (m m′ a a′ b b′ : ℕ) (p : m ≡ m′) (q : a ≡ a′) (r : b ≡ b′) where
-  -- the same of other names
-  over : (f : ℕ → ℕ → ℕ → ℕ) → f m a b ≡ f m′ a′ b′
-  over f = ap (λ x. f x a b) p ∙ ap₂ (f m′) q r
-
-  best-form : (x y : ℕ) → x ≡ cond (eqb (someIn m a b) 0) m (someIn m a b) → y ≡ cond (eqb (bothIn m a b) 0) x (bothIn m a b)
-      → y ≡ bestOf m′ (bothIn m′ a′ b′) (someIn m′ a′ b′)
-  best-form x y e g = g ∙ ap (λ x. cond (eqb (bothIn m a b) 0) x (bothIn m a b)) e ∙ over (λ m a b. bestOf m (bothIn m a b) (someIn m a b))
-
-  also-form : (y : ℕ) → y ≡ cond (eqb (bothIn m a b) 0) m (someIn m a b) → y ≡ alsoOf m′ (bothIn m′ a′ b′) (someIn m′ a′ b′)
-  also-form y g = g ∙ over (λ m a b. alsoOf m (bothIn m a b) (someIn m a b))
-
-  most-form : (x y z : ℕ) → x ≡ cond (eqb (someIn m a b) 0) 2 1 → y ≡ cond (eqb (bothIn m a b) 0) x 0 → z ≡ cond (eqb (a / 131072 + b / 131072 + y) 0) 0 1
-      → (z ≤ a / 131072 + b / 131072 + y) × (a / 131072 + b / 131072 + y - z ≡ mostOf (a′ / 131072 + b′ / 131072) (bothIn m′ a′ b′) (someIn m′ a′ b′)) × (y ≤ 2)
-  most-form x y z e g h = (
-    omega (arith, go (eqb k 0) refl h .0),
-    go (eqb k 0) refl h .1 ∙ ap (λ y. a / 131072 + b / 131072 + y - 1) more ∙ over (λ m a b. mostOf (a / 131072 + b / 131072) (bothIn m a b) (someIn m a b)),
-    omega (arith, more, few (eqb (bothIn m a b) 0) (eqb (someIn m a b) 0)),
-  )
-    where
-      k : ℕ
-      k = a / 131072 + b / 131072 + y
-
-      more : y ≡ cond (eqb (bothIn m a b) 0) (cond (eqb (someIn m a b) 0) 2 1) 0
-      more = g ∙ ap (λ x. cond (eqb (bothIn m a b) 0) x 0) e
-
-      few : (t u : Bool) → cond t (cond u 2 1) 0 ≤ 2
-      few true true = omega arith
-      few true false = omega arith
-      few false u = omega arith
-
-      go : (t : Bool) → eqb (a / 131072 + b / 131072 + y) 0 ≡ t → z ≡ cond t 0 1 → (z ≤ a / 131072 + b / 131072 + y) × (a / 131072 + b / 131072 + y - z ≡ a / 131072 + b / 131072 + y - 1)
-      go true q h = (omega (arith, h), omega (arith, h, eqb-true (a / 131072 + b / 131072 + y) 0 q))
-      go false q h = (omega (arith, h, eqb-false (a / 131072 + b / 131072 + y) 0 q), omega (arith, h))
-
--- the masks
-best-is : (c : tie.After-either9) → c .before .before .before .before .either5 .result ≡ bestOf (m c) (bothIn (m c) (a c) (b c)) (someIn (m c) (a c) (b c))
-best-is c =
-    best-form (c .before .before .before .before .before .before .before .before .either .result + 2 * c .before .before .before .before .before .before .before .before .before .args .roles) (m c) (c .before .before .before .before .before .before .before .either2 .result) (a c) (c .before .before .before .before .before .before .either3 .result) (b c) (ap (λ x. x + 2 * c .before .before .before .before .before .before .before .before .before .args .roles) (c .before .before .before .before .before .before .before .before .either .ensures)) (c .before .before .before .before .before .before .before .either2 .ensures) (c .before .before .before .before .before .before .either3 .ensures)
-    (c .before .before .before .before .before .either4 .result) (c .before .before .before .before .either5 .result) (c .before .before .before .before .before .either4 .ensures) (c .before .before .before .before .either5 .ensures)
-
-also-is : (c : tie.After-either9) → c .before .before .before .either6 .result ≡ alsoOf (m c) (bothIn (m c) (a c) (b c)) (someIn (m c) (a c) (b c))
-also-is c =
-    also-form (c .before .before .before .before .before .before .before .before .either .result + 2 * c .before .before .before .before .before .before .before .before .before .args .roles) (m c) (c .before .before .before .before .before .before .before .either2 .result) (a c) (c .before .before .before .before .before .before .either3 .result) (b c) (ap (λ x. x + 2 * c .before .before .before .before .before .before .before .before .before .args .roles) (c .before .before .before .before .before .before .before .before .either .ensures)) (c .before .before .before .before .before .before .before .either2 .ensures) (c .before .before .before .before .before .before .either3 .ensures)
-    (c .before .before .before .either6 .result) (c .before .before .before .either6 .ensures)
-
--- what it costs
-most-is : (c : tie.After-either9)
-    → (c .either9 .result ≤ c .before .before .before .before .before .before .before .either2 .result / 131072 + c .before .before .before .before .before .before .either3 .result / 131072 + c .before .either8 .result)
-    × (c .before .before .before .before .before .before .before .either2 .result / 131072 + c .before .before .before .before .before .before .either3 .result / 131072 + c .before .either8 .result - c .either9 .result ≡ mostOf (a c / 131072 + b c / 131072) (bothIn (m c) (a c) (b c)) (someIn (m c) (a c) (b c)))
-    × (c .before .either8 .result ≤ 2)
-most-is c =
-    most-form (c .before .before .before .before .before .before .before .before .either .result + 2 * c .before .before .before .before .before .before .before .before .before .args .roles) (m c) (c .before .before .before .before .before .before .before .either2 .result) (a c) (c .before .before .before .before .before .before .either3 .result) (b c) (ap (λ x. x + 2 * c .before .before .before .before .before .before .before .before .before .args .roles) (c .before .before .before .before .before .before .before .before .either .ensures)) (c .before .before .before .before .before .before .before .either2 .ensures) (c .before .before .before .before .before .before .either3 .ensures)
-    (c .before .before .either7 .result) (c .before .either8 .result) (c .either9 .result) (c .before .before .either7 .ensures) (c .before .either8 .ensures) (c .either9 .ensures)
-
-m-small : (c : tie.After-either9) → m c < 131072
-m-small c = mask-small (c .before .before .before .before .before .before .before .before .before .args .tag) (c .before .before .before .before .before .before .before .before .before .args .roles) (omega arith)
-
--- at most what both trees cost, and one
-few : (c : tie.After-either9) → a c / 131072 + b c / 131072 ≤ 1024
-few c = omega (arith, fewer (eqb (c .before .before .before .before .before .before .before .before .before .args .tag) 0) (c .before .before .before .before .before .before .before .before .before .args .one) .0, fewer (eqb (c .before .before .before .before .before .before .before .before .before .args .tag) 1) (c .before .before .before .before .before .before .before .before .before .args .two) .1)
-
-sub-t19 : tie.Need-sub-t19
-sub-t19 c = most-is c .0
-
-mul-t13 : tie.Need-mul-t13
-mul-t13 c = omega (arith, most-is c .1, few c, most-few (a c / 131072 + b c / 131072) (bothIn (m c) (a c) (b c)) (someIn (m c) (a c) (b c)))
-
-add-t21 : tie.Need-add-t21
-add-t21 c = omega (arith, most-is c .1, few c, most-few (a c / 131072 + b c / 131072) (bothIn (m c) (a c) (b c)) (someIn (m c) (a c) (b c)), best-is c, best-small (m c) (a c) (b c) (m-small c))
-
-word-by-requires : tie.Need-word-by-requires
-word-by-requires c κs = (omega (arith, best-is c, best-small (m c) (a c) (b c) (m-small c)), omega (arith, also-is c, also-small (m c) (a c) (b c) (m-small c)))
-
-returns : tie.Need-returns
-unfolding cellOf wordOf
-returns c = (
-  ap₂ (λ x y. 2 * (x / 2) + 131072 * y) (best-is (c .before)) (most-is (c .before) .1),
-  c .word-by .ensures ∙ ap₂ wordBy (best-is (c .before)) (also-is (c .before)),
-)
+returns-3 : tie.Need-returns-3
+unfolding savingOf wordOf
+returns-3 c =
+    let a = c .before .before .before .before .before .before .before .before .before .before .args in
+    let us = c .before .before .before .before .before .worths .result in
+    let u = us-is (c .before .before .before .before .before) in
+    let free = idle-tag (a .tag) (c .before .before .before .before .if2 .left) .2 in (
+      c .before .before .left-over .ensures ∙ sym (idle-saving (a .tag) us free (few c)) ∙ ap (λ u. savingBy (highest (18 * cond (states.needs (a .tag)) 1025 2051 + 17) 16 (rank u)) u) u,
+      ap (λ m. 2 * m) (c .lanes-above .ensures) ∙ sym (idle-word (a .tag) us free (few c)) ∙ ap (λ u. wordBy (highest (18 * cond (states.needs (a .tag)) 1025 2051 + 17) 16 (rank u)) u) u,
+    )
 
 pub keep-spec : {M : Type 1} → statement M
 keep-spec =
     tie.close
     (tie.spec
+    returns
+    kids-of-requires
     either-requires
-    mul-mask
-    add-mask
+    worths-requires
     either-requires-2
-    either-requires-3
-    either-requires-4
-    either-requires-5
-    either-requires-6
-    add-most
-    either-requires-7
-    either-requires-8
-    add-most-2
-    mul-t17
-    either-requires-9
-    sub-t19
-    mul-t13
-    add-t21
-    word-by-requires
-    returns)
+    by-rank-requires
+    returns-2
+    left-over-requires
+    lanes-above-requires
+    cast-t22
+    mul-t23
+    returns-3)

@@ -25,20 +25,20 @@ use Rattle.states.proofs.pass.less.Reads as less-reads
 use Rattle.states.proofs.pass.state_after.Reads as state-after-reads
 
 abbrev Inv-loop : tie.InvT-loop
-Inv-loop file head words turns₀ stack₀ depth₀ from₀ n i₀ turns stack depth from i =
-    (n ≡ head .count .nodes) × (i ≤ n) × (depth ≤ i) × (length stack ≡ 1025) × (getD stack 0 0 ≡ 0) × (length turns ≡ 1025)
+Inv-loop file head words stack₀ turns₀ depth₀ from₀ n i₀ stack turns depth from i =
+    (n ≡ head .count .nodes) × (i ≤ n) × (depth ≤ i) × (length stack ≡ length stack₀) × (getD stack 0 0 ≡ 0) × (length turns ≡ 1025)
     × Under 31 (from ∷ stacked 0 stack (depth + 1))
     × (sets turns (i + 1) (map packed (followed (drop i (contentsAt file head .nodes)) (drop i words) (from ∷ stacked 0 stack (depth + 1))))
     ≡ sets turns₀ 1 (map packed (followed (contentsAt file head .nodes) words [])))
 
 abbrev μ-loop : tie.MeasureT-loop
-μ-loop file head words turns₀ stack₀ depth₀ from₀ n i₀ turns stack depth from i = n - i
+μ-loop file head words stack₀ turns₀ depth₀ from₀ n i₀ stack turns depth from i = n - i
 
 -- the states that wait
-left : (c : tie.After-by-tag Inv-loop μ-loop) → c .by-tag .result ≡ cond (eqb (c .before .before .before .node-tag .result) 0) (c .before .before .before .before .before .before .before .before .loop .depth - 1) (cond (eqb (c .before .before .before .node-tag .result) 1) (c .before .before .before .before .before .before .before .before .loop .depth + 1) (c .before .before .before .before .before .before .before .before .loop .depth))
+left : (c : tie.After-by-tag Inv-loop μ-loop) → c .by-tag .result ≡ cond (eqb (c .before .before .before .before .node-tag .result) 0) (c .before .before .before .before .before .before .before .before .before .loop .depth - 1) (cond (eqb (c .before .before .before .before .node-tag .result) 1) (c .before .before .before .before .before .before .before .before .before .loop .depth + 1) (c .before .before .before .before .before .before .before .before .before .loop .depth))
 left c =
-    let d = c .before .before .before .before .before .before .before .before .loop .depth in
-    let tag = c .before .before .before .node-tag .result in
+    let d = c .before .before .before .before .before .before .before .before .before .loop .depth in
+    let tag = c .before .before .before .before .node-tag .result in
     c .by-tag .ensures ∙ ap (λ x. cond (eqb tag 0) x (cond (eqb tag 1) (d + 1) d)) (c .before .less .ensures)
 
 wide-requires : tie.Need-wide-requires Inv-loop μ-loop
@@ -47,8 +47,17 @@ wide-requires c κs = omega arith
 loop-holds : tie.Need-loop-holds Inv-loop μ-loop
 unfolding Under stacked
 loop-holds c =
-    let a = c .before .before .before .before .args in
-    (c .wide .ensures .0, omega arith, omega arith, refl, refl, omega arith, (omega arith, (omega arith, tt)), left-begins (contentsAt (a .file .now) (a .head) .nodes) (a .words .now) (a .turns .now))
+    let a = c .before .before .before .before .before .args in
+    let z = c .before .before .before .before .before .pre .4 in (
+      c .wide .ensures .0,
+      omega arith,
+      omega arith,
+      refl,
+      z,
+      omega arith,
+      (omega arith, (omega (arith, z), tt)),
+      ap (λ x. sets (a .turns .now) 1 (map packed (followed (contentsAt (a .file .now) (a .head) .nodes) (a .words .now) (0 ∷ x ∷ [])))) z ∙ left-begins (contentsAt (a .file .now) (a .head) .nodes) (a .words .now) (a .turns .now),
+    )
 
 -- the next node's is one of these
 small : (c : tie.After-shared-slice-known3 Inv-loop μ-loop) → c .before .before .loop .from ≤ 31
@@ -71,7 +80,7 @@ narrow-requires : tie.Need-narrow-requires Inv-loop μ-loop
 narrow-requires c κs = omega arith
 
 node-tag-requires : tie.Need-node-tag-requires Inv-loop μ-loop
-node-tag-requires c κs = c .before .before .before .before .before .before .before .before .before .pre .0
+node-tag-requires c κs = c .before .before .before .before .before .before .before .before .before .before .pre .0
 
 mul-turns : tie.Need-mul-turns Inv-loop μ-loop
 mul-turns c = omega (arith, small (c .before .before .before))
@@ -88,8 +97,8 @@ slice-write-turns c = omega arith
 mul-above-next : tie.Need-mul-above-next Inv-loop μ-loop
 mul-above-next c = omega arith
 
-array-read-above-next : tie.Need-array-read-above-next Inv-loop μ-loop
-array-read-above-next c = omega arith
+slice-read-above-next : tie.Need-slice-read-above-next Inv-loop μ-loop
+slice-read-above-next c = omega arith
 
 above-next-requires : tie.Need-above-next-requires Inv-loop μ-loop
 above-next-requires c κs = omega arith
@@ -100,8 +109,8 @@ add-stack c = omega arith
 mul-stack : tie.Need-mul-stack Inv-loop μ-loop
 mul-stack c = omega arith
 
-array-write-stack : tie.Need-array-write-stack Inv-loop μ-loop
-array-write-stack c = omega arith
+slice-write-stack : tie.Need-slice-write-stack Inv-loop μ-loop
+slice-write-stack c = omega arith
 
 less-requires : tie.Need-less-requires Inv-loop μ-loop
 less-requires c κs = omega arith
@@ -117,14 +126,14 @@ loop-less c = omega arith
 
 loop-again : tie.Need-loop-again Inv-loop μ-loop
 loop-again c =
-    let a = c .before .before .before .before .before .before .before .before .before .before .before .before .before .args in
-    let l = c .before .before .before .before .before .before .before .before .loop in
+    let a = c .before .before .before .before .before .before .before .before .before .before .before .before .before .before .before .args in
+    let l = c .before .before .before .before .before .before .before .before .before .loop in
     let ns = contentsAt (a .file .now) (a .head) .nodes in
-    let tag = c .before .before .before .node-tag .result in
-    let to = c .before .before .before .before .before .state-after in
+    let tag = c .before .before .before .before .node-tag .result in
+    let to = c .before .before .before .before .before .before .state-after in
     let next = c .before .before .above-next in
-    let its : tag ≡ item noNode ns (l .i + 1) .tag = c .before .before .before .node-tag .ensures ∙ ap (λ n. item noNode ns n .tag) (c .before .before .before .before .narrow .ensures) in
-    let st : Same (next .result ∷ stacked 0 (set (l .stack) (l .depth + 1) (to .result)) (c .by-tag .result + 1)) (statesAfter tag (to .result) (stacked 0 (l .stack) (l .depth + 1))) =
+    let its : tag ≡ item noNode ns (l .i + 1) .tag = c .before .before .before .before .node-tag .ensures ∙ ap (λ n. item noNode ns n .tag) (c .before .before .before .before .before .narrow .ensures) in
+    let st : Same 0 (next .result ∷ stacked 0 (set (l .stack) (l .depth + 1) (to .result)) (c .by-tag .result + 1)) (statesAfter tag (to .result) (stacked 0 (l .stack) (l .depth + 1))) =
     left-stack tag (to .result) (l .stack) (l .depth) (next .result) (c .by-tag .result) (omega arith) (l .inv .4) (next .ensures) (left c) in (
       l .inv .0,
       omega arith,
@@ -144,9 +153,12 @@ loop-again c =
 same-length : tie.Need-same-length Inv-loop μ-loop
 same-length c = omega arith
 
+same-length-2 : tie.Need-same-length-2 Inv-loop μ-loop
+same-length-2 c = omega arith
+
 returns : tie.Need-returns Inv-loop μ-loop
 returns c =
-    let a = c .before .before .before .before .before .before .args in
+    let a = c .before .before .before .before .before .before .before .args in
     let l = c .before .loop in
     left-ends (contentsAt (a .file .now) (a .head) .nodes) (l .i) (drop (l .i) (a .words .now)) (l .turns) (l .from ∷ stacked 0 (l .stack) (l .depth + 1)) (omega (arith, nodes-held (a .file .now) (a .head))) ∙ l .inv .7
 
@@ -169,15 +181,16 @@ follow-spec =
     mul-turns-2
     slice-write-turns
     mul-above-next
-    array-read-above-next
+    slice-read-above-next
     above-next-requires
     add-stack
     mul-stack
-    array-write-stack
+    slice-write-stack
     less-requires
     add-by-tag
     by-tag-requires
     loop-less
     loop-again
     same-length
+    same-length-2
     returns)
