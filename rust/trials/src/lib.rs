@@ -53,6 +53,18 @@ pub use starting::{engine_start, StartTally};
 pub use tally::{compare, Tally};
 pub use trees::Trees;
 
+/// A sound file with bytes behind it, to several lengths, and the number that each
+/// is refused with.
+pub fn lengthened(sound: &[u8]) -> impl Iterator<Item = (Vec<u8>, u16)> + '_ {
+    let by_size = [6_874, 6_875, 6_908, 6_909, 6_910, 65_536, 65_537, 131_098];
+    let lengths = by_size.into_iter().chain([65_536 + sound.len()]);
+    lengths.map(|length| {
+        let mut file = sound.to_vec();
+        file.resize(length, 0);
+        (file, if length % 2 == 1 { 1 } else { 5 })
+    })
+}
+
 /// The seed of the tests, unless `PILZDAMO_SEED` names another.
 pub fn seed() -> u64 {
     setting("PILZDAMO_SEED", 2004)

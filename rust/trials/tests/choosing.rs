@@ -3,7 +3,9 @@
 
 use second::draft::Draft;
 use second::{Thread, Version, BESIDE, RECORDS};
-use trials::{agreed_choice, compare_choosing, engine_choose, long_run_by_choices, run_by_choices};
+use trials::{
+    agreed_choice, compare_choosing, engine_choose, lengthened, long_run_by_choices, run_by_choices,
+};
 use trials::{busy, files, full_lent, seed, typical, typical_lent, Lists};
 
 #[test]
@@ -92,20 +94,7 @@ fn a_file_at_the_start_of_a_longer_input() {
     let lent = typical_lent(seed());
     let sounds = Version::ALL.map(|version| typical(version, seed()));
     for sound in sounds.into_iter().chain([Draft::default().bytes()]) {
-        for length in [
-            6_874,
-            6_875,
-            6_908,
-            6_909,
-            6_910,
-            65_536,
-            65_537,
-            65_536 + sound.len(),
-            131_098,
-        ] {
-            let mut file = sound.clone();
-            file.resize(length, 0);
-            let due = if length % 2 == 1 { 1 } else { 5 };
+        for (file, due) in lengthened(&sound) {
             assert_eq!(agreed(&file, &lent.lists, lent.choice), (due, 0));
         }
     }

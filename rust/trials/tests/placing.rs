@@ -2,7 +2,7 @@
 
 use second::draft::Draft;
 use second::{Placed, Version, ROOM};
-use trials::{agreed_placing, compare_placing, engine_place, files, seed};
+use trials::{agreed_placing, compare_placing, engine_place, files, lengthened, seed};
 use trials::{full_bare, largest_bare, overfull_bare, typical_bare};
 
 #[test]
@@ -29,21 +29,8 @@ fn a_file_at_the_start_of_a_longer_input() {
     for sound in sounds.into_iter().chain([Draft::default().bytes()]) {
         let (placed, _) = agreed_placing(&sound, &[7; ROOM], "whole");
         assert_eq!(placed.number, 0);
-        for length in [
-            6_874,
-            6_875,
-            6_908,
-            6_909,
-            6_910,
-            65_536,
-            65_537,
-            65_536 + sound.len(),
-            131_098,
-        ] {
-            let mut file = sound.clone();
-            file.resize(length, 0);
+        for (file, due) in lengthened(&sound) {
             let (placed, _) = agreed_placing(&file, &[7; ROOM], "longer");
-            let due = if length % 2 == 1 { 1 } else { 5 };
             assert_eq!(placed, Placed::refused(due, 0));
         }
     }

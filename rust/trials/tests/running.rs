@@ -2,7 +2,7 @@
 
 use second::draft::Draft;
 use second::{Verdict, Version, RUN_ROOM};
-use trials::{agreed_run, compare_running, run_placed, Dealt, MOST_CHOICES};
+use trials::{agreed_run, compare_running, lengthened, run_placed, Dealt, MOST_CHOICES};
 use trials::{busy, crowded, engine_ready, engine_run, files, seed, sends_in, typical};
 
 #[test]
@@ -101,20 +101,7 @@ fn a_file_at_the_start_of_a_longer_input() {
     let sounds = Version::ALL.map(|version| typical(version, seed()));
     for sound in sounds.into_iter().chain([Draft::default().bytes()]) {
         assert_eq!(agreed(&sound, &[], RUN_ROOM), (0, 0));
-        for length in [
-            6_874,
-            6_875,
-            6_908,
-            6_909,
-            6_910,
-            65_536,
-            65_537,
-            65_536 + sound.len(),
-            131_098,
-        ] {
-            let mut file = sound.clone();
-            file.resize(length, 0);
-            let due = if length % 2 == 1 { 1 } else { 5 };
+        for (file, due) in lengthened(&sound) {
             assert_eq!(agreed(&file, &[], RUN_ROOM), (due, 0));
         }
     }

@@ -22,6 +22,17 @@ pub fn all() -> Vec<(&'static str, Vec<u8>)> {
     all
 }
 
+/// Those that can be placed.
+pub const BARE: [&str; 7] = [
+    "booking.clinic",
+    "overlap.clinic",
+    "theatre.clinic",
+    "transfer.clinic",
+    "head-nurse/juniors.clinic",
+    "spring/bare.clinic",
+    "hours/desk.clinic",
+];
+
 /// The booking of the paper: user 1 has role 1, which sends on kind 1, and
 /// role 2, which sends on both kinds.
 pub fn booking() -> Draft {

@@ -6,15 +6,7 @@ use crate::files;
 /// What it says is what place says, and nothing is placed.
 #[test]
 fn what_place_would_say() {
-    for name in [
-        "booking.clinic",
-        "overlap.clinic",
-        "theatre.clinic",
-        "transfer.clinic",
-        "head-nurse/juniors.clinic",
-        "spring/bare.clinic",
-        "hours/desk.clinic",
-    ] {
+    for name in files::BARE {
         let file = example(name);
         let placed = pilzdamo(&["place", &file]);
         let measured = pilzdamo(&["measure", &file]);

@@ -109,14 +109,7 @@ fn five_compares() {
 /// What is placed passes, and is refused by 14 if it is to be placed again.
 #[test]
 fn what_is_placed_passes() {
-    for name in [
-        "booking.clinic",
-        "overlap.clinic",
-        "theatre.clinic",
-        "transfer.clinic",
-        "head-nurse/juniors.clinic",
-        "spring/bare.clinic",
-    ] {
+    for name in files::BARE {
         let placed = pilzdamo(&["place", &example(name)]).out;
         assert_eq!(pilzdamo_fed(&["check", "-"], &placed).status, 0, "{name}");
         let again = pilzdamo_fed(&["place", "-"], &placed);
