@@ -2,22 +2,21 @@
 use Prim.Native.Nat.{ℕ, zero, suc, _+_, _-_, _^_, _≤_, _<_}
 use mathlib.Core.Path.{_≡_, refl, sym, ap, _∙_}
 use mathlib.Core.Bool.{Bool, true, false, cond, not, _||_}
-use mathlib.Core.List.{List, [], _∷_}
+use mathlib.Core.List.{List, [], _∷_, _++_, append-assoc, append-nil}
 use native.Mathlib.Omega.{arith}
 use native.Mathlib.Numerals.{add-one}
 use lib.ListN.{length, getD, take, drop, set, replicate, drop-of-length-le, List·getD-eq-default}
 use lib.Bits.{bitAnd, and-zero-l}
 use lib.Dec.{eqb, ltb}
-use lib.Seq.{drop-cons, getD-take, take-take, take-set-le}
+use lib.Seq.{take-all, drop-cons, take-suc-set, drop-set-lt}
 use borrow.Author.Tests.{ltb-true, ltb-false}
 use Rattle.masks.specs.Mask.{has, with}
 use Rattle.masks.proofs.Laws.{has-above}
 use Rattle.masks.specs.declared.ChannelKind.{ChannelKind}
 use Rattle.format.specs.Contents.{Contents}
-use Rattle.format.proofs.ContentsLaws.{drop-set}
 use Rattle.rules.specs.declared.Way.{Way}
 use Rattle.rules.specs.Schema.{Schema, ownGrants, juniorsIn, schemaOf, permits, permittingTo, permitting}
-use Rattle.rules.specs.Kept.{grantsTo, grantsFrom, joins, addRole, Beyond, Granting}
+use Rattle.rules.specs.Kept.{grantsTo, grantsFrom, joins, joined, addRole, Beyond, Granting}
 use Rattle.rules.proofs.JuniorGrants.{joins-permits}
 
 -- one role more
@@ -26,25 +25,21 @@ pub permitting-more : (D : Schema) (w : Way) (k : ChannelKind) (n m : ℕ) (can 
 unfolding permittingTo
 permitting-more D w k n m can e y = rw (e, y, add-one n)
 
-pub add-none : (g j r : ℕ) (l : List ℕ) (k : ℕ) → k ≡ length l → drop k l ≡ addRole g j r k (drop k l)
-unfolding addRole
-add-none g j r l k e = let none : drop k l ≡ [] = drop-of-length-le l {i = k} (omega arith) in rw none
+-- the masks with a role more from the kind k on, and as they are below it
+abbrev pub addFrom : ℕ → ℕ → ℕ → ℕ → List ℕ → List ℕ
+addFrom g j r k l = take k l ++ addRole g j r k (drop k l)
 
--- one kind more, below those that are done: of l₀, the first k are as they were
-pub add-more : (g j r : ℕ) (l₀ l : List ℕ) (k v : ℕ) → 0 < k → k ≤ length l₀ → length l ≡ length l₀
-    → v ≡ cond (joins g j (getD l (k - 1) 0) (k - 1)) (with (getD l (k - 1) 0) r) (getD l (k - 1) 0)
-    → take k l ≡ take k l₀ → drop k l ≡ addRole g j r k (drop k l₀)
-    → (take (k - 1) (set l (k - 1) v) ≡ take (k - 1) l₀) × (drop (k - 1) (set l (k - 1) v) ≡ addRole g j r (k - 1) (drop (k - 1) l₀))
+-- one kind done, the rest to do
+pub add-next : (g j r : ℕ) (l : List ℕ) (k v : ℕ) → k < length l → v ≡ joined g j r k (getD l k 0) → addFrom g j r (k + 1) (set l k v) ≡ addFrom g j r k l
 unfolding addRole
-add-more g j r l₀ l zero v pos le len e t d = let no : ⊥ = omega arith in absurd no
-add-more g j r l₀ l (suc k) v pos le len e t d =
-    let k1 : suc k - 1 ≡ k = omega arith in
-    let same : getD l k 0 ≡ getD l₀ k 0 = sym (getD-take (suc k) l k 0 (omega arith)) ∙ ap (λ x. getD x k 0) t ∙ getD-take (suc k) l₀ k 0 (omega arith) in
-    let low : take k l ≡ take k l₀ = sym (take-take k (suc k) l (omega arith)) ∙ ap (take k) t ∙ take-take k (suc k) l₀ (omega arith) in
-    rw k1 (
-      take-set-le k l k v (omega arith) ∙ low,
-      drop-set l k v (omega arith) ∙ rw (d, e, k1, same, drop-cons l₀ k 0 (omega arith)),
-    )
+add-next g j r l k v lt e =
+    rw (add-one k, take-suc-set l k v lt, drop-set-lt (suc k) l k v (omega arith), drop-cons l k 0 lt, e)
+    (append-assoc (take k l) (joined g j r k (getD l k 0) ∷ []) (addRole g j r (suc k) (drop (suc k) l)))
+
+-- and all done
+pub add-done : (g j r : ℕ) (l : List ℕ) (k : ℕ) → length l ≤ k → addFrom g j r k l ≡ l
+unfolding addRole
+add-done g j r l k le = rw (take-all k l le, drop-of-length-le l {i = k} le) (append-nil l)
 
 -- a role more in all of them
 pub grants-more : (C : Contents) (w : Way) (g j r k n : ℕ) → r < length (C .roles) → g ≡ ownGrants C w (r + 1) → j ≡ juniorsIn C (r + 1)
@@ -54,7 +49,7 @@ grants-more C w g j r k zero l eg ej = refl
 grants-more C w g j r k (suc n) l eg ej =
     let K : ChannelKind = record { 0 = k } in
     let m : ℕ = permittingTo (schemaOf C) w K r in
-    let first : cond (joins g j m k) (with m (r + 1)) m ≡ permittingTo (schemaOf C) w K (r + 1) =
+    let first : joined g j (r + 1) k m ≡ permittingTo (schemaOf C) w K (r + 1) =
     permitting-more (schemaOf C) w K r m (joins g j m k) refl (joins-permits C w K r g j l eg ej) in
     rw (first, grants-more C w g j r (suc k) n l eg ej)
 

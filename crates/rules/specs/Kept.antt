@@ -34,10 +34,14 @@ grantsFrom D w k n = grantsTo D w (D .roles) k n
 abbrev pub joins : ℕ → ℕ → ℕ → ℕ → Bool
 joins g j m k = has g k || not (eqb (bitAnd m j) 0)
 
--- such masks with one role more
+-- such a mask with the role r where it joins them
+abbrev pub joined : ℕ → ℕ → ℕ → ℕ → ℕ → ℕ
+joined g j r k m = cond (joins g j m k) (with m r) m
+
+-- and the masks for the kinds k, k + 1, ..
 unfoldable pub addRole : ℕ → ℕ → ℕ → ℕ → List ℕ → List ℕ
 addRole g j r k [] = []
-addRole g j r k (m ∷ ms) = cond (joins g j m k) (with m r) m ∷ addRole g j r (suc k) ms
+addRole g j r k (m ∷ ms) = joined g j r k m ∷ addRole g j r (suc k) ms
 
 -- a role's record and its juniors, as the file has them
 abbrev pub RoleIn : Contents → ℕ → Role → ℕ → Type 0

@@ -10,17 +10,16 @@ use masks::UserRole;
 use masks::has_kind;
 use masks::with_role;
 ghost use mathlib.Core.Path.{_≡_};
-ghost use mathlib.Core.Bool.{true, cond, not};
+ghost use mathlib.Core.Bool.{true, not};
 ghost use mathlib.Core.Logic.{_↔_};
 ghost use Prim.Native.Nat.{_-_, _≤_};
 ghost use lib.Bits.{bitAnd};
 ghost use lib.Dec.{eqb};
 ghost use lib.ListN.{length, getD, replicate};
-ghost use Rattle.masks.specs.Mask.{with};
 ghost use Rattle.format.specs.Header.{Laid};
 ghost use Rattle.format.specs.Contents.{Contents, contentsAt};
 ghost use Rattle.rules.specs.Schema.{Schema, granted, schemaOf, permits, permittingTo, Permitted, ThosePermitting};
-ghost use Rattle.rules.specs.Kept.{grantsFrom, joins, addRole, RoleIn, Beyond, Granting};
+ghost use Rattle.rules.specs.Kept.{grantsFrom, joins, joined, addRole, RoleIn, Beyond, Granting};
 ghost use Rattle.rules.specs.declared.Way.the-variants.{Sends, Receives};
 
 fn granted_by(way: Way, it: Role) -> u32
@@ -48,38 +47,37 @@ fn role_permits(
     has_kind(granted_by(way, it), kind) | ((lower & juniors) != 0)
 }
 
-fn with_if(mask: u16, role: UserRole, yes: bool) -> u16
+// One such entry, with the role where it permits.
+fn joined(lower: u16, it: Role, juniors: u16, way: Way, role: UserRole, kind: ChannelKind) -> u16
     requires { ⌜ role .0 ≤ 16 ⌝ }
-    ensures { λ r. ⌜ r ≡ cond yes (with mask (role .0)) mask ⌝ }
+    ensures { λ r. ⌜ r ≡ joined (granted way it) juniors (role .0) (kind .0) lower ⌝ }
 {
-    if yes {
-        return with_role(mask, role);
+    if role_permits(it, juniors, lower, way, role, kind) {
+        return with_role(lower, role);
     }
-    mask
+    lower
 }
 
-// One role more in the masks for the kinds 0, 1, .., where the role's record permits it or a junior of it is in the mask.
-fn add_role(table: &mut [u16], role: UserRole, it: Role, juniors: u16, way: Way)
-    requires { ⌜ (1 ≤ role .0) × (role .0 ≤ 16) × (length (now table) ≤ 33) ⌝ }
-    ensures { λ r. ⌜ now (table .exit) ≡ addRole (granted way it) juniors (role .0) 0 (now (table .entry)) ⌝ }
+// One role more in the masks for the kinds 0 to 32, where the role's record permits it or a junior of it is in the mask. Both ways in one walk, upward
+// and of a fixed length: the compiler then does eight kinds at once, and asks no mask for juniors in version 1.
+fn add_role(sends: &mut [u16], receives: &mut [u16], role: UserRole, it: Role, juniors: u16)
+    requires { ⌜ (role .0 ≤ 16) × (length (now sends) ≡ 33) × (length (now receives) ≡ 33) ⌝ }
+    ensures { λ r. ⌜ (now (sends .exit) ≡ addRole (granted Sends it) juniors (role .0) 0 (now (sends .entry)))
+        × (now (receives .exit) ≡ addRole (granted Receives it) juniors (role .0) 0 (now (receives .entry))) ⌝ }
 {
-    let mut k = table.len();
-    while 0 < k {
-        k -= 1;
+    let mut k: usize = 0;
+    while k < 33 {
         let kind = ChannelKind(narrow(k));
-        let lower = table[k];
-        table[k] = with_if(
-            lower,
-            role,
-            role_permits(it, juniors, lower, way, role, kind),
-        );
+        sends[k] = joined(sends[k], it, juniors, Way::Sends, role, kind);
+        receives[k] = joined(receives[k], it, juniors, Way::Receives, role, kind);
+        k += 1;
     }
 }
 
-// The masks of the roles that permit sending, and receiving, on the kinds 0, 1, .., as many as the tables have room for. Juniors have lower numbers,
-// so that one pass, lower roles first, sees every chain of them.
+// The masks of the roles that permit sending, and receiving, on the kinds 0 to 32. Juniors have lower numbers, so that one pass, lower roles first,
+// sees every chain of them.
 pub fn fill_grants(file: &[u8], head: Head, sends: &mut [u16], receives: &mut [u16])
-    requires { ⌜ Laid (now file) head × (length (now sends) ≤ 33) × (length (now receives) ≤ 33) × (now sends ≡ replicate (length (now sends)) 0) × (now receives ≡ replicate (length (now receives)) 0) ⌝ }
+    requires { ⌜ Laid (now file) head × (length (now sends) ≡ 33) × (length (now receives) ≡ 33) × (now sends ≡ replicate (length (now sends)) 0) × (now receives ≡ replicate (length (now receives)) 0) ⌝ }
     ensures { λ r. ⌜ (now (sends .exit) ≡ grantsFrom (schemaOf (contentsAt (now (file .entry)) head)) Sends 0 (length (now (sends .entry))))
         × (now (receives .exit) ≡ grantsFrom (schemaOf (contentsAt (now (file .entry)) head)) Receives 0 (length (now (receives .entry))))
         × Beyond (schemaOf (contentsAt (now (file .entry)) head)) Sends (schemaOf (contentsAt (now (file .entry)) head) .roles) × Beyond (schemaOf (contentsAt (now (file .entry)) head)) Receives (schemaOf (contentsAt (now (file .entry)) head) .roles) ⌝ }
@@ -89,8 +87,7 @@ pub fn fill_grants(file: &[u8], head: Head, sends: &mut [u16], receives: &mut [u
         n += 1;
         let it = sections::role(file, head, n);
         let juniors = sections::juniors(file, head, n);
-        add_role(sends, UserRole(n), it, juniors, Way::Sends);
-        add_role(receives, UserRole(n), it, juniors, Way::Receives);
+        add_role(sends, receives, UserRole(n), it, juniors);
     }
 }
 

@@ -53,25 +53,23 @@ juniors-requires c κs = search needs
 add-role-requires : tie.Need-add-role-requires Inv-loop μ-loop
 add-role-requires c κs = search needs
 
-add-role-requires-2 : tie.Need-add-role-requires-2 Inv-loop μ-loop
-add-role-requires-2 c κs = search needs
-
 loop-less : tie.Need-loop-less Inv-loop μ-loop
 loop-less c = search needs
 
 loop-again : tie.Need-loop-again Inv-loop μ-loop
 loop-again c =
-    let a = c .before .before .before .before .before .before .before .before .before .before .before .before .before .before .before .before .args in
-    let l = c .before .before .before .before .before .before .before .before .before .before .before .before .loop in
+    let a = c .before .before .before .before .before .before .before .before .before .before .before .before .before .before .before .args in
+    let l = c .before .before .before .before .before .before .before .before .before .before .before .loop in
     let C = contentsAt (a .file .now) (a .head) in
-    let it = c .before .before .before .before .before .before .before .before .before .role in
-    let j = c .before .before .before .before .before .before .before .before .juniors in
+    let it = c .before .before .before .before .before .before .before .before .role in
+    let j = c .before .before .before .before .before .before .before .juniors in
+    let added = c .before .before .before .before .add-role .ensures in
     let within : l .n < length (C .roles) = omega (arith, roles-held (a .file .now) (a .head)) in
     let own-sends = ap (λ (x : Role). x .sends) (it .ensures) in
     let own-receives = ap (λ (x : Role). x .receives) (it .ensures) in
-    let s = c .before .before .before .before .before .before .add-role .ensures ∙ ap (addRole (it .result .sends) (j .result) (l .n + 1) 0) (l .inv .3)
+    let s = added .0 ∙ ap (addRole (it .result .sends) (j .result) (l .n + 1) 0) (l .inv .3)
     ∙ grants-more C Sends (it .result .sends) (j .result) (l .n) 0 (length (a .sends .now)) within own-sends (j .ensures) in
-    let r = c .before .before .add-role2 .ensures ∙ ap (addRole (it .result .receives) (j .result) (l .n + 1) 0) (l .inv .4)
+    let r = added .1 ∙ ap (addRole (it .result .receives) (j .result) (l .n + 1) 0) (l .inv .4)
     ∙ grants-more C Receives (it .result .receives) (j .result) (l .n) 0 (length (a .receives .now)) within own-receives (j .ensures) in (
       omega arith,
       ap length s ∙ grants-length (schemaOf C) Sends (l .n + 1) 0 (length (a .sends .now)),
@@ -106,7 +104,6 @@ fill-grants-spec =
     role-requires
     juniors-requires
     add-role-requires
-    add-role-requires-2
     loop-less
     loop-again
     same-length
