@@ -14,7 +14,7 @@ use format::words::narrow;
 use format::words::wide;
 ghost use mathlib.Core.Path.{_≡_};
 ghost use mathlib.Core.List.{[], map};
-ghost use Prim.Native.Nat.{_<_};
+ghost use Prim.Native.Nat.{_+_, _≤_, _<_};
 ghost use lib.ListN.{length, replicate};
 ghost use lib.Seq.{sets};
 ghost use Rattle.format.specs.Header.{Laid};
@@ -47,8 +47,8 @@ fn unpacked(w: u64) -> Point
 
 // The sessions' contexts on the stack, session 1 on top, and how many they are.
 fn open_sessions(file: &[u8], head: Head, stack: &mut [u64]) -> usize
-    requires { ⌜ Laid (now file) head × Owned (contentsAt (now file) head) × (length (now stack) ≡ 1057) ⌝ }
-    ensures { λ r. ⌜ (r ≡ head .count .sessions) × (length (now (stack .exit)) ≡ 1057) × Waits (Given (schemaOf (contentsAt (now (file .entry)) head))) 0 (waiting (now (stack .exit)) r)
+    requires { ⌜ Laid (now file) head × Owned (contentsAt (now file) head) × (head .count .sessions ≤ length (now stack)) ⌝ }
+    ensures { λ r. ⌜ (r ≡ head .count .sessions) × Waits (Given (schemaOf (contentsAt (now (file .entry)) head))) 0 (waiting (now (stack .exit)) r)
         × (map (contextOf []) (waiting (now (stack .exit)) r) ≡ openings (contentsAt (now (file .entry)) head)) ⌝ }
 {
     let sessions = wide(head.count.sessions);
@@ -81,25 +81,27 @@ fn answer_at(number: u16, i: u16) -> Verdict
 }
 
 // The nodes in order, each in its context; those of the nodes that wait are on the stack. The variables on the path to a node stand in the table of
-// names from 512 on: a branch writes only past those of its fork. There is room for as many as there are nodes, so that nothing is asked of the trees.
+// names from 512 on: a branch writes only past those of its fork. There is room for as many as there are nodes, and on the stack for the sessions and
+// as many forks, so that nothing is asked of the trees.
 fn walk(
     file: &[u8],
     head: Head,
     sends: &[u16],
     receives: &[u16],
     names: &mut [u32],
+    stack: &mut [u64],
     roles: &mut [u16],
 ) -> Judged
     requires { ⌜ Laid (now file) head × Owned (contentsAt (now file) head) × Granting (schemaOf (contentsAt (now file) head)) Sends (now sends) × Granting (schemaOf (contentsAt (now file) head)) Receives (now receives)
-        × (length (now names) ≡ 1537) × NameTable (schemaOf (contentsAt (now file) head)) (head .count .users) (head .count .channels) (now names) × (length (now roles) ≡ 1025) ⌝ }
+        × (512 + head .count .nodes < length (now names)) × NameTable (schemaOf (contentsAt (now file) head)) (head .count .users) (head .count .channels) (now names)
+        × (head .count .sessions + head .count .nodes ≤ length (now stack)) × (length (now roles) ≡ 1025) ⌝ }
     ensures { λ r. ⌜ (r ≡ judgement (contentsAt (now (file .entry)) head)) × (now (roles .exit) ≡ sets (now (roles .entry)) 1 (candidatesIn (contentsAt (now (file .entry)) head))) ⌝ }
 {
     let fine = Verdict {
         number: 0,
         place: 0,
     };
-    let mut stack = [0u64; 1057];
-    let mut depth = open_sessions(file, head, &mut stack);
+    let mut depth = open_sessions(file, head, stack);
     if depth == 0 {
         return Judged {
             names: fine,
@@ -154,32 +156,56 @@ fn walk(
     }
 }
 
-// The same, with tables of grants and of names lent to work in.
+// The same, with tables of grants and of names and a stack lent to work in.
 fn judge_by(
     file: &[u8],
     head: Head,
     sends: &mut [u16],
     receives: &mut [u16],
     names: &mut [u32],
+    stack: &mut [u64],
     roles: &mut [u16],
 ) -> Judged
-    requires { ⌜ Laid (now file) head × Owned (contentsAt (now file) head) × (length (now sends) ≡ 33) × (length (now receives) ≡ 33) × (length (now names) ≡ 1537) × (length (now roles) ≡ 1025)
+    requires { ⌜ Laid (now file) head × Owned (contentsAt (now file) head) × (length (now sends) ≡ 33) × (length (now receives) ≡ 33) × (512 + head .count .nodes < length (now names))
+        × (head .count .sessions + head .count .nodes ≤ length (now stack)) × (length (now roles) ≡ 1025)
         × (now sends ≡ replicate (length (now sends)) 0) × (now receives ≡ replicate (length (now receives)) 0) × (now names ≡ replicate (length (now names)) 0) ⌝ }
     ensures { λ r. ⌜ (r ≡ judgement (contentsAt (now (file .entry)) head)) × (now (roles .exit) ≡ sets (now (roles .entry)) 1 (candidatesIn (contentsAt (now (file .entry)) head))) ⌝ }
 {
     fill_grants(file, head, sends, receives);
     name_all(file, head, names);
-    walk(file, head, sends, receives, names, roles)
+    walk(file, head, sends, receives, names, stack, roles)
 }
 
 // 9 and 10, and where these refuse nothing 11 to 13, each at its lowest node. As far as 9 and 10 refuse nothing, each node's candidates are stored:
-// the roles of the session's user that it may be given by placing.
+// the roles of the session's user that it may be given by placing. Most files are short, and need shorter tables.
 pub fn judge(file: &[u8], head: Head, roles: &mut [u16]) -> Judged
     requires { ⌜ Laid (now file) head × Owned (contentsAt (now file) head) × (length (now roles) ≡ 1025) ⌝ }
     ensures { λ r. ⌜ (r ≡ judgement (contentsAt (now (file .entry)) head)) × (now (roles .exit) ≡ sets (now (roles .entry)) 1 (candidatesIn (contentsAt (now (file .entry)) head))) ⌝ }
 {
     let mut sends = [0u16; 33];
     let mut receives = [0u16; 33];
+    if head.count.nodes <= 64 {
+        let mut names = [0u32; 577];
+        let mut stack = [0u64; 97];
+        return judge_by(
+            file,
+            head,
+            &mut sends,
+            &mut receives,
+            &mut names,
+            &mut stack,
+            roles,
+        );
+    }
     let mut names = [0u32; 1537];
-    judge_by(file, head, &mut sends, &mut receives, &mut names, roles)
+    let mut stack = [0u64; 1057];
+    judge_by(
+        file,
+        head,
+        &mut sends,
+        &mut receives,
+        &mut names,
+        &mut stack,
+        roles,
+    )
 }

@@ -1,4 +1,4 @@
-use mathlib.Core.Path.{_∙_}
+use native.Mathlib.Omega.{arith}
 use Rattle.format.specs.Contents.{contentsAt}
 use Rattle.rules.specs.Schema.{schemaOf}
 use Rattle.rules.specs.declared.Way.the-variants.{Sends, Receives}
@@ -20,18 +20,19 @@ name-all-requires c κs = search needs
 
 walk-requires : tie.Need-walk-requires
 walk-requires c κs =
-    let a = c .before .before .before .before .before .before .before .before .before .before .before .before .before .before .before .before .before .before .before .before .args in
-    let p = c .before .before .before .before .before .before .before .before .before .before .before .before .before .before .before .before .before .before .before .before .pre in
+    let a = c .before .before .before .before .before .before .before .before .before .before .before .before .before .before .before .before .before .before .before .before .before .before .args in
+    let p = c .before .before .before .before .before .before .before .before .before .before .before .before .before .before .before .before .before .before .before .before .before .before .pre in
     let D = schemaOf (contentsAt (a .file .now) (a .head)) in
-    let filled = c .before .before .before .before .before .before .before .before .before .before .before .before .fill-grants .ensures in
-    let names = c .before .before .before .before .before .before .name-all .ensures in (
+    let filled = c .before .before .before .before .before .before .before .before .before .before .before .before .before .fill-grants .ensures in
+    let names = c .before .before .before .before .before .before .before .name-all .ensures in (
       p .0,
       p .1,
       granting D Sends _ _ (filled .0) (p .2) (filled .2),
       granting D Receives _ _ (filled .1) (p .3) (filled .3),
-      names .0 ∙ p .4,
+      omega (arith, names .0, p .4),
       names .1,
       p .5,
+      p .6,
     )
 
 same-length : tie.Need-same-length
@@ -45,6 +46,9 @@ same-length-3 c = search needs
 
 same-length-4 : tie.Need-same-length-4
 same-length-4 c = search needs
+
+same-length-5 : tie.Need-same-length-5
+same-length-5 c = search needs
 
 returns : tie.Need-returns
 returns c = search needs
@@ -60,4 +64,5 @@ judge-by-spec =
     same-length-2
     same-length-3
     same-length-4
+    same-length-5
     returns)

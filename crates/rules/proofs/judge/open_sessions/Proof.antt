@@ -1,6 +1,6 @@
 use borrow.Author.Needs.{needs}
 use Prim.Native.Nat.{_+_, _-_, _≤_, _<_}
-use mathlib.Core.Path.{_≡_, sym, ap, subst, _∙_}
+use mathlib.Core.Path.{_≡_, refl, sym, ap, subst, _∙_}
 use mathlib.Core.List.{[], map}
 use native.Mathlib.Omega.{arith}
 use lib.ListN.{length, drop, length-set}
@@ -25,7 +25,7 @@ use Rattle.format.proofs.sections.user_roles.Reads as user-roles-reads
 
 abbrev Inv-loop : tie.InvT-loop
 Inv-loop file head stack₀ sessions depth₀ stack depth =
-    (depth ≤ sessions) × (length stack ≡ 1057) × Waits (Given (schemaOf (contentsAt file head))) 0 (waiting stack depth)
+    (depth ≤ sessions) × (length stack ≡ length stack₀) × Waits (Given (schemaOf (contentsAt file head))) 0 (waiting stack depth)
     × (map (contextOf []) (waiting stack depth) ≡ openingsFrom (drop (sessions - depth) (contentsAt file head .sessions)))
 
 abbrev μ-loop : tie.MeasureT-loop
@@ -40,7 +40,7 @@ loop-holds c =
     let a = c .before .before .before .args in
     let none : drop (c .wide .result - 0) (contentsAt (a .file .now) (a .head) .sessions) ≡ [] =
     none-past (contentsAt (a .file .now) (a .head) .sessions) (c .wide .result - 0) (omega (arith, sessions-held (a .file .now) (a .head), c .wide .ensures .0)) in
-    (omega arith, omega arith, tt, rw none)
+    (omega arith, refl, tt, rw none)
 
 sub-narrow : tie.Need-sub-narrow Inv-loop μ-loop
 sub-narrow c = search needs
@@ -99,7 +99,7 @@ returns c = let a = c .before .before .before .before .before .args in
     let s = c .before .before .wide .result in
     let all : l .depth ≡ a .head .count .sessions = omega (arith, c .before .before .wide .ensures .0) in
     let none : s - l .depth ≡ 0 = omega arith in
-    (all, l .inv .1, l .inv .2, l .inv .3 ∙ ap (λ k. openingsFrom (drop k (contentsAt (a .file .now) (a .head) .sessions))) none)
+    (all, l .inv .2, l .inv .3 ∙ ap (λ k. openingsFrom (drop k (contentsAt (a .file .now) (a .head) .sessions))) none)
 
 pub open-sessions-spec : {M : Type 1} → statement M
 open-sessions-spec =

@@ -1,7 +1,7 @@
 -- The invariant: i is the node due, `here` is its context, the contexts on the stack have fewer and fewer variables from its top down, and what is
 -- left from here gives what the whole gives.
 use Prim.Native.Nat.{_+_, _-_, _≤_, _<_}
-use mathlib.Core.Path.{_≡_, sym, ap, subst, _∙_}
+use mathlib.Core.Path.{_≡_, refl, sym, ap, subst, _∙_}
 use mathlib.Core.List.{List, [], _∷_, map}
 use native.Mathlib.Omega.{arith}
 use borrow.Author.Needs.{needs}
@@ -35,43 +35,42 @@ use Rattle.rules.proofs.judge.unpacked.Reads as unpacked-reads
 use Rattle.rules.proofs.steps.step_at.Reads as step-at-reads
 
 abbrev Inv-loop : tie.InvT-loop
-Inv-loop file head sends receives names₀ roles₀ fine stack₀ depth₀ here₀ first₀ nodes i₀ names roles stack depth here first i =
-    (1 ≤ i) × (i ≤ nodes + 1) × (length stack ≡ 1057) × (length names ≡ 1537) × (length roles ≡ 1025) × (depth ≤ 30 + i) × (here .bound < i)
+Inv-loop file head sends receives names₀ stack₀ roles₀ fine depth₀ here₀ first₀ nodes i₀ names stack roles depth here first i =
+    (1 ≤ i) × (i ≤ nodes + 1) × (length stack ≡ length stack₀) × (length names ≡ length names₀) × (length roles ≡ 1025) × (depth + 2 ≤ head .count .sessions + i) × (here .bound < i)
     × Given (schemaOf (contentsAt file head)) here × NameTable (schemaOf (contentsAt file head)) (head .count .users) (head .count .channels) names
     × Held names (here .bound) × Waits (Given (schemaOf (contentsAt file head))) (here .bound) (waiting stack depth)
     × Left (contentsAt file head) roles₀ i (contextOf names here ∷ map (contextOf names) (waiting stack depth)) first roles
 
 abbrev μ-loop : tie.MeasureT-loop
-μ-loop file head sends receives names₀ roles₀ fine stack₀ depth₀ here₀ first₀ nodes i₀ names roles stack depth here first i =
-    nodes + 1 - i
+μ-loop file head sends receives names₀ stack₀ roles₀ fine depth₀ here₀ first₀ nodes i₀ names stack roles depth here first i = nodes + 1 - i
 
 -- what the step tells of the node
-right-at : (c : tie.After-step-at Inv-loop μ-loop) → Right (schemaOf (contentsAt (c .before .before .before .before .before .before .before .before .before .before .before .before .before .before .before .before .args .file .now) (c .before .before .before .before .before .before .before .before .before .before .before .before .before .before .before .before .args .head))) (c .before .before .before .before .before .loop .names) (c .before .before .before .before .before .loop .here) (c .before .before .before .node .result) (c .step-at .result)
+right-at : (c : tie.After-step-at Inv-loop μ-loop) → Right (schemaOf (contentsAt (c .before .before .before .before .before .before .before .before .before .before .before .before .before .before .before .before .before .before .before .args .file .now) (c .before .before .before .before .before .before .before .before .before .before .before .before .before .before .before .before .before .before .before .args .head))) (c .before .before .before .before .before .loop .names) (c .before .before .before .before .before .loop .here) (c .before .before .before .node .result) (c .step-at .result)
 right-at c =
-    let a = c .before .before .before .before .before .before .before .before .before .before .before .before .before .before .before .before .args in
-    let pre = c .before .before .before .before .before .before .before .before .before .before .before .before .before .before .before .before .pre in
+    let a = c .before .before .before .before .before .before .before .before .before .before .before .before .before .before .before .before .before .before .before .args in
+    let pre = c .before .before .before .before .before .before .before .before .before .before .before .before .before .before .before .before .before .before .before .pre in
     let l = c .before .before .before .before .before .loop in
     let n = c .before .before .before .node .result in
     let D = schemaOf (contentsAt (a .file .now) (a .head)) in
-    let few : l .here .bound < 1024 = omega (arith, l .inv .6, c .before .before .before .before .loop-test .taken, pre .0 .nodes) in
+    let long : 512 + l .here .bound < length (l .names) = omega (arith, l .inv .3, l .inv .6, c .before .before .before .before .loop-test .taken, pre .4) in
     let users = users-held (a .file .now) (a .head) in
     let channels = channels-held (a .file .now) (a .head) in
     let named = subst (λ k. NameTable D k (D .channels) (l .names)) (sym users) (subst (λ k. NameTable D (a .head .count .users) k (l .names)) (sym channels) (l .inv .8)) in
     subst (λ (s : RuleStep). Right D (l .names) (l .here) n s) (sym (c .step-at .ensures .0))
-    (step-right D (l .names) (l .here) n (omega (arith, users, pre .0 .users)) (omega (arith, channels, pre .0 .channels)) named (omega (arith, few, l .inv .3)) (l .inv .9) (l .inv .7 .0) (c .before .before .match .rest .0 .1) (c .before .before .match .rest .1) (omega arith) (c .step-at .ensures .1))
-
-slice-aggregate-open-sessions : tie.Need-slice-aggregate-open-sessions Inv-loop μ-loop
-slice-aggregate-open-sessions c = search needs
+    (step-right D (l .names) (l .here) n (omega (arith, users, pre .0 .users)) (omega (arith, channels, pre .0 .channels)) named long (l .inv .9) (l .inv .7 .0) (c .before .before .match .rest .0 .1) (c .before .before .match .rest .1) (omega arith) (c .step-at .ensures .1))
 
 open-sessions-requires : tie.Need-open-sessions-requires Inv-loop μ-loop
 open-sessions-requires c κs = search needs
 
+same-length : tie.Need-same-length Inv-loop μ-loop
+same-length c = search needs
+
 returns : tie.Need-returns Inv-loop μ-loop
 returns c =
-    let a = c .before .before .before .before .before .before .before .before .before .args in
-    let os = c .before .before .open-sessions .ensures in
-    let stack = c .before .before .open-sessions .last .1 .1 .0 in
-    let none : [] ≡ openings (contentsAt (a .file .now) (a .head)) = ap (map (contextOf [])) (sym (ap (waiting stack) (c .if1 .taken) ∙ read-none 0 unpacking stack)) ∙ os .3 in
+    let a = c .before .before .before .before .before .before .before .before .before .before .before .args in
+    let os = c .before .before .before .open-sessions .ensures in
+    let stack = c .before .before .before .open-sessions .last .1 .1 .0 in
+    let none : [] ≡ openings (contentsAt (a .file .now) (a .head)) = ap (map (contextOf [])) (sym (ap (waiting stack) (c .if1 .taken) ∙ read-none 0 unpacking stack)) ∙ os .2 in
     runs-out (contentsAt (a .file .now) (a .head)) (a .roles .now) 1 fine (a .roles .now) (begins (contentsAt (a .file .now) (a .head)) (a .roles .now) [] none)
 
 sub-depth : tie.Need-sub-depth Inv-loop μ-loop
@@ -80,32 +79,32 @@ sub-depth c = search needs
 mul-unpacked : tie.Need-mul-unpacked Inv-loop μ-loop
 mul-unpacked c = search needs
 
-array-read-unpacked : tie.Need-array-read-unpacked Inv-loop μ-loop
-array-read-unpacked c = search needs
+slice-read-unpacked : tie.Need-slice-read-unpacked Inv-loop μ-loop
+slice-read-unpacked c = search needs
 
 unpacked-requires : tie.Need-unpacked-requires Inv-loop μ-loop
 unpacked-requires c κs = search needs
 
 loop-holds : tie.Need-loop-holds Inv-loop μ-loop
 loop-holds c =
-    let a = c .before .before .before .before .before .before .before .before .before .before .args in
-    let pre = c .before .before .before .before .before .before .before .before .before .before .pre in
-    let os = c .before .before .before .open-sessions .ensures in
-    let stack = c .before .before .before .open-sessions .last .1 .1 .0 in
-    let r = c .before .before .before .open-sessions .result in
+    let a = c .before .before .before .before .before .before .before .before .before .before .before .before .before .args in
+    let pre = c .before .before .before .before .before .before .before .before .before .before .before .before .before .pre in
+    let os = c .before .before .before .before .before .open-sessions .ensures in
+    let stack = c .before .before .before .before .before .open-sessions .last .1 .1 .0 in
+    let r = c .before .before .before .before .before .open-sessions .result in
     let p = c .unpacked .result in
     let D = schemaOf (contentsAt (a .file .now) (a .head)) in
     let pos : 0 < r = omega arith in
     let top : waiting stack r ≡ p ∷ waiting stack (r - 1) = read-top 0 unpacking stack r pos ∙ ap (λ (q : Point). q ∷ waiting stack (r - 1)) (sym (c .unpacked .ensures)) in
-    let w : Waits (Given D) 0 (p ∷ waiting stack (r - 1)) = subst (λ (ps : List Point). Waits (Given D) 0 ps) top (os .2) in
+    let w : Waits (Given D) 0 (p ∷ waiting stack (r - 1)) = subst (λ (ps : List Point). Waits (Given D) 0 ps) top (os .1) in
     let st : contextOf (a .names .now) p ∷ map (contextOf (a .names .now)) (waiting stack (r - 1)) ≡ openings (contentsAt (a .file .now) (a .head)) =
-    ap (map (contextOf (a .names .now))) (sym top) ∙ contexts-bare (Given D) (a .names .now) (waiting stack r) (os .2) ∙ os .3 in (
+    ap (map (contextOf (a .names .now))) (sym top) ∙ contexts-bare (Given D) (a .names .now) (waiting stack r) (os .1) ∙ os .2 in (
       omega arith,
       omega arith,
-      os .1,
-      pre .4,
-      pre .6,
-      omega (arith, os .0, pre .0 .sessions),
+      refl,
+      refl,
+      pre .7,
+      omega (arith, os .0),
       omega (arith, w .0),
       w .1,
       pre .5,
@@ -129,15 +128,18 @@ mul-roles c = search needs
 slice-write-roles : tie.Need-slice-write-roles Inv-loop μ-loop
 slice-write-roles c = search needs
 
-same-length : tie.Need-same-length Inv-loop μ-loop
-same-length c = search needs
-
 same-length-2 : tie.Need-same-length-2 Inv-loop μ-loop
-same-length-2 c = length-set (c .before .before .before .before .before .loop .roles) (c .before .wide .result) _ ∙ c .before .before .before .before .before .loop .inv .4 ∙ sym (c .before .before .before .before .before .before .before .before .before .before .before .before .before .before .before .before .pre .6)
+same-length-2 c = search needs
+
+same-length-3 : tie.Need-same-length-3 Inv-loop μ-loop
+same-length-3 c = search needs
+
+same-length-4 : tie.Need-same-length-4 Inv-loop μ-loop
+same-length-4 c = length-set (c .before .before .before .before .before .loop .roles) (c .before .wide .result) _ ∙ c .before .before .before .before .before .loop .inv .4 ∙ sym (c .before .before .before .before .before .before .before .before .before .before .before .before .before .before .before .before .before .before .before .pre .7)
 
 returns-2 : tie.Need-returns-2 Inv-loop μ-loop
 returns-2 c =
-    let a = c .before .before .before .before .before .before .before .before .before .before .before .before .before .before .before .before .args in
+    let a = c .before .before .before .before .before .before .before .before .before .before .before .before .before .before .before .before .before .before .before .args in
     let l = c .before .before .before .before .before .loop in
     let n = c .before .before .before .node in
     let st : map (contextOf (l .names)) (waiting (l .stack) (l .depth)) ≡ [] = ap (λ d. map (contextOf (l .names)) (waiting (l .stack) d)) (c .if2 .taken) ∙ ap (map (contextOf (l .names))) (read-none 0 unpacking (l .stack)) in
@@ -151,8 +153,8 @@ sub-depth-2 c = search needs
 mul-unpacked-2 : tie.Need-mul-unpacked-2 Inv-loop μ-loop
 mul-unpacked-2 c = search needs
 
-array-read-unpacked-2 : tie.Need-array-read-unpacked-2 Inv-loop μ-loop
-array-read-unpacked-2 c = search needs
+slice-read-unpacked-2 : tie.Need-slice-read-unpacked-2 Inv-loop μ-loop
+slice-read-unpacked-2 c = search needs
 
 unpacked-requires-2 : tie.Need-unpacked-requires-2 Inv-loop μ-loop
 unpacked-requires-2 c κs = search needs
@@ -162,17 +164,17 @@ loop-less c = search needs
 
 loop-again : tie.Need-loop-again Inv-loop μ-loop
 loop-again c =
-    let a = c .before .before .before .before .before .before .before .before .before .before .before .before .before .before .before .before .before .args in
-    let l = c .before .before .before .before .before .before .loop in
-    let n = c .before .before .before .before .node in
+    let a = c .before .before .before .before .before .before .before .before .before .before .before .before .before .before .before .before .before .before .before .before .before .args in
+    let l = c .before .before .before .before .before .before .before .loop in
+    let n = c .before .before .before .before .before .node in
     let D = schemaOf (contentsAt (a .file .now) (a .head)) in
     let p = c .unpacked2 .result in
     let pos : 0 < l .depth = omega arith in
     let top : waiting (l .stack) (l .depth) ≡ p ∷ waiting (l .stack) (l .depth - 1) =
     read-top 0 unpacking (l .stack) (l .depth) pos ∙ ap (λ (q : Point). q ∷ waiting (l .stack) (l .depth - 1)) (sym (c .unpacked2 .ensures)) in
     let w : Waits (Given D) (l .here .bound) (p ∷ waiting (l .stack) (l .depth - 1)) = subst (λ (ps : List Point). Waits (Given D) (l .here .bound) ps) top (l .inv .10) in
-    let left = ends-tree (contentsAt (a .file .now) (a .head)) (a .roles .now) (l .i) (contextOf (l .names) (l .here)) _ (l .first) (l .roles) (l .here .assigned) (n .result) (l .inv .0) (omega (arith, nodes-held (a .file .now) (a .head), c .before .before .before .before .before .loop-test .taken)) (n .ensures) (c .before .before .before .match .keys1) (l .inv .7 .0) (l .inv .11) in
-    let at : c .before .before .wide .result ≡ l .i = c .before .before .wide .ensures .0 in (
+    let left = ends-tree (contentsAt (a .file .now) (a .head)) (a .roles .now) (l .i) (contextOf (l .names) (l .here)) _ (l .first) (l .roles) (l .here .assigned) (n .result) (l .inv .0) (omega (arith, nodes-held (a .file .now) (a .head), c .before .before .before .before .before .before .loop-test .taken)) (n .ensures) (c .before .before .before .before .match .keys1) (l .inv .7 .0) (l .inv .11) in
+    let at : c .before .before .before .wide .result ≡ l .i = c .before .before .before .wide .ensures .0 in (
       omega arith,
       omega arith,
       l .inv .2,
@@ -203,8 +205,8 @@ packed-requires c κs = search needs
 mul-stack : tie.Need-mul-stack Inv-loop μ-loop
 mul-stack c = search needs
 
-array-write-stack : tie.Need-array-write-stack Inv-loop μ-loop
-array-write-stack c = search needs
+slice-write-stack : tie.Need-slice-write-stack Inv-loop μ-loop
+slice-write-stack c = search needs
 
 add-depth : tie.Need-add-depth Inv-loop μ-loop
 add-depth c = search needs
@@ -214,11 +216,11 @@ loop-less-2 c = search needs
 
 loop-again-2 : tie.Need-loop-again-2 Inv-loop μ-loop
 loop-again-2 c =
-    let a = c .before .before .before .before .before .before .before .before .before .before .before .before .before .before .before .before .args in
+    let a = c .before .before .before .before .before .before .before .before .before .before .before .before .before .before .before .before .before .before .before .args in
     let l = c .before .before .before .before .before .loop in
     let n = c .before .before .before .node in
     let D = schemaOf (contentsAt (a .file .now) (a .head)) in
-    let room : l .depth < length (l .stack) = omega (arith, l .inv .5, l .inv .2, c .before .before .before .before .loop-test .taken, c .before .before .before .before .before .before .before .before .before .before .before .before .before .before .before .before .pre .0 .nodes) in
+    let room : l .depth < length (l .stack) = omega (arith, l .inv .5, l .inv .2, c .before .before .before .before .loop-test .taken, c .before .before .before .before .before .before .before .before .before .before .before .before .before .before .before .before .before .before .before .pre .6) in
     let push : waiting (set (l .stack) (l .depth) (c .packed .result)) (l .depth + 1) ≡ l .here ∷ waiting (l .stack) (l .depth) =
     read-push 0 unpacking (l .stack) (l .depth) (c .packed .result) (l .here) room (c .packed .ensures .1) in
     let left = forks (contentsAt (a .file .now) (a .head)) (a .roles .now) (l .i) (contextOf (l .names) (l .here)) (map (contextOf (l .names)) (waiting (l .stack) (l .depth))) (l .first) (l .roles) (l .here .assigned) (n .result) (l .inv .0) (omega (arith, nodes-held (a .file .now) (a .head), c .before .before .before .before .loop-test .taken)) (n .ensures) (c .before .before .match .keys2) (l .inv .7 .0) (l .inv .11) in
@@ -240,7 +242,7 @@ loop-again-2 c =
 
 step-at-requires : tie.Need-step-at-requires Inv-loop μ-loop
 step-at-requires c κs =
-    let pre = c .before .before .before .before .before .before .before .before .before .before .before .before .before .before .before .pre in
+    let pre = c .before .before .before .before .before .before .before .before .before .before .before .before .before .before .before .before .before .before .pre in
     let l = c .before .before .before .before .loop in
     let few : l .here .bound < 1024 = omega (arith, l .inv .6, c .before .before .before .loop-test .taken, pre .0 .nodes) in
     (pre .0, l .inv .7 .1, omega (arith, few), omega (arith, few, l .inv .3), pre .2, pre .3)
@@ -248,15 +250,18 @@ step-at-requires c κs =
 answer-at-requires : tie.Need-answer-at-requires Inv-loop μ-loop
 answer-at-requires c κs = search needs
 
-same-length-3 : tie.Need-same-length-3 Inv-loop μ-loop
-same-length-3 c = c .before .before .before .before .before .before .before .before .loop .inv .3 ∙ sym (c .before .before .before .before .before .before .before .before .before .before .before .before .before .before .before .before .before .before .before .pre .4)
+same-length-5 : tie.Need-same-length-5 Inv-loop μ-loop
+same-length-5 c = search needs
 
-same-length-4 : tie.Need-same-length-4 Inv-loop μ-loop
-same-length-4 c = c .before .before .before .before .before .before .before .before .loop .inv .4 ∙ sym (c .before .before .before .before .before .before .before .before .before .before .before .before .before .before .before .before .before .before .before .pre .6)
+same-length-6 : tie.Need-same-length-6 Inv-loop μ-loop
+same-length-6 c = c .before .before .before .before .before .before .before .before .loop .inv .2 ∙ c .before .before .before .before .before .before .before .before .before .before .before .before .before .stack .given
+
+same-length-7 : tie.Need-same-length-7 Inv-loop μ-loop
+same-length-7 c = c .before .before .before .before .before .before .before .before .loop .inv .4 ∙ sym (c .before .before .before .before .before .before .before .before .before .before .before .before .before .before .before .before .before .before .before .before .before .before .pre .7)
 
 returns-3 : tie.Need-returns-3 Inv-loop μ-loop
 returns-3 c =
-    let a = c .before .before .before .before .before .before .before .before .before .before .before .before .before .before .before .before .before .before .before .args in
+    let a = c .before .before .before .before .before .before .before .before .before .before .before .before .before .before .before .before .before .before .before .before .before .before .args in
     let l = c .before .before .before .before .before .before .before .before .loop in
     let n = c .before .before .before .before .before .before .node in
     let s = c .before .before .before .step-at .result in
@@ -277,7 +282,7 @@ mul-roles-3 : tie.Need-mul-roles-3 Inv-loop μ-loop
 mul-roles-3 c = search needs
 
 slice-write-roles-3 : tie.Need-slice-write-roles-3 Inv-loop μ-loop
-slice-write-roles-3 c = omega (arith, c .wide3 .ensures .0, c .before .before .before .before .before .before .before .before .before .before .loop .inv .4, c .before .before .before .before .before .before .before .before .before .loop-test .taken, c .before .before .before .before .before .before .before .before .before .before .before .before .before .before .before .before .before .before .before .before .before .pre .0 .nodes)
+slice-write-roles-3 c = omega (arith, c .wide3 .ensures .0, c .before .before .before .before .before .before .before .before .before .before .loop .inv .4, c .before .before .before .before .before .before .before .before .before .loop-test .taken, c .before .before .before .before .before .before .before .before .before .before .before .before .before .before .before .before .before .before .before .before .before .before .before .before .pre .0 .nodes)
 
 wide-requires-4 : tie.Need-wide-requires-4 Inv-loop μ-loop
 wide-requires-4 c κs = search needs
@@ -289,14 +294,14 @@ mul-names : tie.Need-mul-names Inv-loop μ-loop
 mul-names c = search needs
 
 slice-write-names : tie.Need-slice-write-names Inv-loop μ-loop
-slice-write-names c = omega (arith, c .wide4 .ensures .0, c .before .before .before .before .before .before .before .before .before .before .before .loop .inv .3, c .before .before .before .before .before .before .before .before .before .before .before .loop .inv .6, c .before .before .before .before .before .before .before .before .before .before .loop-test .taken, c .before .before .before .before .before .before .before .before .before .before .before .before .before .before .before .before .before .before .before .before .before .before .pre .0 .nodes)
+slice-write-names c = omega (arith, c .wide4 .ensures .0, c .before .before .before .before .before .before .before .before .before .before .before .loop .inv .3, c .before .before .before .before .before .before .before .before .before .before .before .loop .inv .6, c .before .before .before .before .before .before .before .before .before .before .loop-test .taken, c .before .before .before .before .before .before .before .before .before .before .before .before .before .before .before .before .before .before .before .before .before .before .before .before .before .pre .4)
 
 loop-less-3 : tie.Need-loop-less-3 Inv-loop μ-loop
 loop-less-3 c = search needs
 
 loop-again-3 : tie.Need-loop-again-3 Inv-loop μ-loop
 loop-again-3 c =
-    let a = c .before .before .before .before .before .before .before .before .before .before .before .before .before .before .before .before .before .before .before .before .before .before .before .args in
+    let a = c .before .before .before .before .before .before .before .before .before .before .before .before .before .before .before .before .before .before .before .before .before .before .before .before .before .before .args in
     let l = c .before .before .before .before .before .before .before .before .before .before .before .before .loop in
     let n = c .before .before .before .before .before .before .before .before .before .before .node in
     let D = schemaOf (contentsAt (a .file .now) (a .head)) in
@@ -304,7 +309,7 @@ loop-again-3 c =
     let right = right-at (c .before .before .before .before .before .before .before) in
     let good = c .before .before .before .before .before .if3 .left in
     let goes = right .goes good in
-    let few : l .here .bound < 1024 = omega (arith, l .inv .6, c .before .before .before .before .before .before .before .before .before .before .before .loop-test .taken, c .before .before .before .before .before .before .before .before .before .before .before .before .before .before .before .before .before .before .before .before .before .before .before .pre .0 .nodes) in
+    let few : l .here .bound < 1024 = omega (arith, l .inv .6, c .before .before .before .before .before .before .before .before .before .before .before .loop-test .taken, c .before .before .before .before .before .before .before .before .before .before .before .before .before .before .before .before .before .before .before .before .before .before .before .before .before .before .pre .0 .nodes) in
     let t = set (l .names) (512 + l .here .bound) (s .binding) in
     let at : c .before .before .wide3 .result ≡ l .i = c .before .before .wide3 .ensures .0 in
     let to : 512 + c .before .wide4 .result ≡ 512 + l .here .bound = ap (λ k. 512 + k) (c .before .wide4 .ensures .0) in
@@ -316,7 +321,7 @@ loop-again-3 c =
     (sym (right .wrong) ∙ good) (goes .barred) (goes .roles) next (l .inv .11) in
     rw (to) (
       omega arith,
-      omega arith,
+      omega (arith, c .before .before .before .before .before .before .before .before .before .before .before .loop-test .taken),
       l .inv .2,
       length-set (l .names) (512 + l .here .bound) _ ∙ l .inv .3,
       length-set (l .roles) (c .before .before .wide3 .result) _ ∙ l .inv .4,
@@ -329,15 +334,18 @@ loop-again-3 c =
       rw (at, first) left,
     )
 
-same-length-5 : tie.Need-same-length-5 Inv-loop μ-loop
-same-length-5 c = search needs
+same-length-8 : tie.Need-same-length-8 Inv-loop μ-loop
+same-length-8 c = search needs
 
-same-length-6 : tie.Need-same-length-6 Inv-loop μ-loop
-same-length-6 c = search needs
+same-length-9 : tie.Need-same-length-9 Inv-loop μ-loop
+same-length-9 c = search needs
+
+same-length-10 : tie.Need-same-length-10 Inv-loop μ-loop
+same-length-10 c = search needs
 
 returns-4 : tie.Need-returns-4 Inv-loop μ-loop
 returns-4 c =
-    let a = c .before .before .before .before .before .before .before .before .before .before .before .before .args in
+    let a = c .before .before .before .before .before .before .before .before .before .before .before .before .before .before .before .args in
     let l = c .before .loop in
     ends (contentsAt (a .file .now) (a .head)) (a .roles .now) (l .i) _ (l .first) (l .roles) (omega (arith, nodes-held (a .file .now) (a .head), c .loop-test .left)) (l .inv .11)
 
@@ -347,12 +355,12 @@ walk-spec =
     (tie.spec
     Inv-loop
     μ-loop
-    slice-aggregate-open-sessions
     open-sessions-requires
+    same-length
     returns
     sub-depth
     mul-unpacked
-    array-read-unpacked
+    slice-read-unpacked
     unpacked-requires
     loop-holds
     node-requires
@@ -360,12 +368,13 @@ walk-spec =
     wide-requires
     mul-roles
     slice-write-roles
-    same-length
     same-length-2
+    same-length-3
+    same-length-4
     returns-2
     sub-depth-2
     mul-unpacked-2
-    array-read-unpacked-2
+    slice-read-unpacked-2
     unpacked-requires-2
     loop-less
     loop-again
@@ -374,14 +383,15 @@ walk-spec =
     slice-write-roles-2
     packed-requires
     mul-stack
-    array-write-stack
+    slice-write-stack
     add-depth
     loop-less-2
     loop-again-2
     step-at-requires
     answer-at-requires
-    same-length-3
-    same-length-4
+    same-length-5
+    same-length-6
+    same-length-7
     returns-3
     answer-at-requires-2
     or-else-requires
@@ -394,6 +404,7 @@ walk-spec =
     slice-write-names
     loop-less-3
     loop-again-3
-    same-length-5
-    same-length-6
+    same-length-8
+    same-length-9
+    same-length-10
     returns-4)
