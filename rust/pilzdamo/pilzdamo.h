@@ -43,8 +43,13 @@ extern "C" {
 /* The minutes of a week, and the most rows of a table of hours. */
 #define PILZDAMO_WEEK 10080
 #define PILZDAMO_ROWS 64
-/* The least bytes of the output of pilzdamo_run: those of the largest state. */
+/* The least bytes of the output of pilzdamo_run and pilzdamo_round: those of the
+ * largest state. */
 #define PILZDAMO_RUN_ROOM 1800
+/* The words of a round's choices: two for each of at most 64. */
+#define PILZDAMO_ROUND_WORDS 128
+/* The most choices that a round can follow. */
+#define PILZDAMO_BEFORE_ROUND 65471
 /* The records that are lent to pilzdamo_start and pilzdamo_choose, no more and no
  * less. */
 #define PILZDAMO_RECORDS 64
@@ -72,6 +77,15 @@ typedef struct {
     uint16_t sender;
     uint16_t receiver;
 } pilzdamo_ready_pair;
+
+/* A refusal, or 0 and 0 with a round's choices; and the length in bytes of the state
+ * that is written. */
+typedef struct {
+    uint16_t number;
+    uint16_t place;
+    uint16_t length;
+    uint16_t words[PILZDAMO_ROUND_WORDS]; /* thread, partner; 0 past the last */
+} pilzdamo_round_choices;
 
 /* A thread's record in a lent list. */
 typedef struct {
@@ -141,6 +155,24 @@ pilzdamo_placed pilzdamo_measure_at(const uint8_t *file, size_t file_len,
 pilzdamo_verdict pilzdamo_run(const uint8_t *file, size_t file_len,
                               const uint16_t *choices, size_t words,
                               uint8_t *out, size_t out_len);
+
+/*
+ * A dispatcher's round after a list of choices. The threads that are there when the
+ * round begins are visited in order, each once, also one that was met before its
+ * visit. One that is visited does its lone step, if that isn't refused; one at a send
+ * meets the first thread in order that stands at a receive, has not moved in this
+ * round, and can meet it. Threads made meanwhile neither step nor receive. A round
+ * without a choice says that none can be done.
+ *
+ * Refusals 17, also for over PILZDAMO_BEFORE_ROUND choices, and then those of
+ * pilzdamo_run. out has PILZDAMO_RUN_ROOM bytes or more. What is written is what
+ * pilzdamo_run writes for the list and behind it the round's choices, which are
+ * answered, with the length of what is written. Of a list that stops it is the state
+ * before the choice that is refused, and there is no round: all words are 0.
+ */
+pilzdamo_round_choices pilzdamo_round(const uint8_t *file, size_t file_len,
+                                      const uint16_t *choices, size_t words,
+                                      uint8_t *out, size_t out_len);
 
 /*
  * The lowest sender, and the lowest receiver that can meet it, in the state to which

@@ -1,10 +1,10 @@
 -- What is kept of a long input, as many bytes of it as `enough` says, is answered as the whole is, to every caller.
 use Prim.Native.Nat.{ℕ}
 use mathlib.Core.Path.{_≡_, refl, ap}
-use mathlib.Core.Bool.{Bool, true, false, cond}
+use mathlib.Core.Bool.{Bool, true, false, cond, _&&_}
 use mathlib.Core.List.{List}
 use native.Mathlib.Omega.{arith}
-use lib.Dec.{eqb}
+use lib.Dec.{eqb, leb}
 use lib.ListN.{length, take}
 use borrow.Author.Tests.{ne-eqb}
 use Rattle.format.specs.Answers.{refused, orElse}
@@ -25,6 +25,7 @@ use Rattle.choices.specs.Choices.{ranOf}
 use Rattle.running.specs.Run.{listed, stopped, unready, readyPair, readyOf, ready}
 use Rattle.running.specs.declared.Ready.{Ready}
 use Rattle.running.proofs.StandLaws.{stands-run, stands-over as stands-ran}
+use Rattle.dispatching.specs.Dispatch.{roundListed, roundUnready, noRound, rounding, roundOver}
 use Rattle.lending.specs.Lent.{lending, choosing, recordsOver, besideOver}
 use Rattle.lending.specs.Starting.{starting, recordsStarted, besideStarted}
 use Rattle.engine.specs.Alike.{Alike}
@@ -45,6 +46,21 @@ module _ (f : List ℕ) (n : ℕ) (e : headOf f ≡ Refused n) where
       go : (b : Bool) → readyOf (orElse (unready b f) (stopped (ranOf f ws))) (readyPair (clinicOf (contentsOf f)) (ranOf f ws .state)) ≡ noPair (cond b (refused n 0) (refused 17 0))
       go true = rw (names-refused f n e, loud) (rw loud)
       go false = refl
+
+  round-unready : (ws : List ℕ) (room : ℕ) → (roundUnready f ws room ≡ cond (roundListed (length ws) && leb 1800 room) (refused n 0) (refused 17 0)) × (eqb (roundUnready f ws room .number) 0 ≡ false)
+  round-unready ws room = go (roundListed (length ws) && leb 1800 room)
+    where
+      go : (b : Bool) → (unready b f ≡ cond b (refused n 0) (refused 17 0)) × (eqb (unready b f .number) 0 ≡ false)
+      go true = (names-refused f n e, rw (names-refused f n e) loud)
+      go false = (refl, refl)
+
+  round-refused : (ws : List ℕ) (room : ℕ) → rounding f ws room ≡ noRound (cond (roundListed (length ws) && leb 1800 room) (refused n 0) (refused 17 0))
+  unfolding rounding
+  round-refused ws room = let (same, off) = round-unready ws room in rw off (ap noRound same)
+
+  rounded-kept : (ws out : List ℕ) → roundOver f ws out ≡ out
+  unfolding roundOver
+  rounded-kept ws out = let (same, off) = round-unready ws (length out) in rw off
 
   module _ (l : List Thread) (b : List ℕ) where
     lending-refused : lending f l b ≡ refused n 0
@@ -97,6 +113,8 @@ kept-alike f = record {
     run = λ ws room. stands-run ws room kept f stands;
     ran = λ ws out. stands-ran ws out kept f stands;
     pair = λ ws. judged (λ n. noPair (cond (listed (length ws)) (refused n 0) (refused 17 0))) (λ g. ready g ws) (λ g n e. pair-refused g n e ws) f;
+    round = λ ws room. judged (λ n. noRound (cond (roundListed (length ws) && leb 1800 room) (refused n 0) (refused 17 0))) (λ g. rounding g ws room) (λ g n e. round-refused g n e ws room) f;
+    rounded = λ ws out. judged (λ n. out) (λ g. roundOver g ws out) (λ g n e. rounded-kept g n e ws out) f;
     choose = λ l b i p. judged (λ n. refused n 0) (λ g. choosing g l b i p) (λ g n e. choose-refused g n e l b i p) f;
     records = λ l b i p. judged (λ n. l) (λ g. recordsOver g l b i p) (λ g n e. records-kept g n e l b i p) f;
     beside = λ l b i p. judged (λ n. b) (λ g. besideOver g l b i p) (λ g n e. beside-kept g n e l b i p) f;

@@ -2,7 +2,7 @@
 -- What a caller gets is in the contracts of the exported functions (src/lib.rt): of any bytes handed over `pilzdamo_read` answers `readingNames`, the refusals 1 to 10,
 -- `pilzdamo_check` `checking`, the refusals 1 to 13, `pilzdamo_place` `placing`, with `placedOver` in the output, for a minute of the week `pilzdamo_check_at` `checkingAt`
 -- and `pilzdamo_place_at` `placingAt`, with `placedOverAt`, `pilzdamo_run`
--- `running`, with `runOver` in the output, `pilzdamo_ready` `ready`, `pilzdamo_start` `starting`, with `recordsStarted` in the lent list and
+-- `running`, with `runOver` in the output, `pilzdamo_ready` `ready`, `pilzdamo_round` `rounding`, with `roundOver` in the output, `pilzdamo_start` `starting`, with `recordsStarted` in the lent list and
 -- `besideStarted` beside it, and `pilzdamo_choose` `choosing`, with `recordsOver` and `besideOver`.
 use Prim.Native.Nat.{ℕ, _+_, _*_, _-_, _/_, _%_, _^_, _≤_, _<_}
 use mathlib.Core.Path.{_≡_, refl, sym}
@@ -110,6 +110,14 @@ use Rattle.hours_exact.proofs.EmptyTable.{check-empty, place-empty, over-empty}
 use Rattle.hours_exact.proofs.CasesShown.{hours-shown}
 use Rattle.engine.specs.Alike.{AlikeBesideForm, Alike}
 use Rattle.engine.proofs.SameContents.{alike-beside-form, alike, second-alike}
+use Rattle.rounds.specs.Rounds.{Midway, Here}
+use Rattle.dispatching.specs.Dispatch.{rounding, roundOver}
+use Rattle.dispatching_exact.specs.IsRound.{IsRound, VisitsOf}
+use Rattle.dispatching_exact.specs.Answered.{RoundUnfit, RoundFit, noRoundAt, Answered, Stopped}
+use Rattle.dispatching_exact.specs.RoundCases.{RoundShown, roundCases}
+use Rattle.dispatching_exact.proofs.DispatchRounds.{some-round, one-round, round-steps, lone-in-round, empty-round}
+use Rattle.dispatching_exact.proofs.RoundAnswers.{round-unfit, round-seventeen, round-most, round-names, round-unwritten, round-stopped, round-answered}
+use Rattle.dispatching_exact.proofs.RoundsShown.{rounds-shown}
 use Rattle.engine.proofs.LongInputs.{kept-alike}
 use Rattle.reading_exact.proofs.Bytes.{length-bytesOf, word-back, small-bytes}
 use Rattle.reading_exact.proofs.RecordWords.{counted-by-words, by-words, item-out}
@@ -687,3 +695,57 @@ measures-without-room = measuring-roomless
 
 pub measures-without-room-at : (f : List ℕ) → All (λ b. b < 256) f → (t : List ℕ) (m : ℕ) → measuringAt f t m .number ≢ 17
 measures-without-room-at = roomless-at
+
+-- Request K5, a dispatcher. "A round visits the threads present at its start in list order, also one met before its visit. A visited thread does its lone step if it has one that is not refused; a sender meets the first
+-- receiver in list order that it can meet and that has not moved in this round; threads made meanwhile neither step nor receive until the next round": `IsRound` says so of a state, a list of choices and the state after
+-- them, and every state has one round and no other.
+pub some-round-exists : (C : Clinic) (s : State) → (rs : List ℕ) × (s′ : State) × IsRound C s rs s′
+some-round-exists = some-round
+
+pub only-one-round : (C : Clinic) (s : State) (rs xs : List ℕ) (s′ s″ : State) → IsRound C s rs s′ → IsRound C s xs s″ → (rs ≡ xs) × (s′ ≡ s″)
+only-one-round = one-round
+
+-- Its choices are steps, one after the other: none is refused.
+pub round-is-steps : (C : Clinic) (s : State) (rs : List ℕ) (s′ : State) → IsRound C s rs s′ → Chain C s rs s′
+round-is-steps = round-steps
+
+-- "A round is asked for with a run's input and follows its choices; over 65,471 of them are 17": that, and what is 17 for a run, and before any look at the file; then 1 to 10 exactly as the file is read; nothing is written.
+pub round-no-room : (f ws : List ℕ) (room : ℕ) → RoundUnfit ws room → rounding f ws room ≡ noRoundAt 17 0
+round-no-room = round-unfit
+
+pub round-seventeen-exactly : (f ws : List ℕ) (room : ℕ) → (rounding f ws room .number ≡ 17) ↔ RoundUnfit ws room
+round-seventeen-exactly = round-seventeen
+
+-- .. of n choices in room enough exactly where n is over 65,471 ..
+pub over-65471-is-seventeen : (f ws : List ℕ) (room n : ℕ) → length ws ≡ 2 * n → 1800 ≤ room → (rounding f ws room .number ≡ 17) ↔ (65471 < n)
+over-65471-is-seventeen = round-most
+
+pub round-names-next : (f ws : List ℕ) (room n p : ℕ) → OfFile n → (rounding f ws room ≡ noRoundAt n p) ↔ (RoundFit ws room × (readingNames f ≡ refused n p))
+round-names-next = round-names
+
+pub round-writes-nothing : (f ws out : List ℕ) → RoundUnfit ws (length out) ⊎ (readingNames f ≢ fine) → roundOver f ws out ≡ out
+round-writes-nothing = round-unwritten
+
+-- "a stopped list has no round": the halted run's answer and output, and 128 words of 0.
+pub stopped-list-has-none : (f ws : List ℕ) → readingNames f ≡ fine → (room : ℕ) → RoundFit ws room → ranOf f ws .refusal ≢ 0 → Stopped f ws room (ranOf f ws .refusal) (ranOf f ws .count + 1)
+stopped-list-has-none = round-stopped
+
+-- "A round has at most 64 choices, handed back as 128 words, 0 past the last", and "the output is that of a run through the input's choices and then the round's", with its length in bytes.
+pub round-of-a-run : (f ws : List ℕ) → readingNames f ≡ fine → (room : ℕ) → RoundFit ws room → ranOf f ws .refusal ≡ 0
+    → (rs : List ℕ) (s′ : State) → IsRound (clinicOf (contentsOf f)) (ranOf f ws .state) rs s′ → Answered f ws rs room
+round-of-a-run = round-answered
+
+-- "A thread that could do a lone step at the round's start has done it by the end, unless refusal 20 held it at its visit": the round splits at its visit. The visits before it leave it as it was, in the place where it
+-- then stands; then its lone choice comes and is a step, or that choice is refused with 20.
+pub lone-step-done : (C : Clinic) (s : State) (v : ℕ) (s₁ : State) → Steps C s v 0 s₁ → (rs : List ℕ) (s′ : State) → IsRound C s rs s′
+    → (xs ys : List ℕ) × (g : Midway State) × (i : ℕ) × (rs ≡ xs ++ ys) × VisitsOf C s (v - 1) xs g × Chain C s xs (g .state) × Here g v i × (threadAt (g .state) i ≡ threadAt s v)
+    × (((zs : List ℕ) × (s″ : State) × (ys ≡ i ∷ 0 ∷ zs) × Steps C (g .state) i 0 s″) ⊎ (choice C (g .state) i 0 ≡ halts 20))
+lone-step-done = lone-in-round
+
+-- A round is empty exactly if no choice can be done.
+pub empty-exactly : (C : Clinic) (s : State) (rs : List ℕ) (s′ : State) → IsRound C s rs s′ → (rs ≡ []) ↔ ((i p : ℕ) → (n : ℕ) × (choice C s i p ≡ halts n))
+empty-exactly = empty-round
+
+-- In literal words: rounds of small states, and of files with all that is answered and written.
+pub rounds-in-words : All RoundShown roundCases
+rounds-in-words = rounds-shown

@@ -5,6 +5,7 @@ mod starting;
 mod walk;
 
 use choosing::choose_by;
+use dispatching::Round;
 use format::Verdict;
 use lending::admit;
 use lending::head_of;
@@ -23,6 +24,7 @@ ghost use Rattle.checking_at.specs.CheckAt.{checkingAt};
 ghost use Rattle.placing.specs.Placing.{measuring, placing, placedOver};
 ghost use Rattle.placing_at.specs.PlaceAt.{measuringAt, placingAt, placedOverAt};
 ghost use Rattle.running.specs.Run.{running, runOver, ready};
+ghost use Rattle.dispatching.specs.Dispatch.{rounding, roundOver};
 ghost use Rattle.lending.specs.Lent.{choosing, recordsOver, besideOver};
 ghost use Rattle.lending.specs.Starting.{starting, recordsStarted, besideStarted};
 
@@ -107,6 +109,17 @@ pub extern "C" fn pilzdamo_ready(file: &[u8], choices: &[u16]) -> Ready
     ensures { λ r. ⌜ r ≡ ready (now (file .entry)) (now (choices .entry)) ⌝ }
 {
     running::ready_after(file, choices)
+}
+
+// The round after the list of choices, handed back as words, 0 past the last, with the answer of the run through both lists: its output stands in out, in as
+// many bytes as the length says. 17 also for over 65,471 choices; where 17 or the first of 1 to 10 refuse, length and words are 0 and nothing is
+// written. A list that stops has no round: the halted run's answer and output, and all words 0.
+#[no_mangle]
+pub extern "C" fn pilzdamo_round(file: &[u8], choices: &[u16], out: &mut [u8]) -> Round
+    ensures { λ r. ⌜ (r ≡ rounding (now (file .entry)) (now (choices .entry)) (length (now (out .entry))))
+        × (now (out .exit) ≡ roundOver (now (file .entry)) (now (choices .entry)) (now (out .entry))) ⌝ }
+{
+    dispatching::round_after(file, choices, out)
 }
 
 // Carries out one choice in the list that the live desk lends: 64 records of threads, and beside them 130 words: the thread count, the number of made

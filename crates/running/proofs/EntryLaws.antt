@@ -38,7 +38,7 @@ run-counts C s (i ∷ p ∷ ws) = go (choice C s i p) (λ s′. run-counts C s�
     go (goes s′) later = let (a, b) = later s′ in (omega (arith, a), λ x. omega (arith, b x))
 
 -- what code counts of a run
-abbrev progressOf : Ran → Progress
+abbrev pub progressOf : Ran → Progress
 progressOf r = record { count = r .count; refusal = r .refusal }
 
 -- the choice's number is a word

@@ -149,6 +149,39 @@ module _ (F : Contents) (made : List Made) (t : Thread) (n : Node) (r : ℕ) whe
   unfolding inOf
   in-held e h = rw (stands-by-tag (F .nodes) (t .node) 4, ← e) h
 
+-- whether it may receive on a value, by the node's tag, what the operand stands for, and then the kind's grant
+module _ (F : Contents) (made : List Made) (t : Thread) (n : Node) (over : ℕ) (some : over ≡ 0 → ⊥) (at : n ≡ item noNode (F .nodes) (t .node)) where
+  abbrev works : ℕ
+  works = worksOn (clinicOf F) made Receives t (n .f1)
+
+  in-is : inOf (clinicOf F) made t ≡ cond (eqb (n .tag) 5) works 0
+  in-is = sym (in-held F made t n (cond (eqb (n .tag) 5) works 0) at refl)
+
+  pub over-elsewhere : (n .tag ≡ 5 → ⊥) → false ≡ eqb over (inOf (clinicOf F) made t)
+  over-elsewhere d = sym (ap (eqb over) (in-is ∙ rw (ne-eqb (n .tag) 5 d)) ∙ ne-eqb over 0 some)
+
+  in-there : n .tag ≡ 5 → inOf (clinicOf F) made t ≡ works
+  in-there e = in-is ∙ rw (eq-eqb (n .tag) 5 e)
+
+  pub over-other : (v : ℕ) → n .tag ≡ 5 → v ≡ value t (n .f1) → (v ≡ over → ⊥) → false ≡ eqb over (inOf (clinicOf F) made t)
+  over-other v e q d = go (isAllowed (clinicOf F) made t Receives (n .f1)) refl
+    where
+      go : (b : Bool) → isAllowed (clinicOf F) made t Receives (n .f1) ≡ b → false ≡ eqb over (inOf (clinicOf F) made t)
+      go true a = sym (ap (eqb over) (in-there e ∙ rw a (sym q)) ∙ ne-eqb over v (λ z. d (sym z)))
+      go false a = sym (ap (eqb over) (in-there e ∙ rw a) ∙ ne-eqb over 0 some)
+
+  pub over-there : (l : List ℕ) (v k : ℕ) (p : Bool) → n .tag ≡ 5 → v ≡ value t (n .f1) → v ≡ over → Granting (clinicOf F .schema) Receives l
+      → k ≡ kindHeld (clinicOf F .schema) made over → p ≡ not (eqb (bitAnd (t .mask) (getD l k 0)) 0) → p ≡ eqb over (inOf (clinicOf F) made t)
+  unfolding able
+  over-there l v k p e q same g ek ep =
+      let is : over ≡ value t (n .f1) = sym same ∙ q in
+      let allowed : p ≡ isAllowed (clinicOf F) made t Receives (n .f1) = ep ∙ rw (ek, g (kindHeld (clinicOf F .schema) made over), is) in
+      go p refl ∙ ap (λ (b : Bool). eqb over (cond b over 0)) allowed ∙ ap (λ (x : ℕ). eqb over (cond (isAllowed (clinicOf F) made t Receives (n .f1)) x 0)) is ∙ ap (eqb over) (sym (in-there e))
+    where
+      go : (b : Bool) → p ≡ b → b ≡ eqb over (cond b over 0)
+      go true z = sym (eq-eqb over over refl)
+      go false z = sym (ne-eqb over 0 some)
+
 -- a table with a word of one thread more
 pub each-more : (word : Thread → ℕ) (w l : List ℕ) (i v : ℕ) → i < length l → v ≡ word (threadIn w (11 * i)) → OfEach word w i l → OfEach word w (i + 1) (set l i v)
 each-more word w l i v h e f k b = go (eqb k i) refl

@@ -1,6 +1,6 @@
 // Running: a file through a list of choices, with its output; the ready pair.
-mod out;
-mod pairs;
+pub mod out;
+pub mod pairs;
 
 use checking::enter;
 use choices::Progress;
@@ -50,7 +50,7 @@ fn is_listed(words: usize) -> bool
 }
 
 // A run halted at a choice has the choice's number as place.
-fn stopped_at(progress: Progress) -> Verdict
+pub fn stopped_at(progress: Progress) -> Verdict
     requires { ⌜ ((progress .refusal ≡ 0 → ⊥) → progress .count < 65535) ⌝ }
     ensures { λ r. ⌜ r ≡ cond (eqb (progress .refusal) 0) fine (refused (progress .refusal) (progress .count + 1)) ⌝ }
 {

@@ -62,6 +62,37 @@ fn way_in(file: &[u8], head: Head, receives: &[u16], beside: &[u16], t: Thread, 
     works_on(file, head, receives, beside, t, it.f1)
 }
 
+// What a thread may send on now.
+pub fn sends_on(file: &[u8], head: Head, sends: &[u16], beside: &[u16], t: Thread) -> u16
+    requires { ⌜ Laid (now file) head × Granting (schemaOf (contentsAt (now file) head)) Sends (now sends) × (length (now beside) ≡ besideWords) × (madeCount (now beside) ≤ 64) ⌝ }
+    ensures { λ r. ⌜ r ≡ outOf (clinicOf (contentsAt (now (file .entry)) head)) (madeOf (now (beside .entry))) t ⌝ }
+{
+    let it = node(file, head, t.node);
+    way_out(file, head, sends, beside, t, it)
+}
+
+// Whether a thread may receive on a value now. Most threads are told apart by the value, before any grant is asked for.
+pub fn receives_over(
+    file: &[u8],
+    head: Head,
+    receives: &[u16],
+    beside: &[u16],
+    t: Thread,
+    over: u16,
+) -> bool
+    requires { ⌜ Laid (now file) head × Granting (schemaOf (contentsAt (now file) head)) Receives (now receives) × (length (now beside) ≡ besideWords) × (madeCount (now beside) ≤ 64) × (over ≡ 0 → ⊥) ⌝ }
+    ensures { λ r. ⌜ r ≡ eqb over (inOf (clinicOf (contentsAt (now (file .entry)) head)) (madeOf (now (beside .entry))) t) ⌝ }
+{
+    let it = node(file, head, t.node);
+    if it.tag != 5 {
+        return false;
+    }
+    if t.value(it.f1) != over {
+        return false;
+    }
+    may(receives, t.mask, kind_held(file, head, beside, over))
+}
+
 // For each thread what it may send on now, and what it may receive on.
 fn fill_ways(
     file: &[u8],

@@ -1,7 +1,7 @@
 -- What a list of choices and a file can be answered: 17, then 1 to 10, then what halted the run, or nothing.
 use Prim.Native.Nat.{ℕ, _+_, _%_, _≤_, _<_}
 use mathlib.Core.Path.{_≡_, refl, sym, _∙_, subst}
-use mathlib.Core.Logic.{inl, inr, _≢_}
+use mathlib.Core.Logic.{_⊎_, inl, inr, _≢_}
 use mathlib.Core.Bool.{Bool, true, false, _&&_, false≢true}
 use mathlib.Core.List.{List}
 use native.Mathlib.Omega.{arith}
@@ -38,23 +38,29 @@ pub data Decided (Yes No : Type 0) (b : Bool) : Type 0 where
   yes : Yes → b ≡ true → Decided Yes No b
   no : No → b ≡ false → Decided Yes No b
 
-pub listed-or : (ws : List ℕ) → Decided (Listed ws) (Unlisted ws) (listed (length ws))
-listed-or ws = go (eqb (length ws % 2) 0) (leb (length ws) 131070) refl refl
+pub listed-to : (words most : ℕ) → Decided ((words % 2 ≡ 0) × (words ≤ most)) ((words % 2 ≡ 1) ⊎ (most < words)) (eqb (words % 2) 0 && leb words most)
+listed-to words most = go (eqb (words % 2) 0) (leb words most) refl refl
   where
-    go : (a b : Bool) → eqb (length ws % 2) 0 ≡ a → leb (length ws) 131070 ≡ b → Decided (Listed ws) (Unlisted ws) (a && b)
-    go true true p q = yes (eqb-true (length ws % 2) 0 p, leb-true (length ws) 131070 q) refl
-    go true false p q = no (inr (leb-false (length ws) 131070 q)) refl
-    go false b p q = no (inl (omega (arith, eqb-false (length ws % 2) 0 p))) refl
+    go : (a b : Bool) → eqb (words % 2) 0 ≡ a → leb words most ≡ b → Decided ((words % 2 ≡ 0) × (words ≤ most)) ((words % 2 ≡ 1) ⊎ (most < words)) (a && b)
+    go true true p q = yes (eqb-true (words % 2) 0 p, leb-true words most q) refl
+    go true false p q = no (inr (leb-false words most q)) refl
+    go false b p q = no (inl (omega (arith, eqb-false (words % 2) 0 p))) refl
 
-pub fit-or : (ws : List ℕ) (room : ℕ) → Decided (Fit ws room) (Unfit ws room) (listed (length ws) && leb 1800 room)
-fit-or ws room = go (listed (length ws)) (leb 1800 room) (listed-or ws) refl
+pub listed-or : (ws : List ℕ) → Decided (Listed ws) (Unlisted ws) (listed (length ws))
+listed-or ws = listed-to (length ws) 131070
+
+pub with-room : {Yes No : Type 0} (a : Bool) (room : ℕ) → Decided Yes No a → Decided ((1800 ≤ room) × Yes) ((room < 1800) ⊎ No) (a && leb 1800 room)
+with-room {Yes} {No} a room d = go a (leb 1800 room) d refl
   where
-    go : (a b : Bool) → Decided (Listed ws) (Unlisted ws) a → leb 1800 room ≡ b → Decided (Fit ws room) (Unfit ws room) (a && b)
+    go : (a b : Bool) → Decided Yes No a → leb 1800 room ≡ b → Decided ((1800 ≤ room) × Yes) ((room < 1800) ⊎ No) (a && b)
     go true true (yes h e) q = yes (leb-true 1800 room q, h) refl
     go true false d q = no (inl (leb-false 1800 room q)) refl
     go true true (no h e) q = no (inr h) e
     go false b (no h e) q = no (inr h) refl
     go false b (yes h e) q = absurd (false≢true e)
+
+pub fit-or : (ws : List ℕ) (room : ℕ) → Decided (Fit ws room) (Unfit ws room) (listed (length ws) && leb 1800 room)
+fit-or ws room = with-room (listed (length ws)) room (listed-or ws)
 
 -- an odd list is not even
 pub never-listed : (ws : List ℕ) → Listed ws → Unlisted ws → ⊥

@@ -105,7 +105,7 @@ module _ (r : Ran) (eights : All Eight (r .state .threads)) (few-threads : lengt
   four = r .count ∷ r .refusal ∷ length ts ∷ length ms ∷ []
 
   -- how many words there are
-  words-length : 2 * length (ranWords r) ≡ stateBytes (length ms) (length ts)
+  pub words-length : 2 * length (ranWords r) ≡ stateBytes (length ms) (length ts)
   unfolding ranWords
   words-length = omega (arith, length-append (madeWords ms) (threadWords ts), made-words-length ms, thread-words-length ts eights)
 

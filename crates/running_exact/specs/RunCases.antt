@@ -19,7 +19,7 @@ pub data RunCase : Type 0 where
   readies : List ℕ → List ℕ → Ready → RunCase
 
 -- an output that held 7 in each of so many bytes
-abbrev sevens : ℕ → List ℕ
+abbrev pub sevens : ℕ → List ℕ
 sevens n = replicate n 7
 
 abbrev pub RunShown : RunCase → Type 0
@@ -31,7 +31,7 @@ RunShown (readies ws cs r) = ready (bytesOf ws) cs ≡ r
 -- user 1 has role 1, user 2 roles 1 and 2; role 1 may send on kind 1, role 2 may receive; kind 2 carries channels of kind 1; channel 1 of user 2 has kind 1, channel 2 of user 1 kind 2.
 -- Session 1, of user 1 with role 1 active: a fork; the one branch sends user 2 on channel 1, the other makes a channel of kind 2 and compares it with channel 2.
 -- Session 2, of user 2 with role 1 active: a repeat of: role 2 on, receive on channel 1.
-abbrev desk : List ℕ
+abbrev pub desk : List ℕ
 desk =
     1 ∷ 2 ∷ 2 ∷ 2 ∷ 2 ∷ 2 ∷ 10 ∷ 13 ∷ 15 ∷ 23 ∷ 25 ∷ 29 ∷ 35
     ∷ 1 ∷ 3
@@ -43,7 +43,7 @@ desk =
     ∷ 2 ∷ 0 ∷ 0 ∷ 7 ∷ 2 ∷ 0 ∷ 5 ∷ 257 ∷ 0 ∷ 0 ∷ 0 ∷ 0 ∷ []
 
 -- three users, the last two with role 1 assigned and active, each with a session that ends
-abbrev three : List ℕ
+abbrev pub three : List ℕ
 three =
     1 ∷ 3 ∷ 1 ∷ 0 ∷ 0 ∷ 3 ∷ 3 ∷ 13 ∷ 16 ∷ 20 ∷ 20 ∷ 20 ∷ 29
     ∷ 0 ∷ 1 ∷ 1
@@ -52,7 +52,7 @@ three =
     ∷ 0 ∷ 0 ∷ 0 ∷ 0 ∷ 0 ∷ 0 ∷ 0 ∷ 0 ∷ 0 ∷ []
 
 -- a thread's words: user, node, mask, number of roles, the first variable and seven that are 0
-abbrev shows : ℕ → ℕ → ℕ → ℕ → ℕ → List ℕ
+abbrev pub shows : ℕ → ℕ → ℕ → ℕ → ℕ → List ℕ
 shows user node mask roles v = user ∷ node ∷ mask ∷ roles ∷ v ∷ 0 ∷ 0 ∷ 0 ∷ 0 ∷ 0 ∷ 0 ∷ 0 ∷ []
 
 abbrev pub runCases : List RunCase

@@ -20,6 +20,15 @@ pub fn numbers(text: &[u8]) -> Result<Vec<u16>, Flaw> {
     Ok(numbers)
 }
 
+/// Choices in a line, as they are read.
+pub fn line(choices: &[u16]) -> String {
+    let pairs = choices.as_chunks().0.iter();
+    let texts: Vec<String> = pairs
+        .map(|[thread, partner]| format!("{thread} {partner}"))
+        .collect();
+    texts.join("  ")
+}
+
 /// The words of a line, up to its comment.
 fn words(line: &[u8]) -> impl Iterator<Item = &[u8]> {
     let end = line.iter().position(|&byte| byte == b'#');
@@ -50,6 +59,13 @@ mod tests {
         assert_eq!(numbers(b"# none\n\n"), Ok(vec![]));
         let text = b"1 2\t3\r\n0#4 x\n  007 65535\n# 9";
         assert_eq!(numbers(text), Ok(vec![1, 2, 3, 0, 7, 65535]));
+    }
+
+    #[test]
+    fn a_line_is_read_again() {
+        assert_eq!(line(&[]), "");
+        assert_eq!(line(&[1, 0, 12, 3]), "1 0  12 3");
+        assert_eq!(numbers(b"1 0  12 3"), Ok(vec![1, 0, 12, 3]));
     }
 
     #[test]

@@ -9,7 +9,7 @@ use crate::state::State;
 use crate::words::{At, Job};
 use crate::{explain, names, refusals, report, show};
 use crate::{Outcome, WrongUse};
-use pilzdamo::{Placed, Verdict, ROOM, RUN_ROOM};
+use pilzdamo::{Placed, Verdict, BEFORE_ROUND, ROOM, RUN_ROOM};
 use std::path::Path;
 
 /// Does a job.
@@ -19,6 +19,8 @@ pub fn carry_out(job: Job) -> Result<Outcome, WrongUse> {
         Job::Place { file, at, out } => place(&file, at.as_ref(), out.as_deref()),
         Job::Measure { file, at } => measure(&file, at.as_ref()),
         Job::Run { file, choices } => run(&file, &choices),
+        Job::Round { file, choices } => round(&file, &choices),
+        Job::Dispatch { file, rounds } => dispatch(&file, rounds),
         Job::Show { file } => answer(&show::text(&file.read()?)),
         Job::Explain { number } => explain(number),
         Job::Help => answer(include_str!("help.txt")),
@@ -142,22 +144,77 @@ fn size(placed: Placed) -> String {
 
 fn run(file: &Source, list: &Source) -> Result<Outcome, WrongUse> {
     let bytes = file.read()?;
-    let choices = choices::numbers(&list.read()?).map_err(|flaw| flawed(list, &flaw))?;
+    let choices = read_choices(list)?;
     let mut room = [0; RUN_ROOM];
     let verdict = pilzdamo::run(&bytes, &choices, &mut room);
-    if verdict.is_clean() || is_halt(verdict) {
-        let state = State::of(&room).text(&Clinic::of(&bytes));
-        output::print(state.as_bytes())?;
-    }
     if verdict.is_clean() {
-        return Ok(Outcome::Answer);
+        return answer(&State::of(&room).text(&Clinic::of(&bytes)));
     }
+    stopped((file, &bytes), (list, &choices), verdict, &room)
+}
+
+fn round(file: &Source, list: &Source) -> Result<Outcome, WrongUse> {
+    let bytes = file.read()?;
+    let choices = read_choices(list)?;
+    let mut room = [0; RUN_ROOM];
+    let round = pilzdamo::round(&bytes, &choices, &mut room);
+    if !round.verdict().is_clean() {
+        return stopped((file, &bytes), (list, &choices), round.verdict(), &room);
+    }
+    let told = match round.choices() {
+        [] => "no choice can be done".to_string(),
+        choices => choices::line(choices),
+    };
+    let state = State::of(&room).text(&Clinic::of(&bytes));
+    answer(&format!("round: {told}\n{state}"))
+}
+
+/// The refusal of a file or a list, behind the state of a run that halted.
+fn stopped(
+    (file, bytes): (&Source, &[u8]),
+    (list, choices): (&Source, &[u16]),
+    verdict: Verdict,
+    room: &[u8],
+) -> Result<Outcome, WrongUse> {
     let name = match verdict.number {
         17 => list.name(),
-        _ if is_halt(verdict) => format!("{}, {}", file.name(), list.name()),
+        _ if is_halt(verdict) => {
+            let state = State::of(room).text(&Clinic::of(bytes));
+            output::print(state.as_bytes())?;
+            format!("{}, {}", file.name(), list.name())
+        }
         _ => file.name(),
     };
-    refusal(&report::of_run(&name, &bytes, &choices, verdict))
+    refusal(&report::of_run(&name, bytes, choices, verdict))
+}
+
+fn dispatch(file: &Source, most: Option<u16>) -> Result<Outcome, WrongUse> {
+    let bytes = file.read()?;
+    let mut room = [0; RUN_ROOM];
+    let (mut choices, mut lines) = (Vec::new(), Vec::new());
+    let why = loop {
+        if most.is_some_and(|most| lines.len() == usize::from(most)) {
+            break "as many rounds as were asked for".to_string();
+        }
+        if choices.len() > 2 * BEFORE_ROUND {
+            break "no round follows over 65,471 choices".to_string();
+        }
+        let round = pilzdamo::round(&bytes, &choices, &mut room);
+        if !round.verdict().is_clean() {
+            return refusal(&report::of_file(&file.name(), &bytes, round.verdict()));
+        }
+        if round.choices().is_empty() {
+            let threads = names::several(State::of(&room).threads(), "thread");
+            break format!("then no choice can be done, {threads} left");
+        }
+        choices.extend(round.choices());
+        lines.push(choices::line(round.choices()) + "\n");
+    };
+    output::print(lines.concat().as_bytes())?;
+    let rounds = names::several(lines.len(), "round");
+    let count = names::several(choices.len() / 2, "choice");
+    output::say(&format!("{}: {rounds}, {count}; {why}", file.name()));
+    Ok(Outcome::Answer)
 }
 
 /// Whether a run's refusal came at a choice, so that there is a state.
@@ -165,12 +222,14 @@ fn is_halt(verdict: Verdict) -> bool {
     refusals::counts(verdict.number, verdict.place, true) == refusals::Counts::Choice
 }
 
-fn flawed(list: &Source, flaw: &Flaw) -> WrongUse {
-    let Flaw { line, word } = flaw;
-    let name = list.name();
-    WrongUse(format!(
-        "{name}: line {line}: '{word}' is no number from 0 to 65535\n  a list of choices is text, two numbers for each choice: thread, partner"
-    ))
+fn read_choices(list: &Source) -> Result<Vec<u16>, WrongUse> {
+    choices::numbers(&list.read()?).map_err(|Flaw { line, word }| {
+        let name = list.name();
+        let form = "a list of choices is text, two numbers for each choice: thread, partner";
+        WrongUse(format!(
+            "{name}: line {line}: '{word}' is no number from 0 to 65535\n  {form}"
+        ))
+    })
 }
 
 fn explain(number: u16) -> Result<Outcome, WrongUse> {

@@ -221,12 +221,13 @@ pub const ALL: [Refusal; 24] = [
             keeper grant the steps that follow each other to one role.",
     },
     Refusal {
-        short: "the list has an odd number of words, or over 65,535 choices",
+        short: "the list is odd, or has over 65,535 choices (65,471 before a round)",
         place: NOTHING,
         who: CALLER,
         wrong: "A choice is two numbers, thread and partner, and the list has half a choice too \
-            many; or it is longer than a list may be. (A program that calls the engine itself \
-            gets this number for an output that is too small as well.)",
+            many; or it is longer than a list may be, which before a round is 64 choices less. \
+            (A program that calls the engine itself gets this number for an output that is too \
+            small as well.)",
         mend: "Give each choice its partner, 0 where the thread steps alone.",
     },
     Refusal {

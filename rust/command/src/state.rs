@@ -23,7 +23,8 @@ impl State {
         self.words.get(at).copied().unwrap_or(0)
     }
 
-    fn threads(&self) -> usize {
+    /// How many threads there are.
+    pub fn threads(&self) -> usize {
         usize::from(self.word(2)).min(64)
     }
 

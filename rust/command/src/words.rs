@@ -26,6 +26,15 @@ pub enum Job {
         file: Source,
         choices: Source,
     },
+    Round {
+        file: Source,
+        choices: Source,
+    },
+    Dispatch {
+        file: Source,
+        /// The most rounds, if that is said.
+        rounds: Option<u16>,
+    },
     Show {
         file: Source,
     },
@@ -52,16 +61,27 @@ struct Operands {
     help: bool,
 }
 
+/// The words that name a job.
+const WORDS: [&str; 8] = [
+    "check", "place", "measure", "run", "round", "dispatch", "show", "explain",
+];
+
+/// These words in a sentence.
+fn all_words() -> String {
+    let (last, others) = WORDS.split_last().expect("there are words");
+    format!("{} and {last}", others.join(", "))
+}
+
 /// The job that the words name.
 pub fn job(mut words: impl Iterator<Item = OsString>) -> Result<Job, WrongUse> {
     let Some(first) = words.next() else {
-        return misused("what to do? One of check, place, measure, run, show and explain");
+        return misused(&format!("what to do? One of {}", all_words()));
     };
     let verb = first.to_string_lossy();
     match verb.as_ref() {
         "-h" | "--help" => return Ok(Job::Help),
         "-V" | "--version" => return Ok(Job::Version),
-        "check" | "place" | "measure" | "run" | "show" | "explain" => (),
+        word if WORDS.contains(&word) => (),
         _ => return misused(&format!("there is no word '{verb}'")),
     }
     let operands = sorted(&verb, words)?;
@@ -82,7 +102,15 @@ fn named(verb: &str, operands: Operands) -> Result<Job, WrongUse> {
     } = operands;
     match verb {
         "show" => one(verb, "FILE", plain).map(|file| Job::Show { file }),
-        "run" => file_and_choices(plain),
+        "run" => {
+            let [file, choices] = file_and_choices(verb, plain)?;
+            Ok(Job::Run { file, choices })
+        }
+        "round" => {
+            let [file, choices] = file_and_choices(verb, plain)?;
+            Ok(Job::Round { file, choices })
+        }
+        "dispatch" => file_and_rounds(plain),
         "explain" => number(plain).map(|number| Job::Explain { number }),
         _ => {
             let file = one(verb, "FILE", plain)?;
@@ -177,14 +205,34 @@ fn keep(
     }
 }
 
-fn file_and_choices(plain: Vec<OsString>) -> Result<Job, WrongUse> {
-    let [file, choices] = exactly("run", ["FILE", "CHOICES"], plain)?;
-    let (file, choices) = (Source::named(file), Source::named(choices));
-    match (&file, &choices) {
-        (Source::StandardInput, Source::StandardInput) => {
-            misused("run: only one of FILE and CHOICES can be standard input")
-        }
-        _ => Ok(Job::Run { file, choices }),
+fn file_and_choices(verb: &str, plain: Vec<OsString>) -> Result<[Source; 2], WrongUse> {
+    let named = exactly(verb, ["FILE", "CHOICES"], plain)?;
+    match named.map(Source::named) {
+        [Source::StandardInput, Source::StandardInput] => misused(&format!(
+            "{verb}: only one of FILE and CHOICES can be standard input"
+        )),
+        both => Ok(both),
+    }
+}
+
+/// ROUNDS may be left out.
+fn file_and_rounds(mut plain: Vec<OsString>) -> Result<Job, WrongUse> {
+    let second = (plain.len() > 1).then(|| plain.remove(1));
+    let rounds = second.map(rounds).transpose()?;
+    let file = one("dispatch", "FILE", plain)?;
+    Ok(Job::Dispatch { file, rounds })
+}
+
+/// A number of rounds.
+fn rounds(word: OsString) -> Result<u16, WrongUse> {
+    let text = word.to_string_lossy();
+    let digits = text.bytes().all(|byte| byte.is_ascii_digit());
+    match text.parse() {
+        Ok(rounds @ 1..) if digits => Ok(rounds),
+        _ => misused(&format!(
+            "dispatch: ROUNDS is a number from 1 to {}, not '{text}'",
+            u16::MAX
+        )),
     }
 }
 

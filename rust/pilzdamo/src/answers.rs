@@ -1,5 +1,6 @@
 //! What the engine answers.
 
+use crate::ROUND_WORDS;
 use std::error::Error;
 use std::fmt;
 
@@ -201,5 +202,76 @@ impl fmt::Display for Ready {
             }
             None => out.write_str("no pair can meet"),
         }
+    }
+}
+
+/// What [`round`](crate::round) answers: a refusal's number and place, or the
+/// round's choices; and the length of the state that is written. What doesn't apply
+/// is 0.
+#[repr(C)]
+#[must_use]
+#[derive(Clone, Copy, Debug, PartialEq, Eq, Hash)]
+pub struct Round {
+    /// The refusal's number, 0 if there is none.
+    pub number: u16,
+    /// Where it stands: a word, a session, a node or a choice of the list, as its
+    /// number says.
+    pub place: u16,
+    /// How many bytes of the output hold the state: that after the round, or that in
+    /// which the list stopped; 0 where nothing is written.
+    pub length: u16,
+    /// The round's choices, two words each: a thread and its partner, 0 where it
+    /// steps alone. All past the last are 0.
+    pub words: [u16; ROUND_WORDS],
+}
+
+impl Round {
+    /// The words of the round's choices, without the zeros past the last: in the form
+    /// in which [`run`](crate::run) takes a list. There are none where nothing can
+    /// be done, and where the list is refused.
+    ///
+    /// ```
+    /// let mut out = [0; pilzdamo::RUN_ROOM];
+    /// assert!(pilzdamo::round(&[], &[], &mut out).choices().is_empty());
+    /// ```
+    pub fn choices(&self) -> &[u16] {
+        let (choices, _) = self.words.as_chunks();
+        let past = choices.iter().position(|[thread, _]| *thread == 0);
+        choices[..past.unwrap_or(choices.len())].as_flattened()
+    }
+
+    /// The refusal's number and place alone.
+    ///
+    /// ```
+    /// let mut out = [0; pilzdamo::RUN_ROOM];
+    /// assert_eq!(pilzdamo::round(&[], &[], &mut out).verdict(), pilzdamo::read(&[]));
+    /// ```
+    pub fn verdict(&self) -> Verdict {
+        let &Round { number, place, .. } = self;
+        Verdict { number, place }
+    }
+}
+
+/// `choices 1 0, 2 4`, `no choice can be done`, or `refused N P` with number and
+/// place.
+///
+/// ```
+/// let mut out = [0; pilzdamo::RUN_ROOM];
+/// assert_eq!(pilzdamo::round(&[], &[], &mut out).to_string(), "refused 1 0");
+/// ```
+impl fmt::Display for Round {
+    fn fmt(&self, out: &mut fmt::Formatter<'_>) -> fmt::Result {
+        if !self.verdict().is_clean() {
+            return self.verdict().fmt(out);
+        }
+        let (choices, _) = self.choices().as_chunks();
+        if choices.is_empty() {
+            return out.write_str("no choice can be done");
+        }
+        for (at, [thread, partner]) in choices.iter().enumerate() {
+            let lead = if at == 0 { "choices" } else { "," };
+            write!(out, "{lead} {thread} {partner}")?;
+        }
+        Ok(())
     }
 }

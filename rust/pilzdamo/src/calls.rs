@@ -1,7 +1,7 @@
 //! The engine's functions for Rust.
 
 use crate::raw;
-use crate::{Placed, Ready, Thread, Verdict};
+use crate::{Placed, Ready, Round, Thread, Verdict};
 
 /// As many bytes as [`place`] wants of its output for any file: those of the
 /// largest file of version 2. What it wants for a given file is [`room`].
@@ -18,8 +18,16 @@ pub const WEEK: u16 = 10_080;
 /// The most rows of a table of hours.
 pub const ROWS: usize = 64;
 
-/// The bytes that [`run`] wants of its output: those of the largest state.
+/// The bytes that [`run`] and [`round`] want of their output: those of the largest
+/// state.
 pub const RUN_ROOM: usize = 1_800;
+
+/// The words of a round's choices: two for each of at most 64.
+pub const ROUND_WORDS: usize = 128;
+
+/// The most choices that a [`round`] can follow: a list has at most 65,535, the
+/// round's among them.
+pub const BEFORE_ROUND: usize = 65_471;
 
 /// The records of the list that is lent to [`start`] and [`choose`].
 pub const RECORDS: usize = 64;
@@ -315,6 +323,53 @@ pub fn placed(file: &[u8]) -> Result<(Vec<u8>, u16), Verdict> {
 #[inline]
 pub fn run(file: &[u8], choices: &[u16], out: &mut [u8]) -> Verdict {
     raw::run(file, choices, out)
+}
+
+/// A dispatcher's round after a list of choices: who steps next, and with whom.
+///
+/// The threads that are there when the round begins are visited in order, each once,
+/// also one that was met before its visit. One that is visited does its lone step, if
+/// that isn't refused; one at a send meets the first thread in order that stands at a
+/// receive, has not moved in this round, and can meet it. Threads made meanwhile wait
+/// for the next round. A round without a choice says that none can be done.
+///
+/// Any bytes and any words will do, of any length. Refusal 17 comes first, also for
+/// a list of over [`BEFORE_ROUND`] choices, and then those of [`run`]; a list that
+/// stops has no round. `out` must have [`RUN_ROOM`] bytes or more. What is written is
+/// what [`run`] writes for the list, and behind it the round's choices; the answer
+/// has its length. Nothing past that is written.
+///
+/// ```
+/// use pilzdamo::{round, run, State, RUN_ROOM};
+///
+/// // Two bookings (threads 1 and 2), and the desk that takes them (thread 3).
+/// let file = std::fs::read("../../examples/desks.clinic")?;
+/// let (file, _) = pilzdamo::placed(&file)?;
+/// let mut out = [0; RUN_ROOM];
+///
+/// // All put a role on. Then thread 1 meets the desk; thread 2 doesn't, since the
+/// // desk has moved in that round.
+/// let mut choices = Vec::new();
+/// for due in ["choices 1 0, 2 0, 3 0", "choices 1 3"] {
+///     let round = round(&file, &choices, &mut out);
+///     assert_eq!(round.to_string(), due);
+///     choices.extend(round.choices());
+/// }
+///
+/// // The output is that of a run through all of these.
+/// let mut due = [0; RUN_ROOM];
+/// run(&file, &choices, &mut due).result()?;
+/// assert_eq!(State::of(&out), State::of(&due));
+///
+/// // There is no thread 4: the list stops, and has no round.
+/// let stopped = round(&file, &[1, 0, 4, 0], &mut out);
+/// assert_eq!(stopped.to_string(), "refused 18 2");
+/// assert_eq!(State::of(&out[..stopped.length.into()]).unwrap().done, 1);
+/// # Ok::<(), Box<dyn std::error::Error>>(())
+/// ```
+#[inline]
+pub fn round(file: &[u8], choices: &[u16], out: &mut [u8]) -> Round {
+    raw::round(file, choices, out)
 }
 
 /// The ready pair of the state to which a list of choices leads, by the

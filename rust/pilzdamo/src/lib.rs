@@ -18,6 +18,7 @@
 //! | do these for a minute of the week, with roles that have hours | [`check_at`], [`place_at`], [`placed_at`], [`measure_at`] |
 //! | carry out a list of choices | [`run`], and [`State`] for what it wrote |
 //! | find the two threads that can meet | [`ready`] |
+//! | let a dispatcher choose, round by round | [`round`] |
 //! | go on choice by choice | [`Desk`]; [`start`] and [`choose`] in a list of one's own |
 //!
 //! The examples below read files of the project's folder `examples`, and are run as
@@ -127,6 +128,35 @@
 //! # Ok::<(), Box<dyn std::error::Error>>(())
 //! ```
 //!
+//! # A dispatcher chooses
+//!
+//! A round visits every thread once, in order: each that can step alone does, and one
+//! that sends meets the first that can receive from it and hasn't moved in this round.
+//!
+//! ```
+//! use pilzdamo::{State, RUN_ROOM};
+//!
+//! // Two bookings, and the desk that takes them.
+//! let file = std::fs::read("../../examples/desks.clinic")?;
+//! let (file, _) = pilzdamo::placed(&file)?;
+//! let mut out = [0; RUN_ROOM];
+//! let (mut choices, mut rounds) = (Vec::new(), 0);
+//! loop {
+//!     let round = pilzdamo::round(&file, &choices, &mut out);
+//!     round.verdict().result()?;
+//!     if round.choices().is_empty() {
+//!         break;
+//!     }
+//!     choices.extend(round.choices());
+//!     rounds += 1;
+//! }
+//!
+//! // In the end nothing can be done, here since all have ended.
+//! assert_eq!((rounds, choices.len() / 2), (7, 13));
+//! assert!(State::of(&out).unwrap().threads.is_empty());
+//! # Ok::<(), Box<dyn std::error::Error>>(())
+//! ```
+//!
 //! # A run is driven choice by choice
 //!
 //! A [`Desk`] has the threads and goes on by one choice at a time. Whatever is
@@ -215,9 +245,9 @@ mod desk;
 mod raw;
 mod state;
 
-pub use answers::{Placed, Ready, Verdict};
+pub use answers::{Placed, Ready, Round, Verdict};
 pub use calls::{check, check_at, choose, measure, measure_at};
-pub use calls::{place, place_at, placed, placed_at, read, ready, room, run, start};
-pub use calls::{BESIDE, RECORDS, ROOM, ROOM_1, ROWS, RUN_ROOM, WEEK};
+pub use calls::{place, place_at, placed, placed_at, read, ready, room, round, run, start};
+pub use calls::{BEFORE_ROUND, BESIDE, RECORDS, ROOM, ROOM_1, ROUND_WORDS, ROWS, RUN_ROOM, WEEK};
 pub use desk::Desk;
 pub use state::{Channel, State, Thread};

@@ -5,7 +5,7 @@
 //! pointers and lengths name, writes only what is lent by a pointer to `mut`, and
 //! ends; it keeps no pointer.
 
-use crate::{Placed, Ready, Thread, Verdict};
+use crate::{Placed, Ready, Round, Thread, Verdict};
 
 extern "C" {
     fn pilzdamo_read(file: *const u8, len: usize) -> Verdict;
@@ -43,6 +43,14 @@ extern "C" {
         out: *mut u8,
         out_len: usize,
     ) -> Verdict;
+    fn pilzdamo_round(
+        file: *const u8,
+        len: usize,
+        choices: *const u16,
+        words: usize,
+        out: *mut u8,
+        out_len: usize,
+    ) -> Round;
     fn pilzdamo_ready(file: *const u8, len: usize, choices: *const u16, words: usize) -> Ready;
     fn pilzdamo_start(
         file: *const u8,
@@ -69,6 +77,7 @@ const _: () = {
     assert!(size_of::<Verdict>() == 2 * 2);
     assert!(size_of::<Placed>() == 2 * 4);
     assert!(size_of::<Ready>() == 2 * 4);
+    assert!(size_of::<Round>() == 2 * 131);
     assert!(size_of::<Thread>() == 2 * 11);
 };
 
@@ -155,6 +164,21 @@ pub fn run(file: &[u8], choices: &[u16], out: &mut [u8]) -> Verdict {
     // nothing of `out` is in the other two.
     unsafe {
         pilzdamo_run(
+            file.as_ptr(),
+            file.len(),
+            choices.as_ptr(),
+            choices.len(),
+            out.as_mut_ptr(),
+            out.len(),
+        )
+    }
+}
+
+#[inline]
+pub fn round(file: &[u8], choices: &[u16], out: &mut [u8]) -> Round {
+    // SAFETY: as in `run`.
+    unsafe {
+        pilzdamo_round(
             file.as_ptr(),
             file.len(),
             choices.as_ptr(),

@@ -25,7 +25,7 @@ pub struct Channel {
     pub kind: u16,
 }
 
-/// The state that [`run`](crate::run) wrote.
+/// The state that [`run`](crate::run) or [`round`](crate::round) wrote.
 #[derive(Clone, Debug, PartialEq, Eq)]
 pub struct State {
     /// How many choices were done.
@@ -39,8 +39,9 @@ pub struct State {
 }
 
 impl State {
-    /// Reads the state at the start of the bytes that [`run`](crate::run) wrote.
-    /// None where they are too few for the threads and channels they speak of.
+    /// Reads the state at the start of the bytes that [`run`](crate::run) or
+    /// [`round`](crate::round) wrote. None where they are too few for the threads and
+    /// channels they speak of.
     ///
     /// ```
     /// // A compare of users 1 and 2, and beside it a repeat.

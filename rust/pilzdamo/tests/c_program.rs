@@ -1,13 +1,13 @@
 //! The header, tried by a C program: what it prints.
 
-use pilzdamo::{Placed, Ready, Thread, Verdict};
-use pilzdamo::{BESIDE, RECORDS, ROOM, ROOM_1, ROWS, RUN_ROOM, WEEK};
+use pilzdamo::{Placed, Ready, Round, Thread, Verdict};
+use pilzdamo::{BEFORE_ROUND, BESIDE, RECORDS, ROOM, ROOM_1, ROUND_WORDS, ROWS, RUN_ROOM, WEEK};
 use std::process::{Command, Output};
 
 const FOLDER: &str = env!("CARGO_MANIFEST_DIR");
 const PROGRAM: &str = concat!(env!("CARGO_TARGET_TMPDIR"), "/desk");
 
-/// What the program prints after sizes and rooms.
+/// What the program prints after sizes, rooms and the like.
 const PRINTED: &str = "\
 read the booking: clean
 check it: refused 13 1
@@ -57,6 +57,22 @@ behind them: abab abab
 chosen: 6 threads, nodes 4 and 11, first variables 4 and 4
 choose no thread: refused 18 1
 lend too little: refused 18 0
+round: refusal 0 0, 80 bytes, choices 1,0 2,0 3,0; choices done: 3
+round: refusal 0 0, 80 bytes, choices 1,3; choices done: 4
+round: refusal 0 0, 80 bytes, choices 1,3; choices done: 5
+round: refusal 0 0, 80 bytes, choices 1,0 2,3; choices done: 7
+round: refusal 0 0, 56 bytes, choices 1,0 1,2 2,0; choices done: 10
+round: refusal 0 0, 32 bytes, choices 1,0 2,0; choices done: 12
+round: refusal 0 0, 8 bytes, choices 1,0; choices done: 13
+round: refusal 0 0, 8 bytes, choices; choices done: 13
+last word: 0
+a list that stops: refusal 18 6, 80 bytes, first word 0
+choices done: 5, refusal: 18
+thread 1: user 1, node 4, mask 2, roles 1, first variable 0
+thread 2: user 1, node 7, mask 2, roles 1, first variable 0
+thread 3: user 2, node 14, mask 4, roles 1, first variable 2
+65471 choices: refusal 18 6, 80 bytes
+65472 choices: refusal 17 0, 0 bytes
 record: refused 6 27
 role: refused 13 4
 no bytes: refused 1 0
@@ -91,6 +107,7 @@ fn a_c_program_calls_the_engine() {
         size_of::<Verdict>(),
         size_of::<Placed>(),
         size_of::<Ready>(),
+        size_of::<Round>(),
         size_of::<Thread>(),
     ];
     let line = |name: &str, numbers: &[usize]| {
@@ -100,6 +117,7 @@ fn a_c_program_calls_the_engine() {
     let sizes = line("sizes", &sizes);
     let rooms = line("rooms", &[ROOM, ROOM_1, RUN_ROOM, RECORDS, BESIDE]);
     let hours = line("hours", &[WEEK.into(), ROWS]);
+    let rounds = line("rounds", &[ROUND_WORDS, BEFORE_ROUND]);
     let printed = String::from_utf8_lossy(&output.stdout);
-    assert_eq!(printed, sizes + &rooms + &hours + PRINTED);
+    assert_eq!(printed, sizes + &rooms + &hours + &rounds + PRINTED);
 }

@@ -62,6 +62,7 @@ fn the_examples_choice_by_choice() {
     let bare = placed("spring/bare.clinic");
     for (file, list) in [
         (&placed("transfer.clinic"), "transfer.choices"),
+        (&placed("desks.clinic"), "desks.choices"),
         (&cut, "spring/cut-both-read.choices"),
         (&cut, "spring/cut-both-write.choices"),
         (&cut, "spring/cut-one-by-one.choices"),

@@ -1,6 +1,7 @@
 //! What is answered.
 
 use crate::cause::Refusal;
+use crate::running::ROUND_WORDS;
 
 /// A refusal's number and place; 0 and 0 where nothing is refused.
 #[derive(Clone, Copy, Debug, PartialEq, Eq)]
@@ -84,6 +85,40 @@ impl Ready {
             place: 0,
             sender,
             receiver,
+        }
+    }
+}
+
+/// What a round after a list of choices answers: a number and place of 0, how
+/// many bytes are written, and the round's choices, two words each, 0 past the
+/// last. Refused before the first choice, it has a length of 0; where the list
+/// stops, that of the state before. Either way there are no choices.
+#[derive(Clone, Copy, Debug, PartialEq, Eq)]
+pub struct Round {
+    pub number: u16,
+    pub place: u16,
+    pub length: u16,
+    pub words: [u16; ROUND_WORDS],
+}
+
+impl Round {
+    /// The answer where there is no round, and so many bytes are written.
+    pub const fn refused(number: u16, place: u16, length: u16) -> Round {
+        Round {
+            number,
+            place,
+            length,
+            words: [0; ROUND_WORDS],
+        }
+    }
+
+    /// The answer where this many bytes are written after these choices.
+    pub const fn done(length: u16, words: [u16; ROUND_WORDS]) -> Round {
+        Round {
+            number: 0,
+            place: 0,
+            length,
+            words,
         }
     }
 }

@@ -10,8 +10,8 @@ mod running;
 
 pub use hours::{CheckAtCase, PlaceAtCase};
 pub use placing::{Due, PlaceCase};
-pub use running::{booking, choose_cases, placed_booking, start_cases};
-pub use running::{ChooseCase, Lent, RunCase, StartCase};
+pub use running::{booking, choose_cases, placed_booking, round_cases, start_cases};
+pub use running::{ChooseCase, Lent, RoundCase, RunCase, StartCase};
 
 use crate::draft::Draft;
 

@@ -4,8 +4,8 @@
 //! nothing with the engine, so that the two can be compared. Where 1 to 8 or 1 to 10
 //! are spoken of, 21 is among them. The timed functions, [`read`], [`read_names`],
 //! [`check`], [`check_at`], [`place`], [`place_at`], [`measure`], [`measure_at`],
-//! [`run`], [`ready`], [`start`] and [`choose`], go over the file a few times, in
-//! place, and allocate nothing.
+//! [`run`], [`round`], [`ready`], [`start`] and [`choose`], go over the file a few
+//! times, in place, and allocate nothing.
 
 #![forbid(unsafe_code)]
 
@@ -22,17 +22,18 @@ mod running;
 mod schema;
 mod tree;
 
-pub use answers::{Placed, Ready, Verdict};
+pub use answers::{Placed, Ready, Round, Verdict};
 pub use cause::{is_of_file, is_of_reading, Cause, Refusal};
 pub use file::{Section, Version};
 pub use placing::{room_for, ROOM};
-pub use running::{Halt, Run, Thread, Unfit, BESIDE, RECORDS, RUN_ROOM};
+pub use running::{Halt, Run, Thread, Unfit};
+pub use running::{BEFORE_ROUND, BESIDE, MOST_CHOICES, RECORDS, ROUND_WORDS, RUN_ROOM};
 
 use file::File;
 use hours::{Hours, ALWAYS};
 use placing::Plan;
 use roles::Grants;
-use running::{Lent, Scopes, State};
+use running::{Choices, Lent, Scopes, State};
 
 /// Refusals 1 to 8.
 pub fn read(file: &[u8]) -> Verdict {
@@ -103,8 +104,8 @@ fn answered(judged: Result<File<'_>, Refusal>, place: impl FnOnce(&File<'_>) -> 
 /// up to the first that is refused. The state after the last one done is
 /// written at the start of `out`, unless the refusal comes before the choices.
 pub fn run(file: &[u8], choices: &[u16], out: &mut [u8]) -> Verdict {
-    let judged = running::judge_room(out.len()).and_then(|()| judge_running(file, choices));
-    let mut run = match judged {
+    let judged = running::judge_room(out.len());
+    let mut run = match judged.and_then(|()| judge_running(file, choices, MOST_CHOICES)) {
         Ok(run) => run,
         Err(refusal) => return refusal.verdict(),
     };
@@ -117,10 +118,36 @@ pub fn run(file: &[u8], choices: &[u16], out: &mut [u8]) -> Verdict {
     verdict
 }
 
+/// A [`run`] whose list may have [`BEFORE_ROUND`] choices, and then a round: the
+/// threads of its start are visited in order. One that is visited does its lone
+/// step if that isn't refused; a sender meets the first receiver of the round's
+/// start that has not moved in this round and that it can meet. The state after
+/// that is written, with the choices of both counted. A list that stops has no
+/// round.
+pub fn round(file: &[u8], choices: &[u16], out: &mut [u8]) -> Round {
+    let judged = running::judge_room(out.len());
+    let mut run = match judged.and_then(|()| judge_running(file, choices, BEFORE_ROUND)) {
+        Ok(run) => run,
+        Err(refusal) => {
+            let Verdict { number, place } = refusal.verdict();
+            return Round::refused(number, place, 0);
+        }
+    };
+    if let Err(refusal) = run.go_through(choices) {
+        let Verdict { number, place } = refusal.verdict();
+        let length = run.write(place - 1, number, out);
+        return Round::refused(number, place, length);
+    }
+    let Choices { words, count } = run.go_round();
+    let done = choices.len() / 2 + count;
+    let length = run.write(done as u16, 0, out);
+    Round::done(length, words)
+}
+
 /// The ready pair of the state after the choices. It has no output, so that
 /// 17 is for the list alone.
 pub fn ready(file: &[u8], choices: &[u16]) -> Ready {
-    match judge_choices(file, choices) {
+    match judge_choices(file, choices, MOST_CHOICES) {
         Ok(run) => {
             let (sender, receiver) = run.ready();
             Ready::pair(sender, receiver)
@@ -156,7 +183,7 @@ pub fn choose(
 
 /// A run that has yet to make its first choice, if 1 to 10 leave the file clean.
 pub fn begin(file: &[u8]) -> Result<Run<'_>, Refusal> {
-    judge_running(file, &[])
+    judge_running(file, &[], MOST_CHOICES)
 }
 
 /// The run that goes on from what is lent, if 1 to 10 leave the file clean and
@@ -170,8 +197,20 @@ pub fn resume<'a>(file: &'a [u8], threads: &[Thread], beside: &[u16]) -> Result<
 /// Why [`run`] refuses or halts where the output has this many bytes, if it
 /// does.
 pub fn cause_in_run(file: &[u8], choices: &[u16], room: usize) -> Option<Refusal> {
+    cause_before(file, choices, room, MOST_CHOICES)
+}
+
+/// Why [`round`] refuses or halts where the output has this many bytes, if it
+/// does.
+pub fn cause_in_round(file: &[u8], choices: &[u16], room: usize) -> Option<Refusal> {
+    cause_before(file, choices, room, BEFORE_ROUND)
+}
+
+/// Why a list that may have `most` choices is refused or halts, if it is or does.
+fn cause_before(file: &[u8], choices: &[u16], room: usize, most: usize) -> Option<Refusal> {
     let judged = running::judge_room(room);
-    judged.and_then(|()| judge_choices(file, choices)).err()
+    let judged = judged.and_then(|()| judge_choices(file, choices, most));
+    judged.err()
 }
 
 /// Why [`start`] refuses the file or what is lent, if it does.
@@ -259,15 +298,15 @@ fn judge_measuring_at<'a>(
     Ok(file)
 }
 
-fn judge_running<'a>(file: &'a [u8], choices: &[u16]) -> Result<Run<'a>, Refusal> {
-    running::judge_list(choices.len())?;
+fn judge_running<'a>(file: &'a [u8], choices: &[u16], most: usize) -> Result<Run<'a>, Refusal> {
+    running::judge_list(choices.len(), most)?;
     let file = judge_reading(file)?;
     names::judge(&file)?;
     Ok(Run::start(file))
 }
 
-fn judge_choices<'a>(file: &'a [u8], choices: &[u16]) -> Result<Run<'a>, Refusal> {
-    let mut run = judge_running(file, choices)?;
+fn judge_choices<'a>(file: &'a [u8], choices: &[u16], most: usize) -> Result<Run<'a>, Refusal> {
+    let mut run = judge_running(file, choices, most)?;
     run.go_through(choices)?;
     Ok(run)
 }

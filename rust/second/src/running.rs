@@ -2,12 +2,14 @@
 
 mod halt;
 mod lent;
+mod round;
 mod state;
 mod thread;
 mod unfit;
 
 pub use halt::Halt;
 pub use lent::{Lent, Scopes};
+pub use round::{Choices, ROUND_WORDS};
 pub use state::{State, BESIDE, RECORDS};
 pub use thread::Thread;
 pub use unfit::Unfit;
@@ -21,7 +23,11 @@ use state::{counted, kind_of, made, node_of, RECEIVE, SEND};
 /// The bytes that a run's output must have, whatever is written there.
 pub const RUN_ROOM: usize = 1_800;
 
-const MOST_CHOICES: usize = 65_535;
+/// The most choices of a list.
+pub const MOST_CHOICES: usize = 65_535;
+
+/// The most choices before a round, so that a list has room for the round's too.
+pub const BEFORE_ROUND: usize = MOST_CHOICES - ROUND_WORDS / 2;
 
 /// Words of a thread in the output.
 const THREAD_WORDS: usize = 12;
@@ -31,10 +37,10 @@ pub fn judge_room(room: usize) -> Result<(), Refusal> {
     refuse_if(room < RUN_ROOM, Cause::OutputTooShort)
 }
 
-/// Refusal 17 for so many words of choices.
-pub fn judge_list(words: usize) -> Result<(), Refusal> {
+/// Refusal 17 for so many words of choices, of which there may be `most`.
+pub fn judge_list(words: usize, most: usize) -> Result<(), Refusal> {
     refuse_if(!words.is_multiple_of(2), Cause::OddChoices)?;
-    refuse_if(words / 2 > MOST_CHOICES, Cause::TooManyChoices)
+    refuse_if(words / 2 > most, Cause::TooManyChoices)
 }
 
 fn refuse_if(wrong: bool, cause: Cause) -> Result<(), Refusal> {
@@ -105,13 +111,21 @@ impl<'a> Run<'a> {
 
     /// Carries out a choice. Refused, it leaves the state as it was.
     pub fn choose(&mut self, thread: u16, partner: u16) -> Result<(), Halt> {
-        let mut state = State {
+        self.state().choose(thread, partner)
+    }
+
+    /// Carries out a round.
+    pub(crate) fn go_round(&mut self) -> Choices {
+        self.state().go_round()
+    }
+
+    fn state(&mut self) -> State<'_, Permitted> {
+        State {
             file: &self.file,
             rights: &self.permitted,
             threads: &mut self.threads,
             beside: &mut self.beside,
-        };
-        state.choose(thread, partner)
+        }
     }
 
     /// The lowest sender, then the lowest receiver that can meet it without
@@ -146,20 +160,22 @@ impl<'a> Run<'a> {
         (0, 0)
     }
 
-    /// Writes the state, and nothing past it.
-    pub(crate) fn write(&self, done: u16, refusal: u16, out: &mut [u8]) {
+    /// Writes the state, and nothing past it. Gives its length in bytes.
+    pub(crate) fn write(&self, done: u16, refusal: u16, out: &mut [u8]) -> u16 {
         let head = [done, refusal];
         let beside = &self.beside[..2 + 2 * self.made().len()];
         for (at, &word) in head.iter().chain(beside).enumerate() {
             set_word(out, at, word);
         }
-        let rest = &mut out[2 * (head.len() + beside.len())..];
+        let words = head.len() + beside.len();
+        let rest = &mut out[2 * words..];
         let records = rest.as_chunks_mut::<{ 2 * THREAD_WORDS }>().0;
         for (record, thread) in records.iter_mut().zip(self.threads()) {
             for (at, word) in thread.words().into_iter().enumerate() {
                 set_word(record, at, word);
             }
         }
+        2 * (words + THREAD_WORDS * self.threads().len()) as u16
     }
 
     fn may_send(&self, thread: &Thread, channel: u16) -> bool {

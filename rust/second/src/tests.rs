@@ -1,10 +1,11 @@
 use crate::cases::{booking, cases, choose_cases, place_cases, placed_booking, run_cases};
-use crate::cases::{check_at_cases, place_at_cases, start_cases, Due, BOOKING};
+use crate::cases::{check_at_cases, place_at_cases, round_cases, start_cases, Due, BOOKING};
 use crate::draft::to_bytes;
 use crate::{cause, cause_in_choosing, cause_in_placing, cause_in_run, cause_in_starting};
-use crate::{cause_at, cause_in_placing_at, check_at, measure, measure_at, place_at};
-use crate::{check, choose, is_of_file, is_of_reading, place, read, read_names, ready, run, start};
-use crate::{Cause, Placed, Verdict, Version, ROOM};
+use crate::{cause_at, cause_in_placing_at, cause_in_round, check_at};
+use crate::{check, choose, is_of_file, is_of_reading, measure, measure_at};
+use crate::{place, place_at, read, read_names, ready, round, run, start};
+use crate::{Cause, Placed, Verdict, Version, BEFORE_ROUND, ROOM, RUN_ROOM};
 use std::collections::BTreeSet;
 
 fn verdict((number, place): (u16, u16)) -> Verdict {
@@ -119,6 +120,38 @@ fn named_cases_of_running() {
     }
     for cause in Cause::of_running() {
         assert!(causes.contains(&cause), "no case of {cause:?}");
+    }
+}
+
+#[test]
+fn named_cases_of_rounds() {
+    let mut causes = BTreeSet::new();
+    for case in round_cases() {
+        case.demand("second", round);
+        let refusal = cause_in_round(&case.file, &case.choices, case.room);
+        let told = refusal.map_or(Verdict::CLEAN, |refusal| refusal.verdict());
+        assert_eq!((told.number, told.place), case.answer, "{}", case.name);
+        causes.extend(refusal.map(|refusal| refusal.cause));
+    }
+    for cause in Cause::of_running() {
+        assert!(causes.contains(&cause), "no case of {cause:?}");
+    }
+    assert_eq!(BEFORE_ROUND, 65_471);
+}
+
+/// What is written is what a run through the list and then the round's choices
+/// writes.
+#[test]
+fn a_round_is_the_run_through_both_lists() {
+    for case in round_cases() {
+        if case.answer != (0, 0) {
+            continue;
+        }
+        let both = [&case.choices[..], &case.round].concat();
+        let (mut out, mut due) = ([0; RUN_ROOM], [0; RUN_ROOM]);
+        round(&case.file, &case.choices, &mut out);
+        assert_eq!(run(&case.file, &both, &mut due), Verdict::CLEAN);
+        assert_eq!(out, due, "{}", case.name);
     }
 }
 

@@ -317,7 +317,8 @@ fn channel_of(draft: &mut Draft, owner: u16, kind: u16) -> u16 {
     256 + draft.channels.len() as u16
 }
 
-fn add_session(draft: &mut Draft, user: u16, tree: &[[u16; 3]]) {
+/// Adds a session that starts with no role.
+pub fn add_session(draft: &mut Draft, user: u16, tree: &[[u16; 3]]) {
     let root = draft.nodes.len() as u16 + 1;
     draft.sessions.push([user, 0, root]);
     draft.nodes.extend(tree);

@@ -5,14 +5,14 @@ mod placed;
 mod replay;
 mod tally;
 
-pub use deal::{deal_run, deal_state};
+pub use deal::{deal_run, deal_state, room};
 pub use placed::{run_placed, PlacedRuns};
-pub use replay::sends_in;
+pub use replay::{sends_in, Replay};
 pub use tally::RunTally;
 
 use second::draft::word_at;
 use second::{Ready, Verdict, Version, RUN_ROOM};
-use std::fmt::Display;
+use std::fmt::{Debug, Display};
 
 /// The engine's answer, in the second implementation's form.
 pub fn engine_run(file: &[u8], choices: &[u16], out: &mut [u8]) -> Verdict {
@@ -40,19 +40,25 @@ pub struct Dealt {
 
 /// What both answer, and what both leave in the output. Panics where they
 /// differ, and where what they say is not as it should be.
-pub fn agreed_run(dealt: &Dealt, origin: impl Display) -> (Verdict, Vec<u8>) {
+pub fn agreed<Answer: PartialEq + Debug>(
+    dealt: &Dealt,
+    origin: impl Display,
+    engine: impl Fn(&[u8], &[u16], &mut [u8]) -> Answer,
+    second: impl Fn(&[u8], &[u16], &mut [u8]) -> Answer,
+    judge: impl Fn(&Answer, &[u8]) -> Result<(), String>,
+) -> (Answer, Vec<u8>) {
     let Dealt {
         file,
         choices,
         before,
     } = dealt;
     let (mut out, mut of_second) = (before.clone(), before.clone());
-    let verdict = engine_run(file, choices, &mut out);
-    let second = second::run(file, choices, &mut of_second);
+    let answer = engine(file, choices, &mut out);
+    let other = second(file, choices, &mut of_second);
     let fail = |what: &str| -> ! {
         let shown = &choices[..choices.len().min(2_000)];
         panic!(
-            "{what} at {origin}: engine {verdict:?}, second {second:?}, output of {} bytes, {} \
+            "{what} at {origin}: engine {answer:?}, second {other:?}, output of {} bytes, {} \
              words of choices {shown:?}, on {} bytes, to be had back by `xxd -r -p`:\n{}",
             before.len(),
             choices.len(),
@@ -62,24 +68,32 @@ pub fn agreed_run(dealt: &Dealt, origin: impl Display) -> (Verdict, Vec<u8>) {
                 .collect::<String>()
         )
     };
-    if verdict != second {
-        fail("run differs");
+    if answer != other {
+        fail("the answer differs");
     }
     if let Some(at) = (0..out.len()).find(|&at| out[at] != of_second[at]) {
         fail(&format!("output byte {at} differs"));
     }
-    let (ready, ready_second) = (engine_ready(file, choices), second::ready(file, choices));
-    if ready != ready_second {
-        fail(&format!("ready differs, {ready:?} and {ready_second:?}"));
+    if let Err(fault) = judge(&answer, &out) {
+        fail(&fault);
     }
-    if let Err(fault) = judge(dealt, &out, verdict, ready) {
-        fail(fault);
-    }
-    (verdict, out)
+    (answer, out)
+}
+
+/// The run by both, and the ready pair after it.
+pub fn agreed_run(dealt: &Dealt, origin: impl Display) -> (Verdict, Vec<u8>) {
+    let Dealt { file, choices, .. } = dealt;
+    agreed(dealt, origin, engine_run, second::run, |&verdict, out| {
+        let (ready, other) = (engine_ready(file, choices), second::ready(file, choices));
+        if ready != other {
+            return Err(format!("ready differs, {ready:?} and {other:?}"));
+        }
+        Ok(judge(dealt, out, verdict, ready)?)
+    })
 }
 
 /// Whether a run halted at a choice, and not before the first.
-fn is_halted(verdict: Verdict) -> bool {
+pub fn is_halted(verdict: Verdict) -> bool {
     matches!(verdict.number, 11..=13 | 18..=20)
 }
 

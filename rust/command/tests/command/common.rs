@@ -55,6 +55,11 @@ pub fn example_bytes(name: &str) -> Vec<u8> {
     fs::read(example(name)).unwrap_or_else(|error| panic!("{name}: {error}"))
 }
 
+/// The bytes of an example when it is placed.
+pub fn placed(name: &str) -> Vec<u8> {
+    pilzdamo(&["place", &example(name)]).out
+}
+
 /// A folder of its own for a test, with a space in its name. It goes when the
 /// test ends.
 pub struct Folder(PathBuf);

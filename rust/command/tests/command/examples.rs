@@ -32,24 +32,45 @@ fn the_booking_is_the_papers() {
     assert_eq!(example_bytes("booking.clinic").len(), 82);
 }
 
-/// The README's commands, each with the words before it.
-fn commands() -> Vec<(String, String)> {
+/// A command of the README.
+struct Typed {
+    /// The words before it.
+    before: String,
+    command: String,
+    /// What it prints, if that stands there.
+    printed: Option<String>,
+}
+
+/// The README's commands, one for each item of its lists.
+fn commands() -> Vec<Typed> {
     let readme = fs::read_to_string(example("README.md")).expect("a README");
-    let command = |line: &str| {
-        let (before, after) = line.split_once("`./pilzdamo ")?;
-        let (command, _) = after.split_once('`')?;
-        Some((before.to_string(), format!("./pilzdamo {command}")))
-    };
-    let lines = readme.lines().filter(|line| line.starts_with("- "));
-    lines
-        .map(|line| command(line).expect("a command"))
-        .collect()
+    let mut all: Vec<Typed> = Vec::new();
+    for line in readme.lines() {
+        if line.starts_with("- ") {
+            all.push(typed(line).expect("a command"));
+        } else if let Some(printed) = line.strip_prefix("      ") {
+            let last = all.last_mut().expect("a command before it");
+            let text = last.printed.get_or_insert_default();
+            *text += &format!("{printed}\n");
+        }
+    }
+    all
+}
+
+fn typed(line: &str) -> Option<Typed> {
+    let (before, after) = line.split_once("`./pilzdamo ")?;
+    let (command, _) = after.split_once('`')?;
+    Some(Typed {
+        before: before.to_string(),
+        command: format!("./pilzdamo {command}"),
+        printed: None,
+    })
 }
 
 /// Each file and list has a command in the README.
 #[test]
 fn the_readme_names_every_example() {
-    let commands: String = commands().into_iter().map(|(_, command)| command).collect();
+    let commands: String = commands().into_iter().map(|typed| typed.command).collect();
     for folder in ["", "head-nurse/", "hours/", "spring/", "refused/"] {
         for entry in fs::read_dir(example(folder)).expect("a folder") {
             let entry = entry.expect("an entry");
@@ -62,10 +83,13 @@ fn the_readme_names_every_example() {
     }
 }
 
-/// What is said to be refused is refused so, and the rest is answered.
+/// What is said to be refused is refused so, and the rest is answered, with what
+/// the README says that it prints.
 #[test]
 fn the_readmes_commands() {
-    for (before, command) in commands() {
+    let mut printed = 0;
+    for typed in commands() {
+        let command = &typed.command;
         let program = concat!("'", env!("CARGO_BIN_EXE_pilzdamo"), "'");
         let output = Command::new("bash")
             .args(["-c", &command.replace("./pilzdamo", program)])
@@ -74,11 +98,16 @@ fn the_readmes_commands() {
             .expect("bash starts");
         let status = output.status.code();
         let err = String::from_utf8_lossy(&output.stderr);
-        match refusal(&before) {
+        match refusal(&typed.before) {
             Some(due) => assert!(status == Some(1) && err.contains(&due), "{command}\n{err}"),
             None => assert_eq!(status, Some(0), "{command}\n{err}"),
         }
+        if let Some(due) = typed.printed {
+            assert_eq!(String::from_utf8_lossy(&output.stdout), due, "{command}");
+            printed += 1;
+        }
     }
+    assert_eq!(printed, 2);
 }
 
 /// The refusal that a line begins with: `- 6 at word 27: ` or `- 3: `.

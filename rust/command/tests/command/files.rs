@@ -11,6 +11,7 @@ pub fn all() -> Vec<(&'static str, Vec<u8>)> {
         ("theatre.clinic", theatre().bytes()),
         ("theatre-held.clinic", held_theatre().bytes()),
         ("transfer.clinic", transfer().bytes()),
+        ("desks.clinic", desks().bytes()),
         ("head-nurse/copied.clinic", copied_grants().bytes()),
         ("head-nurse/juniors.clinic", by_juniors().bytes()),
         ("hours/desk.clinic", hours_desk(&BOTH_SENDS).bytes()),
@@ -23,11 +24,12 @@ pub fn all() -> Vec<(&'static str, Vec<u8>)> {
 }
 
 /// Those that can be placed.
-pub const BARE: [&str; 7] = [
+pub const BARE: [&str; 8] = [
     "booking.clinic",
     "overlap.clinic",
     "theatre.clinic",
     "transfer.clinic",
+    "desks.clinic",
     "head-nurse/juniors.clinic",
     "spring/bare.clinic",
     "hours/desk.clinic",
@@ -149,6 +151,18 @@ fn ask(root: u16) -> [[u16; 3]; 7] {
         compare(variable(2), 4),
         END,
     ]
+}
+
+/// Two sessions of user 1 that book as the booking does, and one of user 2, in role
+/// 3, that takes both bookings.
+fn desks() -> Draft {
+    let mut draft = booking();
+    draft.users[1] = [mask(&[3])];
+    let takes = [receive(channel(1)), receive(channel(2))];
+    draft
+        .role(&[], &[1, 2])
+        .session(1, &BOTH_SENDS)
+        .session(2, &[&takes[..], &takes, &[END]].concat())
 }
 
 /// A ward: the head nurse (user 1, role 2), a nurse (user 2, role 1) and the

@@ -3,6 +3,7 @@
 mod any_bytes;
 mod check;
 mod common;
+mod dispatch;
 mod draft;
 mod examples;
 mod explain;
@@ -11,6 +12,7 @@ mod hours;
 mod measure;
 mod place;
 mod refused;
+mod round;
 mod run;
 mod script;
 mod show;

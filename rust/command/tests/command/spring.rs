@@ -108,6 +108,26 @@ fn the_placed_routine_with_both_reads_first() {
     assert_eq!((other.node, other.mask, other.first), (8, 2, 4));
 }
 
+/// By rounds both read first too, both hold role 2, and the desk has two bookings
+/// of bed 4.
+#[test]
+fn the_placed_routine_dispatched() {
+    let mut list = Vec::new();
+    let mut round = || {
+        let round = pilzdamo::round(&placed(), &list, &mut [0; RUN_ROOM]);
+        assert!(round.verdict().is_clean());
+        list.extend(round.choices());
+        threads(&placed(), &list)
+    };
+    let states = [(); 5].map(|()| round());
+    let [one, other] = schedulers(&states[0]);
+    assert_eq!((one.mask, other.mask), (2, 2));
+    let [one, other] = schedulers(&states[2]);
+    assert_eq!((one.first, other.first), (4, 4));
+    let desk = states[4].last().expect("the desk");
+    assert_eq!((desk.first, desk.third), (4, 4));
+}
+
 /// The rows of the first session, as shown.
 fn first_session(shown: &str) -> Vec<String> {
     let rows = shown

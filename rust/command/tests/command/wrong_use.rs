@@ -12,16 +12,21 @@ fn help_and_version() {
             (0, help, "")
         );
     }
-    for word in ["check", "place", "measure", "run", "show", "explain"] {
+    let words = [
+        "check", "place", "measure", "run", "round", "dispatch", "show", "explain",
+    ];
+    for word in words {
         assert!(help.contains(&format!("  pilzdamo {word} ")));
     }
+    let all = pilzdamo::<&str>(&[]).err;
+    assert!(words.iter().all(|word| all.contains(word)), "{all}");
     let version = concat!("pilzdamo ", env!("CARGO_PKG_VERSION"), "\n");
     assert_eq!(pilzdamo(&["--version"]).text(), version);
 }
 
 #[test]
 fn words() {
-    let wrong: [(&[&str], &str); 34] = [
+    let wrong: [(&[&str], &str); 46] = [
         (&[], "what to do?"),
         (&[""], "there is no word ''"),
         (&["judge", "a"], "there is no word 'judge'"),
@@ -91,6 +96,36 @@ fn words() {
             &["run", "-", "-"],
             "run: only one of FILE and CHOICES can be standard input",
         ),
+        (&["round"], "round: FILE is missing"),
+        (&["round", "a"], "round: CHOICES is missing"),
+        (&["round", "a", "b", "c"], "round: 'c' is too many"),
+        (
+            &["round", "-", "-"],
+            "round: only one of FILE and CHOICES can be standard input",
+        ),
+        (&["round", "a", "b", "-o"], "round has no option '-o'"),
+        (&["dispatch"], "dispatch: FILE is missing"),
+        (&["dispatch", "a", "2", "3"], "dispatch: '3' is too many"),
+        (
+            &["dispatch", "a", "0"],
+            "dispatch: ROUNDS is a number from 1 to 65535, not '0'",
+        ),
+        (
+            &["dispatch", "a", "65536"],
+            "dispatch: ROUNDS is a number from 1 to 65535, not '65536'",
+        ),
+        (
+            &["dispatch", "a", "+2"],
+            "dispatch: ROUNDS is a number from 1 to 65535, not '+2'",
+        ),
+        (
+            &["dispatch", "a", "all"],
+            "dispatch: ROUNDS is a number from 1 to 65535, not 'all'",
+        ),
+        (
+            &["dispatch", "a", "--at", "Mon 07:30"],
+            "dispatch has no option '--at'",
+        ),
         (&["show"], "show: FILE is missing"),
         (&["show", "a", "b"], "show: 'b' is too many"),
         (&["explain"], "explain: N is missing"),
@@ -121,7 +156,7 @@ fn files_that_cannot_be_read() {
         (&here, "it is a folder"),
     ] {
         let due = format!("pilzdamo: {file}: can't be read: {why}\n");
-        let uses: [&[&str]; 8] = [
+        let uses: [&[&str]; 11] = [
             &["check", file],
             &["place", file],
             &["measure", file],
@@ -130,6 +165,9 @@ fn files_that_cannot_be_read() {
             &["show", file],
             &["run", file, &sound],
             &["run", &sound, file],
+            &["round", file, &sound],
+            &["round", &sound, file],
+            &["dispatch", file],
         ];
         for words in uses {
             let answer = pilzdamo(words);

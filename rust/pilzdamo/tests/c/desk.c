@@ -178,6 +178,42 @@ static void both_read(const char *folder) {
                           PILZDAMO_BESIDE, 1, 0));
 }
 
+/* The rounds of two bookings and the desk that takes them, up to one that is empty. */
+static void dispatch(const char *folder) {
+    static uint16_t choices[2 * (PILZDAMO_BEFORE_ROUND + 1)];
+    size_t words = 0, i;
+    uint8_t placed[PILZDAMO_ROOM], out[PILZDAMO_RUN_ROOM];
+    clinic file = example(folder, "desks.clinic");
+    size_t length =
+        pilzdamo_place(file.bytes, file.len, placed, sizeof placed).length;
+    pilzdamo_round_choices round;
+    memset(out, 0xab, sizeof out);
+    do {
+        round = pilzdamo_round(placed, length, choices, words, out, sizeof out);
+        printf("round: refusal %d %d, %d bytes, choices", round.number, round.place,
+               round.length);
+        for (i = 0; i < PILZDAMO_ROUND_WORDS && round.words[i] != 0; i += 2) {
+            printf(" %d,%d", round.words[i], round.words[i + 1]);
+            choices[words++] = round.words[i];
+            choices[words++] = round.words[i + 1];
+        }
+        printf("; choices done: %d\n", word_at(out, 0));
+    } while (i > 0);
+    printf("last word: %d\n", round.words[PILZDAMO_ROUND_WORDS - 1]);
+    /* The sixth choice is refused: there is no thread 4. */
+    choices[10] = 4;
+    round = pilzdamo_round(placed, length, choices, words, out, sizeof out);
+    printf("a list that stops: refusal %d %d, %d bytes, first word %d\n", round.number,
+           round.place, round.length, round.words[0]);
+    print_state(out);
+    for (i = 0; i < 2; i++) {
+        words = 2 * (PILZDAMO_BEFORE_ROUND + i);
+        round = pilzdamo_round(placed, length, choices, words, out, sizeof out);
+        printf("%d choices: refusal %d %d, %d bytes\n", (int)words / 2, round.number,
+               round.place, round.length);
+    }
+}
+
 /* Refusals with their places. */
 static void refusals(const char *folder) {
     static const uint16_t odd[] = {2, 0, 2}, unequal[] = {2, 0, 1, 0};
@@ -198,16 +234,18 @@ int main(int argc, char **argv) {
         fprintf(stderr, "the folder of the examples is wanted\n");
         return 2;
     }
-    printf("sizes: %d %d %d %d\n", (int)sizeof(pilzdamo_verdict),
+    printf("sizes: %d %d %d %d %d\n", (int)sizeof(pilzdamo_verdict),
            (int)sizeof(pilzdamo_placed), (int)sizeof(pilzdamo_ready_pair),
-           (int)sizeof(pilzdamo_thread));
+           (int)sizeof(pilzdamo_round_choices), (int)sizeof(pilzdamo_thread));
     printf("rooms: %d %d %d %d %d\n", PILZDAMO_ROOM, PILZDAMO_ROOM_1, PILZDAMO_RUN_ROOM,
            PILZDAMO_RECORDS, PILZDAMO_BESIDE);
     printf("hours: %d %d\n", PILZDAMO_WEEK, PILZDAMO_ROWS);
+    printf("rounds: %d %d\n", PILZDAMO_ROUND_WORDS, PILZDAMO_BEFORE_ROUND);
     booking(argv[1]);
     head_nurse(argv[1]);
     hours(argv[1]);
     both_read(argv[1]);
+    dispatch(argv[1]);
     refusals(argv[1]);
     return 0;
 }

@@ -6,10 +6,12 @@ mod juniors;
 mod lent;
 mod ready;
 mod refusals;
+mod rounds;
 mod steps;
 
 pub use booking::{booking, placed_booking};
 pub use lent::{cases as choose_cases, start_cases, ChooseCase, Lent, StartCase};
+pub use rounds::{cases as round_cases, RoundCase};
 
 use crate::draft::{set_word, Draft};
 use crate::{Ready, Verdict, RUN_ROOM};

@@ -88,11 +88,13 @@ impl<R: Rights> State<'_, R> {
         Ok(())
     }
 
-    fn kind_of(&self, channel: u16) -> u16 {
+    /// The kind of a channel, by its value.
+    pub(super) fn kind_of(&self, channel: u16) -> u16 {
         kind_of(self.file, self.beside, channel)
     }
 
-    fn count(&self) -> usize {
+    /// How many threads there are.
+    pub(super) fn count(&self) -> usize {
         self.beside[0].into()
     }
 

@@ -101,7 +101,7 @@ fn change_list(rng: &mut Rng, choices: &mut Vec<u16>) {
 }
 
 /// The length of an output: mostly long enough, and then mostly just so.
-fn room(rng: &mut Rng) -> usize {
+pub fn room(rng: &mut Rng) -> usize {
     match rng.below(300) {
         0 => 0,
         1..=3 => RUN_ROOM - 1,

@@ -7,7 +7,7 @@ use crate::draft::Draft;
 
 /// The desk with roles 1 and 2 as juniors of role 3, which has no other grant
 /// on kinds 1, 2 and 17; or, in a chain, role 1 of role 2, and that of role 3.
-fn seniors(chain: bool, sessions: &[Session]) -> Draft {
+pub fn seniors(chain: bool, sessions: &[Session]) -> Draft {
     let juniors = if chain {
         [[0], [1], [2]]
     } else {

@@ -26,6 +26,12 @@ pub enum Input {
         file: Vec<u8>,
         choices: Vec<u16>,
     },
+    /// A round of so many choices after a list that is done.
+    Round {
+        file: Vec<u8>,
+        choices: Vec<u16>,
+        count: usize,
+    },
     /// A ready pair that isn't there.
     Ready {
         file: Vec<u8>,
@@ -53,6 +59,7 @@ impl Case {
         match &self.input {
             Input::Read(file) | Input::Check(file) | Input::Measure(file) => file,
             Input::Place { file, .. } | Input::Run { file, .. } => file,
+            Input::Round { file, .. } => file,
             Input::Ready { file, .. } | Input::Choose(Lent { file, .. }) => file,
             Input::CheckAt(At { file, .. }) | Input::PlaceAt(At { file, .. }) => file,
         }
@@ -88,13 +95,18 @@ impl Case {
                 out
             }
             Input::Run { file, choices } => {
-                let dealt = Dealt {
-                    file: file.clone(),
-                    choices: choices.clone(),
-                    before: vec![0; RUN_ROOM],
-                };
-                let (verdict, out) = trials::agreed_run(&dealt, name);
+                let (verdict, out) = trials::agreed_run(&dealt(file, choices), name);
                 assert_eq!(verdict, Verdict::CLEAN, "{name}");
+                out
+            }
+            Input::Round {
+                file,
+                choices,
+                count,
+            } => {
+                let (round, out) = trials::agreed_round(&dealt(file, choices), name);
+                assert_eq!(round.number, 0, "{name}");
+                assert_eq!(trials::choices_of(&round).len(), *count, "{name}");
                 out
             }
             Input::Ready { file, choices } => {
@@ -164,6 +176,7 @@ impl Case {
                 };
                 samples.take(self.calls, engine, second);
             }
+            Input::Round { file, choices, .. } => round(file, choices, self.calls, samples),
             Input::Ready { file, choices } => samples.take(
                 self.calls,
                 || pilzdamo::ready(black_box(file), black_box(choices)),
@@ -172,6 +185,29 @@ impl Case {
             Input::Choose(lent) => choose(lent, self.calls, samples),
         }
     }
+}
+
+/// A run's input, with an output of zeros.
+fn dealt(file: &[u8], choices: &[u16]) -> Dealt {
+    Dealt {
+        file: file.to_vec(),
+        choices: choices.to_vec(),
+        before: vec![0; RUN_ROOM],
+    }
+}
+
+fn round(file: &[u8], choices: &[u16], calls: u32, samples: &mut Samples) {
+    let input = || (black_box(file), black_box(choices));
+    let (mut out, mut of_second) = (vec![0; RUN_ROOM], vec![0; RUN_ROOM]);
+    let engine = || {
+        let (file, choices) = input();
+        pilzdamo::round(file, choices, black_box(&mut out))
+    };
+    let second = || {
+        let (file, choices) = input();
+        second::round(file, choices, black_box(&mut of_second))
+    };
+    samples.take(calls, engine, second);
 }
 
 fn place_at(at: &At, calls: u32, samples: &mut Samples) {

@@ -2,10 +2,11 @@
 
 use crate::case::{Case, Input};
 use second::cases::run_cases;
-use second::Version;
+use second::{Version, RUN_ROOM};
 use trials::{juniors, At, Lent};
 
-type Run = (Vec<u8>, Vec<u16>);
+/// A file, and a list of choices.
+pub type Run = (Vec<u8>, Vec<u16>);
 
 /// Files and lists, the largest there are and typical ones of 40 nodes.
 pub struct Inputs {
@@ -27,6 +28,11 @@ pub struct Inputs {
     pub typical_run: Run,
     pub short_run: Run,
     pub crowded: Run,
+    /// Lists that lead to 64 threads: 32 that send to the 32 others, and such as
+    /// all step alone.
+    pub meeting_round: Run,
+    pub lone_round: Run,
+    pub typical_round: Run,
     pub largest_lent: Lent,
     pub typical_lent: Lent,
 }
@@ -53,6 +59,9 @@ impl Inputs {
             typical_run: trials::typical_run(seed),
             short_run: short_run(),
             crowded: trials::crowded(),
+            meeting_round: trials::meeting_round(),
+            lone_round: trials::lone_round(),
+            typical_round: trials::typical_round(seed),
             largest_lent: trials::full_lent(seed),
             typical_lent: trials::typical_lent(seed),
         }
@@ -73,6 +82,15 @@ impl Inputs {
         };
         let (file, choices) = self.crowded.clone();
         let ready = Input::Ready { file, choices };
+        let round = |run: &Run| {
+            let (file, choices) = run.clone();
+            let count = round_of(run).len();
+            Input::Round {
+                file,
+                choices,
+                count,
+            }
+        };
         let choose = |lent: &Lent| Input::Choose(lent.clone());
         vec![
             Case::new("read largest", read(&self.largest), 50),
@@ -103,6 +121,10 @@ impl Inputs {
                 Input::PlaceAt(with_hours(&self.largest_bare)),
                 50,
             ),
+            Case::new("round crowded", round(&self.meeting_round), 100),
+            Case::new("round lone", round(&self.lone_round), 100),
+            Case::new("round idle", round(&self.crowded), 100),
+            Case::new("round typical", round(&self.typical_round), 300),
         ]
     }
 
@@ -130,14 +152,31 @@ impl Inputs {
              Ready, crowded: 32 choices, then 64 threads of which no two can meet.\n\
              Rows with a 2: the same file in version 2, with all lower roles as juniors of each.\n\
              Measure: what place is asked of, without an output.\n\
-             Check at and place at: the largest, with 64 rows of hours, four to each role.\n",
+             Check at and place at: the largest, with 64 rows of hours, four to each role.\n\
+             Round, of 64 threads after 32 choices: crowded has 32 sends, each past the receivers\n\
+             before its own, and 32 lone steps; lone has 64 lone steps; in idle no two can meet, as\n\
+             in ready. Typical has {} choices, and then {}.\n",
             run(&self.largest_run),
             run(&self.typical_run),
             run(&self.short_run),
             lent(&self.largest_lent),
             lent(&self.typical_lent),
+            self.typical_round.1.len() / 2,
+            sends_of(&round_of(&self.typical_round)),
         )
     }
+}
+
+/// The choices of a round after a list.
+pub fn round_of((file, choices): &Run) -> Vec<[u16; 2]> {
+    let round = second::round(file, choices, &mut [0; RUN_ROOM]);
+    trials::choices_of(&round).to_vec()
+}
+
+/// How many choices a round has, and how many of them are sends.
+fn sends_of(round: &[[u16; 2]]) -> String {
+    let sends = round.iter().filter(|[_, partner]| *partner != 0);
+    format!("{}, {} of them sends", round.len(), sends.count())
 }
 
 /// The booking of two desks, placed, and the choices that take it to its end.

@@ -2,9 +2,9 @@
 
 use crate::case::{Case, Input};
 use crate::growth::{by_nodes, by_roles, NODES, ROLES};
-use crate::inputs::Inputs;
-use second::draft::Draft;
-use second::Version;
+use crate::inputs::{round_of, Inputs};
+use second::draft::{word_at, Draft};
+use second::{Verdict, Version, RUN_ROOM};
 use trials::{seed, sends_in, Lent, MOST_CHOICES};
 
 fn nodes(file: &[u8]) -> usize {
@@ -76,6 +76,41 @@ fn the_typical_have_40_nodes() {
     }
     assert_eq!(choices.len(), 2 * 40);
     assert!(sends_in(run, choices) >= 4);
+}
+
+/// Threads in the state that a list leads to.
+fn threads(file: &[u8], choices: &[u16]) -> u16 {
+    let mut out = [0; RUN_ROOM];
+    assert_eq!(second::run(file, choices, &mut out), Verdict::CLEAN);
+    word_at(&out, 2)
+}
+
+#[test]
+fn rounds_have_their_threads_and_choices() {
+    let inputs = Inputs::new(seed());
+    for (run, count, sends) in [
+        (&inputs.meeting_round, 64, 32),
+        (&inputs.lone_round, 64, 0),
+        (&inputs.crowded, 0, 0),
+    ] {
+        let (file, choices) = run;
+        assert_eq!((threads(file, choices), choices.len()), (64, 2 * 32));
+        let round = round_of(run);
+        let met = round.iter().filter(|[_, partner]| *partner != 0);
+        assert_eq!((round.len(), met.count()), (count, sends));
+    }
+    let (file, _) = &inputs.typical_round;
+    assert_eq!((nodes(file), roles(file)), (40, 4));
+    let round = round_of(&inputs.typical_round);
+    assert!(round.len() >= 4 && round.iter().any(|[_, partner]| *partner != 0));
+}
+
+/// Each sender of the crowded round goes past all that receive before its own.
+#[test]
+fn the_crowded_round_meets_the_last_first() {
+    let round = round_of(&Inputs::new(seed()).meeting_round);
+    let meetings: Vec<_> = (1..=32).map(|sender| [sender, 65 - sender]).collect();
+    assert_eq!(round[..32], meetings);
 }
 
 #[test]

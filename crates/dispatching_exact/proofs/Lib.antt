@@ -1,0 +1,5 @@
+pub mod StepShapes
+pub mod PlainLaws
+pub mod DispatchRounds
+pub mod RoundAnswers
+pub mod RoundsShown

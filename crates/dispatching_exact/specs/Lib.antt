@@ -1,0 +1,3 @@
+pub mod IsRound
+pub mod Answered
+pub mod RoundCases

@@ -1,0 +1,7 @@
+pub mod PlaceLaws
+pub mod Laws
+pub mod Midways
+pub mod Searching
+pub mod Visiting
+pub mod Rounding
+pub mod Living
