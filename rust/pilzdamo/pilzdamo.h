@@ -54,7 +54,9 @@ extern "C" {
  * less. */
 #define PILZDAMO_RECORDS 64
 /* The words that are lent beside them, no more and no less. */
-#define PILZDAMO_BESIDE 130
+#define PILZDAMO_BESIDE 162
+/* The most kinds of a file, each of which has a total. */
+#define PILZDAMO_TOTALS 32
 
 /* A refusal, or 0 and 0. */
 typedef struct {
@@ -86,6 +88,14 @@ typedef struct {
     uint16_t length;
     uint16_t words[PILZDAMO_ROUND_WORDS]; /* thread, partner; 0 past the last */
 } pilzdamo_round_choices;
+
+/* For each kind, from 1 on, how many threads wait on it; and what halted the run, or 0
+ * and 0. */
+typedef struct {
+    uint16_t number;
+    uint16_t place;
+    uint16_t totals[PILZDAMO_TOTALS];
+} pilzdamo_kind_totals;
 
 /* A thread's record in a lent list. */
 typedef struct {
@@ -182,11 +192,28 @@ pilzdamo_ready_pair pilzdamo_ready(const uint8_t *file, size_t file_len,
                                    const uint16_t *choices, size_t words);
 
 /*
+ * Who is waiting on what: for each kind how many threads stand at a receive whose
+ * channel has that kind, whatever roles they hold, in the state to which a list of
+ * choices leads, or in which it stops. The refusals are those of pilzdamo_run; for 17
+ * and 1 to 10 all totals are 0.
+ */
+pilzdamo_kind_totals pilzdamo_totals(const uint8_t *file, size_t file_len,
+                                     const uint16_t *choices, size_t words);
+
+/*
+ * The total of a kind from the words beside a lent list, which pilzdamo_start and
+ * pilzdamo_choose keep; 0 for a kind outside 1 to PILZDAMO_TOTALS, and for another
+ * number of words than PILZDAMO_BESIDE.
+ */
+uint16_t pilzdamo_total(const uint16_t *beside, size_t words, uint16_t kind);
+
+/*
  * Makes a list of threads that is lent start as the file does: PILZDAMO_RECORDS
  * records, and PILZDAMO_BESIDE words beside them. Each session has a thread, in
  * order, in the first records: the session's user, its root, its starting mask and
- * eight zeros. The first word beside them is the number of sessions, the second 0.
- * The records and words past these stay. Whatever was there before will do.
+ * eight zeros. The first word beside them is the number of sessions, the second 0,
+ * and the last PILZDAMO_TOTALS are the totals of these threads, as pilzdamo_total
+ * reads them. All other records and words stay. Whatever was there before will do.
  *
  * Refusals 1 to 10; 18 at place 0 for another number of records or words. Where one
  * is answered nothing is written. What a start leaves may be lent to
@@ -199,8 +226,10 @@ pilzdamo_verdict pilzdamo_start(const uint8_t *file, size_t file_len,
 /*
  * Carries out one choice in a list of threads that is lent: PILZDAMO_RECORDS
  * records, and beside them PILZDAMO_BESIDE words: the number of threads, which are
- * the first records; that of the made channels; and the owner and kind of each of
- * these. What stands past these numbers may be anything, and stays.
+ * the first records; that of the made channels; the owner and kind of each of these,
+ * with room for 64; and PILZDAMO_TOTALS totals, for each kind from 1 on how many
+ * threads wait on it. What stands past the two numbers may be anything, and stays; the
+ * totals must all be right, 0 for kinds that the file doesn't have.
  *
  * Refusals 1 to 10; 18 at place 0 where this is no list of the file's threads; the
  * choice's own at place 1. Where one is answered nothing is written.

@@ -18,9 +18,10 @@ use Rattle.steps.specs.Acted.{actedOf}
 use Rattle.steps.specs.Choice.{Clinic, State, Chosen, goes, done, outcome, choice}
 use Rattle.choices.specs.Choices.{threadsFrom, start, Ran, follow, run}
 use Rattle.steps.specs.Records.{threadsIn}
-use Rattle.steps.specs.Beside.{madeIn, startWords}
+use Rattle.steps.specs.Beside.{madeIn, startWords, startBeside, oneMore, counted}
 use Rattle.steps.specs.Kept.{stateIn, Sized, stateLeft}
 use Rattle.steps.specs.Records.{stored}
+use Rattle.steps.proofs.TotalLaws.{cleared-length, cleared-other, aside-state, aside-counted, aside-none}
 use Rattle.choices.proofs.StateLaws.{threads-add}
 
 -- a run of which some choices are done already
@@ -143,20 +144,53 @@ opened-item [] (suc k) = refl
 opened-item (s ∷ ss) (suc zero) = refl
 opened-item (s ∷ ss) (suc (suc k)) = opened-item ss (suc k)
 
+pub threads-from-length : (ss : List Session) → length (threadsFrom ss) ≡ length ss
+unfolding threadsFrom
+threads-from-length [] = refl
+threads-from-length (s ∷ ss) = ap suc (threads-from-length ss)
+
 -- the counts are written beside
-pub open-state : (C : Contents) (w b : List ℕ) (n : ℕ) → length w ≡ 704 → length b ≡ 130 → n ≤ 32 → length (C .sessions) ≡ n → Opened (C .sessions) w n
+counts-open : (C : Contents) (w b : List ℕ) (n : ℕ) → length w ≡ 704 → length b ≡ 162 → n ≤ 32 → length (C .sessions) ≡ n → Opened (C .sessions) w n
     → (stateIn w (startWords b n) ≡ start C) × Sized w (startWords b n)
 unfolding madeIn threadsFrom
-open-state C w b n words long few e have =
+counts-open C w b n words long few e have =
     let d : List ℕ = startWords b n in
-    let count : getD d 0 0 ≡ n = getD-set-other (set b 0 n) 1 0 0 0 (λ q. omega (arith, q)) ∙ getD-set-same b 0 n 0 (omega (arith, long)) in
-    let none : getD d 1 0 ≡ 0 = getD-set-same (set b 0 n) 1 0 0 (omega (arith, long, length-set b 0 n)) in
+    let count : getD d 0 0 ≡ n = cleared-other (set (set b 0 n) 1 0) 0 (omega arith) ∙ getD-set-other (set b 0 n) 1 0 0 0 (λ q. omega (arith, q)) ∙ getD-set-same b 0 n 0 (omega (arith, long)) in
+    let none : getD d 1 0 ≡ 0 = cleared-other (set (set b 0 n) 1 0) 1 (omega arith) ∙ getD-set-same (set b 0 n) 1 0 0 (omega (arith, long, length-set b 0 n)) in
     let all : threadsIn w 0 n ≡ threadsFrom (C .sessions) = sym (append-nil (threadsIn w 0 n)) ∙ ap (λ (l : List Session). threadsIn w 0 n ++ threadsFrom l) (sym (none-past (C .sessions) n (omega (arith, e)))) ∙ have in (
       ap₂ (λ (k m : ℕ). record { threads = threadsIn w 0 k; made = madeIn d 2 m }) count none ∙ ap (λ (ts : List Thread). record { threads = ts; made = [] }) all,
       record {
         words = words;
-        beside = length-set (set b 0 n) 1 0 ∙ length-set b 0 n ∙ long;
+        beside = cleared-length (set (set b 0 n) 1 0) ∙ length-set (set b 0 n) 1 0 ∙ length-set b 0 n ∙ long;
         threads = omega (arith, count, few);
         made = omega (arith, none);
       },
     )
+
+-- and the totals
+module _ (C : Contents) (kind : ℕ → ℕ) where
+  pub open-state : (w b : List ℕ) (n : ℕ) → length w ≡ 704 → length b ≡ 162 → n ≤ 32 → length (C .sessions) ≡ n → Opened (C .sessions) w n
+      → (stateIn w (startBeside kind b (start C .threads)) ≡ start C) × Sized w (startBeside kind b (start C .threads))
+  open-state w b n words long few e have =
+      let ts : List Thread = threadsFrom (C .sessions) in
+      let counts = counts-open C w b (length ts) words long (omega (arith, few, e, threads-from-length (C .sessions))) (sym (threads-from-length (C .sessions)))
+      (subst (Opened (C .sessions) w) (sym (threads-from-length (C .sessions) ∙ e)) have) in
+      let same = aside-state w (startWords b (length ts)) (counted kind (startWords b (length ts)) ts) (counts .1) (aside-counted kind (startWords b (length ts)) (startWords b (length ts)) ts (aside-none (startWords b (length ts)))) in
+      (same .0 ∙ counts .0, same .1)
+
+  -- one session after the other is counted
+  abbrev pub Counting : List ℕ → List ℕ → ℕ → Type 0
+  Counting b₀ b k = counted kind b (threadsFrom (drop k (C .sessions))) ≡ counted kind b₀ (start C .threads)
+
+  pub counting-on : (b₀ b d : List ℕ) (k j : ℕ) (s : Session) → k < length (C .sessions) → j ≡ k + 1 → s ≡ item noSession (C .sessions) j → d ≡ oneMore b (kind (s .root)) → Counting b₀ b k → Counting b₀ d j
+  unfolding threadsFrom counted
+  counting-on b₀ b d k j s lt at is e have =
+      let its : s ≡ item noSession (C .sessions) (k + 1) = is ∙ ap (item noSession (C .sessions)) at in
+      ap₂ (λ (l : List ℕ) (x : ℕ). counted kind l (threadsFrom (drop x (C .sessions)))) (e ∙ ap (λ (x : Session). oneMore b (kind (x .root))) its) at
+      ∙ ap (λ (ss : List Session). counted kind b (threadsFrom ss)) (sym (next-item noSession (C .sessions) k lt)) ∙ have
+
+  pub counting-ends : (old b₀ b : List ℕ) (k n : ℕ) → length (C .sessions) ≡ n → n ≤ k → b₀ ≡ startWords old n → Counting b₀ b k → b ≡ startBeside kind old (start C .threads)
+  unfolding threadsFrom counted
+  counting-ends old b₀ b k n e past is have =
+      sym (ap (λ (ss : List Session). counted kind b (threadsFrom ss)) (none-past (C .sessions) k (omega (arith, e, past)))) ∙ have
+      ∙ ap (λ (l : List ℕ). counted kind l (start C .threads)) (is ∙ ap (startWords old) (sym (threads-from-length (C .sessions) ∙ e)))

@@ -169,7 +169,7 @@ mint-state w b d x z room r =
     let low : List ℕ = set b (2 * m + 2) (x .owner) in
     let both : List ℕ = set low (2 * m + 3) (x .kind .0) in
     let count : getD d 0 0 ≡ getD b 0 0 = ap (λ (y : List ℕ). getD y 0 0) r ∙ mint-other b m 0 x (λ h. omega (arith, h)) (λ h. omega (arith, h)) (λ h. omega (arith, h)) in
-    let long : length both ≡ 130 = length-set low (2 * m + 3) (x .kind .0) ∙ length-set b (2 * m + 2) (x .owner) ∙ z .beside in
+    let long : length both ≡ 162 = length-set low (2 * m + 3) (x .kind .0) ∙ length-set b (2 * m + 2) (x .owner) ∙ z .beside in
     let made : getD d 1 0 ≡ m + 1 = ap (λ (y : List ℕ). getD y 1 0) r ∙ getD-set-same both 1 (m + 1) 0 (omega (arith, long)) in (
       ap₂ state
           (ap (threadsIn w 0) count)

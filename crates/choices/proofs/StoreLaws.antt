@@ -9,7 +9,9 @@ use Rattle.steps.specs.declared.Answer.{Answer}
 use Rattle.steps.specs.declared.Answer.the-variants as answers
 use Rattle.steps.specs.Choice.{State, changed, added, withMade, removed, done}
 use Rattle.steps.specs.Kept.{stateIn, Sized}
-use Rattle.steps.specs.Beside.{threadCount, withThreads, oneMade}
+use Rattle.steps.specs.declared.Outcome.{Outcome}
+use Rattle.steps.specs.Beside.{threadCount, withThreads, oneMade, countsBy, totalsBy, besideBy}
+use Rattle.steps.proofs.TotalLaws.{aside-totals, aside-state}
 use Rattle.choices.specs.Stored.{Chose}
 use Rattle.steps.specs.Acted.{outcomeBy}
 
@@ -22,7 +24,7 @@ then-minted s s1 s2 i t m e q = q ∙ ap (λ (x : State). record { threads = x .
 
 module _ (w b : List ℕ) (i p : ℕ) (it : Acted) where
   abbrev Stored : Answer → List ℕ → List ℕ → Answer → Type 0
-  Stored r w′ b′ a = Chose (outcomeBy a (it .first) (it .second)) i p r w b w′ b′
+  Stored r w′ b′ a = Chose (countsBy b (outcomeBy a (it .first) (it .second))) (outcomeBy a (it .first) (it .second)) i p r w b w′ b′
 
   pub refused-stored : (n : ℕ) → it .answer ≡ answers.Refused n → Sized w b → Stored (answers.Refused n) w b (it .answer)
   unfolding done
@@ -52,3 +54,10 @@ module _ (w b : List ℕ) (i p : ℕ) (it : Acted) where
       → Stored answers.Meets w′ b (it .answer)
   unfolding done
   meets-stored w′ e q z = subst (Stored answers.Meets w′ b) (sym e) (refl, q, refl, z)
+
+-- and then the totals
+pub recounted : (kind : ℕ → ℕ) (o : Outcome) (i p : ℕ) (r : Answer) (w b w′ b′ d : List ℕ) → Chose (countsBy b o) o i p r w b w′ b′ → d ≡ totalsBy kind b′ o
+    → Chose (besideBy kind b o) o i p r w b w′ d
+recounted kind o i p r w b w′ b′ d (told, state, words, sized) e =
+    let same = aside-state w′ b′ (totalsBy kind b′ o) sized (aside-totals kind b′ o) in
+    (told, ap (stateIn w′) e ∙ same .0 ∙ state, e ∙ ap (λ (l : List ℕ). totalsBy kind l o) words, subst (Sized w′) (sym e) (same .1))

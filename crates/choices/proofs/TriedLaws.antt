@@ -11,40 +11,41 @@ use Rattle.steps.specs.declared.Answer.the-variants as answers
 use Rattle.steps.specs.Acted.{actedOf}
 use Rattle.steps.specs.Choice.{Clinic, State, Chosen, done, outcome, choice}
 use Rattle.steps.specs.Kept.{stateIn, Sized, stateLeft}
+use Rattle.steps.specs.Beside.{besideBy}
 use Rattle.choices.specs.Choices.{Ran, follow, run}
 use Rattle.choices.specs.Stored.{Tried, untried, triedBy, onFrom, tried, Chose, Gone, Through}
 use Rattle.choices.specs.declared.Went.{Went}
 use Rattle.choices.proofs.RunLaws.{next, Refuses, refused-by}
 
 -- what is left from here gives what the whole gives
-abbrev pub LeftTried : Clinic → State → Tried → List ℕ → ℕ → State → Tried → Type 0
-LeftTried C s t₀ ws k now t = tried C s t₀ ws ≡ tried C now t (drop (2 * k) ws)
+abbrev pub LeftTried : (ℕ → ℕ) → Clinic → State → Tried → List ℕ → ℕ → State → Tried → Type 0
+LeftTried kind C s t₀ ws k now t = tried kind C s t₀ ws ≡ tried kind C now t (drop (2 * k) ws)
 
-module _ (C : Clinic) (s : State) (t₀ : Tried) (ws : List ℕ) (k : ℕ) (now now′ : State) (t t′ : Tried) (lt : k < length ws / 2) (left : LeftTried C s t₀ ws k now t)
+module _ (kind : ℕ → ℕ) (C : Clinic) (s : State) (t₀ : Tried) (ws : List ℕ) (k : ℕ) (now now′ : State) (t t′ : Tried) (lt : k < length ws / 2) (left : LeftTried kind C s t₀ ws k now t)
     (o : Outcome) (is : o ≡ outcome C now (getD ws (2 * k) 0) (getD ws (2 * k + 1) 0))
-    (kept : now′ ≡ stateLeft now (done now (getD ws (2 * k) 0) (getD ws (2 * k + 1) 0) o)) (told : t′ ≡ triedBy (t .beside) o) where
+    (kept : now′ ≡ stateLeft now (done now (getD ws (2 * k) 0) (getD ws (2 * k + 1) 0) o)) (told : t′ ≡ triedBy kind (t .beside) o) where
   abbrev chosen : Outcome → Chosen
   chosen x = done now (getD ws (2 * k) 0) (getD ws (2 * k + 1) 0) x
 
   abbrev rest : Tried → State → Tried
-  rest u x = tried C x u (drop (2 * (k + 1)) ws)
+  rest u x = tried kind C x u (drop (2 * (k + 1)) ws)
 
-  here : tried C s t₀ ws ≡ onFrom (chosen o) t′ (rest t′)
+  here : tried kind C s t₀ ws ≡ onFrom (chosen o) t′ (rest t′)
   unfolding tried
   here =
-      left ∙ ap (λ (l : List ℕ). tried C now t l) (next ws k lt)
-      ∙ ap (λ (x : Outcome). onFrom (chosen x) (triedBy (t .beside) x) (rest (triedBy (t .beside) x))) (sym is)
+      left ∙ ap (λ (l : List ℕ). tried kind C now t l) (next ws k lt)
+      ∙ ap (λ (x : Outcome). onFrom (chosen x) (triedBy kind (t .beside) x) (rest (triedBy kind (t .beside) x))) (sym is)
       ∙ ap (λ (u : Tried). onFrom (chosen o) u (rest u)) (sym told)
 
-  pub tried-halts : (n : ℕ) → answers.Refused n ≡ actedOf o .answer → tried C s t₀ ws ≡ t′
+  pub tried-halts : (n : ℕ) → answers.Refused n ≡ actedOf o .answer → tried kind C s t₀ ws ≡ t′
   unfolding done
   tried-halts n e = here ∙ ap (λ (x : Outcome). onFrom (chosen x) t′ (rest t′)) (refused-by o n e)
 
-  pub tried-goes : (Refuses (actedOf o .answer) → ⊥) → LeftTried C s t₀ ws (k + 1) now′ t′
+  pub tried-goes : (Refuses (actedOf o .answer) → ⊥) → LeftTried kind C s t₀ ws (k + 1) now′ t′
   unfolding done
   tried-goes none = go o none kept here
     where
-      go : (x : Outcome) → (Refuses (actedOf x .answer) → ⊥) → now′ ≡ stateLeft now (chosen x) → tried C s t₀ ws ≡ onFrom (chosen x) t′ (rest t′) → LeftTried C s t₀ ws (k + 1) now′ t′
+      go : (x : Outcome) → (Refuses (actedOf x .answer) → ⊥) → now′ ≡ stateLeft now (chosen x) → tried kind C s t₀ ws ≡ onFrom (chosen x) t′ (rest t′) → LeftTried kind C s t₀ ws (k + 1) now′ t′
       go (Refused n) f q h = absurd (f tt)
       go (Moves u) f q h = h ∙ ap (rest t′) (sym q)
       go (Adds u) f q h = h ∙ ap (rest t′) (sym q)
@@ -53,11 +54,11 @@ module _ (C : Clinic) (s : State) (t₀ : Tried) (ws : List ℕ) (k : ℕ) (now 
       go (Meets u) f q h = h ∙ ap (rest t′) (sym q)
 
 -- at the end no choice is left
-pub tried-ends : (C : Clinic) (s : State) (t₀ : Tried) (ws : List ℕ) (k : ℕ) (now : State) (t : Tried) → k ≡ length ws / 2 → LeftTried C s t₀ ws k now t → tried C s t₀ ws ≡ t
+pub tried-ends : (kind : ℕ → ℕ) (C : Clinic) (s : State) (t₀ : Tried) (ws : List ℕ) (k : ℕ) (now : State) (t : Tried) → k ≡ length ws / 2 → LeftTried kind C s t₀ ws k now t → tried kind C s t₀ ws ≡ t
 unfolding tried
-tried-ends C s t₀ ws k now t e left = left ∙ go (drop (2 * k) ws) (omega (arith, e, length-drop (2 * k) ws))
+tried-ends kind C s t₀ ws k now t e left = left ∙ go (drop (2 * k) ws) (omega (arith, e, length-drop (2 * k) ws))
   where
-    go : (l : List ℕ) → length l ≤ 1 → tried C now t l ≡ t
+    go : (l : List ℕ) → length l ≤ 1 → tried kind C now t l ≡ t
     go [] h = refl
     go (x ∷ []) h = refl
     go (x ∷ y ∷ l) h = let none : ⊥ = omega (arith, h) in absurd none
@@ -73,11 +74,11 @@ through R T k w b c r a e f q z = (
 )
 
 -- a list of one choice is that choice
-pub one-chosen : (C : Clinic) (s : State) (b : List ℕ) (i p : ℕ) → tried C s (untried b) (i ∷ p ∷ []) ≡ triedBy b (outcome C s i p)
+pub one-chosen : (kind : ℕ → ℕ) (C : Clinic) (s : State) (b : List ℕ) (i p : ℕ) → tried kind C s (untried b) (i ∷ p ∷ []) ≡ triedBy kind b (outcome C s i p)
 unfolding tried done
-one-chosen C s b i p = go (outcome C s i p)
+one-chosen kind C s b i p = go (outcome C s i p)
   where
-    go : (o : Outcome) → onFrom (done s i p o) (triedBy b o) (λ x. tried C x (triedBy b o) []) ≡ triedBy b o
+    go : (o : Outcome) → onFrom (done s i p o) (triedBy kind b o) (λ x. tried kind C x (triedBy kind b o) []) ≡ triedBy kind b o
     go (Refused n) = refl
     go (Moves t) = refl
     go (Adds q) = refl
@@ -97,11 +98,11 @@ one-state C s i p = go (outcome C s i p)
     go Ends = refl
     go (Meets q) = refl
 
-pub one-chose : (C : Clinic) (w b w′ b′ : List ℕ) (i p : ℕ) (r : Went)
-    → Through (run C (stateIn w b) (i ∷ p ∷ [])) (tried C (stateIn w b) (untried b) (i ∷ p ∷ [])) r w′ b′
-    → Chose (outcome C (stateIn w b) i p) i p (r .last) w b w′ b′
-one-chose C w b w′ b′ i p r (told, state, words, sized) =
-    let one = one-chosen C (stateIn w b) b i p in (
+pub one-chose : (kind : ℕ → ℕ) (C : Clinic) (w b w′ b′ : List ℕ) (i p : ℕ) (r : Went)
+    → Through (run C (stateIn w b) (i ∷ p ∷ [])) (tried kind C (stateIn w b) (untried b) (i ∷ p ∷ [])) r w′ b′
+    → Chose (besideBy kind b (outcome C (stateIn w b) i p)) (outcome C (stateIn w b) i p) i p (r .last) w b w′ b′
+one-chose kind C w b w′ b′ i p r (told, state, words, sized) =
+    let one = one-chosen kind C (stateIn w b) b i p in (
       ap (λ (x : Went). x .last) told ∙ ap (λ (x : Tried). x .last) one,
       state ∙ one-state C (stateIn w b) i p,
       words ∙ ap (λ (x : Tried). x .beside) one,
@@ -109,5 +110,5 @@ one-chose C w b w′ b′ i p r (told, state, words, sized) =
     )
 
 -- and without the last answer
-pub through-gone : (R : Ran) (T : Tried) (r : Went) (w b : List ℕ) → Through R T r w b → Gone R (record { count = r .count; refusal = r .refusal }) w b
-through-gone R T r w b (told, state, words, sized) = (ap (λ (x : Went). record { count = x .count; refusal = x .refusal }) told, state, sized)
+pub through-gone : (R : Ran) (T : Tried) (r : Went) (w b : List ℕ) → Through R T r w b → Gone R (T .beside) (record { count = r .count; refusal = r .refusal }) w b
+through-gone R T r w b (told, state, words, sized) = (ap (λ (x : Went). record { count = x .count; refusal = x .refusal }) told, state, sized, words)

@@ -62,7 +62,7 @@ output-words count refusal w b =
     )
 
 -- a run, then its round
-module _ (F : Contents) (ws : List ℕ) (own : Progress) (w₁ b₁ : List ℕ) (gone : Gone (ranBy F ws) own w₁ b₁)
+module _ (F : Contents) (ws : List ℕ) (own : Progress) (w₁ b₁ : List ℕ) (left : List ℕ) (gone : Gone (ranBy F ws) left own w₁ b₁)
     (more : ℕ) (w b l : List ℕ) (added : HandedBack (roundBy (clinicOf F) (own .refusal) (stateIn w₁ b₁)) more w b l) where
   same-round : roundBy (clinicOf F) (own .refusal) (stateIn w₁ b₁) ≡ afterList F ws
   same-round = ap₂ (λ (n : ℕ) (s : State). roundBy (clinicOf F) n s) (ap (λ (x : Progress). x .refusal) (gone .0)) (gone .1)

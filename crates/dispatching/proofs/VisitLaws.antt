@@ -17,7 +17,7 @@ use Rattle.steps.specs.declared.Answer.{Answer}
 use Rattle.steps.specs.declared.Answer.the-variants as answers
 use Rattle.steps.specs.Acted.{actedOf}
 use Rattle.steps.specs.Choice.{Clinic, State, Chosen, halts, goes, removed, done, outcome, choice}
-use Rattle.steps.specs.Beside.{threadCount}
+use Rattle.steps.specs.Beside.{threadCount, besideBy}
 use Rattle.steps.specs.Kept.{stateIn, Sized, stateLeft}
 use Rattle.steps.proofs.TableLaws.{threads-length}
 use Rattle.choices.specs.Choices.{run}
@@ -117,16 +117,16 @@ module _ (C : Clinic) (w b : List ℕ) (sized : Sized w b) (i there moved : ℕ)
       let (l, h, t) = receiver-steps threadsOf (comesTo C) s i marks p e n in
       (l, omega (arith, l, h, marks-length 1 there moved))
 
-  pub told-met : (p : ℕ) (r : Went) (w′ b′ : List ℕ) (m₁ m₂ : ℕ) → p ≡ receiver → (p ≡ 0 → ⊥)
-      → Through (run C s (i ∷ p ∷ [])) (tried C s (untried b) (i ∷ p ∷ [])) r w′ b′
+  pub told-met : (kind : ℕ → ℕ) (p : ℕ) (r : Went) (w′ b′ : List ℕ) (m₁ m₂ : ℕ) → p ≡ receiver → (p ≡ 0 → ⊥)
+      → Through (run C s (i ∷ p ∷ [])) (tried kind C s (untried b) (i ∷ p ∷ [])) r w′ b′
       → m₁ ≡ with moved p → m₂ ≡ with m₁ i
       → VisitTold (meetingOf receiver) i there (record { «is_done» = true; partner = p; next = i + 1; present = there; moved = m₂ }) w′ b′
   unfolding choice done
-  told-met p r w′ b′ m₁ m₂ e n through e₁ e₂ =
+  told-met kind p r w′ b′ m₁ m₂ e n through e₁ e₂ =
       let (l, h) = found-there p e n in
       let (_, _, t) = receiver-steps threadsOf (comesTo C) s i marks p e n in
       let (q, o) = meets-of (outcome C s i p) (sym (step-met C w b i pos (omega (arith, le, few)) p l (omega (arith, h, few))) ∙ t) in
-      let (_, state, _, sized′) = one-chose C w b w′ b′ i p r through in
+      let (_, state, _, sized′) = one-chose kind C w b w′ b′ i p r through in
       let is : comesTo C s i p ≡ takenOf (done s i p (Meets q)) = ap (λ (x : Outcome). takenOf (done s i p x)) o in
       let g : meetingOf receiver ≡ going threadsOf (comesTo C) s (i - 1) marks (metBy p (takenOf (done s i p (Meets q)))) =
       ap meetingOf (sym e) ∙ rw (ne-eqb p 0 n) (ap (λ (x : Taken State). going threadsOf (comesTo C) s (i - 1) marks (metBy p x)) is) in
@@ -195,9 +195,9 @@ module _ (C : Clinic) (w b : List ℕ) (sized : Sized w b) (i there moved : ℕ)
         })
 
   -- the lone choice, as the loop over a list of one choice tells of it
-  module _ (r : Went) (w′ b′ : List ℕ) (through : Through (run C s (i ∷ 0 ∷ [])) (tried C s (untried b) (i ∷ 0 ∷ [])) r w′ b′) where
-    chose : Chose (outcome C s i 0) i 0 (r .last) w b w′ b′
-    chose = one-chose C w b w′ b′ i 0 r through
+  module _ (kind : ℕ → ℕ) (r : Went) (w′ b′ : List ℕ) (through : Through (run C s (i ∷ 0 ∷ [])) (tried kind C s (untried b) (i ∷ 0 ∷ [])) r w′ b′) where
+    chose : Chose (besideBy kind b (outcome C s i 0)) (outcome C s i 0) i 0 (r .last) w b w′ b′
+    chose = one-chose kind C w b w′ b′ i 0 r through
 
     -- a refused one leaves the state, and the thread may meet another
     pub lone-refused : (n : ℕ) → r .last ≡ answers.Refused n → (stateIn w′ b′ ≡ s) × (there ≤ threadCount b′) × (theVisit ≡ meetingOf receiver)

@@ -88,6 +88,7 @@ fn add_round(
     head: Head,
     sends: &[u16],
     receives: &[u16],
+    table: &[u64],
     refusal: u16,
     threads: &mut [u16],
     beside: &mut [u16],
@@ -101,10 +102,10 @@ fn add_round(
     if refusal != 0 {
         return 0;
     }
-    go_round(file, head, sends, receives, threads, beside, words)
+    go_round(file, head, sends, receives, table, threads, beside, words)
 }
 
-// The round of a file that 1 to 10 leave clean, and the output.
+// The round of a file that 1 to 10 leave clean, and the output. Nobody reads the totals of its state: the table that they go by is left empty.
 fn round_into(file: &[u8], head: Head, choices: &[u16], out: &mut [u8]) -> Round
     requires { ⌜ Laid (now file) head × (length (now choices) ≤ 130942) × (1800 ≤ length (now out)) ⌝ }
     ensures { λ r. ⌜ (r ≡ roundAnswer (bothBy (contentsAt (now (file .entry)) head) (now (choices .entry))) (afterList (contentsAt (now (file .entry)) head) (now (choices .entry)) .words))
@@ -115,11 +116,13 @@ fn round_into(file: &[u8], head: Head, choices: &[u16], out: &mut [u8]) -> Round
     let mut threads = [0u16; TABLE];
     let mut beside = [0u16; BESIDE];
     let mut words = [0u16; 128];
+    let table = [0u64; 1];
     let own = run_by(
         file,
         head,
         &mut sends,
         &mut receives,
+        &table,
         choices,
         &mut threads,
         &mut beside,
@@ -129,6 +132,7 @@ fn round_into(file: &[u8], head: Head, choices: &[u16], out: &mut [u8]) -> Round
         head,
         &sends,
         &receives,
+        &table,
         own.refusal,
         &mut threads,
         &mut beside,

@@ -92,6 +92,7 @@ fn meet(
     head: Head,
     sends: &[u16],
     receives: &[u16],
+    table: &[u64],
     threads: &mut [u16],
     beside: &mut [u16],
     i: u16,
@@ -126,7 +127,7 @@ fn meet(
         };
     }
     let list = [i, p];
-    go_through(file, head, sends, receives, &list, threads, beside);
+    go_through(file, head, sends, receives, table, &list, threads, beside);
     Visit {
         is_done: true,
         partner: p,
@@ -142,6 +143,7 @@ fn visit(
     head: Head,
     sends: &[u16],
     receives: &[u16],
+    table: &[u64],
     threads: &mut [u16],
     beside: &mut [u16],
     i: u16,
@@ -154,7 +156,7 @@ fn visit(
         i there r (now (threads .exit)) (now (beside .exit)) ⌝ }
 {
     let list = [i, 0u16];
-    let went = go_through(file, head, sends, receives, &list, threads, beside);
+    let went = go_through(file, head, sends, receives, table, &list, threads, beside);
     let answer = went.last;
     match answer {
         Answer::Refused(_) => {
@@ -163,6 +165,7 @@ fn visit(
                 head,
                 sends,
                 receives,
+                table,
                 threads,
                 beside,
                 i,
@@ -206,6 +209,7 @@ pub fn go_round(
     head: Head,
     sends: &[u16],
     receives: &[u16],
+    table: &[u64],
     threads: &mut [u16],
     beside: &mut [u16],
     words: &mut [u16],
@@ -224,6 +228,7 @@ pub fn go_round(
             head,
             sends,
             receives,
+            table,
             threads,
             beside,
             i,

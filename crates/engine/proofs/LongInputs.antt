@@ -5,7 +5,7 @@ use mathlib.Core.Bool.{Bool, true, false, cond, _&&_}
 use mathlib.Core.List.{List}
 use native.Mathlib.Omega.{arith}
 use lib.Dec.{eqb, leb}
-use lib.ListN.{length, take}
+use lib.ListN.{length, take, replicate}
 use borrow.Author.Tests.{ne-eqb}
 use Rattle.format.specs.Answers.{refused, orElse}
 use Rattle.format.specs.Contents.{contentsOf}
@@ -22,7 +22,8 @@ use Rattle.placing.specs.declared.Placed.{Placed}
 use Rattle.steps.specs.declared.Thread.{Thread}
 use Rattle.steps.specs.Choice.{clinicOf}
 use Rattle.choices.specs.Choices.{ranOf}
-use Rattle.running.specs.Run.{listed, stopped, unready, readyPair, readyOf, ready}
+use Rattle.running.specs.Run.{listed, stopped, unready, readyPair, readyOf, ready, besideOfRun, totalsOf, totalsAfter}
+use Rattle.steps.specs.Beside.{totalsIn}
 use Rattle.running.specs.declared.Ready.{Ready}
 use Rattle.running.proofs.StandLaws.{stands-run, stands-over as stands-ran}
 use Rattle.dispatching.specs.Dispatch.{roundListed, roundUnready, noRound, rounding, roundOver}
@@ -61,6 +62,14 @@ module _ (f : List ℕ) (n : ℕ) (e : headOf f ≡ Refused n) where
   rounded-kept : (ws out : List ℕ) → roundOver f ws out ≡ out
   unfolding roundOver
   rounded-kept ws out = let (same, off) = round-unready ws (length out) in rw off
+
+  totals-refused : (ws : List ℕ) → totalsAfter f ws ≡ totalsOf (cond (listed (length ws)) (refused n 0) (refused 17 0)) (replicate 32 0)
+  unfolding totalsAfter
+  totals-refused ws = go (listed (length ws))
+    where
+      go : (b : Bool) → cond (eqb (unready b f .number) 0) (totalsOf (stopped (ranOf f ws)) (totalsIn (besideOfRun f ws))) (totalsOf (unready b f) (replicate 32 0)) ≡ totalsOf (cond b (refused n 0) (refused 17 0)) (replicate 32 0)
+      go true = rw (names-refused f n e, loud)
+      go false = refl
 
   module _ (l : List Thread) (b : List ℕ) where
     lending-refused : lending f l b ≡ refused n 0
@@ -115,6 +124,7 @@ kept-alike f = record {
     pair = λ ws. judged (λ n. noPair (cond (listed (length ws)) (refused n 0) (refused 17 0))) (λ g. ready g ws) (λ g n e. pair-refused g n e ws) f;
     round = λ ws room. judged (λ n. noRound (cond (roundListed (length ws) && leb 1800 room) (refused n 0) (refused 17 0))) (λ g. rounding g ws room) (λ g n e. round-refused g n e ws room) f;
     rounded = λ ws out. judged (λ n. out) (λ g. roundOver g ws out) (λ g n e. rounded-kept g n e ws out) f;
+    totals = λ ws. judged (λ n. totalsOf (cond (listed (length ws)) (refused n 0) (refused 17 0)) (replicate 32 0)) (λ g. totalsAfter g ws) (λ g n e. totals-refused g n e ws) f;
     choose = λ l b i p. judged (λ n. refused n 0) (λ g. choosing g l b i p) (λ g n e. choose-refused g n e l b i p) f;
     records = λ l b i p. judged (λ n. l) (λ g. recordsOver g l b i p) (λ g n e. records-kept g n e l b i p) f;
     beside = λ l b i p. judged (λ n. b) (λ g. besideOver g l b i p) (λ g n e. beside-kept g n e l b i p) f;

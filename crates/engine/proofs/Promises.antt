@@ -2,16 +2,17 @@
 -- What a caller gets is in the contracts of the exported functions (src/lib.rt): of any bytes handed over `pilzdamo_read` answers `readingNames`, the refusals 1 to 10,
 -- `pilzdamo_check` `checking`, the refusals 1 to 13, `pilzdamo_place` `placing`, with `placedOver` in the output, for a minute of the week `pilzdamo_check_at` `checkingAt`
 -- and `pilzdamo_place_at` `placingAt`, with `placedOverAt`, `pilzdamo_run`
--- `running`, with `runOver` in the output, `pilzdamo_ready` `ready`, `pilzdamo_round` `rounding`, with `roundOver` in the output, `pilzdamo_start` `starting`, with `recordsStarted` in the lent list and
+-- `running`, with `runOver` in the output, `pilzdamo_ready` `ready`, `pilzdamo_round` `rounding`, with `roundOver` in the output, `pilzdamo_totals` `totalsAfter`, `pilzdamo_total` `totalIn`,
+-- `pilzdamo_start` `starting`, with `recordsStarted` in the lent list and
 -- `besideStarted` beside it, and `pilzdamo_choose` `choosing`, with `recordsOver` and `besideOver`.
 use Prim.Native.Nat.{ℕ, _+_, _*_, _-_, _/_, _%_, _^_, _≤_, _<_}
-use mathlib.Core.Path.{_≡_, refl, sym}
+use mathlib.Core.Path.{_≡_, refl, sym, _∙_}
 use mathlib.Core.Logic.{_↔_, _≢_, _⊎_}
 use mathlib.Core.Bool.{true, false, cond}
 use mathlib.Core.List.{List, [], _∷_, _++_}
 use native.Mathlib.Omega.{arith}
 use lib.Dec.{eqb}
-use lib.ListN.{length, getD, take, drop}
+use lib.ListN.{length, getD, take, drop, replicate}
 use Rattle.masks.specs.Mask.{has, with, without}
 use Rattle.format.specs.Words.{wordAt, bytesOf}
 use Rattle.format.specs.Contents.{Contents, item, noSession, contentsOf}
@@ -47,10 +48,18 @@ use Rattle.format.specs.declared.Node.{Node}
 use Rattle.rules.specs.Rules.{Context, childOf}
 use Rattle.steps.specs.declared.Thread.{Thread}
 use Rattle.steps.specs.Threads.{noThread, firstFree, value}
-use Rattle.steps.specs.Beside.{threadCount, madeCount, besideWords, countWords, usedWords}
+use Rattle.steps.specs.Beside.{threadCount, madeCount, countWords, usedWords, totalIn}
+use Rattle.lending_exact.specs.Waiting.{waitingIn}
+use Rattle.lending_exact.proofs.WaitingCounts.{rule-one}
+use Rattle.lending_exact.proofs.RunTotals.{kept-totals, totals-answered, totals-unlisted, totals-unread, total-read-off, no-total}
+use Rattle.lending_exact.proofs.TotalCases.{ward, two-wait, one-is-met}
 use Rattle.steps.specs.Choice.{Clinic, clinicOf, State, threadAt, choice, halts, goes}
 use Rattle.choices.specs.Choices.{start, run, ranOf}
-use Rattle.running.specs.Run.{listed, running, runOver, readyPair, ready}
+use Rattle.naming.specs.Scopes.{awaits}
+use Rattle.rules.specs.Names.{kindOf}
+use Rattle.checking_exact.specs.Faults.{InContext}
+use Rattle.rules.specs.Checking.{openings}
+use Rattle.running.specs.Run.{listed, stopped, running, runOver, readyPair, ready, besideOfRun, totalsOf, totalsAfter}
 use Rattle.running_exact.specs.Steps.{StandsAt, Steps, Chain}
 use Rattle.running_exact.specs.Conditions.{Condition, FirstRefusal}
 use Rattle.running_exact.specs.Effects.{Effect}
@@ -447,6 +456,48 @@ pub ready-after-list : (f ws : List ℕ) → Listed ws → readingNames f ≡ fi
     }
 ready-after-list = ready-found
 
+-- K6: "The run's state is to keep 32 such totals, each equal to that count at the start and after every choice": of a file that 1 to 10 let through, beside the threads of a run through any list (each start of a
+-- list is one) stands for every kind 1 to 32 the number of threads that stand at a receive whose channel's value has that kind; the kind by which the run counts, the node's, is rule 1's.
+pub totals-kept : (f : List ℕ) → readingNames f ≡ fine → (ws : List ℕ) (k : ℕ) → InCount 32 k → getD (besideOfRun f ws) (129 + k) 0 ≡ waitingIn (clinicOf (contentsOf f)) (ranOf f ws .state) k
+totals-kept = kept-totals
+
+pub counted-by-rule-one : (f : List ℕ) → readingNames f ≡ fine → (j : ℕ) (c : Context) → InCount (length (contentsOf f .nodes)) j × InContext (schemaOf (contentsOf f)) (contentsOf f .nodes) (openings (contentsOf f)) j c
+    → clinicOf (contentsOf f) .node j .tag ≡ 5 → awaits (contentsOf f) j ≡ kindOf (schemaOf (contentsOf f)) (c .vars) (clinicOf (contentsOf f) .node j .f1)
+counted-by-rule-one = rule-one
+
+-- "the totals are read separately": those of the state in which the run stands, halted or not, with the run's own answer; all 0 where 17 or 1 to 10 refuse.
+pub totals-of-run : (f : List ℕ) → readingNames f ≡ fine → (ws : List ℕ) → listed (length ws) ≡ true
+    → (totalsAfter f ws .number ≡ stopped (ranOf f ws) .number) × (totalsAfter f ws .place ≡ stopped (ranOf f ws) .place)
+    × ((k : ℕ) → InCount 32 k → getD (totalsAfter f ws .totals) (k - 1) 0 ≡ waitingIn (clinicOf (contentsOf f)) (ranOf f ws .state) k)
+totals-of-run = totals-answered
+
+pub no-totals-unfit : (f ws : List ℕ) → listed (length ws) ≡ false → totalsAfter f ws ≡ totalsOf (refused 17 0) (replicate 32 0)
+no-totals-unfit = totals-unlisted
+
+pub no-totals-unread : (f ws : List ℕ) → listed (length ws) ≡ true → readingNames f .number ≢ 0 → totalsAfter f ws ≡ totalsOf (readingNames f) (replicate 32 0)
+no-totals-unread = totals-unread
+
+-- "the screen reads one of them (0 for a kind outside 1 to 32)", from the words beside the desk's own list; 0 for another number of words.
+pub screen-reads : (b : List ℕ) (k : ℕ) → length b ≡ 162 → InCount 32 k → totalIn b k ≡ getD b (129 + k) 0
+screen-reads = total-read-off
+
+pub screen-reads-none : (b : List ℕ) (k : ℕ) → (length b ≡ 162 → InCount 32 k → ⊥) → totalIn b k ≡ 0
+screen-reads-none = no-total
+
+-- So of a list that holds a state with its totals the screen shows the count ..
+pub screen-shows : (C : Contents) (l : List Thread) (b : List ℕ) (s : State) → Lends C l b s → (k : ℕ) → InCount 32 k → totalIn b k ≡ waitingIn (clinicOf C) s k
+screen-shows C l b s h k inside = total-read-off b k (h .words) inside ∙ h .totals k inside
+
+-- .. and "lent beside the desk's own list .. a wrong one is 18 at place 0", of whichever kind 1 to 32.
+pub wrong-total : (f : List ℕ) → readingNames f ≡ fine → (l : List Thread) → All Eight l → (b : List ℕ) (k : ℕ) → InCount 32 k
+    → getD b (129 + k) 0 ≢ waitingIn (clinicOf (contentsOf f)) (stateOf l b) k → (i p : ℕ) → choosing f l b i p ≡ refused 18 0
+wrong-total f clean l eight b k inside wrong i p = eighteen-zero f l eight b i p .1 (clean, λ h. wrong (h .totals k inside))
+
+-- The 162 words of a run in which two threads wait, one of them on a made channel, and then one is met.
+pub totals-in-words : (besideOfRun (bytesOf ward) (2 ∷ 0 ∷ 3 ∷ 0 ∷ []) ≡ 3 ∷ 1 ∷ 2 ∷ 2 ∷ replicate 126 0 ++ (1 ∷ 1 ∷ replicate 30 0))
+    × (besideOfRun (bytesOf ward) (2 ∷ 0 ∷ 3 ∷ 0 ∷ 1 ∷ 2 ∷ []) ≡ 3 ∷ 1 ∷ 2 ∷ 2 ∷ replicate 126 0 ++ (0 ∷ 1 ∷ replicate 30 0))
+totals-in-words = (two-wait, one-is-met)
+
 -- "a lent list of threads may be no state of a run": in any that may be lent the variable that a binder takes is the next on the path, and a choice that is done is a step of the state that is lent, whose result the
 -- list then holds.
 pub next-variable-lent : (C : Contents) (l : List Thread) (b : List ℕ) → Lendable C l b → (i : ℕ) → InCount (length (stateOf l b .threads)) i → (c : Context)
@@ -454,7 +505,7 @@ pub next-variable-lent : (C : Contents) (l : List Thread) (b : List ℕ) → Len
 next-variable-lent = lent-free
 
 pub lent-choice-is-a-step : (f : List ℕ) (l : List Thread) → All Eight l → (b : List ℕ) (i p : ℕ) → choosing f l b i p ≡ fine
-    → (s′ : State) × Steps (clinicOf (contentsOf f)) (stateOf l b) i p s′ × Lends (recordsOver f l b i p) (besideOver f l b i p) s′
+    → (s′ : State) × Steps (clinicOf (contentsOf f)) (stateOf l b) i p s′ × Lends (contentsOf f) (recordsOver f l b i p) (besideOver f l b i p) s′
 lent-choice-is-a-step = lent-steps
 
 -- The live desk's list. "Another number of records, a count above 64, a made channel's owner or kind out of count, or in a counted thread a node out of count, a user not that of the node's session, a role in
@@ -477,36 +528,36 @@ lent-choice-exactly = choosing-fine
 
 -- "from a state of a run it gives the run's next state": a state of a run is never 18 at place 0; a choice in it leaves the list holding the state of the run with that choice more, or is refused at place 1 as
 -- that run is; and so for whole lists of choices, done one after the other.
-pub run-may-be-lent : (f : List ℕ) → readingNames f ≡ fine → (ws : List ℕ) (l : List Thread) (b : List ℕ) → Lends l b (ranOf f ws .state) → lending f l b ≡ fine
+pub run-may-be-lent : (f : List ℕ) → readingNames f ≡ fine → (ws : List ℕ) (l : List Thread) (b : List ℕ) → Lends (contentsOf f) l b (ranOf f ws .state) → lending f l b ≡ fine
 run-may-be-lent = kept-lendable
 
-pub next-of-run : (f : List ℕ) → readingNames f ≡ fine → (ws : List ℕ) → length ws % 2 ≡ 0 → ranOf f ws .refusal ≡ 0 → (l : List Thread) (b : List ℕ) → Lends l b (ranOf f ws .state) → (i p : ℕ)
-    → Lends (recordsOver f l b i p) (besideOver f l b i p) (ranOf f (ws ++ (i ∷ p ∷ [])) .state)
+pub next-of-run : (f : List ℕ) → readingNames f ≡ fine → (ws : List ℕ) → length ws % 2 ≡ 0 → ranOf f ws .refusal ≡ 0 → (l : List Thread) (b : List ℕ) → Lends (contentsOf f) l b (ranOf f ws .state) → (i p : ℕ)
+    → Lends (contentsOf f) (recordsOver f l b i p) (besideOver f l b i p) (ranOf f (ws ++ (i ∷ p ∷ [])) .state)
     × (choosing f l b i p ≡ cond (eqb (ranOf f (ws ++ (i ∷ p ∷ [])) .refusal) 0) fine (refused (ranOf f (ws ++ (i ∷ p ∷ [])) .refusal) 1))
 next-of-run = lent-next
 
-pub run-in-turn : (f : List ℕ) → readingNames f ≡ fine → (ws : List ℕ) (l : List Thread) (b : List ℕ) → Lends l b (start (contentsOf f))
-    → Lends (inTurn f l b ws .records) (inTurn f l b ws .beside) (ranOf f ws .state)
+pub run-in-turn : (f : List ℕ) → readingNames f ≡ fine → (ws : List ℕ) (l : List Thread) (b : List ℕ) → Lends (contentsOf f) l b (start (contentsOf f))
+    → Lends (contentsOf f) (inTurn f l b ws .records) (inTurn f l b ws .beside) (ranOf f ws .state)
     × (inTurn f l b ws .answer ≡ cond (eqb (ranOf f ws .refusal) 0) fine (refused (ranOf f ws .refusal) 1))
 run-in-turn = whole-run
 
--- A desk begins with any 64 records and 130 words: the file is judged by 1 to 10 first, then another number of records or of words is 18 at place 0, and nothing else is refused.
+-- A desk begins with any 64 records and 162 words: the file is judged by 1 to 10 first, then another number of records or of words is 18 at place 0, and nothing else is refused.
 pub start-file-first : (f : List ℕ) (records words n q : ℕ) → OfFile n → (starting f records words ≡ refused n q) ↔ (readingNames f ≡ refused n q)
 start-file-first = start-ten
 
-pub start-sizes : (f : List ℕ) (records words : ℕ) → (starting f records words ≡ refused 18 0) ↔ ((readingNames f ≡ fine) × ((records ≢ 64) ⊎ (words ≢ besideWords)))
+pub start-sizes : (f : List ℕ) (records words : ℕ) → (starting f records words ≡ refused 18 0) ↔ ((readingNames f ≡ fine) × ((records ≢ 64) ⊎ (words ≢ 162)))
 start-sizes = start-eighteen
 
-pub start-otherwise : (f : List ℕ) (records words : ℕ) → (starting f records words ≡ fine) ↔ ((readingNames f ≡ fine) × (records ≡ 64) × (words ≡ besideWords))
+pub start-otherwise : (f : List ℕ) (records words : ℕ) → (starting f records words ≡ fine) ↔ ((readingNames f ≡ fine) × (records ≡ 64) × (words ≡ 162))
 start-otherwise = start-fine
 
--- The list and the words beside it then hold the state that a run begins with, which may be lent; records past the sessions and words past the two counts keep what they held; and where it is refused, all stays.
+-- The list and the words beside it then hold the state that a run begins with, which may be lent; records past the sessions and words between the two counts and the totals keep what they held; and where it is refused, all stays.
 pub start-is-the-runs : (f : List ℕ) (l : List Thread) (b : List ℕ) → starting f (length l) (length b) .number ≡ 0
-    → Lends (recordsStarted f l b) (besideStarted f l b) (start (contentsOf f)) × (lending f (recordsStarted f l b) (besideStarted f l b) ≡ fine)
+    → Lends (contentsOf f) (recordsStarted f l b) (besideStarted f l b) (start (contentsOf f)) × (lending f (recordsStarted f l b) (besideStarted f l b) ≡ fine)
 start-is-the-runs f l b quiet = (start-lends f l b quiet, start-lendable f l b quiet)
 
 pub start-keeps-the-rest : (f : List ℕ) (l : List Thread) (b : List ℕ) → starting f (length l) (length b) .number ≡ 0
-    → ((k : ℕ) (t : Thread) → length (contentsOf f .sessions) ≤ k → getD (recordsStarted f l b) k t ≡ getD l k t) × ((k : ℕ) → countWords ≤ k → getD (besideStarted f l b) k 0 ≡ getD b k 0)
+    → ((k : ℕ) (t : Thread) → length (contentsOf f .sessions) ≤ k → getD (recordsStarted f l b) k t ≡ getD l k t) × ((k : ℕ) → countWords ≤ k → k < 130 → getD (besideStarted f l b) k 0 ≡ getD b k 0)
 start-keeps-the-rest f l b quiet = (start-records-past f l b quiet, start-words-past f l b quiet)
 
 pub start-refused-leaves-all : (f : List ℕ) (l : List Thread) (b : List ℕ) → starting f (length l) (length b) .number ≢ 0 → (recordsStarted f l b ≡ l) × (besideStarted f l b ≡ b)
@@ -523,7 +574,7 @@ refused-leaves-all = refused-unchanged
 
 pub past-the-count : (f : List ℕ) (l : List Thread) (b : List ℕ) (i p : ℕ)
     → (drop (threadCount (besideOver f l b i p)) (recordsOver f l b i p) ≡ drop (threadCount (besideOver f l b i p)) l)
-    × (drop (usedWords (madeCount (besideOver f l b i p))) (besideOver f l b i p) ≡ drop (usedWords (madeCount (besideOver f l b i p))) b)
+    × ((k : ℕ) → usedWords (madeCount (besideOver f l b i p)) ≤ k → k < 130 → getD (besideOver f l b i p) k 0 ≡ getD b k 0)
 past-the-count = past-kept
 
 -- "Starred cases belong to the proved set .. shown on the definitions through one theorem about their list"; with them the five compares of the head of theatre (02, K4).

@@ -26,7 +26,7 @@ use Rattle.checking.specs.Check.{readingNames, checking}
 use Rattle.checking_at.specs.CheckAt.{readingAt, readingNamesAt, checkingAt}
 use Rattle.placing.specs.Placing.{turnsFor, placeable, judging, noPlace, placedBy, answerBy, bytesBy, overBy, measuring, placing, placedBytes, placedOver}
 use Rattle.placing_at.specs.PlaceAt.{openContents, turnsAt, judgingAt, measuringAt, placingAt, placedBytesAt, placedOverAt}
-use Rattle.running.specs.Run.{running, runOver, ready}
+use Rattle.running.specs.Run.{running, runOver, ready, totalsAfter}
 use Rattle.dispatching.specs.Dispatch.{rounding, roundOver}
 use Rattle.lending.specs.Lent.{lending, choosing, recordsOver, besideOver}
 use Rattle.lending.specs.Starting.{starting, recordsStarted, besideStarted}
@@ -61,7 +61,7 @@ module _ (f g : List ℕ) (r : reading f ≡ reading g) (c : contentsOf f ≡ co
       go false = (refl, refl, refl)
 
   pub alike-beside-form : AlikeBesideForm f g
-  unfolding readingNames checking readingAt readingNamesAt checkingAt measuring measuringAt running runOver ready rounding roundOver lending choosing recordsOver besideOver starting recordsStarted besideStarted
+  unfolding readingNames checking readingAt readingNamesAt checkingAt measuring measuringAt running runOver ready totalsAfter rounding roundOver lending choosing recordsOver besideOver starting recordsStarted besideStarted
   alike-beside-form = record {
     read = names;
     check = rw (r, c);
@@ -73,6 +73,7 @@ module _ (f g : List ℕ) (r : reading f ≡ reading g) (c : contentsOf f ≡ co
     pair = λ ws. rw (r, c);
     round = λ ws room. rw (r, c);
     rounded = λ ws out. rw (r, c);
+    totals = λ ws. rw (r, c);
     choose = λ l b i p. rw (r, c);
     records = λ l b i p. rw (r, c);
     beside = λ l b i p. rw (r, c);

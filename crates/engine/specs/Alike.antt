@@ -7,7 +7,7 @@ use Rattle.checking_at.specs.CheckAt.{checkingAt}
 use Rattle.placing.specs.Placing.{measuring, placing, placedOver}
 use Rattle.placing_at.specs.PlaceAt.{measuringAt, placingAt, placedOverAt}
 use Rattle.steps.specs.declared.Thread.{Thread}
-use Rattle.running.specs.Run.{running, runOver, ready}
+use Rattle.running.specs.Run.{running, runOver, ready, totalsAfter}
 use Rattle.dispatching.specs.Dispatch.{rounding, roundOver}
 use Rattle.lending.specs.Lent.{choosing, recordsOver, besideOver}
 use Rattle.lending.specs.Starting.{starting, recordsStarted, besideStarted}
@@ -26,6 +26,7 @@ pub record AlikeBesideForm (f g : List ℕ) : Type 0 where
   pub pair : (ws : List ℕ) → ready f ws ≡ ready g ws
   pub round : (ws : List ℕ) (room : ℕ) → rounding f ws room ≡ rounding g ws room
   pub rounded : (ws out : List ℕ) → roundOver f ws out ≡ roundOver g ws out
+  pub totals : (ws : List ℕ) → totalsAfter f ws ≡ totalsAfter g ws
   pub choose : (l : List Thread) (b : List ℕ) (i p : ℕ) → choosing f l b i p ≡ choosing g l b i p
   pub records : (l : List Thread) (b : List ℕ) (i p : ℕ) → recordsOver f l b i p ≡ recordsOver g l b i p
   pub beside : (l : List Thread) (b : List ℕ) (i p : ℕ) → besideOver f l b i p ≡ besideOver g l b i p

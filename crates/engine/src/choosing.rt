@@ -39,7 +39,7 @@ pub fn choose_by(
     }
     let own = list[index_of(count, i)];
     let other = list[index_of(count, p)];
-    let it = stepped(file, head, &mut *beside, i, own, p, other);
+    let it = stepped(file, head, table, &mut *beside, i, own, p, other);
     store(&mut *list, n, wide(i), wide(p), it);
     answer_of(it)
 }

@@ -15,6 +15,7 @@ use lending::starting::sessions_of;
 use lending::verdict_of;
 use placing::Placed;
 use running::Ready;
+use running::Totals;
 use starting::start_records;
 use steps::Thread;
 ghost use mathlib.Core.Path.{_≡_};
@@ -23,7 +24,8 @@ ghost use Rattle.checking.specs.Check.{readingNames, checking};
 ghost use Rattle.checking_at.specs.CheckAt.{checkingAt};
 ghost use Rattle.placing.specs.Placing.{measuring, placing, placedOver};
 ghost use Rattle.placing_at.specs.PlaceAt.{measuringAt, placingAt, placedOverAt};
-ghost use Rattle.running.specs.Run.{running, runOver, ready};
+ghost use Rattle.steps.specs.Beside.{totalIn};
+ghost use Rattle.running.specs.Run.{running, runOver, ready, totalsAfter};
 ghost use Rattle.dispatching.specs.Dispatch.{rounding, roundOver};
 ghost use Rattle.lending.specs.Lent.{choosing, recordsOver, besideOver};
 ghost use Rattle.lending.specs.Starting.{starting, recordsStarted, besideStarted};
@@ -122,8 +124,25 @@ pub extern "C" fn pilzdamo_round(file: &[u8], choices: &[u16], out: &mut [u8]) -
     dispatching::round_after(file, choices, out)
 }
 
-// Carries out one choice in the list that the live desk lends: 64 records of threads, and beside them 130 words: the thread count, the number of made
-// channels, owner and kind of 64 made channels. The first of 1 to 10; 18 at place 0 where what is lent is no list of the file's threads; the choice's
+// How many threads stand at a receive on a channel of each of the kinds 1 to 32, in the state in which the run through the list stands, halted or not; all 0 where
+// 17 or 1 to 10 refuse. The number and place are those of the run.
+#[no_mangle]
+pub extern "C" fn pilzdamo_totals(file: &[u8], choices: &[u16]) -> Totals
+    ensures { λ r. ⌜ r ≡ totalsAfter (now (file .entry)) (now (choices .entry)) ⌝ }
+{
+    running::totals_after(file, choices)
+}
+
+// One of these totals, from the 162 words beside a lent list; 0 for a kind outside 1 to 32 and for another number of words.
+#[no_mangle]
+pub extern "C" fn pilzdamo_total(beside: &[u16], kind: u16) -> u16
+    ensures { λ r. ⌜ r ≡ totalIn (now (beside .entry)) kind ⌝ }
+{
+    steps::beside::total(beside, kind)
+}
+
+// Carries out one choice in the list that the live desk lends: 64 records of threads, and beside them 162 words: the thread count, the number of made
+// channels, owner and kind of 64 made channels, and for each of the kinds 1 to 32 how many threads stand at a receive on a channel of that kind. The first of 1 to 10; 18 at place 0 where what is lent is no list of the file's threads with their totals; the choice's
 // refusal at place 1; or 0 and 0, and then only what the choice changes is stored.
 #[no_mangle]
 pub extern "C" fn pilzdamo_choose(
@@ -154,7 +173,7 @@ pub extern "C" fn pilzdamo_choose(
 }
 
 // The lent list and the words beside it as the file starts. The first of 1 to 10; 18 at place 0 for another number of records or of words; or 0 and 0,
-// and then one record for each session and the two counts are stored. Every other record and word stays.
+// and then one record for each session, the two counts and the 32 totals are stored. Every other record and word stays.
 #[no_mangle]
 pub extern "C" fn pilzdamo_start(file: &[u8], threads: &mut [Thread], beside: &mut [u16]) -> Verdict
     ensures { λ r. ⌜ (r ≡ starting (now (file .entry)) (length (now (threads .entry))) (length (now (beside .entry))))

@@ -1,6 +1,8 @@
 // The lent list of threads, record by record: each judged by value, and what a choice changes stored in place. These functions are proved by hand.
 use format::Head;
-use lending::judging::thread_fits;
+use lending::judging::no_tally;
+use lending::judging::tally;
+use lending::judging::tally_fits;
 use lending::storing::down_to;
 use lending::storing::first_of;
 use lending::storing::first_to;
@@ -19,7 +21,7 @@ ghost use Rattle.lending.specs.Scopes.{Scoped};
 ghost use Rattle.lending.specs.Walk.{Fitting, threadsFit, Storable, storedIn};
 ghost use Rattle.lending.specs.Storing.{putAt, closed};
 
-// Every counted record, the first n, is as its node asks. The list stays as it is.
+// Every counted record, the first n, is as its node asks, and the totals beside them are theirs. The list stays as it is.
 pub fn records_fit(
     list: &mut [Thread],
     n: usize,
@@ -32,14 +34,13 @@ pub fn records_fit(
         × (n ≡ threadCount (now beside)) ⌝ }
     ensures { λ r. ⌜ (r ≡ threadsFit (contentsAt (now (file .entry)) head) (now (list .entry)) (now (beside .entry))) × (now (list .exit) ≡ now (list .entry)) ⌝ }
 {
+    let mut all = no_tally();
     let mut k: usize = 0;
     while k < n {
-        if !thread_fits(file, head, table, beside, list[k]) {
-            return false;
-        }
+        all = tally(file, head, table, beside, all, list[k]);
         k += 1;
     }
-    true
+    tally_fits(beside, all)
 }
 
 // Thread k's record is replaced; for 0 none is.

@@ -5,7 +5,7 @@ use mathlib.Core.Bool.{Bool, true, false, cond, _&&_, and-eq-true-iff, false≢t
 use mathlib.Core.List.{List}
 use native.Mathlib.Omega.{arith}
 use lib.Dec.{eqb}
-use lib.ListN.{length}
+use lib.ListN.{length, replicate}
 use lib.Seq.{sets, length-sets}
 use borrow.Author.Tests.{ne-eqb}
 use Rattle.format.specs.Contents.{contentsAt, contentsOf}
@@ -51,7 +51,7 @@ pub fitting : (n : ℕ) (b : List ℕ) → sizesFit n b ≡ true → Fitting n b
 fitting n b e = let (w, r, t, m) = sizes-true n b e in record { list = r; beside = w; threads = t; made = m }
 
 -- of so many records and words beside them, with a table as the way in leaves it
-module _ (f : List ℕ) (records : ℕ) (b old table : List ℕ) (long : length old ≡ 1025) (its : table ≡ scoped f old) where
+module _ (f : List ℕ) (records : ℕ) (b old table : List ℕ) (long : length old ≡ 1025) (zeros : old ≡ replicate (length old) 0) (its : table ≡ scoped f old) where
   -- what is let through, or why not
   abbrev pub Admitting : Opened → Type 0
   Admitting it = (it ≡ admitted f records b) × (length table ≡ 1025) × Admits f records b table it
@@ -92,7 +92,7 @@ module _ (f : List ℕ) (records : ℕ) (b old table : List ℕ) (long : length 
     pub admit-fine : (x : Bool) → sizesFit records b ≡ true → x ≡ every (madeFits (schemaOf (contentsAt f h))) (madeOf b) → x ≡ true → Admitting (Fine h)
     admit-fine x fit told fits =
         let (laid, same, clean) = entered-fine f h e in
-        let (wide, by-node) = entered-scoped f h old table e long its in (
+        let (wide, by-node) = entered-scoped f h old table e long zeros its in (
           admitted-by true (rw fit (sym told ∙ fits)),
           wide,
           λ k q. subst (λ (j : Head). (j ≡ headAt f) × Laid f j × Fitting records b × Scoped (contentsAt f j) table) (same-head h k q) (same, laid, fitting records b fit, by-node),
@@ -132,7 +132,7 @@ module _ (f : List ℕ) (l : List Thread) (b : List ℕ) (i p : ℕ) where
       subst (λ (k : Head). (choosing f l b i p ≡ judgedAnswer (contentsAt f k) l b i p) × (recordsOver f l b i p ≡ judgedRecords (contentsAt f k) l b i p) × (besideOver f l b i p ≡ judgedBeside (contentsAt f k) l b i p)) (sym same) (
         ap (λ (v : Verdict). orElse v (chosenAnswer (chosenIn f l b i p))) lends ∙ by-records x (chosenAnswer (chosenIn f l b i p)),
         ap (λ (v : Verdict). cond (eqb (v .number) 0) (recordsAfter l (chosenIn f l b i p)) l) lends ∙ by-records-left x (recordsAfter l (chosenIn f l b i p)) l,
-        ap (λ (v : Verdict). cond (eqb (v .number) 0) (besideAfter b (chosenIn f l b i p)) b) lends ∙ by-records-left x (besideAfter b (chosenIn f l b i p)) b,
+        ap (λ (v : Verdict). cond (eqb (v .number) 0) (besideAfter (contentsOf f) b (chosenIn f l b i p)) b) lends ∙ by-records-left x (besideAfter (contentsOf f) b (chosenIn f l b i p)) b,
       )
 
   -- one that is not: that is the answer, and all stays

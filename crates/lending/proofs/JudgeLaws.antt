@@ -1,5 +1,5 @@
 -- What is lent, judged item by item as the code goes.
-use Prim.Native.Nat.{ℕ, _+_, _*_, _≤_, _<_}
+use Prim.Native.Nat.{ℕ, _+_, _*_, _≤_, _<_, _%_, _^_}
 use mathlib.Core.Path.{_≡_, sym, ap, _∙_}
 use mathlib.Core.Bool.{Bool, true, false, _&&_}
 use mathlib.Core.List.{List, []}
@@ -123,23 +123,23 @@ unfolding threadFits
 thread-nowhere C made t e = rw e
 
 module _ (C : Contents) (made : List Made) (t : Thread) (table : List ℕ) (j : ℕ) (its : Scoped C table) (at : j ≡ t .node)
-    (node : inCount (length (C .nodes)) (t .node) ≡ true) where
-  kept : (getD table j 0 ≡ scopeOf (contextAt C (t .node))) × Narrow (contextAt C (t .node))
-  kept = let q = its (t .node) node in (ap (λ (i : ℕ). getD table i 0) at ∙ q .0, q .1)
+    (node : inCount (length (C .nodes)) (t .node) ≡ true) (w : ℕ) (is : w ≡ getD table j 0 % 2 ^ 58) where
+  kept : (w ≡ scopeOf (contextAt C (t .node))) × Narrow (contextAt C (t .node))
+  kept = let q = its .contexts (t .node) node in (is ∙ ap (λ (i : ℕ). getD table i 0 % 2 ^ 58) at ∙ q .0, q .1)
 
-  user : userIn (getD table j 0) ≡ contextAt C (t .node) .user
-  user = user-in (contextAt C (t .node)) (getD table j 0) (kept .0) (kept .1)
+  user : userIn w ≡ contextAt C (t .node) .user
+  user = user-in (contextAt C (t .node)) w (kept .0) (kept .1)
 
-  pub thread-user : (t .user ≡ userIn (getD table j 0) → ⊥) → false ≡ threadFits C made t
+  pub thread-user : (t .user ≡ userIn w → ⊥) → false ≡ threadFits C made t
   unfolding threadFits
   thread-user d = rw (node, ne-eqb (t .user) (contextAt C (t .node) .user) (λ e. d (e ∙ sym user)))
 
-  pub thread-mask : t .user ≡ userIn (getD table j 0) → within (t .mask) (schemaOf C .assigned (t .user)) ≡ false → false ≡ threadFits C made t
+  pub thread-mask : t .user ≡ userIn w → within (t .mask) (schemaOf C .assigned (t .user)) ≡ false → false ≡ threadFits C made t
   unfolding threadFits
   thread-mask e m = rw (node, eq-eqb (t .user) (contextAt C (t .node) .user) (e ∙ user), m)
 
-  pub thread-vars : (r : Bool) → t .user ≡ userIn (getD table j 0) → within (t .mask) (schemaOf C .assigned (t .user)) ≡ true
-      → ((c : Context) → getD table j 0 ≡ scopeOf c → Narrow c → r ≡ varsFit (schemaOf C) made (c .vars) (t .vars)) → r ≡ threadFits C made t
+  pub thread-vars : (r : Bool) → t .user ≡ userIn w → within (t .mask) (schemaOf C .assigned (t .user)) ≡ true
+      → ((c : Context) → w ≡ scopeOf c → Narrow c → r ≡ varsFit (schemaOf C) made (c .vars) (t .vars)) → r ≡ threadFits C made t
   unfolding threadFits
   thread-vars r e m v =
       rw (node, eq-eqb (t .user) (contextAt C (t .node) .user) (e ∙ user), m) (v (contextAt C (t .node)) (kept .0) (kept .1))

@@ -6,6 +6,7 @@ pub mod ScopeLaws
 pub mod ScopeTable
 -- judging
 pub mod JudgeLaws
+pub mod TotalsLaws
 -- a list let through, the step by value, what the walk stores, and the start
 pub mod AdmitLaws
 pub mod StepLaws

@@ -62,7 +62,7 @@ module _ (f : List ℕ) (clean : readingNames f ≡ fine) where
   os = openings C
 
   -- kinds named by channels and kinds are in count, or 0
-  closed : Closed D
+  pub closed : Closed D
   closed = record { kind = λ c n. of-channel c n (inCount (D .kinds) (D .kind c)) refl; carries = of-kind }
     where
       of-channel : (c : ℕ) → InCount (D .channels) c → (b : Bool) → inCount (D .kinds) (D .kind c) ≡ b → D .kind c ≤ D .kinds

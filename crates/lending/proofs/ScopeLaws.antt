@@ -1,6 +1,6 @@
 -- A context's user, number of variables and kinds, read back from the one number that keeps them.
 use Prim.Native.Nat.{ℕ, zero, suc, _+_, _*_, _/_, _%_, _^_, _≤_, _<_}
-use mathlib.Core.Path.{_≡_, sym, ap, _∙_}
+use mathlib.Core.Path.{_≡_, refl, sym, ap, _∙_}
 use mathlib.Core.List.{List, [], _∷_, _++_, append-assoc, append-nil}
 use native.Mathlib.Nat.{mul-left-comm, mod-eq-of-lt}
 use native.Mathlib.Omega.{arith}
@@ -111,3 +111,10 @@ module _ (c : Context) (w : ℕ) (its : w ≡ scopeOf c) (narrow : Narrow c) whe
   kind-at i h =
       let up : w / 2 ^ 10 ≡ digits (c .vars) = omega (arith, sum, narrow .user, narrow .bound) in
       rw (← shr-shr w 10 (6 * i), up) (digit-at (c .vars) i h (narrow .kinds))
+
+-- it keeps below the place of the kind that a thread waits for
+pub scope-low : (c : Context) → Narrow c → scopeOf c < 2 ^ 58
+scope-low c narrow =
+    let is = sum c (scopeOf c) refl narrow in
+    let few : 2 ^ (6 * length (c .vars)) ≤ 2 ^ 48 = pow-mono {i = 6 * length (c .vars)} {j = 48} (omega (arith, narrow .bound)) in
+    omega (arith, is, few, digits-below (c .vars) (narrow .kinds), narrow .user, narrow .bound)

@@ -9,9 +9,9 @@ use borrow.Author.Tests.{eqb-true, leb-true}
 use Rattle.lending.specs.Lent.{sizesFit}
 
 -- what right sizes are
-pub sizes-true : (n : ℕ) (b : List ℕ) → sizesFit n b ≡ true → (length b ≡ 130) × (n ≡ 64) × (getD b 0 0 ≤ 64) × (getD b 1 0 ≤ 64)
+pub sizes-true : (n : ℕ) (b : List ℕ) → sizesFit n b ≡ true → (length b ≡ 162) × (n ≡ 64) × (getD b 0 0 ≤ 64) × (getD b 1 0 ≤ 64)
 sizes-true n b e =
-    let (w, rest) = and-eq-true-iff (eqb (length b) 130) ((eqb n 64 && leb (getD b 0 0) 64) && leb (getD b 1 0) 64) .0 e in
+    let (w, rest) = and-eq-true-iff (eqb (length b) 162) ((eqb n 64 && leb (getD b 0 0) 64) && leb (getD b 1 0) 64) .0 e in
     let (both, m) = and-eq-true-iff (eqb n 64 && leb (getD b 0 0) 64) (leb (getD b 1 0) 64) .0 rest in
     let (r, t) = and-eq-true-iff (eqb n 64) (leb (getD b 0 0) 64) .0 both in
-    (eqb-true (length b) 130 w, eqb-true n 64 r, leb-true (getD b 0 0) 64 t, leb-true (getD b 1 0) 64 m)
+    (eqb-true (length b) 162 w, eqb-true n 64 r, leb-true (getD b 0 0) 64 t, leb-true (getD b 1 0) 64 m)

@@ -222,16 +222,16 @@ module _ (C : Clinic) (w v u b : List ℕ) (size : Sized w b) (i p q at to : ℕ
       let with-own : partnerOf c p other ≡ With own = rw (ne-eqb p 0 (λ z. omega (arith, z, some .0)), le-leb p c (some .1)) (ap With (same e)) in
       subst Unmet (sym (step-of ∙ ap (acting C c (madeOf b) own) with-own)) (self-unmet C c (madeOf b) own)
 
-  module _ (r : Answer) (w′ b′ : List ℕ) (did : Chose (outcome C (stateIn u b) i p) i p r u b w′ b′) where
-    done-so : Chose x i p r u b w′ b′
-    done-so = subst (λ (o : Outcome). Chose o i p r u b w′ b′) chosen did
+  module _ (kind : ℕ → ℕ) (r : Answer) (w′ b′ : List ℕ) (did : Chose (besideBy kind b (outcome C (stateIn u b) i p)) (outcome C (stateIn u b) i p) i p r u b w′ b′) where
+    done-so : Chose (besideBy kind b x) x i p r u b w′ b′
+    done-so = subst (λ (o : Outcome). Chose (besideBy kind b o) o i p r u b w′ b′) chosen did
 
     pub step-second : (m : ℕ) → m ≡ c → secondAt m to r < 64
     step-second m e =
         subst (λ (k : ℕ). secondAt k to r < 64) (sym e) (second-low c (madeCount b) p to r (size .threads) (omega (arith, et, looked-low, size .threads)) (subst (HasRoom c (madeCount b) p) (sym (done-so .0)) room))
 
     pub step-left : (m : ℕ) → m ≡ c → (it : Acted) → it ≡ actedOf (outcomeBy r (threadIn w′ (11 * at)) (threadIn w′ (11 * secondAt m to r)))
-        → (it ≡ actedOf x) × (b′ ≡ besideBy b x)
+        → (it ≡ actedOf x) × (b′ ≡ besideBy kind b x)
     step-left m count it e =
         let (answer, state, words, sized) = done-so in
         let there : inCount c p ≡ true → to ≡ p - 1 = λ e. et ∙ ap (λ (k : ℕ). k - 1) (seen ∙ ap (λ (y : Bool). cond y p i) e) in (
@@ -242,7 +242,7 @@ module _ (C : Clinic) (w v u b : List ℕ) (size : Sized w b) (i p q at to : ℕ
         )
 
 -- no thread i: nothing is done
-pub step-none : (C : Clinic) (b : List ℕ) (i p : ℕ) (own other : Thread) (it : Acted) → inCount (threadCount b) i ≡ false → it ≡ actedOf (Refused 18)
-    → (it ≡ actedOf (outcomeOn C b i own p other)) × (b ≡ besideBy b (outcomeOn C b i own p other))
+pub step-none : (kind : ℕ → ℕ) (C : Clinic) (b : List ℕ) (i p : ℕ) (own other : Thread) (it : Acted) → inCount (threadCount b) i ≡ false → it ≡ actedOf (Refused 18)
+    → (it ≡ actedOf (outcomeOn C b i own p other)) × (b ≡ besideBy kind b (outcomeOn C b i own p other))
 unfolding outcomeOn
-step-none C b i p own other it outside e = rw outside (e, refl)
+step-none kind C b i p own other it outside e = rw outside (e, refl)

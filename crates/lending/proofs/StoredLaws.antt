@@ -6,12 +6,11 @@ use native.Mathlib.Omega.{arith}
 use lib.ListN.{length, getD, set, take, drop, replicate, length-replicate, length-append, length-drop, length-set, take-append-drop}
 use lib.Seq.{sets, sets-eq, paste, length-take-le, take-take, take-add, drop-at, drop-cons, take-set-lt, drop-set-lt, set-append-left, getD-set-same, getD-set-other}
 use Rattle.steps.specs.declared.Made.{Made}
-use Rattle.steps.specs.Choice.{State, goes}
-use Rattle.steps.specs.Beside.{threadCount, madeCount, madeIn, madeOf, oneMade, madeWords}
+use Rattle.steps.specs.Choice.{State, Chosen, halts, goes}
+use Rattle.steps.specs.Beside.{threadCount, madeCount, madeIn, madeOf, oneMade, madeWords, besideOf}
 use Rattle.steps.specs.Kept.{Sized}
 use Rattle.steps.proofs.ActLaws.{length-made}
 use Rattle.choices.proofs.StateLaws.{mint-state}
-use Rattle.lending.specs.Lent.{besideAfter}
 
 module _ {A : Type 0} where
   -- a run of stores from the front on
@@ -45,7 +44,7 @@ made-words b p (suc k) fits =
     ∙ ap (λ (x : List ℕ). getD b p 0 ∷ getD b (p + 1) 0 ∷ x) (made-words b (p + 2) k (omega (arith, fits)))
 
 -- the counts and the made channels that stand in one table, copied into another
-beside-copied : (b d : List ℕ) → length b ≡ 130 → length d ≡ 130 → getD d 1 0 ≤ 64
+beside-copied : (b d : List ℕ) → length b ≡ 162 → length d ≡ 162 → getD d 1 0 ≤ 64
     → paste b 0 d (2 + 2 * getD d 1 0) ≡ sets b 0 (getD d 0 0 ∷ getD d 1 0 ∷ madeWords (madeIn d 2 (getD d 1 0)))
 beside-copied b d hb hd few =
     let m : ℕ = getD d 1 0 in
@@ -108,9 +107,14 @@ module _ {A : Type 0} (l : List A) (n : ℕ) (le : n ≤ length l) where
       ∙ ap₂ (λ (x y : List A). x ++ y ++ drop (n - 1) l) (take-take (i - 1) n l (omega (arith, up))) (rest-is i up)
       ∙ ap (λ (k : ℕ). take (i - 1) l ++ take (n - i) (drop i l) ++ drop k l) there
 
+-- the counts and the made channels after a choice
+abbrev pub countsAfter : List ℕ → Chosen → List ℕ
+countsAfter b (halts n) = b
+countsAfter b (goes s) = sets b 0 (besideOf (length (s .threads)) (s .made))
+
 -- words beside a list that hold a state's counts and made channels, and past them what stood there
-pub words-are : (b d : List ℕ) (s : State) → length b ≡ 130 → length d ≡ 130 → madeCount d ≤ 64 → threadCount d ≡ length (s .threads) → madeOf d ≡ s .made
-    → drop (2 + 2 * madeCount d) d ≡ drop (2 + 2 * madeCount d) b → d ≡ besideAfter b (goes s)
+pub words-are : (b d : List ℕ) (s : State) → length b ≡ 162 → length d ≡ 162 → madeCount d ≤ 64 → threadCount d ≡ length (s .threads) → madeOf d ≡ s .made
+    → drop (2 + 2 * madeCount d) d ≡ drop (2 + 2 * madeCount d) b → d ≡ countsAfter b (goes s)
 words-are b d s hb hd few threads made past =
     let k : ℕ = 2 + 2 * madeCount d in
     let here : k ≡ 0 + k = omega arith in
@@ -129,8 +133,8 @@ made-kept b v p (suc k) h =
     (ap₂ (λ (x y : ℕ). record { owner = x; kind = record { 0 = y } }) (getD-set-other b 0 p v 0 h) (getD-set-other b 0 (p + 1) v 0 (λ e. omega (arith, e))))
     (made-kept b v (p + 2) k (λ e. omega (arith, e)))
 
-module _ (b : List ℕ) (long : length b ≡ 130) (few : threadCount b ≤ 64) (room : madeCount b ≤ 64) where
-  pub threads-told : (v : ℕ) (s : State) → v ≡ length (s .threads) → s .made ≡ madeOf b → set b 0 v ≡ besideAfter b (goes s)
+module _ (b : List ℕ) (long : length b ≡ 162) (few : threadCount b ≤ 64) (room : madeCount b ≤ 64) where
+  pub threads-told : (v : ℕ) (s : State) → v ≡ length (s .threads) → s .made ≡ madeOf b → set b 0 v ≡ countsAfter b (goes s)
   threads-told v s e same =
       let d : List ℕ = set b 0 v in
       let count : getD d 1 0 ≡ getD b 1 0 = getD-set-other b 0 1 v 0 (λ q. omega (arith, q)) in
@@ -139,7 +143,7 @@ module _ (b : List ℕ) (long : length b ≡ 130) (few : threadCount b ≤ 64) (
       (ap (madeIn d 2) count ∙ made-kept b v 2 (madeCount b) (λ q. omega (arith, q)) ∙ sym same)
       (drop-set-lt (2 + 2 * madeCount d) b 0 v (omega arith))
 
-  pub made-told : (x : Made) (s : State) → madeCount b < 64 → threadCount b ≡ length (s .threads) → s .made ≡ madeOf b ++ (x ∷ []) → oneMade b x ≡ besideAfter b (goes s)
+  pub made-told : (x : Made) (s : State) → madeCount b < 64 → threadCount b ≡ length (s .threads) → s .made ≡ madeOf b ++ (x ∷ []) → oneMade b x ≡ countsAfter b (goes s)
   made-told x s more e same =
       let m : ℕ = madeCount b in
       let low : List ℕ = set b (2 * m + 2) (x .owner) in

@@ -1,4 +1,4 @@
--- The live desk's own list: records of threads, and beside them the thread count, the number of made channels, and owner and kind of 64 made channels.
+-- The live desk's own list: records of threads, and beside them the thread count, the number of made channels, owner and kind of 64 made channels, and the totals of the kinds 1 to 32.
 use Prim.Native.Nat.{ℕ, _+_, _-_}
 use mathlib.Core.Bool.{Bool, true, false, cond, _&&_, _||_}
 use mathlib.Core.List.{List, [], _∷_}
@@ -18,7 +18,8 @@ use Rattle.steps.specs.declared.Thread.{Thread}
 use Rattle.steps.specs.declared.Made.{Made}
 use Rattle.steps.specs.Choice.{clinicOf, kindHeld, State, Chosen, halts, goes, choice}
 use Rattle.checking_exact.specs.Faults.{nowhere}
-use Rattle.steps.specs.Beside.{threadCount, madeCount, madeOf, besideWords, besideOf}
+use Rattle.naming.specs.Scopes.{awaits}
+use Rattle.steps.specs.Beside.{threadCount, madeCount, madeOf, besideWords, besideOf, firstTotal, totalsIn, totalsFor}
 
 -- the context in which a node is reached
 abbrev pub contextAt : Contents → ℕ → Context
@@ -58,11 +59,22 @@ stateOf l b = record { threads = take (threadCount b) l; made = madeOf b }
 abbrev pub sizesFit : ℕ → List ℕ → Bool
 sizesFit records b = eqb (length b) besideWords && ((eqb records 64 && leb (threadCount b) 64) && leb (madeCount b) 64)
 
+-- two lists of words are the same
+unfoldable pub same : List ℕ → List ℕ → Bool
+same [] [] = true
+same [] (y ∷ ys) = false
+same (x ∷ xs) [] = false
+same (x ∷ xs) (y ∷ ys) = eqb x y && same xs ys
+
+-- the totals beside the list are those of its threads, of all kinds
+abbrev pub totalsFit : Contents → List Thread → List ℕ → Bool
+totalsFit C ts b = same (totalsIn b) (totalsFor (awaits C) ts)
+
 -- what may be lent with a file that 1 to 10 let through
 unfoldable pub mayBeLent : Contents → List Thread → List ℕ → Bool
 mayBeLent C l b =
     sizesFit (length l) b
-    && (every (madeFits (schemaOf C)) (stateOf l b .made) && every (threadFits C (stateOf l b .made)) (stateOf l b .threads))
+    && (every (madeFits (schemaOf C)) (stateOf l b .made) && (every (threadFits C (stateOf l b .made)) (stateOf l b .threads) && totalsFit C (stateOf l b .threads) b))
 
 -- what refuses before the choice: the file by 1 to 10, then what is lent, 18 at place 0
 unfoldable pub lending : List ℕ → List Thread → List ℕ → Verdict
@@ -80,17 +92,17 @@ unfoldable pub choosing : List ℕ → List Thread → List ℕ → ℕ → ℕ 
 choosing f l b i p = orElse (lending f l b) (chosenAnswer (chosenIn f l b i p))
 
 -- the list after a choice, and the words beside it: a refused choice leaves them unchanged; records past the count after the choice keep what they
--- held, and so do words past the made channels
+-- held, and so do the words between the made channels and the totals
 abbrev pub recordsAfter : List Thread → Chosen → List Thread
 recordsAfter l (halts n) = l
 recordsAfter l (goes s) = sets l 0 (s .threads)
 
-abbrev pub besideAfter : List ℕ → Chosen → List ℕ
-besideAfter b (halts n) = b
-besideAfter b (goes s) = sets b 0 (besideOf (length (s .threads)) (s .made))
+abbrev pub besideAfter : Contents → List ℕ → Chosen → List ℕ
+besideAfter C b (halts n) = b
+besideAfter C b (goes s) = sets (sets b 0 (besideOf (length (s .threads)) (s .made))) firstTotal (totalsFor (awaits C) (s .threads))
 
 unfoldable pub recordsOver : List ℕ → List Thread → List ℕ → ℕ → ℕ → List Thread
 recordsOver f l b i p = cond (eqb (lending f l b .number) 0) (recordsAfter l (chosenIn f l b i p)) l
 
 unfoldable pub besideOver : List ℕ → List Thread → List ℕ → ℕ → ℕ → List ℕ
-besideOver f l b i p = cond (eqb (lending f l b .number) 0) (besideAfter b (chosenIn f l b i p)) b
+besideOver f l b i p = cond (eqb (lending f l b .number) 0) (besideAfter (contentsOf f) b (chosenIn f l b i p)) b

@@ -20,12 +20,12 @@ use Rattle.lending.specs.Lent.{recordsAfter, besideAfter}
 unfoldable pub starting : List ℕ → ℕ → ℕ → Verdict
 starting f records words = orElse (readingNames f) (cond (eqb records 64 && eqb words besideWords) fine (refused 18 0))
 
--- the start's threads and counts; records and words past them stay, and everything where it is refused
+-- the start's threads, counts and totals; records past the threads and words between the counts and the totals stay, and everything where it is refused
 unfoldable pub recordsStarted : List ℕ → List Thread → List ℕ → List Thread
 recordsStarted f l b = cond (eqb (starting f (length l) (length b) .number) 0) (recordsAfter l (goes (start (contentsOf f)))) l
 
 unfoldable pub besideStarted : List ℕ → List Thread → List ℕ → List ℕ
-besideStarted f l b = cond (eqb (starting f (length l) (length b) .number) 0) (besideAfter b (goes (start (contentsOf f)))) b
+besideStarted f l b = cond (eqb (starting f (length l) (length b) .number) 0) (besideAfter (contentsOf f) b (goes (start (contentsOf f)))) b
 
 -- how many sessions a file has that is not refused
 abbrev pub sessionsOf : Opened → ℕ

@@ -1,10 +1,10 @@
 -- How code takes a choice in the lent list: sizes and made channels first, then the counted records one by one, then the step by value, and what it
 -- says is stored.
-use Prim.Native.Nat.{ℕ, _-_, _≤_, _<_}
+use Prim.Native.Nat.{ℕ, _+_, _-_, _%_, _≤_, _<_}
 use mathlib.Core.Path.{_≡_}
 use mathlib.Core.Bool.{Bool, true, false, cond, _&&_}
-use mathlib.Core.List.{List}
-use lib.ListN.{length, set, take, drop}
+use mathlib.Core.List.{List, [], _∷_}
+use lib.ListN.{length, getD, set, take, drop, replicate}
 use lib.Seq.{paste}
 use Rattle.format.specs.Answers.{fine, refused, orElse}
 use Rattle.format.specs.Header.{Laid, headAt}
@@ -16,15 +16,18 @@ use Rattle.reading.specs.declared.Opened.{Opened}
 use Rattle.reading.specs.declared.Opened.the-variants as opened
 use Rattle.rules.specs.Schema.{schemaOf}
 use Rattle.checking.specs.Check.{readingNames}
+use Rattle.naming.specs.Scopes.{awaitedBy}
 use Rattle.steps.specs.declared.Thread.{Thread}
+use Rattle.steps.specs.declared.Made.{Made}
+use Rattle.lending.specs.declared.Tally.{Tally}
 use Rattle.steps.specs.declared.Answer.{Answer}
 use Rattle.steps.specs.declared.Answer.the-variants as answers
 use Rattle.steps.specs.declared.Outcome.{Outcome}
 use Rattle.steps.specs.declared.Outcome.the-variants.{Refused, Moves, Adds, Makes, Ends, Meets}
 use Rattle.steps.specs.Choice.{Clinic, clinicOf, acting, Chosen, choice}
 use Rattle.steps.specs.Acted.{partnerOf}
-use Rattle.steps.specs.Beside.{threadCount, madeCount, madeOf, besideWords}
-use Rattle.lending.specs.Lent.{sizesFit, madeFits, threadFits, every, stateOf, chosenAnswer, recordsAfter, besideAfter}
+use Rattle.steps.specs.Beside.{threadCount, madeCount, madeOf, besideWords, totalWords, totalsIn}
+use Rattle.lending.specs.Lent.{sizesFit, madeFits, threadFits, every, same, totalsFit, stateOf, chosenAnswer, recordsAfter, besideAfter}
 use Rattle.lending.specs.Scopes.{Scoped}
 
 -- what refuses before the records are judged: the file by 1 to 10; then sizes and made channels, 18 at place 0
@@ -52,12 +55,29 @@ abbrev pub verdictOf : Opened → Verdict
 verdictOf (opened.Fine h) = fine
 verdictOf (opened.Refused v) = v
 
--- every counted record is as its node asks
+-- every counted record is as its node asks, and the totals are theirs
 abbrev pub threadsFit : Contents → List Thread → List ℕ → Bool
-threadsFit C l b = every (threadFits C (madeOf b)) (take (threadCount b) l)
+threadsFit C l b = every (threadFits C (madeOf b)) (take (threadCount b) l) && totalsFit C (take (threadCount b) l) b
+
+-- judging record by record: whether all so far are as their nodes ask, and how many of them wait for each kind
+abbrev pub noTally : Tally
+noTally = record { fits = true; totals = replicate totalWords 0 }
+
+unfoldable pub oneIn : List ℕ → ℕ → List ℕ
+oneIn l k = cond (inCount totalWords k) (set l (k - 1) ((getD l (k - 1) 0 + 1) % 65536)) l
+
+unfoldable pub tallyOn : Contents → List ℕ → List Made → Tally → Thread → Tally
+tallyOn C table made s t = record { fits = s .fits && threadFits C made t; totals = oneIn (s .totals) (awaitedBy table (t .node)) }
+
+unfoldable pub tallyAll : Contents → List ℕ → List Made → Tally → List Thread → Tally
+tallyAll C table made s [] = s
+tallyAll C table made s (t ∷ ts) = tallyAll C table made (tallyOn C table made s t) ts
+
+abbrev pub tallyFits : List ℕ → Tally → Bool
+tallyFits b s = s .fits && same (totalsIn b) (s .totals)
 
 -- a choice in a list of which sizes and made channels are right: its answer and what it leaves; 18 at place 0 and nothing changed where a record is not
--- as its node asks
+-- as its node asks or a total is not theirs
 abbrev pub chosenOf : Contents → List Thread → List ℕ → ℕ → ℕ → Chosen
 chosenOf C l b i p = choice (clinicOf C) (stateOf l b) i p
 
@@ -68,7 +88,7 @@ abbrev pub judgedRecords : Contents → List Thread → List ℕ → ℕ → ℕ
 judgedRecords C l b i p = cond (threadsFit C l b) (recordsAfter l (chosenOf C l b i p)) l
 
 abbrev pub judgedBeside : Contents → List Thread → List ℕ → ℕ → ℕ → List ℕ
-judgedBeside C l b i p = cond (threadsFit C l b) (besideAfter b (chosenOf C l b i p)) b
+judgedBeside C l b i p = cond (threadsFit C l b) (besideAfter C b (chosenOf C l b i p)) b
 
 -- the step by value: thread i is `own`, the partner p is `other` where it is a thread; 18 where there is no thread i
 unfoldable pub outcomeOn : Clinic → List ℕ → ℕ → Thread → ℕ → Thread → Outcome

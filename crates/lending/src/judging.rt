@@ -1,16 +1,20 @@
-// What is lent, judged: made channels, and for each counted thread its node, its user, its mask and its variables.
+// What is lent, judged: made channels, for each counted thread its node, its user, its mask and its variables, and the totals.
+use super::Tally;
 use format::Head;
 use format::sections::in_count;
 use format::sections::user_roles;
 use format::words::wide;
 use masks::ChannelKind;
 use masks::roles_within;
+use naming::scopes::awaited_by;
 use naming::scopes::bound_in;
 use naming::scopes::kind_at;
+use naming::scopes::scope_in;
 use steps::Thread;
 use steps::act::kind_held;
 use steps::beside::made_at;
 use steps::beside::made_count;
+use steps::beside::totals_of;
 ghost use mathlib.Core.Path.{_≡_};
 ghost use mathlib.Core.Bool.{_&&_};
 ghost use mathlib.Core.List.{List};
@@ -26,6 +30,7 @@ ghost use Rattle.steps.specs.declared.Made.{Made};
 ghost use Rattle.steps.specs.Choice.{kindHeld};
 ghost use Rattle.lending.specs.Lent.{isValue, varsFit, threadFits, madeFits, every};
 ghost use Rattle.lending.specs.Scopes.{Scoped, Narrow};
+ghost use Rattle.lending.specs.Walk.{noTally, oneIn, tallyOn, tallyFits};
 ghost use Rattle.steps.specs.Beside.{madeCount, madeOf, besideWords};
 
 // The made channels' owners and kinds are in count.
@@ -109,7 +114,7 @@ pub fn thread_fits(file: &[u8], head: Head, table: &[u64], beside: &[u16], t: Th
     if !in_count(head.count.nodes, t.node) {
         return false;
     }
-    let w = table[wide(t.node)];
+    let w = scope_in(table[wide(t.node)]);
     if (t.user as u64) != w % 64 {
         return false;
     }
@@ -118,4 +123,63 @@ pub fn thread_fits(file: &[u8], head: Head, table: &[u64], beside: &[u16], t: Th
     }
     let vars = t.vars;
     vars_fit(file, head, beside, w, vars)
+}
+
+// One more that waits for a kind; for none where it is no kind.
+fn one_in(totals: [u16; 32], kind: ChannelKind) -> [u16; 32]
+    requires { ⌜ length totals ≡ 32 ⌝ }
+    ensures { λ r. ⌜ r ≡ oneIn totals (kind .0) ⌝ }
+{
+    let mut all = totals;
+    if in_count(32, kind.0) {
+        let i = wide(kind.0 - 1);
+        all[i] = ((wide(all[i]) + 1) % 65536) as u16;
+    }
+    all
+}
+
+// No record judged yet.
+pub fn no_tally() -> Tally
+    ensures { λ r. ⌜ r ≡ noTally ⌝ }
+{
+    Tally {
+        fits: true,
+        totals: [0; 32],
+    }
+}
+
+// One counted thread more.
+pub fn tally(
+    file: &[u8],
+    head: Head,
+    table: &[u64],
+    beside: &[u16],
+    before: Tally,
+    t: Thread,
+) -> Tally
+    requires { ⌜ Laid (now file) head × (length (now table) ≡ 1025) × Scoped (contentsAt (now file) head) (now table) × (length (now beside) ≡ besideWords) × (madeCount (now beside) ≤ 64) ⌝ }
+    ensures { λ r. ⌜ r ≡ tallyOn (contentsAt (now (file .entry)) head) (now (table .entry)) (madeOf (now (beside .entry))) before t ⌝ }
+{
+    let totals = before.totals;
+    let fits = thread_fits(file, head, table, beside, t);
+    Tally {
+        fits: before.fits & fits,
+        totals: one_in(totals, awaited_by(table, t.node)),
+    }
+}
+
+// All records are as their nodes ask, and the totals beside them are theirs.
+pub fn tally_fits(beside: &[u16], it: Tally) -> bool
+    requires { ⌜ (length (now beside) ≡ besideWords) × (length (it .totals) ≡ 32) ⌝ }
+    ensures { λ r. ⌜ r ≡ tallyFits (now (beside .entry)) it ⌝ }
+{
+    let theirs = it.totals;
+    let lent = totals_of(beside);
+    let mut k: usize = 0;
+    let mut alike = it.fits;
+    while k < 32 {
+        alike = alike & (lent[k] == theirs[k]);
+        k += 1;
+    }
+    alike
 }

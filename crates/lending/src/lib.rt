@@ -20,12 +20,18 @@ use steps::beside::BESIDE;
 use steps::beside::made_count;
 use steps::beside::thread_count;
 ghost use mathlib.Core.Path.{_≡_};
-ghost use lib.ListN.{length};
+ghost use lib.ListN.{length, replicate};
 ghost use Rattle.format.specs.Answers.{refused};
 ghost use Rattle.format.specs.declared.Head.{Head};
 ghost use Rattle.reading.specs.declared.Opened.the-variants as opened;
 ghost use Rattle.lending.specs.Lent.{sizesFit};
 ghost use Rattle.lending.specs.Walk.{admitted, Admits, isRefused, verdictOf, indexOf, answerOf};
+
+// What judging the records one by one has come to: whether all so far are as their nodes ask, and how many of them wait for each kind.
+pub struct Tally {
+    pub fits: bool,
+    pub totals: [u16; 32],
+}
 
 // The sizes are right: so many records, the words beside them, counts of at most 64.
 fn sizes_fit(records: usize, beside: &[u16]) -> bool
@@ -48,7 +54,7 @@ pub fn unlendable() -> Verdict
 // A file and a list of so many records with the words beside it, before the records are judged: the file's head, and in the table what each node is
 // reached with; or the first of 1 to 10, and then 18 at place 0 for wrong sizes and made channels.
 pub fn admit(file: &[u8], records: usize, beside: &[u16], table: &mut [u64]) -> Opened
-    requires { ⌜ length (now table) ≡ 1025 ⌝ }
+    requires { ⌜ (length (now table) ≡ 1025) × (now table ≡ replicate (length (now table)) 0) ⌝ }
     ensures { λ r. ⌜ (r ≡ admitted (now (file .entry)) records (now (beside .entry))) × (length (now (table .exit)) ≡ 1025)
         × Admits (now (file .entry)) records (now (beside .entry)) (now (table .exit)) r ⌝ }
 {

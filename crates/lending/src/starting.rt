@@ -1,17 +1,17 @@
 // The lent list and the words beside it, as a file starts.
 use super::unlendable;
-use checking::enter;
+use checking::enter_scoped;
+use choices::list::start_beside;
 use format::Head;
 use format::words::narrow;
 use format::words::wide;
 use reading::Opened;
 use steps::Thread;
 use steps::beside::BESIDE;
-use steps::beside::start_words;
 ghost use mathlib.Core.Path.{_≡_};
 ghost use mathlib.Core.List.{List};
 ghost use Prim.Native.Nat.{_<_};
-ghost use lib.ListN.{length, getD};
+ghost use lib.ListN.{length, getD, replicate};
 ghost use Rattle.format.specs.Header.{Laid, headAt};
 ghost use Rattle.format.specs.Contents.{contentsAt};
 ghost use Rattle.reading.specs.Reading.{withHead};
@@ -19,13 +19,14 @@ ghost use Rattle.steps.specs.Threads.{noThread};
 ghost use Rattle.choices.specs.Choices.{start};
 ghost use Rattle.lending.specs.Starting.{starting, besideStarted, sessionsOf};
 
-// The file's head, and beside a list of so many records the counts of the start; or the first of 1 to 10, and then 18 at place 0 for wrong sizes, with
+// The file's head, and beside a list of so many records the counts and totals of the start; or the first of 1 to 10, and then 18 at place 0 for wrong sizes, with
 // nothing changed.
-pub fn begin(file: &[u8], records: usize, beside: &mut [u16]) -> Opened
+fn begin_with(file: &[u8], records: usize, table: &mut [u64], beside: &mut [u16]) -> Opened
+    requires { ⌜ (length (now table) ≡ 1025) × (now table ≡ replicate (length (now table)) 0) ⌝ }
     ensures { λ r. ⌜ (r ≡ withHead (headAt (now (file .entry))) (starting (now (file .entry)) records (length (now (beside .entry)))))
         × ((l : List Thread) → length l ≡ records → now (beside .exit) ≡ besideStarted (now (file .entry)) l (now (beside .entry))) ⌝ }
 {
-    let answer = enter(file);
+    let answer = enter_scoped(file, table);
     match answer {
         Opened::Refused(first) => Opened::Refused(first),
         Opened::Fine(head) => {
@@ -33,10 +34,18 @@ pub fn begin(file: &[u8], records: usize, beside: &mut [u16]) -> Opened
             if !fits {
                 return Opened::Refused(unlendable());
             }
-            start_words(beside, head.count.sessions);
+            start_beside(file, head, table, beside);
             Opened::Fine(head)
         }
     }
+}
+
+pub fn begin(file: &[u8], records: usize, beside: &mut [u16]) -> Opened
+    ensures { λ r. ⌜ (r ≡ withHead (headAt (now (file .entry))) (starting (now (file .entry)) records (length (now (beside .entry)))))
+        × ((l : List Thread) → length l ≡ records → now (beside .exit) ≡ besideStarted (now (file .entry)) l (now (beside .entry))) ⌝ }
+{
+    let mut table = [0u64; 1025];
+    begin_with(file, records, &mut table, beside)
 }
 
 // How many sessions there are; none where the file or the list is refused.

@@ -23,6 +23,7 @@ ghost use Rattle.rules.specs.Schema.{schemaOf};
 ghost use Rattle.rules.specs.Kept.{Granting};
 ghost use Rattle.rules.specs.declared.Way.the-variants.{Sends, Receives};
 ghost use Rattle.steps.specs.declared.Outcome.the-variants.{Refused};
+ghost use Rattle.naming.specs.Scopes.{awaitedBy};
 ghost use Rattle.steps.specs.Acted.{actedOf, outcomeBy};
 ghost use Rattle.steps.specs.Beside.{threadCount, madeCount, besideWords, besideBy};
 ghost use Rattle.steps.specs.Records.{threadIn, recordAt, threadTableWords};
@@ -92,6 +93,7 @@ fn step_in(
     head: Head,
     sends: &[u16],
     receives: &[u16],
+    table: &[u64],
     words: &mut [u16],
     beside: &mut [u16],
     i: u16,
@@ -102,7 +104,7 @@ fn step_in(
     requires { ⌜ Laid (now file) head × Granting (schemaOf (contentsAt (now file) head)) Sends (now sends) × Granting (schemaOf (contentsAt (now file) head)) Receives (now receives)
         × Sized (now words) (now beside) × (p ≡ i → other ≡ own) ⌝ }
     ensures { λ r. ⌜ (r ≡ actedOf (outcomeOn (clinicOf (contentsAt (now (file .entry)) head)) (now (beside .entry)) i own p other))
-        × (now (beside .exit) ≡ besideBy (now (beside .entry)) (outcomeOn (clinicOf (contentsAt (now (file .entry)) head)) (now (beside .entry)) i own p other)) ⌝ }
+        × (now (beside .exit) ≡ besideBy (awaitedBy (now (table .entry))) (now (beside .entry)) (outcomeOn (clinicOf (contentsAt (now (file .entry)) head)) (now (beside .entry)) i own p other)) ⌝ }
 {
     let count = thread_count(beside);
     if !in_count(count, i) {
@@ -119,7 +121,7 @@ fn step_in(
     put_thread(words, to, other);
     put_thread(words, at, own);
     let list = [i, p];
-    let went = go_through(file, head, sends, receives, &list, words, beside);
+    let went = go_through(file, head, sends, receives, table, &list, words, beside);
     let answer = went.last;
     read_back(words, wide(count), at, to, answer)
 }
@@ -130,6 +132,7 @@ fn step_with(
     head: Head,
     sends: &mut [u16],
     receives: &mut [u16],
+    table: &[u64],
     words: &mut [u16],
     beside: &mut [u16],
     i: u16,
@@ -140,16 +143,30 @@ fn step_with(
     requires { ⌜ Laid (now file) head × (length (now sends) ≡ 33) × (length (now receives) ≡ 33) × (now sends ≡ replicate (length (now sends)) 0) × (now receives ≡ replicate (length (now receives)) 0)
         × (length (now words) ≡ threadTableWords) × (length (now beside) ≡ besideWords) × (threadCount (now beside) ≤ 64) × (madeCount (now beside) ≤ 64) × (p ≡ i → other ≡ own) ⌝ }
     ensures { λ r. ⌜ (r ≡ actedOf (outcomeOn (clinicOf (contentsAt (now (file .entry)) head)) (now (beside .entry)) i own p other))
-        × (now (beside .exit) ≡ besideBy (now (beside .entry)) (outcomeOn (clinicOf (contentsAt (now (file .entry)) head)) (now (beside .entry)) i own p other)) ⌝ }
+        × (now (beside .exit) ≡ besideBy (awaitedBy (now (table .entry))) (now (beside .entry)) (outcomeOn (clinicOf (contentsAt (now (file .entry)) head)) (now (beside .entry)) i own p other)) ⌝ }
 {
     fill_grants(file, head, sends, receives);
-    step_in(file, head, sends, receives, words, beside, i, own, p, other)
+    step_in(
+        file,
+        head,
+        sends,
+        receives,
+        table,
+        words,
+        beside,
+        i,
+        own,
+        p,
+        other,
+    )
 }
 
-// A choice of thread i, `own`, with partner p, which is `other` where it is a thread; the words beside the list are changed in place.
+// A choice of thread i, `own`, with partner p, which is `other` where it is a thread; the words beside the list are changed in place. The table has what each node
+// is reached with.
 pub fn stepped(
     file: &[u8],
     head: Head,
+    table: &[u64],
     beside: &mut [u16],
     i: u16,
     own: Thread,
@@ -158,7 +175,7 @@ pub fn stepped(
 ) -> Acted
     requires { ⌜ Laid (now file) head × (length (now beside) ≡ besideWords) × (threadCount (now beside) ≤ 64) × (madeCount (now beside) ≤ 64) × (p ≡ i → other ≡ own) ⌝ }
     ensures { λ r. ⌜ (r ≡ actedOf (outcomeOn (clinicOf (contentsAt (now (file .entry)) head)) (now (beside .entry)) i own p other))
-        × (now (beside .exit) ≡ besideBy (now (beside .entry)) (outcomeOn (clinicOf (contentsAt (now (file .entry)) head)) (now (beside .entry)) i own p other)) ⌝ }
+        × (now (beside .exit) ≡ besideBy (awaitedBy (now (table .entry))) (now (beside .entry)) (outcomeOn (clinicOf (contentsAt (now (file .entry)) head)) (now (beside .entry)) i own p other)) ⌝ }
 {
     let mut sends = [0u16; 33];
     let mut receives = [0u16; 33];
@@ -168,6 +185,7 @@ pub fn stepped(
         head,
         &mut sends,
         &mut receives,
+        table,
         &mut words,
         beside,
         i,

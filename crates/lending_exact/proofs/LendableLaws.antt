@@ -36,8 +36,12 @@ use Rattle.placing_exact.proofs.AnswerStages.{Named, names-fine, names-wrong, n
 use Rattle.running_exact.specs.Keeps.{HasValue, a-user, a-channel, a-made, Held, Fits, Reaches, Formed}
 use Rattle.running_exact.proofs.HeldValues.{Apart, kind-held}
 use Rattle.running_exact.proofs.FileNodes.{apart}
-use Rattle.lending.specs.Lent.{contextAt, isValue, varsFit, threadFits, madeFits, every, stateOf, sizesFit, mayBeLent, lending, chosenIn, choosing}
+use Rattle.lending.specs.Lent.{contextAt, isValue, varsFit, threadFits, madeFits, every, same, totalsFit, stateOf, sizesFit, mayBeLent, lending, chosenIn, choosing}
 use Rattle.lending_exact.specs.Lendable.{Lendable, Eight}
+use Rattle.naming.specs.Scopes.{awaits}
+use Rattle.steps.specs.Beside.{totalsIn, totalsFor}
+use Rattle.lending.proofs.TotalsLaws.{same-true, same-refl}
+use Rattle.lending_exact.proofs.WaitingCounts.{counts-same, total-read, total-words}
 use Rattle.lending.proofs.SizeLaws.{sizes-true}
 use Rattle.lending.proofs.ContextLaws.{contexts-at, one-context}
 use Rattle.lending.proofs.NarrowLaws.{counted-context}
@@ -163,17 +167,22 @@ module _ (f : List ℕ) (clean : readingNames f ≡ fine) where
     abbrev made : List Made
     made = stateOf l b .made
 
+    -- the totals by value are those by node
+    totals-told : Lendable (contentsOf f) l b → totalsFor (awaits (contentsOf f)) (stateOf l b .threads) ≡ totalsIn b
+    totals-told L = total-words (contentsOf f) b (stateOf l b .threads) (L .words) (λ k inside. L .totals k inside ∙ counts-same f clean made k (inside .0) (stateOf l b .threads) (L .threads))
+
     -- what may be lent is judged so
     pub lendable-judged : Lendable (contentsOf f) l b → mayBeLent (contentsOf f) l b ≡ true
     unfolding mayBeLent
     lendable-judged L =
         rw (
-          eq-eqb (length b) 130 (L .words),
+          eq-eqb (length b) 162 (L .words),
           eq-eqb (length l) 64 (L .records),
           le-leb (getD b 0 0) 64 (L .few-threads),
           le-leb (getD b 1 0) 64 (L .few-made),
           every-iff (madeFits D) made .1 (all-map (λ m. formed-iff D m .1) made (L .made)),
           every-iff (threadFits (contentsOf f) made) (stateOf l b .threads) .1 (all-map (lent-thread made) (stateOf l b .threads) (L .threads)),
+          ap (same (totalsIn b)) (totals-told L) ∙ same-refl (totalsIn b),
         )
 
     -- and what is judged so may be lent
@@ -182,16 +191,20 @@ module _ (f : List ℕ) (clean : readingNames f ≡ fine) where
     judged-lendable eights h =
         let (sizes, rest) = and-eq-true-iff (sizesFit (length l) b) _ .0 h in
         let (words, records, threads, few) = sizes-true (length l) b sizes in
-        let (formed, fit) = and-eq-true-iff (every (madeFits D) made) (every (threadFits (contentsOf f) made) (stateOf l b .threads)) .0 rest in
+        let (formed, more) = and-eq-true-iff (every (madeFits D) made) _ .0 rest in
+        let (fit, totals) = and-eq-true-iff (every (threadFits (contentsOf f) made) (stateOf l b .threads)) (totalsFit (contentsOf f) (stateOf l b .threads) b) .0 more in
+        let fitting = all-map (λ t (e, z). thread-lent made t e z) (stateOf l b .threads)
+        (all-both Eight (λ t. threadFits (contentsOf f) made t ≡ true) (stateOf l b .threads) (all-take Eight (getD b 0 0) l eights)
+        (every-iff (threadFits (contentsOf f) made) (stateOf l b .threads) .0 fit)) in
         record {
           records = records;
           words = words;
           few-threads = threads;
           few-made = few;
           made = all-map (λ m. formed-iff D m .0) made (every-iff (madeFits D) made .0 formed);
-          threads = all-map (λ t (e, z). thread-lent made t e z) (stateOf l b .threads)
-              (all-both Eight (λ t. threadFits (contentsOf f) made t ≡ true) (stateOf l b .threads) (all-take Eight (getD b 0 0) l eights)
-              (every-iff (threadFits (contentsOf f) made) (stateOf l b .threads) .0 fit));
+          threads = fitting;
+          totals = λ k inside. total-read (contentsOf f) b (stateOf l b .threads) (same-true (totalsIn b) (totalsFor (awaits (contentsOf f)) (stateOf l b .threads)) totals) k inside
+              ∙ sym (counts-same f clean made k (inside .0) (stateOf l b .threads) fitting);
         }
 
 -- The test is what the paper says may be lent.

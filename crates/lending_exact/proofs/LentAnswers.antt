@@ -35,7 +35,7 @@ pub data OfChoice (f : List ℕ) (l : List Thread) (b : List ℕ) (i p : ℕ) : 
   unread : (n q : ℕ) → OfFile n → readingNames f ≡ refused n q → lending f l b ≡ refused n q → Leaves f l b i p (refused n q) l b → OfChoice f l b i p
   unfit : readingNames f ≡ fine → mayBeLent (contentsOf f) l b ≡ false → lending f l b ≡ refused 18 0 → Leaves f l b i p (refused 18 0) l b → OfChoice f l b i p
   halted : (n : ℕ) → (10 < n) × (n < 21) → lending f l b ≡ fine → chosenIn f l b i p ≡ halts n → Leaves f l b i p (refused n 1) l b → OfChoice f l b i p
-  carried : (s : State) → lending f l b ≡ fine → chosenIn f l b i p ≡ goes s → Leaves f l b i p fine (recordsAfter l (goes s)) (besideAfter b (goes s)) → OfChoice f l b i p
+  carried : (s : State) → lending f l b ≡ fine → chosenIn f l b i p ≡ goes s → Leaves f l b i p fine (recordsAfter l (goes s)) (besideAfter (contentsOf f) b (goes s)) → OfChoice f l b i p
 
 module _ (f : List ℕ) (l : List Thread) (b : List ℕ) where
   -- what refuses before the choice is the answer, and nothing changes
@@ -46,7 +46,7 @@ module _ (f : List ℕ) (l : List Thread) (b : List ℕ) where
       record { answer = rw (e, loud); records = rw (e, loud); beside = rw (e, loud) }
 
   -- where nothing does, all is the choice's
-  pub chooses : (i p : ℕ) → lending f l b ≡ fine → (o : Chosen) → chosenIn f l b i p ≡ o → Leaves f l b i p (chosenAnswer o) (recordsAfter l o) (besideAfter b o)
+  pub chooses : (i p : ℕ) → lending f l b ≡ fine → (o : Chosen) → chosenIn f l b i p ≡ o → Leaves f l b i p (chosenAnswer o) (recordsAfter l o) (besideAfter (contentsOf f) b o)
   unfolding choosing recordsOver besideOver
   chooses i p e o h = record { answer = rw (e, h); records = rw (e, h); beside = rw (e, h) }
 
@@ -75,7 +75,7 @@ module _ (f : List ℕ) (l : List Thread) (b : List ℕ) where
 
   -- so what holds before it, and after one that is carried out, holds after any
   pub left-by : (P : List Thread → List ℕ → Type 0) (i p : ℕ) → P l b
-      → ((s : State) → lending f l b ≡ fine → chosenIn f l b i p ≡ goes s → P (recordsAfter l (goes s)) (besideAfter b (goes s)))
+      → ((s : State) → lending f l b ≡ fine → chosenIn f l b i p ≡ goes s → P (recordsAfter l (goes s)) (besideAfter (contentsOf f) b (goes s)))
       → P (recordsOver f l b i p) (besideOver f l b i p)
   left-by P i p before after = go (of-choice i p)
     where

@@ -1,7 +1,7 @@
 -- A choice in a lent list, computed on the definitions.
 use Prim.Native.Nat.{ℕ}
 use mathlib.Core.Path.{_≡_, refl}
-use mathlib.Core.List.{List, [], _∷_}
+use mathlib.Core.List.{List, [], _∷_, _++_}
 use lib.ListN.{replicate}
 use Rattle.reading_exact.specs.Lists.{All}
 use Rattle.masks.specs.Mask.{has, with, namesOnly, within}
@@ -18,13 +18,14 @@ use Rattle.rules.specs.Juniors.{together, effective}
 use Rattle.rules.specs.Schema.{permits, permittingTo}
 use Rattle.rules.specs.Names.{named, kindOf, mine}
 use Rattle.rules.specs.Rules.{namesFit, kindsFit, able, wrong, childOf}
-use Rattle.rules.specs.Checking.{reached, openingsFrom, firstBy, namesAnswer}
+use Rattle.rules.specs.Checking.{reached, rightly, openingsFrom, firstBy, namesAnswer}
 use Rattle.checking.specs.Check.{readingNames}
 use Rattle.steps.specs.declared.Thread.{Thread}
 use Rattle.steps.specs.Threads.{value, firstFree}
 use Rattle.steps.specs.Choice.{kindHeld, meeting, sending, lone, aloneOnly, acting, done, outcome, choice}
-use Rattle.steps.specs.Beside.{madeIn, madeWords}
-use Rattle.lending.specs.Lent.{isValue, varsFit, threadFits, madeFits, every, mayBeLent, lending, choosing, recordsOver, besideOver}
+use Rattle.naming.specs.Scopes.{bindScope, scopeFrom, scopeOf, marked, nodeScope, scopesIn}
+use Rattle.steps.specs.Beside.{madeIn, madeWords, waiting, waitingFrom}
+use Rattle.lending.specs.Lent.{isValue, varsFit, threadFits, madeFits, every, same, mayBeLent, lending, choosing, recordsOver, besideOver}
 
 -- a choice in what is lent: the answer, and what is left
 pub record LentCase : Type 0 where
@@ -70,40 +71,48 @@ at u j m v = record { user = u; node = j; mask = m; vars = v ∷ 0 ∷ 0 ∷ 0 �
 abbrev two : Thread → Thread → List Thread
 two t r = t ∷ r ∷ replicate 62 (at 9 9 9 9)
 
--- so many threads and made channels, and 128 words
-abbrev counts : ℕ → ℕ → List ℕ
-counts threads made = threads ∷ made ∷ replicate 128 7
+-- the totals: so many threads wait for kind 1, and none for another
+abbrev waitingOne : ℕ → List ℕ
+waitingOne n = n ∷ replicate 31 0
+
+-- so many threads and made channels, 128 words, and the totals of so many threads that wait for kind 1
+abbrev counts : ℕ → ℕ → ℕ → List ℕ
+counts threads made n = threads ∷ made ∷ replicate 128 7 ++ waitingOne n
 
 abbrev pub lentCases : List LentCase
 lentCases =
     -- thread 1 sends to thread 2, which holds what is sent: records 1 and 2 change
-    carried meet (two (at 1 1 1 0) (at 2 3 2 0)) (counts 2 0) 1 2 (two (at 1 2 1 0) (at 2 4 2 1)) (counts 2 0)
+    carried meet (two (at 1 1 1 0) (at 2 3 2 0)) (counts 2 0 1) 1 2 (two (at 1 2 1 0) (at 2 4 2 1)) (counts 2 0 0)
     -- thread 1 ends, and thread 2 is thread 1: record 2 keeps what it held
-    ∷ carried meet (two (at 1 2 1 0) (at 2 4 2 1)) (counts 2 0) 1 0 (two (at 2 4 2 1) (at 2 4 2 1)) (counts 1 0)
+    ∷ carried meet (two (at 1 2 1 0) (at 2 4 2 1)) (counts 2 0 0) 1 0 (two (at 2 4 2 1) (at 2 4 2 1)) (counts 1 0 0)
     -- there is no thread 3
-    ∷ refusing meet (two (at 1 1 1 0) (at 2 3 2 0)) (counts 2 0) 3 0 (refused 18 1)
+    ∷ refusing meet (two (at 1 1 1 0) (at 2 3 2 0)) (counts 2 0 1) 3 0 (refused 18 1)
     -- thread 1 has lost its role: it may be lent, but not send
-    ∷ refusing meet (two (at 1 1 0 0) (at 2 3 2 0)) (counts 2 0) 1 2 (refused 13 1)
+    ∷ refusing meet (two (at 1 1 0 0) (at 2 3 2 0)) (counts 2 0 1) 1 2 (refused 13 1)
     -- a role that is not assigned; another session's user; no such node; a variable not bound yet; a bound one that holds nothing
-    ∷ refusing meet (two (at 1 1 3 0) (at 2 3 2 0)) (counts 2 0) 1 2 (refused 18 0)
-    ∷ refusing meet (two (at 2 1 2 0) (at 2 3 2 0)) (counts 2 0) 1 2 (refused 18 0)
-    ∷ refusing meet (two (at 1 5 1 0) (at 2 3 2 0)) (counts 2 0) 1 2 (refused 18 0)
-    ∷ refusing meet (two (at 1 1 1 1) (at 2 3 2 0)) (counts 2 0) 1 2 (refused 18 0)
-    ∷ refusing meet (two (at 1 1 1 0) (at 2 4 2 0)) (counts 2 0) 1 0 (refused 18 0)
+    ∷ refusing meet (two (at 1 1 3 0) (at 2 3 2 0)) (counts 2 0 1) 1 2 (refused 18 0)
+    ∷ refusing meet (two (at 2 1 2 0) (at 2 3 2 0)) (counts 2 0 1) 1 2 (refused 18 0)
+    ∷ refusing meet (two (at 1 5 1 0) (at 2 3 2 0)) (counts 2 0 1) 1 2 (refused 18 0)
+    ∷ refusing meet (two (at 1 1 1 1) (at 2 3 2 0)) (counts 2 0 1) 1 2 (refused 18 0)
+    ∷ refusing meet (two (at 1 1 1 0) (at 2 4 2 0)) (counts 2 0 0) 1 0 (refused 18 0)
     -- the third record is counted; a count over 64; too few records; too few words
-    ∷ refusing meet (two (at 1 1 1 0) (at 2 3 2 0)) (counts 3 0) 1 2 (refused 18 0)
-    ∷ refusing meet (two (at 1 1 1 0) (at 2 3 2 0)) (counts 65 0) 1 2 (refused 18 0)
-    ∷ refusing meet (at 1 1 1 0 ∷ at 2 3 2 0 ∷ []) (counts 2 0) 1 2 (refused 18 0)
+    ∷ refusing meet (two (at 1 1 1 0) (at 2 3 2 0)) (counts 3 0 1) 1 2 (refused 18 0)
+    ∷ refusing meet (two (at 1 1 1 0) (at 2 3 2 0)) (counts 65 0 1) 1 2 (refused 18 0)
+    ∷ refusing meet (at 1 1 1 0 ∷ at 2 3 2 0 ∷ []) (counts 2 0 1) 1 2 (refused 18 0)
     ∷ refusing meet (two (at 1 1 1 0) (at 2 3 2 0)) (2 ∷ 0 ∷ []) 1 2 (refused 18 0)
+    -- a total too low, too high, and of a kind that the file doesn't have
+    ∷ refusing meet (two (at 1 1 1 0) (at 2 3 2 0)) (counts 2 0 0) 1 2 (refused 18 0)
+    ∷ refusing meet (two (at 1 1 1 0) (at 2 3 2 0)) (counts 2 0 2) 1 2 (refused 18 0)
+    ∷ refusing meet (two (at 1 1 1 0) (at 2 3 2 0)) (2 ∷ 0 ∷ replicate 128 7 ++ (1 ∷ 1 ∷ replicate 30 0)) 1 2 (refused 18 0)
     -- a channel is made: its owner and kind stand beside, and the thread holds 385
-    ∷ carried make (two (at 1 1 0 0) (at 9 9 9 9)) (counts 1 0) 1 0 (two (at 1 2 0 385) (at 9 9 9 9)) (1 ∷ 1 ∷ 1 ∷ 1 ∷ replicate 126 7)
+    ∷ carried make (two (at 1 1 0 0) (at 9 9 9 9)) (counts 1 0 0) 1 0 (two (at 1 2 0 385) (at 9 9 9 9)) (1 ∷ 1 ∷ 1 ∷ 1 ∷ replicate 126 7 ++ waitingOne 0)
     -- a made channel of a kind that is not there; a value that no made channel has
-    ∷ refusing make (two (at 1 2 0 385) (at 9 9 9 9)) (1 ∷ 1 ∷ 1 ∷ 2 ∷ replicate 126 7) 1 0 (refused 18 0)
-    ∷ refusing make (two (at 1 2 0 386) (at 9 9 9 9)) (1 ∷ 1 ∷ 1 ∷ 1 ∷ replicate 126 7) 1 0 (refused 18 0)
+    ∷ refusing make (two (at 1 2 0 385) (at 9 9 9 9)) (1 ∷ 1 ∷ 1 ∷ 2 ∷ replicate 126 7 ++ waitingOne 0) 1 0 (refused 18 0)
+    ∷ refusing make (two (at 1 2 0 386) (at 9 9 9 9)) (1 ∷ 1 ∷ 1 ∷ 1 ∷ replicate 126 7 ++ waitingOne 0) 1 0 (refused 18 0)
     -- what is no file is refused first
     ∷ refusing [] [] [] 1 0 (refused 1 0)
     ∷ []
 
 pub lent-cases : All LentShown lentCases
-unfolding has with namesOnly within bytesOf firstOf from2 from3 from4 from5 headOf tabled item contentsAt recordFits sectionAnswer recordsAnswer following nodeFits shapeFrom roots shapeAnswer reading together effective permits permittingTo named kindOf mine namesFit kindsFit able wrong childOf reached openingsFrom firstBy namesAnswer readingNames value firstFree kindHeld meeting sending lone aloneOnly acting done outcome choice madeIn madeWords isValue varsFit threadFits madeFits every mayBeLent lending choosing recordsOver besideOver
-lent-cases = ((refl, refl, refl), ((refl, refl, refl), ((refl, refl, refl), ((refl, refl, refl), ((refl, refl, refl), ((refl, refl, refl), ((refl, refl, refl), ((refl, refl, refl), ((refl, refl, refl), ((refl, refl, refl), ((refl, refl, refl), ((refl, refl, refl), ((refl, refl, refl), ((refl, refl, refl), ((refl, refl, refl), ((refl, refl, refl), ((refl, refl, refl), tt)))))))))))))))))
+unfolding has with namesOnly within bytesOf firstOf from2 from3 from4 from5 headOf tabled item contentsAt recordFits sectionAnswer recordsAnswer following nodeFits shapeFrom roots shapeAnswer reading together effective permits permittingTo named kindOf mine namesFit kindsFit able wrong childOf reached openingsFrom firstBy namesAnswer readingNames value firstFree kindHeld meeting sending lone aloneOnly acting done outcome choice madeIn madeWords isValue varsFit threadFits madeFits every mayBeLent lending choosing recordsOver besideOver same waiting waitingFrom scopeFrom bindScope scopeOf marked nodeScope scopesIn rightly
+lent-cases = ((refl, refl, refl), ((refl, refl, refl), ((refl, refl, refl), ((refl, refl, refl), ((refl, refl, refl), ((refl, refl, refl), ((refl, refl, refl), ((refl, refl, refl), ((refl, refl, refl), ((refl, refl, refl), ((refl, refl, refl), ((refl, refl, refl), ((refl, refl, refl), ((refl, refl, refl), ((refl, refl, refl), ((refl, refl, refl), ((refl, refl, refl), ((refl, refl, refl), ((refl, refl, refl), ((refl, refl, refl), tt))))))))))))))))))))

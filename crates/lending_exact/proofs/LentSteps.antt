@@ -17,9 +17,9 @@ use Rattle.running_exact.proofs.Agree.{choice-steps}
 use Rattle.running_exact.proofs.RunSafe.{free-next}
 use Rattle.lending.specs.Lent.{stateOf, choosing, recordsOver, besideOver}
 use Rattle.lending_exact.specs.Lendable.{Lendable, Eight, Lends}
-use Rattle.lending_exact.proofs.LentAnswers.{chooses, left-has}
+use Rattle.lending_exact.proofs.LentAnswers.{chooses, left-has, lending-fine}
 use Rattle.lending_exact.proofs.LendableLaws.{choosing-fine}
-use Rattle.lending_exact.proofs.LentRuns.{stored-lends, lendable, chosen-held}
+use Rattle.lending_exact.proofs.LentRuns.{stored-lends, loose, held-fit, lendable, chosen-held}
 
 -- The variable that a binder takes, the first 0 of the eight, is the next on the path.
 pub lent-free : (C : Contents) (l : List Thread) (b : List ℕ) → Lendable C l b → (i : ℕ) → InCount (length (stateOf l b .threads)) i → (c : Context)
@@ -28,12 +28,12 @@ lent-free C l b L = free-next C (stateOf l b) (L .threads)
 
 -- A choice that is done is a step of the state that is lent, and the list then holds that step's result.
 pub lent-steps : (f : List ℕ) (l : List Thread) → All Eight l → (b : List ℕ) (i p : ℕ) → choosing f l b i p ≡ fine
-    → (s′ : State) × Steps (clinicOf (contentsOf f)) (stateOf l b) i p s′ × Lends (recordsOver f l b i p) (besideOver f l b i p) s′
+    → (s′ : State) × Steps (clinicOf (contentsOf f)) (stateOf l b) i p s′ × Lends (contentsOf f) (recordsOver f l b i p) (besideOver f l b i p) s′
 lent-steps f l eights b i p e =
     let (fit, (s, h)) = choosing-fine f l b i p .0 e in
     let L = lendable f l eights b fit i p in
     let I = chosen-held f l eights b fit i p s h in (
       s,
       choice-steps (clinicOf (contentsOf f)) (stateOf l b) i p s h,
-      left-has f l b (λ x y. Lends x y s) (chooses f l b i p fit (goes s) h) (stored-lends l b (L .records) (L .words) s (I .few-threads) (I .few-made)),
+      left-has f l b (λ x y. Lends (contentsOf f) x y s) (chooses f l b i p fit (goes s) h) (stored-lends f (lending-fine f l b .0 fit .0) l b (L .records) (L .words) s (I .few-threads) (I .few-made) (held-fit f (loose f) s I)),
     )

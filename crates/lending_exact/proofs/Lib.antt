@@ -1,3 +1,4 @@
+pub mod WaitingCounts
 pub mod LentAnswers
 pub mod LendableLaws
 pub mod LentRuns
@@ -6,3 +7,5 @@ pub mod LentStarts
 pub mod StartAnswers
 pub mod Unchanged
 pub mod LentCases
+pub mod RunTotals
+pub mod TotalCases

@@ -1,5 +1,8 @@
--- What a choice leaves as it was: all, where it is refused; else the records past the threads and the words past the made channels.
-use Prim.Native.Nat.{ℕ, suc, _+_, _*_, _<_}
+-- What a choice leaves as it was: all, where it is refused; else the records past the threads and the words between the made channels and the totals.
+use Prim.Native.Nat.{ℕ, suc, _+_, _*_, _<_, _≤_}
+use Rattle.naming.specs.Scopes.{awaits}
+use Rattle.steps.specs.Beside.{totalsFor}
+use Rattle.steps.proofs.TableLaws.{sets-other}
 use mathlib.Core.Path.{_≡_, refl, sym, ap, _∙_, subst}
 use mathlib.Core.Logic.{_≢_}
 use mathlib.Core.Bool.{true, and-eq-true-iff}
@@ -32,8 +35,8 @@ getD-sets-before [] l i j d h = refl
 getD-sets-before (v ∷ vs) l i j d h = getD-sets-before vs (set l i v) (suc i) j d (omega arith) ∙ getD-set-other l i j v d (λ z. omega arith)
 
 module _ (f : List ℕ) (l : List Thread) (b : List ℕ) (i p : ℕ) where
-  -- what is judged fit to be lent has 130 words
-  sized : mayBeLent (contentsOf f) l b ≡ true → length b ≡ 130
+  -- what is judged fit to be lent has 162 words
+  sized : mayBeLent (contentsOf f) l b ≡ true → length b ≡ 162
   unfolding mayBeLent
   sized h = sizes-true (length l) b (and-eq-true-iff (sizesFit (length l) b) _ .0 h .0) .0
 
@@ -51,33 +54,34 @@ module _ (f : List ℕ) (l : List Thread) (b : List ℕ) (i p : ℕ) where
   pub lengths-kept : (length (recordsOver f l b i p) ≡ length l) × (length (besideOver f l b i p) ≡ length b)
   lengths-kept =
       left-by f l b (λ x y. (length x ≡ length l) × (length y ≡ length b)) i p (refl, refl)
-      (λ s e h. (length-sets l 0 (s .threads), length-sets b 0 (length (s .threads) ∷ length (s .made) ∷ madeWords (s .made))))
+      (λ s e h. (length-sets l 0 (s .threads), length-sets (sets b 0 (length (s .threads) ∷ length (s .made) ∷ madeWords (s .made))) 130 (totalsFor (awaits (contentsOf f)) (s .threads)) ∙ length-sets b 0 (length (s .threads) ∷ length (s .made) ∷ madeWords (s .made))))
 
   -- where a choice is carried out, the counts stand first
-  counts-stored : (s : State) → length b ≡ 130
-      → (getD (besideAfter b (goes s)) 0 0 ≡ length (s .threads)) × (getD (besideAfter b (goes s)) 1 0 ≡ length (s .made))
+  counts-stored : (s : State) → length b ≡ 162
+      → (getD (besideAfter (contentsOf f) b (goes s)) 0 0 ≡ length (s .threads)) × (getD (besideAfter (contentsOf f) b (goes s)) 1 0 ≡ length (s .made))
   counts-stored s words =
       let n : ℕ = length (s .threads) in
       let m : ℕ = length (s .made) in
+      let T : List ℕ = totalsFor (awaits (contentsOf f)) (s .threads) in
       let long : 1 < length (set b 0 n) = omega (arith, words, length-set b 0 n) in (
-        getD-sets-before (madeWords (s .made)) (set (set b 0 n) 1 m) 2 0 0 (omega arith) ∙ getD-set-other (set b 0 n) 1 0 m 0 (λ z. omega arith)
+        getD-sets-before T (sets (set (set b 0 n) 1 m) 2 (madeWords (s .made))) 130 0 0 (omega arith) ∙ getD-sets-before (madeWords (s .made)) (set (set b 0 n) 1 m) 2 0 0 (omega arith) ∙ getD-set-other (set b 0 n) 1 0 m 0 (λ z. omega arith)
             ∙ getD-set-same b 0 n 0 (omega (arith, words)),
-        getD-sets-before (madeWords (s .made)) (set (set b 0 n) 1 m) 2 1 0 (omega arith) ∙ getD-set-same (set b 0 n) 1 m 0 long,
+        getD-sets-before T (sets (set (set b 0 n) 1 m) 2 (madeWords (s .made))) 130 1 0 (omega arith) ∙ getD-sets-before (madeWords (s .made)) (set (set b 0 n) 1 m) 2 1 0 (omega arith) ∙ getD-set-same (set b 0 n) 1 m 0 long,
       )
 
-  -- Records past the count after the choice keep what they held, and so do the words past the made channels.
+  -- Records past the count after the choice keep what they held, and so do the words between the made channels and the totals.
   pub past-kept : (drop (getD (besideOver f l b i p) 0 0) (recordsOver f l b i p) ≡ drop (getD (besideOver f l b i p) 0 0) l)
-      × (drop (2 + 2 * getD (besideOver f l b i p) 1 0) (besideOver f l b i p) ≡ drop (2 + 2 * getD (besideOver f l b i p) 1 0) b)
-  past-kept = left-by f l b (λ x y. (drop (getD y 0 0) x ≡ drop (getD y 0 0) l) × (drop (2 + 2 * getD y 1 0) y ≡ drop (2 + 2 * getD y 1 0) b)) i p (refl, refl) after
+      × ((k : ℕ) → 2 + 2 * getD (besideOver f l b i p) 1 0 ≤ k → k < 130 → getD (besideOver f l b i p) k 0 ≡ getD b k 0)
+  past-kept = left-by f l b (λ x y. (drop (getD y 0 0) x ≡ drop (getD y 0 0) l) × ((k : ℕ) → 2 + 2 * getD y 1 0 ≤ k → k < 130 → getD y k 0 ≡ getD b k 0)) i p (refl, λ k past low. refl) after
     where
       after : (s : State) → lending f l b ≡ fine → chosenIn f l b i p ≡ goes s
-          → (drop (getD (besideAfter b (goes s)) 0 0) (recordsAfter l (goes s)) ≡ drop (getD (besideAfter b (goes s)) 0 0) l)
-          × (drop (2 + 2 * getD (besideAfter b (goes s)) 1 0) (besideAfter b (goes s)) ≡ drop (2 + 2 * getD (besideAfter b (goes s)) 1 0) b)
+          → (drop (getD (besideAfter (contentsOf f) b (goes s)) 0 0) (recordsAfter l (goes s)) ≡ drop (getD (besideAfter (contentsOf f) b (goes s)) 0 0) l)
+          × ((k : ℕ) → 2 + 2 * getD (besideAfter (contentsOf f) b (goes s)) 1 0 ≤ k → k < 130 → getD (besideAfter (contentsOf f) b (goes s)) k 0 ≡ getD b k 0)
       after s e h =
           let ws : List ℕ = length (s .threads) ∷ length (s .made) ∷ madeWords (s .made) in
           let (count, number) = counts-stored s (sized (lending-fine f l b .0 e .1)) in
-          let threads : 0 + length (s .threads) ≡ getD (besideAfter b (goes s)) 0 0 = omega (arith, count) in
-          let words : 0 + length ws ≡ 2 + 2 * getD (besideAfter b (goes s)) 1 0 = omega (arith, number, made-words-length (s .made)) in (
+          let threads : 0 + length (s .threads) ≡ getD (besideAfter (contentsOf f) b (goes s)) 0 0 = omega (arith, count) in (
             subst (λ (k : ℕ). drop k (recordsAfter l (goes s)) ≡ drop k l) threads (drop-sets (s .threads) l 0),
-            subst (λ (k : ℕ). drop k (besideAfter b (goes s)) ≡ drop k b) words (drop-sets ws b 0),
+            λ k past low. getD-sets-before (totalsFor (awaits (contentsOf f)) (s .threads)) (sets b 0 ws) 130 k 0 low
+                ∙ sets-other ws b 0 k 0 (λ j lt q. omega (arith, lt, q, past, number, made-words-length (s .made))),
           )

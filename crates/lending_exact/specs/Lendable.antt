@@ -14,6 +14,7 @@ use Rattle.steps.specs.declared.Thread.{Thread}
 use Rattle.steps.specs.Choice.{State}
 use Rattle.reading_exact.specs.Lists.{All}
 use Rattle.running_exact.specs.Keeps.{Fits, Reaches, Formed}
+use Rattle.lending_exact.specs.Waiting.{Totalled}
 use Rattle.lending.specs.Lent.{stateOf, choosing, recordsOver, besideOver}
 use Rattle.steps.specs.Beside.{threadCount, madeCount, besideWords}
 
@@ -27,18 +28,21 @@ pub record Lendable (C : Contents) (l : List Thread) (b : List ℕ) : Type 0 whe
   pub few-made : madeCount b ≤ 64
   pub made : All (Formed (schemaOf C)) (stateOf l b .made)
   pub threads : All (λ (t : Thread). (c : Context) × Reaches C t c × Fits (schemaOf C) (stateOf l b .made) c t) (stateOf l b .threads)
+  -- K6: and the totals of all 32 kinds
+  pub totals : Totalled C b (stateOf l b)
 
 -- a record of a lent list is a thread with eight variables
 abbrev pub Eight : Thread → Type 0
 Eight t = length (t .vars) ≡ 8
 
--- a list of 64 records, with 130 words beside it, holds a state; what the records past its threads and the words past its made channels are is open
-pub record Lends (l : List Thread) (b : List ℕ) (s : State) : Type 0 where
+-- a list of 64 records, with 162 words beside it, holds a state with its totals; what the records past its threads and the words between its made channels and the totals are is open
+pub record Lends (C : Contents) (l : List Thread) (b : List ℕ) (s : State) : Type 0 where
   pub records : length l ≡ 64
   pub words : length b ≡ besideWords
   pub threads : threadCount b ≡ length (s .threads)
   pub made : madeCount b ≡ length (s .made)
   pub state : stateOf l b ≡ s
+  pub totals : Totalled C b s
 
 -- choices in a lent list one after the other, up to the first that is refused: the records and words that are left, and the last answer
 pub record Left : Type 0 where

@@ -3,7 +3,8 @@ use Prim.Native.Nat.{ℕ, _+_, _≤_}
 use mathlib.Core.Path.{_≡_, refl, sym, ap, _∙_}
 use mathlib.Core.Bool.{Bool, true, false, cond}
 use mathlib.Core.List.{List}
-use lib.ListN.{set}
+use lib.ListN.{length, set}
+use native.Mathlib.Omega.{arith}
 use lib.Dec.{eqb}
 use borrow.Author.Tests.{eqb-true, eqb-false}
 use Rattle.format.specs.Contents.{inCount}
@@ -12,10 +13,12 @@ use Rattle.rules.specs.declared.Point.{Point}
 use Rattle.rules.specs.declared.RuleStep.{RuleStep}
 use Rattle.naming.specs.declared.NameStep.{NameStep}
 use Rattle.rules.specs.Schema.{Schema}
-use Rattle.rules.specs.Rules.{wrong, childOf}
-use Rattle.rules.specs.Kept.{varsOf, contextOf, graded, staying, turning, stepOf, unmasked}
-use Rattle.naming.specs.Kept.{barePoint, namingFrom, namingOf}
-use Rattle.rules.proofs.NameLaws.{Held}
+use Rattle.rules.specs.Names.{named}
+use Rattle.rules.specs.Rules.{namesFit, kindsFit, wrong, childOf}
+use Rattle.rules.specs.Kept.{NameTable, varsOf, contextOf, graded, staying, turning, stepOf, unmasked}
+use Rattle.naming.specs.Kept.{barePoint, namingFrom, namingOf, awaitedAt}
+use Rattle.naming.specs.Scopes.{awaited}
+use Rattle.rules.proofs.NameLaws.{Held, said}
 use Rattle.rules.proofs.StepLaws.{Right, step-on, step-off, step-other}
 
 -- where a role is turned on or off and at any further tag
@@ -54,3 +57,20 @@ told D t u b n r =
       most = λ z. r .goes z .most;
       held = λ z. r .goes z .held;
     }
+
+-- a receive that is right names a channel, and the table of names has its kind
+pub awaited-right : (D : Schema) (t : List ℕ) (u b : ℕ) (n : Node) → D .users ≤ 32 → D .channels ≤ 64 → NameTable D (D .users) (D .channels) t → 512 + b ≤ length t → Held t b
+    → wrong D (contextOf t (barePoint D u b)) n ≡ 0 → awaitedAt t b n ≡ awaited D (contextOf t (barePoint D u b)) n
+unfolding wrong namesFit
+awaited-right D t u b n users channels its long held good = go (eqb (n .tag) 5) refl
+  where
+    is-named : (p : Bool) (k : ℕ) → cond p k 9 ≡ 0 → p ≡ true
+    is-named true k e = refl
+    is-named false k e = let no : ⊥ = omega (arith, e) in absurd no
+
+    go : (p : Bool) → eqb (n .tag) 5 ≡ p → awaitedAt t b n ≡ awaited D (contextOf t (barePoint D u b)) n
+    go true e =
+        let five : n .tag ≡ 5 = eqb-true (n .tag) 5 e in
+        let fits : namesFit D (varsOf u t b) n ≡ named D (varsOf u t b) (n .f1) = rw five in
+        rw e (said D u b t users channels its long held (n .f1) .1 (sym fits ∙ is-named (namesFit D (varsOf u t b) n) _ good))
+    go false e = rw e

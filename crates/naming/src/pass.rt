@@ -164,7 +164,7 @@ fn walk_names(
         i += 1;
         match tag {
             0 => {
-                keep(scopes, wide(at), here);
+                keep(scopes, wide(at), here, names, bound, it);
                 if depth == 0 {
                     return fine;
                 }
@@ -175,7 +175,7 @@ fn walk_names(
                 here = waits[depth];
             }
             1 => {
-                keep(scopes, wide(at), here);
+                keep(scopes, wide(at), here, names, bound, it);
                 stack[depth] = paired(user, bound);
                 waits[depth] = here;
                 depth += 1;
@@ -188,7 +188,7 @@ fn walk_names(
                         place: at,
                     };
                 }
-                keep(scopes, wide(at), here);
+                keep(scopes, wide(at), here, names, bound, it);
                 names[512 + wide(bound)] = step.binding;
                 here = scope_after(here, bound, step, wide(at) < scopes.len());
                 bound = step.bound;

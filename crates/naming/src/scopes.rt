@@ -1,14 +1,18 @@
-// What a node is reached with, as one number: the session's user, how many variables are bound, and their kinds.
+// What is asked of a node, as one number: the session's user, how many variables are bound, their kinds, and of a receive the kind of its channel.
 use super::NameStep;
+use format::Node;
+use format::words::wide;
 use masks::ChannelKind;
 use rules::names::kind_of;
+use rules::names::look_up;
 ghost use mathlib.Core.Path.{_≡_};
 ghost use mathlib.Core.Bool.{true, cond};
-ghost use Prim.Native.Nat.{_≤_};
+ghost use Prim.Native.Nat.{_+_, _%_, _^_, _≤_};
 ghost use lib.Dec.{eqb};
-ghost use lib.ListN.{set};
+ghost use lib.ListN.{length, set};
 ghost use Rattle.rules.specs.Kept.{kindIn};
-ghost use Rattle.naming.specs.Scopes.{boundIn, kindAt, bindScope};
+ghost use Rattle.naming.specs.Scopes.{boundIn, kindAt, bindScope, awaitedIn, marked, awaitedBy};
+ghost use Rattle.naming.specs.Kept.{awaitedAt};
 
 // How many variables are bound.
 pub fn bound_in(w: u64) -> u64
@@ -49,11 +53,48 @@ pub fn scope_after(w: u64, bound: u16, step: NameStep, wanted: bool) -> u64
     bind(w, kind_of(step.binding))
 }
 
-// Stored at an index, if there is room.
-pub fn keep(scopes: &mut [u64], at: usize, w: u64)
-    ensures { λ r. ⌜ now (scopes .exit) ≡ set (now (scopes .entry)) at w ⌝ }
+// The kind of a receive's channel, 0 for any other node, where so many variables are bound.
+fn awaited_at(names: &[u32], bound: u16, it: Node) -> ChannelKind
+    requires { ⌜ 512 + bound ≤ length (now names) ⌝ }
+    ensures { λ r. ⌜ r .0 ≡ awaitedAt (now (names .entry)) bound it ⌝ }
+{
+    if it.tag == 5 {
+        return kind_of(look_up(names, bound, it.f1));
+    }
+    ChannelKind(0)
+}
+
+// With that kind above the rest.
+fn marked(w: u64, kind: ChannelKind) -> u64
+    ensures { λ r. ⌜ r ≡ marked w (kind .0) ⌝ }
+{
+    w % 288230376151711744 + ((kind.0 % 64) as u64) * 288230376151711744
+}
+
+// A node in its context, which is w: stored at its number, if there is room.
+pub fn keep(scopes: &mut [u64], at: usize, w: u64, names: &[u32], bound: u16, it: Node)
+    requires { ⌜ 512 + bound ≤ length (now names) ⌝ }
+    ensures { λ r. ⌜ now (scopes .exit) ≡ set (now (scopes .entry)) at (marked w (awaitedAt (now (names .entry)) bound it)) ⌝ }
 {
     if at < scopes.len() {
-        scopes[at] = w;
+        scopes[at] = marked(w, awaited_at(names, bound, it));
     }
+}
+
+// Without that kind.
+pub fn scope_in(w: u64) -> u64
+    ensures { λ r. ⌜ r ≡ w % 2 ^ 58 ⌝ }
+{
+    w % 288230376151711744
+}
+
+// The kind that a thread at a node waits for: that of the receive's channel, 0 where the node is no receive or out of the table.
+pub fn awaited_by(table: &[u64], node: u16) -> ChannelKind
+    ensures { λ r. ⌜ r .0 ≡ awaitedBy (now (table .entry)) node ⌝ }
+{
+    let i = wide(node);
+    if i < table.len() {
+        return ChannelKind(((table[i] >> 58) % 64) as u16);
+    }
+    ChannelKind(0)
 }

@@ -5,7 +5,7 @@ use mathlib.Core.Bool.{Bool, true, false, cond, not, _&&_, and-eq-true-iff}
 use mathlib.Core.List.{List, [], _∷_}
 use native.Mathlib.Omega.{arith}
 use lib.Dec.{eqb, leb}
-use lib.ListN.{length}
+use lib.ListN.{length, replicate}
 use lib.Seq.{sets}
 use borrow.Author.Tests.{eq-eqb, ne-eqb, leb-true, not-true, not-false}
 use Rattle.format.specs.Contents.{contentsAt}
@@ -14,14 +14,19 @@ use Rattle.format.specs.Answers.{fine, refused}
 use Rattle.format.specs.declared.Head.{Head}
 use Rattle.format.specs.declared.Verdict.{Verdict}
 use Rattle.reading.specs.declared.Opened.the-variants.{Fine, Refused}
-use Rattle.checking.specs.Check.{readingNames, entered}
+use Rattle.naming.specs.Scopes.{awaitedBy}
+use Rattle.checking.specs.Check.{readingNames, entered, scoped}
 use Rattle.checking.proofs.CheckLaws.{entered-fine, entered-refused}
 use Rattle.running.specs.declared.Ready.{Ready}
+use Rattle.running.specs.declared.Totals.{Totals}
 use Rattle.choices.specs.declared.Progress.{Progress}
 use Rattle.running.specs.declared.Two.{Two}
 use Rattle.steps.specs.Choice.{Clinic, clinicOf, State, Chosen, halts, goes, choice}
 use Rattle.choices.specs.Choices.{start, Ran, follow, run}
-use Rattle.running.specs.Run.{ranWords, listed, stopped, running, runOver, readyPair, readyOf, ready}
+use Rattle.running.specs.Run.{ranWords, listed, stopped, running, runOver, readyPair, readyOf, ready, totalsOf, totalsAfter}
+use Rattle.steps.specs.Beside.{totalsIn}
+use Rattle.choices.specs.Stored.{besideRun}
+use Rattle.running.proofs.TableAwaits.{table-awaits}
 
 -- two words a choice, and a refused one is not done
 abbrev Counts : Ran → ℕ → Type 0
@@ -124,3 +129,24 @@ run-unfit f ws out e = (rw e, rw e)
 pub ready-unfit : (f ws : List ℕ) (y : Ready) → listed (length ws) ≡ false → y ≡ noPair (refused 17 0) → y ≡ ready f ws
 unfolding ready
 ready-unfit f ws y e ey = ey ∙ rw e
+
+pub totals-unfit : (f ws : List ℕ) (y : Totals) → listed (length ws) ≡ false → y ≡ totalsOf (refused 17 0) (replicate 32 0) → y ≡ totalsAfter f ws
+unfolding totalsAfter
+totals-unfit f ws y e ey = ey ∙ rw e
+
+module _ (f ws : List ℕ) (fits : listed (length ws) ≡ true) where
+  pub totals-refused : (v : Verdict) (y : Totals) → entered f ≡ Refused v → y ≡ totalsOf v (replicate 32 0) → y ≡ totalsAfter f ws
+  unfolding totalsAfter
+  totals-refused v y e ey =
+      let (loud, same) = entered-refused f v e in
+      let whole : totalsOf (readingNames f) (replicate 32 0) ≡ totalsAfter f ws = rw (fits, ne-eqb (readingNames f .number) 0 loud) in
+      ey ∙ ap (λ (x : Verdict). totalsOf x (replicate 32 0)) same ∙ whole
+
+  pub totals-done : (h : Head) (old table : List ℕ) (y : Totals) → entered f ≡ Fine h → length old ≡ 1025 → old ≡ replicate (length old) 0 → table ≡ scoped f old
+      → y ≡ totalsOf (stopped (run (clinicOf (contentsAt f h)) (start (contentsAt f h)) ws)) (totalsIn (besideRun (awaitedBy table) (clinicOf (contentsAt f h)) (start (contentsAt f h)) (replicate 162 0) ws)) → y ≡ totalsAfter f ws
+  unfolding totalsAfter
+  totals-done h old table y e long zeros its ey =
+      let (laid, same, clean) = entered-fine f h e in
+      ey ∙ ap (λ (kind : ℕ → ℕ). totalsOf (stopped (run (clinicOf (contentsAt f h)) (start (contentsAt f h)) ws)) (totalsIn (besideRun kind (clinicOf (contentsAt f h)) (start (contentsAt f h)) (replicate 162 0) ws)))
+      (table-awaits f h old table e long zeros its)
+      ∙ rw (fits, clean, same)

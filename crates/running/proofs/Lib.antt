@@ -4,3 +4,4 @@ pub mod WayLaws
 pub mod PairLaws
 pub mod EntryLaws
 pub mod StandLaws
+pub mod TableAwaits

@@ -3,7 +3,7 @@ use Prim.Native.Nat.{ℕ, zero, suc, _+_, _*_, _-_, _%_}
 use mathlib.Core.Bool.{Bool, true, false, cond, _&&_, _||_}
 use mathlib.Core.List.{List, [], _∷_, _++_}
 use lib.Dec.{eqb, leb, ltb}
-use lib.ListN.{length, getD}
+use lib.ListN.{length, getD, replicate}
 use lib.Seq.{sets}
 use Rattle.masks.specs.Mask.{held}
 use Rattle.format.specs.Words.{wordAt, bytesOf}
@@ -11,15 +11,18 @@ use Rattle.format.specs.Answers.{fine, refused, orElse}
 use Rattle.format.specs.Contents.{contentsOf}
 use Rattle.format.specs.declared.Verdict.{Verdict}
 use Rattle.format.specs.declared.Head.{Head}
+use Rattle.naming.specs.Scopes.{awaits}
 use Rattle.checking.specs.Check.{readingNames}
 use Rattle.steps.specs.declared.Thread.{Thread}
 use Rattle.steps.specs.declared.Partner.the-variants.{With}
 use Rattle.steps.specs.declared.Outcome.{Outcome}
 use Rattle.steps.specs.declared.Outcome.the-variants.{Refused, Moves, Adds, Makes, Ends, Meets}
 use Rattle.running.specs.declared.Ready.{Ready}
+use Rattle.running.specs.declared.Totals.{Totals}
 use Rattle.steps.specs.Choice.{Clinic, clinicOf, acting, State}
-use Rattle.steps.specs.Beside.{madeWords}
-use Rattle.choices.specs.Choices.{Ran, ranOf}
+use Rattle.steps.specs.Beside.{madeWords, besideWords, totalWords, totalsIn}
+use Rattle.choices.specs.Choices.{start, Ran, ranOf}
+use Rattle.choices.specs.Stored.{besideRun}
 
 -- per thread user, node, mask, the number of roles it holds, its eight variables
 unfoldable pub threadWords : List Thread → List ℕ
@@ -83,3 +86,18 @@ readyOf v q = cond (eqb (v .number) 0) (record { number = 0; place = 0; sender =
 unfoldable pub ready : List ℕ → List ℕ → Ready
 ready f ws =
     readyOf (orElse (unready (listed (length ws)) f) (stopped (ranOf f ws))) (readyPair (clinicOf (contentsOf f)) (ranOf f ws .state))
+
+-- How many threads wait for each kind: the totals that a run keeps beside its threads.
+
+-- the words that the run of a file keeps there
+abbrev pub besideOfRun : List ℕ → List ℕ → List ℕ
+besideOfRun f ws = besideRun (awaits (contentsOf f)) (clinicOf (contentsOf f)) (start (contentsOf f)) (replicate besideWords 0) ws
+
+abbrev pub totalsOf : Verdict → List ℕ → Totals
+totalsOf v ts = record { number = v .number; place = v .place; totals = ts }
+
+-- those of the state in which the run stands, halted or not; all 0 where 17 or 1 to 10 refuse
+unfoldable pub totalsAfter : List ℕ → List ℕ → Totals
+totalsAfter f ws =
+    let v : Verdict = unready (listed (length ws)) f in
+    cond (eqb (v .number) 0) (totalsOf (stopped (ranOf f ws)) (totalsIn (besideOfRun f ws))) (totalsOf v (replicate totalWords 0))

@@ -1,3 +1,4 @@
 pub mod ThreadLaws
 pub mod TableLaws
 pub mod ActLaws
+pub mod TotalLaws

@@ -1,7 +1,7 @@
 //! What each word of the command does.
 
 use crate::choices::{self, Flaw};
-use crate::clinic::Clinic;
+use crate::clinic::{Clinic, KINDS};
 use crate::hours::{self, Table};
 use crate::output;
 use crate::source::Source;
@@ -9,7 +9,7 @@ use crate::state::State;
 use crate::words::{At, Job};
 use crate::{explain, names, refusals, report, show};
 use crate::{Outcome, WrongUse};
-use pilzdamo::{Placed, Verdict, BEFORE_ROUND, ROOM, RUN_ROOM};
+use pilzdamo::{Placed, Totals, Verdict, BEFORE_ROUND, ROOM, RUN_ROOM};
 use std::path::Path;
 
 /// Does a job.
@@ -19,6 +19,7 @@ pub fn carry_out(job: Job) -> Result<Outcome, WrongUse> {
         Job::Place { file, at, out } => place(&file, at.as_ref(), out.as_deref()),
         Job::Measure { file, at } => measure(&file, at.as_ref()),
         Job::Run { file, choices } => run(&file, &choices),
+        Job::Waiting { file, choices } => waiting(&file, &choices),
         Job::Round { file, choices } => round(&file, &choices),
         Job::Dispatch { file, rounds } => dispatch(&file, rounds),
         Job::Show { file } => answer(&show::text(&file.read()?)),
@@ -147,10 +148,29 @@ fn run(file: &Source, list: &Source) -> Result<Outcome, WrongUse> {
     let choices = read_choices(list)?;
     let mut room = [0; RUN_ROOM];
     let verdict = pilzdamo::run(&bytes, &choices, &mut room);
+    let state = || State::of(&room).text(&Clinic::of(&bytes));
     if verdict.is_clean() {
-        return answer(&State::of(&room).text(&Clinic::of(&bytes)));
+        return answer(&state());
     }
-    stopped((file, &bytes), (list, &choices), verdict, &room)
+    stopped((file, &bytes), (list, &choices), verdict, state)
+}
+
+fn waiting(file: &Source, list: &Source) -> Result<Outcome, WrongUse> {
+    let bytes = file.read()?;
+    let choices = read_choices(list)?;
+    let totals = pilzdamo::totals(&bytes, &choices);
+    let lines = || by_kind(&Clinic::of(&bytes), &totals);
+    if totals.verdict().is_clean() {
+        return answer(&lines());
+    }
+    stopped((file, &bytes), (list, &choices), totals.verdict(), lines)
+}
+
+/// A line for each kind of a file.
+fn by_kind(clinic: &Clinic, totals: &Totals) -> String {
+    let kinds = 1..=clinic.count(KINDS) as u16;
+    let line = |kind| format!("kind {kind}: {} waiting\n", totals.of(kind));
+    kinds.map(line).collect()
 }
 
 fn round(file: &Source, list: &Source) -> Result<Outcome, WrongUse> {
@@ -158,29 +178,28 @@ fn round(file: &Source, list: &Source) -> Result<Outcome, WrongUse> {
     let choices = read_choices(list)?;
     let mut room = [0; RUN_ROOM];
     let round = pilzdamo::round(&bytes, &choices, &mut room);
+    let state = || State::of(&room).text(&Clinic::of(&bytes));
     if !round.verdict().is_clean() {
-        return stopped((file, &bytes), (list, &choices), round.verdict(), &room);
+        return stopped((file, &bytes), (list, &choices), round.verdict(), state);
     }
     let told = match round.choices() {
         [] => "no choice can be done".to_string(),
         choices => choices::line(choices),
     };
-    let state = State::of(&room).text(&Clinic::of(&bytes));
-    answer(&format!("round: {told}\n{state}"))
+    answer(&format!("round: {told}\n{}", state()))
 }
 
-/// The refusal of a file or a list, behind the state of a run that halted.
+/// The refusal of a file or a list, behind what there is to say of a run that halted.
 fn stopped(
     (file, bytes): (&Source, &[u8]),
     (list, choices): (&Source, &[u16]),
     verdict: Verdict,
-    room: &[u8],
+    state: impl FnOnce() -> String,
 ) -> Result<Outcome, WrongUse> {
     let name = match verdict.number {
         17 => list.name(),
         _ if is_halt(verdict) => {
-            let state = State::of(room).text(&Clinic::of(bytes));
-            output::print(state.as_bytes())?;
+            output::print(state().as_bytes())?;
             format!("{}, {}", file.name(), list.name())
         }
         _ => file.name(),

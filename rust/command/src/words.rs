@@ -26,6 +26,10 @@ pub enum Job {
         file: Source,
         choices: Source,
     },
+    Waiting {
+        file: Source,
+        choices: Source,
+    },
     Round {
         file: Source,
         choices: Source,
@@ -62,8 +66,8 @@ struct Operands {
 }
 
 /// The words that name a job.
-const WORDS: [&str; 8] = [
-    "check", "place", "measure", "run", "round", "dispatch", "show", "explain",
+const WORDS: [&str; 9] = [
+    "check", "place", "measure", "run", "waiting", "round", "dispatch", "show", "explain",
 ];
 
 /// These words in a sentence.
@@ -105,6 +109,10 @@ fn named(verb: &str, operands: Operands) -> Result<Job, WrongUse> {
         "run" => {
             let [file, choices] = file_and_choices(verb, plain)?;
             Ok(Job::Run { file, choices })
+        }
+        "waiting" => {
+            let [file, choices] = file_and_choices(verb, plain)?;
+            Ok(Job::Waiting { file, choices })
         }
         "round" => {
             let [file, choices] = file_and_choices(verb, plain)?;

@@ -1,6 +1,6 @@
 //! What the engine answers.
 
-use crate::ROUND_WORDS;
+use crate::{ROUND_WORDS, TOTALS};
 use std::error::Error;
 use std::fmt;
 
@@ -23,7 +23,7 @@ use std::fmt;
 /// | 22 | 0: a minute that no week has, or a table of hours that can't be one |
 /// | 23 | the row of the table of hours, from 1 |
 /// | 24 | the node |
-/// | 18 to 20 | the choice; 18 at 0 for a lent list that is none of the file's, or of another length |
+/// | 18 to 20 | the choice; 18 at 0 for a lent list that is none of the file's, has wrong totals, or is of another length |
 ///
 /// In [`choose`](crate::choose) the choice has number 1.
 ///
@@ -273,5 +273,77 @@ impl fmt::Display for Round {
             write!(out, "{lead} {thread} {partner}")?;
         }
         Ok(())
+    }
+}
+
+/// What [`totals`](crate::totals) answers: how many threads wait on each kind, in the
+/// state in which the run stands, and the number and place of what halted it, if
+/// something did. Where the file or the list is refused before the first choice all
+/// totals are 0.
+#[repr(C)]
+#[must_use]
+#[derive(Clone, Copy, Debug, PartialEq, Eq, Hash)]
+pub struct Totals {
+    /// The refusal's number, 0 if there is none.
+    pub number: u16,
+    /// Where it stands: a word, a session, a node or a choice, as its number
+    /// says.
+    pub place: u16,
+    /// For each kind, from 1 on, how many threads stand at a receive whose channel
+    /// has that kind.
+    pub totals: [u16; TOTALS],
+}
+
+impl Totals {
+    /// The total of a kind, 0 for one outside 1 to 32.
+    ///
+    /// ```
+    /// // Three sessions of the desk have put their role on. The first has a note to
+    /// // send, and the others wait for it, on kind 1.
+    /// let file = std::fs::read("../../examples/spring/cut.clinic")?;
+    /// let totals = pilzdamo::totals(&file, &[3, 0, 4, 0, 5, 0]);
+    /// assert_eq!((totals.of(1), totals.totals[0]), (2, 2));
+    /// assert_eq!((totals.of(0), totals.of(33)), (0, 0));
+    /// # Ok::<(), std::io::Error>(())
+    /// ```
+    pub fn of(&self, kind: u16) -> u16 {
+        let at = usize::from(kind).checked_sub(1);
+        at.and_then(|at| self.totals.get(at)).copied().unwrap_or(0)
+    }
+
+    /// The refusal's number and place alone.
+    ///
+    /// ```
+    /// assert_eq!(pilzdamo::totals(&[], &[]).verdict(), pilzdamo::read(&[]));
+    /// ```
+    pub fn verdict(&self) -> Verdict {
+        let &Totals { number, place, .. } = self;
+        Verdict { number, place }
+    }
+}
+
+/// `waiting: 2 on kind 1, 1 on kind 3`, or `nobody waits`; behind `refused N P` where
+/// the run halted, and that alone where nobody then waits.
+///
+/// ```
+/// assert_eq!(pilzdamo::totals(&[], &[]).to_string(), "refused 1 0");
+/// ```
+impl fmt::Display for Totals {
+    fn fmt(&self, out: &mut fmt::Formatter<'_>) -> fmt::Result {
+        let refused = !self.verdict().is_clean();
+        if refused {
+            self.verdict().fmt(out)?;
+        }
+        let mut lead = if refused { ", waiting:" } else { "waiting:" };
+        for (kind, &total) in (1..).zip(&self.totals) {
+            if total != 0 {
+                write!(out, "{lead} {total} on kind {kind}")?;
+                lead = ",";
+            }
+        }
+        match lead {
+            "waiting:" => out.write_str("nobody waits"),
+            _ => Ok(()),
+        }
     }
 }

@@ -1,7 +1,7 @@
 //! The engine's functions for Rust.
 
 use crate::raw;
-use crate::{Placed, Ready, Round, Thread, Verdict};
+use crate::{Placed, Ready, Round, Thread, Totals, Verdict};
 
 /// As many bytes as [`place`] wants of its output for any file: those of the
 /// largest file of version 2. What it wants for a given file is [`room`].
@@ -33,7 +33,11 @@ pub const BEFORE_ROUND: usize = 65_471;
 pub const RECORDS: usize = 64;
 
 /// The words that are lent to [`start`] and [`choose`] beside the list.
-pub const BESIDE: usize = 130;
+pub const BESIDE: usize = 162;
+
+/// The kinds that a file can have at most, for each of which [`totals`] has a word;
+/// and as many are the last of the [`BESIDE`] words.
+pub const TOTALS: usize = 32;
 
 /// The bytes that [`place`] wants of its output for this file: [`ROOM`] where its
 /// first word is 2, else [`ROOM_1`], also where it has no first word.
@@ -397,14 +401,75 @@ pub fn ready(file: &[u8], choices: &[u16]) -> Ready {
     raw::ready(file, choices)
 }
 
+/// Who is waiting on what after a list of choices: for each kind how many threads
+/// stand at a receive whose channel has that kind, whatever roles they hold.
+///
+/// Any bytes and any words will do, of any length. The refusals are those of
+/// [`run`]; as there is no output, 17 comes for the list alone. Where the list stops
+/// the totals are those of the state before the choice that is refused. Nothing is
+/// written and nothing is kept.
+///
+/// ```
+/// # let words = [
+/// #     1, 2, 2, 1, 1, 2, 4, 13, 15, 23, 24, 26, 32, 1, 2, 1, 0, 0, 0, 0, 0, 1, 0, 0, 2, 1,
+/// #     1, 1, 1, 2, 2, 3, 6, 257, 1, 0, 0, 0, 5, 257, 0, 0, 0, 0u16,
+/// # ];
+/// # let file: Vec<u8> = words.into_iter().flat_map(u16::to_le_bytes).collect();
+/// // The file of `run`'s example: thread 2 waits, until thread 1 has sent to it.
+/// let totals = |choices: &[u16]| pilzdamo::totals(&file, choices);
+/// assert_eq!(totals(&[]).of(1), 1);
+/// assert_eq!(totals(&[]).to_string(), "waiting: 1 on kind 1");
+/// assert_eq!(totals(&[1, 2]).to_string(), "nobody waits");
+///
+/// // There is no thread 3: the run stands where it halted.
+/// let halted = totals(&[3, 0, 1, 2]);
+/// assert_eq!((halted.number, halted.place, halted.of(1)), (18, 1, 1));
+/// assert_eq!(halted.to_string(), "refused 18 1, waiting: 1 on kind 1");
+/// ```
+#[inline]
+pub fn totals(file: &[u8], choices: &[u16]) -> Totals {
+    raw::totals(file, choices)
+}
+
+/// How many threads wait on a kind, from the words beside a list of threads, such as
+/// [`start`] and [`choose`] leave there: one word is read. It is 0 for a kind outside
+/// 1 to 32, and where there are other than [`BESIDE`] words.
+///
+/// ```
+/// # let words = [
+/// #     1, 2, 2, 1, 1, 2, 4, 13, 15, 23, 24, 26, 32, 1, 2, 1, 0, 0, 0, 0, 0, 1, 0, 0, 2, 1,
+/// #     1, 1, 1, 2, 2, 3, 6, 257, 1, 0, 0, 0, 5, 257, 0, 0, 0, 0u16,
+/// # ];
+/// # let file: Vec<u8> = words.into_iter().flat_map(u16::to_le_bytes).collect();
+/// use pilzdamo::{choose, start, total, Thread, BESIDE, RECORDS};
+///
+/// // The file of `run`'s example.
+/// let (mut threads, mut beside) = ([Thread::default(); RECORDS], [0; BESIDE]);
+/// assert!(start(&file, &mut threads, &mut beside).is_clean());
+/// assert_eq!((total(&beside, 1), total(&beside, 2)), (1, 0));
+///
+/// // Thread 1 sends to thread 2, which then waits no more.
+/// assert!(choose(&file, &mut threads, &mut beside, 1, 2).is_clean());
+/// assert_eq!(total(&beside, 1), 0);
+///
+/// // No kind has number 0 or 33, and these are no desk's words.
+/// assert_eq!((total(&[9; BESIDE], 0), total(&[9; BESIDE], 33)), (0, 0));
+/// assert_eq!(total(&[9; BESIDE - 1], 1), 0);
+/// ```
+#[inline]
+pub fn total(beside: &[u16], kind: u16) -> u16 {
+    raw::total(beside, kind)
+}
+
 /// Makes a list of threads that is lent start as the file does, so that [`choose`]
 /// can go on from there. [`Desk::start`](crate::Desk::start) has a list of its own.
 ///
 /// `threads` must have [`RECORDS`] records, and `beside` [`BESIDE`] words. They may
 /// hold anything. Each session has a thread, in order, in the first records: the
 /// session's user, root and starting mask, and no variable bound. The first word of
-/// `beside` becomes the number of these threads, and the second 0, as no channel is
-/// made yet. The records and words past these stay as they were.
+/// `beside` becomes the number of these threads, the second 0, as no channel is made
+/// yet, and the last [`TOTALS`] say how many of these threads wait on each kind. All
+/// other records and words stay as they were.
 ///
 /// Refusals 1 to 10 come first, and then 18 at place 0 for another number of records
 /// or words. Any bytes will do, of any length. Where the answer is a refusal nothing
@@ -428,6 +493,9 @@ pub fn ready(file: &[u8], choices: &[u16]) -> Ready {
 /// assert_eq!(threads[1], Thread { user: 2, node: 3, mask: 2, vars: [0; 8] });
 /// assert_eq!((threads[2], beside[..3].to_vec()), (old, vec![2, 0, 9]));
 ///
+/// // The second waits, on kind 1.
+/// assert_eq!(beside[129..132], [9, 1, 0]);
+///
 /// // A list that is too short.
 /// let verdict = start(&file, &mut threads[1..], &mut beside);
 /// assert_eq!(verdict.to_string(), "refused 18 0");
@@ -442,9 +510,12 @@ pub fn start(file: &[u8], threads: &mut [Thread], beside: &mut [u16]) -> Verdict
 /// next state. A [`Desk`](crate::Desk) keeps such a list.
 ///
 /// `threads` must have [`RECORDS`] records, and `beside` [`BESIDE`] words: the
-/// number of threads, which are the first records, that of the made channels, and
-/// the owner and kind of each made channel. What stands past these numbers may be
-/// anything. [`start`] makes such a list.
+/// number of threads, which are the first records, that of the made channels, the
+/// owner and kind of each made channel, of which there is room for 64, and in the last
+/// [`TOTALS`] words, for each kind from 1 on, how many threads stand at a receive
+/// whose channel has that kind. What stands past the two numbers may be anything; the
+/// totals must all be right, 0 for kinds that the file doesn't have. [`start`] makes
+/// such a list, and [`total`] reads a total of it.
 ///
 /// Refusals 1 to 10 come first, then 18 at place 0 for anything wrong with what
 /// is lent, and then the refusal of the choice itself, at place 1. Any bytes and
@@ -480,6 +551,11 @@ pub fn start(file: &[u8], threads: &mut [Thread], beside: &mut [u16]) -> Verdict
 ///
 /// // User 2 has no role 1.
 /// threads[0].mask = 1;
+/// let verdict = choose(&file, &mut threads, &mut beside, 1, 0);
+/// assert_eq!(verdict.to_string(), "refused 18 0");
+///
+/// // Nobody waits on kind 1 now.
+/// (threads[0].mask, beside[130]) = (2, 1);
 /// let verdict = choose(&file, &mut threads, &mut beside, 1, 0);
 /// assert_eq!(verdict.to_string(), "refused 18 0");
 /// ```

@@ -1,11 +1,11 @@
 //! A live desk: a list of threads that goes on choice by choice.
 
-use crate::{choose, run, start, Channel, State, Thread, Verdict};
-use crate::{BESIDE, RECORDS, RUN_ROOM};
+use crate::{choose, run, start, total, totals, Channel, State, Thread, Verdict};
+use crate::{BESIDE, RECORDS, RUN_ROOM, TOTALS};
 use std::fmt;
 
-/// The list of threads of a run, and its made channels beside it, which go on
-/// choice by choice.
+/// The list of threads of a run, and beside it its made channels and how many
+/// threads wait on each kind, which go on choice by choice.
 ///
 /// It begins with what the engine writes, and only the engine changes it: so it is
 /// always a state of a run of its file, as long as each call gets that same file. A
@@ -88,7 +88,7 @@ impl Desk {
         let mut out = [0; RUN_ROOM];
         run(file, choices, &mut out).result()?;
         let state = State::of(&out).expect("a state fits in its room");
-        Ok(Desk::of(&state))
+        Ok(Desk::of(&state, &totals(file, choices).totals))
     }
 
     fn empty() -> Desk {
@@ -98,8 +98,8 @@ impl Desk {
         }
     }
 
-    /// Lays a state out as it is lent.
-    fn of(state: &State) -> Desk {
+    /// Lays a state and its totals out as they are lent.
+    fn of(state: &State, totals: &[u16; TOTALS]) -> Desk {
         let mut desk = Desk::empty();
         desk.threads[..state.threads.len()].copy_from_slice(&state.threads);
         desk.beside[0] = state.threads.len() as u16;
@@ -108,6 +108,7 @@ impl Desk {
         for (words, channel) in channels.iter_mut().zip(&state.made) {
             *words = [channel.owner, channel.kind];
         }
+        desk.beside[BESIDE - TOTALS..].copy_from_slice(totals);
         desk
     }
 
@@ -146,6 +147,27 @@ impl Desk {
         let made = &channels[..self.beside[1].into()];
         made.iter().map(|&[owner, kind]| Channel { owner, kind })
     }
+
+    /// How many threads stand at a receive whose channel has this kind; 0 for a kind
+    /// outside 1 to 32. It is one word that is read, whatever the number of threads.
+    ///
+    /// ```
+    /// use pilzdamo::Desk;
+    ///
+    /// let file = std::fs::read("../../examples/spring/cut.clinic")?;
+    /// let mut desk = Desk::start(&file)?;
+    /// let waiting = |desk: &Desk| [1, 2, 3].map(|kind| desk.total(kind));
+    /// assert_eq!(waiting(&desk), [0, 0, 0]);
+    ///
+    /// // The first scheduler puts its role on, and waits to read (kind 1).
+    /// desk.choose(&file, 1, 0)?;
+    /// assert_eq!(waiting(&desk), [1, 0, 0]);
+    /// assert_eq!((desk.total(0), desk.total(33)), (0, 0));
+    /// # Ok::<(), Box<dyn std::error::Error>>(())
+    /// ```
+    pub fn total(&self, kind: u16) -> u16 {
+        total(&self.beside, kind)
+    }
 }
 
 impl fmt::Debug for Desk {
@@ -153,6 +175,7 @@ impl fmt::Debug for Desk {
         out.debug_struct("Desk")
             .field("threads", &self.threads())
             .field("made", &self.made().collect::<Vec<_>>())
+            .field("totals", &&self.beside[BESIDE - TOTALS..])
             .finish()
     }
 }

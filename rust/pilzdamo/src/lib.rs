@@ -19,6 +19,7 @@
 //! | carry out a list of choices | [`run`], and [`State`] for what it wrote |
 //! | find the two threads that can meet | [`ready`] |
 //! | let a dispatcher choose, round by round | [`round`] |
+//! | see how many threads wait on each kind | [`totals`]; [`Desk::total`], and [`total`] of a list of one's own |
 //! | go on choice by choice | [`Desk`]; [`start`] and [`choose`] in a list of one's own |
 //!
 //! The examples below read files of the project's folder `examples`, and are run as
@@ -157,6 +158,26 @@
 //! # Ok::<(), Box<dyn std::error::Error>>(())
 //! ```
 //!
+//! # Who is waiting on what
+//!
+//! For each kind the engine keeps how many threads stand at a receive on a channel of
+//! that kind, and a screen reads one word for it.
+//!
+//! ```
+//! // Two bookings, and the desk that takes them, on kind 1 and then on kind 2.
+//! let file = std::fs::read("../../examples/desks.clinic")?;
+//! let (file, _) = pilzdamo::placed(&file)?;
+//! let waiting = |choices: &[u16]| pilzdamo::totals(&file, choices).to_string();
+//! assert_eq!(waiting(&[]), "nobody waits");
+//! assert_eq!(waiting(&[3, 0]), "waiting: 1 on kind 1");
+//! assert_eq!(waiting(&[3, 0, 1, 0, 1, 3]), "waiting: 1 on kind 2");
+//!
+//! // A desk has them too.
+//! let desk = pilzdamo::Desk::after(&file, &[3, 0])?;
+//! assert_eq!((desk.total(1), desk.total(2)), (1, 0));
+//! # Ok::<(), Box<dyn std::error::Error>>(())
+//! ```
+//!
 //! # A run is driven choice by choice
 //!
 //! A [`Desk`] has the threads and goes on by one choice at a time. Whatever is
@@ -245,9 +266,11 @@ mod desk;
 mod raw;
 mod state;
 
-pub use answers::{Placed, Ready, Round, Verdict};
+pub use answers::{Placed, Ready, Round, Totals, Verdict};
 pub use calls::{check, check_at, choose, measure, measure_at};
 pub use calls::{place, place_at, placed, placed_at, read, ready, room, round, run, start};
-pub use calls::{BEFORE_ROUND, BESIDE, RECORDS, ROOM, ROOM_1, ROUND_WORDS, ROWS, RUN_ROOM, WEEK};
+pub use calls::{total, totals};
+pub use calls::{BEFORE_ROUND, BESIDE, RECORDS, ROOM, ROOM_1, ROUND_WORDS, ROWS, RUN_ROOM};
+pub use calls::{TOTALS, WEEK};
 pub use desk::Desk;
 pub use state::{Channel, State, Thread};

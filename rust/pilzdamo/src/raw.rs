@@ -5,7 +5,7 @@
 //! pointers and lengths name, writes only what is lent by a pointer to `mut`, and
 //! ends; it keeps no pointer.
 
-use crate::{Placed, Ready, Round, Thread, Verdict};
+use crate::{Placed, Ready, Round, Thread, Totals, Verdict};
 
 extern "C" {
     fn pilzdamo_read(file: *const u8, len: usize) -> Verdict;
@@ -52,6 +52,8 @@ extern "C" {
         out_len: usize,
     ) -> Round;
     fn pilzdamo_ready(file: *const u8, len: usize, choices: *const u16, words: usize) -> Ready;
+    fn pilzdamo_totals(file: *const u8, len: usize, choices: *const u16, words: usize) -> Totals;
+    fn pilzdamo_total(beside: *const u16, words: usize, kind: u16) -> u16;
     fn pilzdamo_start(
         file: *const u8,
         len: usize,
@@ -78,6 +80,7 @@ const _: () = {
     assert!(size_of::<Placed>() == 2 * 4);
     assert!(size_of::<Ready>() == 2 * 4);
     assert!(size_of::<Round>() == 2 * 131);
+    assert!(size_of::<Totals>() == 2 * 34);
     assert!(size_of::<Thread>() == 2 * 11);
 };
 
@@ -195,6 +198,19 @@ pub fn ready(file: &[u8], choices: &[u16]) -> Ready {
     // `words` words from `choices` on, during the call; the slices vouch for
     // them.
     unsafe { pilzdamo_ready(file.as_ptr(), file.len(), choices.as_ptr(), choices.len()) }
+}
+
+#[inline]
+pub fn totals(file: &[u8], choices: &[u16]) -> Totals {
+    // SAFETY: as in `ready`.
+    unsafe { pilzdamo_totals(file.as_ptr(), file.len(), choices.as_ptr(), choices.len()) }
+}
+
+#[inline]
+pub fn total(beside: &[u16], kind: u16) -> u16 {
+    // SAFETY: the engine only reads the `words` words from `beside` on, during the
+    // call; the slice vouches for them.
+    unsafe { pilzdamo_total(beside.as_ptr(), beside.len(), kind) }
 }
 
 #[inline]

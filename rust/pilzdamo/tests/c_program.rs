@@ -1,7 +1,8 @@
 //! The header, tried by a C program: what it prints.
 
-use pilzdamo::{Placed, Ready, Round, Thread, Verdict};
-use pilzdamo::{BEFORE_ROUND, BESIDE, RECORDS, ROOM, ROOM_1, ROUND_WORDS, ROWS, RUN_ROOM, WEEK};
+use pilzdamo::{Placed, Ready, Round, Thread, Totals, Verdict};
+use pilzdamo::{BEFORE_ROUND, BESIDE, RECORDS, ROOM, ROOM_1, ROUND_WORDS, ROWS, RUN_ROOM};
+use pilzdamo::{TOTALS, WEEK};
 use std::process::{Command, Output};
 
 const FOLDER: &str = env!("CARGO_MANIFEST_DIR");
@@ -53,10 +54,20 @@ thread 3: user 3, node 15, mask 0, first and last variable 0 0
 thread 4: user 3, node 19, mask 0, first and last variable 0 0
 thread 5: user 3, node 25, mask 0, first and last variable 0 0
 thread 6: user 3, node 31, mask 0, first and last variable 0 0
-behind them: abab abab
+behind them: abab abab abab
+waiting at the start:
 chosen: 6 threads, nodes 4 and 11, first variables 4 and 4
+waiting: 1 on kind 2
 choose no thread: refused 18 1
 lend too little: refused 18 0
+lend a word too little: refused 18 0
+lend a total too many: refused 18 0
+total of kind 32: 1, of kinds 0 and 33: 0 0, of a word less: 0
+at the start: refusal 0 0, totals 0 0 0 0 0 0 0 0 0 0 0 0 0 0 0 0 0 0 0 0 0 0 0 0 0 0 0 0 0 0 0 0
+after six: refusal 0 0, totals 4 1 0 0 0 0 0 0 0 0 0 0 0 0 0 0 0 0 0 0 0 0 0 0 0 0 0 0 0 0 0 0
+where it stops: refusal 18 7, totals 4 1 0 0 0 0 0 0 0 0 0 0 0 0 0 0 0 0 0 0 0 0 0 0 0 0 0 0 0 0 0 0
+half a choice: refusal 17 0, totals 0 0 0 0 0 0 0 0 0 0 0 0 0 0 0 0 0 0 0 0 0 0 0 0 0 0 0 0 0 0 0 0
+no file: refusal 1 0, totals 0 0 0 0 0 0 0 0 0 0 0 0 0 0 0 0 0 0 0 0 0 0 0 0 0 0 0 0 0 0 0 0
 round: refusal 0 0, 80 bytes, choices 1,0 2,0 3,0; choices done: 3
 round: refusal 0 0, 80 bytes, choices 1,3; choices done: 4
 round: refusal 0 0, 80 bytes, choices 1,3; choices done: 5
@@ -108,6 +119,7 @@ fn a_c_program_calls_the_engine() {
         size_of::<Placed>(),
         size_of::<Ready>(),
         size_of::<Round>(),
+        size_of::<Totals>(),
         size_of::<Thread>(),
     ];
     let line = |name: &str, numbers: &[usize]| {
@@ -118,6 +130,10 @@ fn a_c_program_calls_the_engine() {
     let rooms = line("rooms", &[ROOM, ROOM_1, RUN_ROOM, RECORDS, BESIDE]);
     let hours = line("hours", &[WEEK.into(), ROWS]);
     let rounds = line("rounds", &[ROUND_WORDS, BEFORE_ROUND]);
+    let totals = line("totals", &[TOTALS]);
     let printed = String::from_utf8_lossy(&output.stdout);
-    assert_eq!(printed, sizes + &rooms + &hours + &rounds + PRINTED);
+    assert_eq!(
+        printed,
+        sizes + &rooms + &hours + &rounds + &totals + PRINTED
+    );
 }

@@ -1,6 +1,6 @@
 //! A desk that goes on choice by choice is in the states of the run.
 
-use pilzdamo::{Channel, Desk, State, Thread, Verdict, BESIDE, RECORDS, RUN_ROOM};
+use pilzdamo::{Channel, Desk, State, Thread, Verdict, BESIDE, RECORDS, RUN_ROOM, TOTALS};
 use std::fs;
 
 fn example(name: &str) -> Vec<u8> {
@@ -32,6 +32,11 @@ fn held(desk: &Desk) -> (Vec<Thread>, Vec<Channel>) {
     (desk.threads().to_vec(), desk.made().collect())
 }
 
+/// The totals that a desk has, by kind.
+fn waiting(desk: &Desk) -> [u16; TOTALS] {
+    std::array::from_fn(|at| desk.total(at as u16 + 1))
+}
+
 /// Goes through the list up to the choice that is refused, if there is one, and
 /// gives its refusal and place.
 fn go_through(file: &[u8], choices: &[u16]) -> Option<(u16, usize)> {
@@ -39,6 +44,8 @@ fn go_through(file: &[u8], choices: &[u16]) -> Option<(u16, usize)> {
     for (done, &[thread, partner]) in choices.as_chunks().0.iter().enumerate() {
         let before = state(file, &choices[..2 * done]);
         assert_eq!(held(&desk), (before.threads, before.made));
+        let totals = pilzdamo::totals(file, &choices[..2 * done]);
+        assert_eq!((totals.number, totals.totals), (0, waiting(&desk)));
         if let Err(refusal) = desk.choose(file, thread, partner) {
             let halted = state(file, choices);
             assert_eq!(
@@ -46,6 +53,11 @@ fn go_through(file: &[u8], choices: &[u16]) -> Option<(u16, usize)> {
                 (done, refusal.number)
             );
             assert_eq!(held(&desk), (halted.threads, halted.made));
+            let totals = pilzdamo::totals(file, choices);
+            assert_eq!(
+                (totals.number, totals.totals),
+                (refusal.number, waiting(&desk))
+            );
             let whole = Desk::after(file, choices).expect_err("it halts");
             assert_eq!(usize::from(whole.place), done + 1);
             return Some((refusal.number, done + 1));
@@ -53,6 +65,7 @@ fn go_through(file: &[u8], choices: &[u16]) -> Option<(u16, usize)> {
     }
     let whole = Desk::after(file, choices).expect("all are done");
     assert_eq!(held(&desk), held(&whole));
+    assert_eq!(waiting(&desk), waiting(&whole));
     None
 }
 
@@ -94,6 +107,23 @@ fn made_channels() {
     assert_eq!(desk.made().len(), 2);
 }
 
+/// Nobody waits on a kind outside 1 to 32, and a desk that starts again has the
+/// totals of its start.
+#[test]
+fn who_waits() {
+    let file = placed("transfer.clinic");
+    let list = choices("transfer.choices");
+    let desk = Desk::after(&file, &list).expect("all are done");
+    let totals = pilzdamo::totals(&file, &list);
+    assert_eq!(totals.to_string(), "waiting: 1 on kind 2");
+    for kind in 0..=u16::MAX {
+        assert_eq!(desk.total(kind), totals.of(kind), "kind {kind}");
+        assert_eq!(desk.total(kind), u16::from(kind == 2), "kind {kind}");
+    }
+    let start = Desk::start(&file).expect("a file to run");
+    assert_eq!(waiting(&start), [0; TOTALS]);
+}
+
 /// What stood in a list before it starts.
 const OLD: Thread = Thread {
     user: 7,
@@ -125,7 +155,9 @@ fn a_list_of_ones_own_starts_as_a_run_does() {
         assert_eq!(started, due, "{name}");
         assert!(past.iter().all(|thread| *thread == OLD), "{name}");
         assert_eq!(beside[..2], [due.len() as u16, 0], "{name}");
-        assert!(beside[2..].iter().all(|word| *word == 9), "{name}");
+        let (made, totals) = beside[2..].split_at(BESIDE - TOTALS - 2);
+        assert!(made.iter().all(|word| *word == 9), "{name}");
+        assert_eq!(totals, pilzdamo::totals(&file, &[]).totals, "{name}");
     }
 }
 

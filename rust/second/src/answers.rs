@@ -1,7 +1,7 @@
 //! What is answered.
 
 use crate::cause::Refusal;
-use crate::running::ROUND_WORDS;
+use crate::running::{ROUND_WORDS, TOTALS};
 
 /// A refusal's number and place; 0 and 0 where nothing is refused.
 #[derive(Clone, Copy, Debug, PartialEq, Eq)]
@@ -119,6 +119,27 @@ impl Round {
             place: 0,
             length,
             words,
+        }
+    }
+}
+
+/// Who is waiting after a list of choices: for each kind from 1 on how many threads
+/// stand at a receive whose channel has that kind, also where the list stops. Refused
+/// before the first choice, it has totals of 0.
+#[derive(Clone, Copy, Debug, PartialEq, Eq)]
+pub struct Totals {
+    pub number: u16,
+    pub place: u16,
+    pub totals: [u16; TOTALS],
+}
+
+impl Totals {
+    /// The answer where the run stands in a state with these totals.
+    pub const fn of(verdict: Verdict, totals: [u16; TOTALS]) -> Totals {
+        Totals {
+            number: verdict.number,
+            place: verdict.place,
+            totals,
         }
     }
 }

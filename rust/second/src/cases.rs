@@ -11,7 +11,7 @@ mod running;
 pub use hours::{CheckAtCase, PlaceAtCase};
 pub use placing::{Due, PlaceCase};
 pub use running::{booking, choose_cases, placed_booking, round_cases, start_cases};
-pub use running::{ChooseCase, Lent, RoundCase, RunCase, StartCase};
+pub use running::{totals_cases, ChooseCase, Lent, RoundCase, RunCase, StartCase, TotalsCase};
 
 use crate::draft::Draft;
 

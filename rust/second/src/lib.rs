@@ -4,8 +4,8 @@
 //! nothing with the engine, so that the two can be compared. Where 1 to 8 or 1 to 10
 //! are spoken of, 21 is among them. The timed functions, [`read`], [`read_names`],
 //! [`check`], [`check_at`], [`place`], [`place_at`], [`measure`], [`measure_at`],
-//! [`run`], [`round`], [`ready`], [`start`] and [`choose`], go over the file a few
-//! times, in place, and allocate nothing.
+//! [`run`], [`round`], [`ready`], [`totals`], [`start`] and [`choose`], go over the
+//! file a few times, in place, and allocate nothing.
 
 #![forbid(unsafe_code)]
 
@@ -22,12 +22,13 @@ mod running;
 mod schema;
 mod tree;
 
-pub use answers::{Placed, Ready, Round, Verdict};
+pub use answers::{Placed, Ready, Round, Totals, Verdict};
 pub use cause::{is_of_file, is_of_reading, Cause, Refusal};
 pub use file::{Section, Version};
 pub use placing::{room_for, ROOM};
 pub use running::{Halt, Run, Thread, Unfit};
-pub use running::{BEFORE_ROUND, BESIDE, MOST_CHOICES, RECORDS, ROUND_WORDS, RUN_ROOM};
+pub use running::{BEFORE_ROUND, BEFORE_TOTALS, BESIDE, MOST_CHOICES, RECORDS};
+pub use running::{ROUND_WORDS, RUN_ROOM, TOTALS};
 
 use file::File;
 use hours::{Hours, ALWAYS};
@@ -159,10 +160,32 @@ pub fn ready(file: &[u8], choices: &[u16]) -> Ready {
     }
 }
 
+/// How many threads wait on each kind, in the state in which the run stands after
+/// the choices, or where they stop. It has no output, so that 17 is for the list
+/// alone.
+pub fn totals(file: &[u8], choices: &[u16]) -> Totals {
+    let mut run = match judge_running(file, choices, MOST_CHOICES) {
+        Ok(run) => run,
+        Err(refusal) => return Totals::of(refusal.verdict(), [0; TOTALS]),
+    };
+    let verdict = Verdict::of(run.go_through(choices));
+    Totals::of(verdict, *run.totals())
+}
+
+/// The total of a kind from the words beside a list of threads: 0 for a kind outside
+/// 1 to 32, and for another number of words than [`BESIDE`].
+pub fn total(beside: &[u16], kind: u16) -> u16 {
+    match (beside.len(), kind) {
+        (BESIDE, 1..=32) => beside[BEFORE_TOTALS + usize::from(kind) - 1],
+        _ => 0,
+    }
+}
+
 /// Refusals 1 to 10, and 18 at place 0 for another number of records than
 /// [`RECORDS`] or of words beside them than [`BESIDE`]. Without one, a thread for
 /// each session is written into the first records, in order, the number of these
-/// into the first word, and 0 into the second. All else stays as it was.
+/// into the first word, 0 into the second, and the totals of these threads into the
+/// last [`TOTALS`]. All else stays as it was.
 pub fn start(file: &[u8], threads: &mut [Thread], beside: &mut [u16]) -> Verdict {
     Verdict::of(judge_starting(file, threads, beside))
 }
@@ -170,7 +193,8 @@ pub fn start(file: &[u8], threads: &mut [Thread], beside: &mut [u16]) -> Verdict
 /// Refusals 1 to 10, 18 at place 0 for what is lent, and then the choice at
 /// place 1, which is carried out in what is lent: [`RECORDS`] records of
 /// threads, and [`BESIDE`] words beside them, namely how many threads there are,
-/// how many made channels, and the owner and kind of each made channel.
+/// how many made channels, the owner and kind of each made channel, and how many
+/// threads wait on each kind.
 pub fn choose(
     file: &[u8],
     threads: &mut [Thread],

@@ -10,7 +10,7 @@ mod unfit;
 pub use halt::Halt;
 pub use lent::{Lent, Scopes};
 pub use round::{Choices, ROUND_WORDS};
-pub use state::{State, BESIDE, RECORDS};
+pub use state::{State, BEFORE_TOTALS, BESIDE, RECORDS, TOTALS};
 pub use thread::Thread;
 pub use unfit::Unfit;
 
@@ -18,7 +18,7 @@ use crate::cause::{Cause, Refusal};
 use crate::draft::set_word;
 use crate::file::File;
 use crate::roles::{Permitted, Rights};
-use state::{counted, kind_of, made, node_of, RECEIVE, SEND};
+use state::{count_totals, counted, kind_of, made, node_of, totals, RECEIVE, SEND};
 
 /// The bytes that a run's output must have, whatever is written there.
 pub const RUN_ROOM: usize = 1_800;
@@ -94,6 +94,17 @@ impl<'a> Run<'a> {
     /// Owner and kind of the channels made so far.
     pub fn made(&self) -> &[[u16; 2]] {
         made(&self.beside)
+    }
+
+    /// For each kind from 1 on how many threads stand at a receive whose channel has
+    /// that kind, as the run keeps them.
+    pub fn totals(&self) -> &[u16; TOTALS] {
+        totals(&self.beside)
+    }
+
+    /// The totals counted anew, from all threads.
+    pub fn counted_totals(&self) -> [u16; TOTALS] {
+        count_totals(&self.file, self.threads(), &self.beside)
     }
 
     /// Carries out the choices up to the first that is refused.

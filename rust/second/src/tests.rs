@@ -1,11 +1,14 @@
 use crate::cases::{booking, cases, choose_cases, place_cases, placed_booking, run_cases};
-use crate::cases::{check_at_cases, place_at_cases, round_cases, start_cases, Due, BOOKING};
+use crate::cases::{check_at_cases, place_at_cases, round_cases, start_cases, totals_cases};
+use crate::cases::{Due, BOOKING};
 use crate::draft::to_bytes;
+use crate::{begin, resume, total, totals};
 use crate::{cause, cause_in_choosing, cause_in_placing, cause_in_run, cause_in_starting};
 use crate::{cause_at, cause_in_placing_at, cause_in_round, check_at};
 use crate::{check, choose, is_of_file, is_of_reading, measure, measure_at};
 use crate::{place, place_at, read, read_names, ready, round, run, start};
-use crate::{Cause, Placed, Verdict, Version, BEFORE_ROUND, ROOM, RUN_ROOM};
+use crate::{Cause, Placed, Run, Thread, Verdict, Version};
+use crate::{BEFORE_ROUND, BEFORE_TOTALS, BESIDE, RECORDS, ROOM, RUN_ROOM};
 use std::collections::BTreeSet;
 
 fn verdict((number, place): (u16, u16)) -> Verdict {
@@ -185,6 +188,80 @@ fn named_cases_of_choosing() {
     }
     for cause in Cause::of_choosing() {
         assert!(causes.contains(&cause), "no case of {cause:?}");
+    }
+}
+
+#[test]
+fn named_cases_of_totals() {
+    for case in totals_cases() {
+        case.demand("second", totals);
+    }
+}
+
+/// Goes through a list of a file that runs, with the totals counted anew and read
+/// from the desk's words at the start and after every choice.
+fn assert_totals(name: &str, file: &[u8], choices: &[u16]) {
+    let Ok(mut run) = begin(file) else { return };
+    let (mut threads, mut beside) = ([Thread::default(); RECORDS], [7; BESIDE]);
+    assert_eq!(start(file, &mut threads, &mut beside), Verdict::CLEAN);
+    let assert_kept = |run: &Run, beside: &[u16], done: usize| {
+        assert_eq!(run.totals(), &run.counted_totals(), "{name} after {done}");
+        assert_eq!(beside[BEFORE_TOTALS..], *run.totals(), "{name}: lent");
+        let so_far = totals(file, &choices[..2 * done]);
+        assert_eq!((so_far.number, so_far.totals), (0, *run.totals()), "{name}");
+        for (kind, total_due) in (1..).zip(run.totals()) {
+            assert_eq!(total(beside, kind), *total_due, "{name}: kind {kind}");
+        }
+    };
+    assert_kept(&run, &beside, 0);
+    for (done, &[thread, partner]) in (1..).zip(choices.as_chunks().0) {
+        let verdict = choose(file, &mut threads, &mut beside, thread, partner);
+        if run.choose(thread, partner).is_err() {
+            assert_eq!(verdict.place, 1, "{name}");
+            assert_kept(&run, &beside, done - 1);
+            break;
+        }
+        assert_eq!(verdict, Verdict::CLEAN, "{name}");
+        assert_kept(&run, &beside, done);
+        let lent = resume(file, &threads, &beside).expect("it may be lent again");
+        assert_eq!(lent.totals(), run.totals(), "{name}: lent again");
+    }
+}
+
+/// Totals step by step, in all lists that aren't very long.
+#[test]
+fn totals_are_kept_at_every_choice() {
+    let runs = run_cases().into_iter();
+    let runs = runs.map(|case| (case.name, case.file, case.choices));
+    let rounds = round_cases().into_iter();
+    let rounds = rounds.map(|case| (case.name, case.file, [case.choices, case.round].concat()));
+    let of_totals = totals_cases().into_iter();
+    let of_totals = of_totals.map(|case| (case.name, case.file, case.choices));
+    for (name, file, choices) in runs.chain(rounds).chain(of_totals) {
+        if choices.len() < 1_000 && choices.len().is_multiple_of(2) {
+            assert_totals(name, &file, &choices);
+        }
+    }
+}
+
+#[test]
+fn a_total_is_read_from_162_words() {
+    let mut beside = [0; BESIDE];
+    for (at, word) in beside.iter_mut().enumerate() {
+        *word = at as u16 + 1_000;
+    }
+    assert_eq!(BESIDE, 162);
+    assert_eq!(total(&beside, 0), 0);
+    assert_eq!(total(&beside, 1), 1_130);
+    assert_eq!(total(&beside, 2), 1_131);
+    assert_eq!(total(&beside, 32), 1_161);
+    for kind in [33, 34, 64, 256, 257, 288, 65_535] {
+        assert_eq!(total(&beside, kind), 0);
+    }
+    let longer = [9; 324];
+    for words in (0..162).chain(163..324) {
+        assert_eq!(total(&longer[..words], 1), 0, "{words} words");
+        assert_eq!(total(&longer[..words], 32), 0, "{words} words");
     }
 }
 

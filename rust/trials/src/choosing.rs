@@ -13,7 +13,8 @@ pub use steps::{long_run_by_choices, run_by_choices, Steps};
 pub use tally::ChooseTally;
 
 use crate::lists::{by_engine, Call, Lists};
-use second::{is_of_file, Thread, Verdict, Version};
+use second::draft::Draft;
+use second::{is_of_file, Thread, Verdict, Version, BEFORE_TOTALS};
 use std::fmt::Display;
 
 /// A file, what is lent with it, and a choice.
@@ -54,12 +55,12 @@ pub fn agreed_choice(
     call.agreed(
         |file, threads, beside| engine_choose(file, threads, beside, thread, partner),
         |file, threads, beside| second::choose(file, threads, beside, thread, partner),
-        |after, verdict| judge(before, after, verdict),
+        |after, verdict| judge(file, before, after, verdict),
     )
 }
 
 /// Judges what is known of every answer without doing the choice anew.
-fn judge(before: &Lists, after: &Lists, verdict: Verdict) -> Result<(), &'static str> {
+fn judge(file: &[u8], before: &Lists, after: &Lists, verdict: Verdict) -> Result<(), &'static str> {
     let unless = |wrong: bool, fault| if wrong { Err(fault) } else { Ok(()) };
     let can_be = match verdict.number {
         0 => verdict.place == 0,
@@ -79,11 +80,13 @@ fn judge(before: &Lists, after: &Lists, verdict: Verdict) -> Result<(), &'static
         before.threads[threads..] != after.threads[threads..],
         "a record past the threads",
     )?;
-    let rest = 2 + 2 * made;
+    let rest = 2 + 2 * made..BEFORE_TOTALS;
     unless(
-        before.beside[rest..] != after.beside[rest..],
+        before.beside[rest.clone()] != after.beside[rest],
         "a word past the made channels",
     )?;
+    let waiting = after.waiting(&Draft::of(file));
+    unless(after.beside[BEFORE_TOTALS..] != waiting, "other totals")?;
     let kept = 2..2 + 2 * made_before;
     unless(
         before.beside[kept.clone()] != after.beside[kept],

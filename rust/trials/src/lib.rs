@@ -27,6 +27,7 @@ mod schema;
 mod starting;
 pub mod states;
 mod tally;
+mod totals;
 mod trees;
 mod wild;
 
@@ -55,6 +56,7 @@ pub use schedule::{busy, crowded, largest_run, typical_run, MOST_CHOICES};
 pub use starting::{agreed_start, any_lists, compare_starting, deal_start};
 pub use starting::{engine_start, StartTally};
 pub use tally::{compare, Tally};
+pub use totals::{agreed_totals, compare_totals, deal_totals, engine_totals, TotalsTally};
 pub use trees::Trees;
 
 /// A sound file with bytes behind it, to several lengths, and the number that each

@@ -1,6 +1,7 @@
 //! Lent lists of threads, and calls on them by both implementations.
 
-use second::{Thread, Verdict};
+use second::draft::Draft;
+use second::{Thread, Verdict, BESIDE, TOTALS};
 use std::fmt::Display;
 
 /// A list of threads and the words beside it.
@@ -8,6 +9,38 @@ use std::fmt::Display;
 pub struct Lists {
     pub threads: Vec<Thread>,
     pub beside: Vec<u16>,
+}
+
+/// How many of these threads of a file stand at a receive on a channel of each kind,
+/// by the values that they hold.
+pub fn count_waiting(draft: &Draft, threads: &[Thread], made: &[[u16; 2]]) -> [u16; TOTALS] {
+    let mut totals = [0; TOTALS];
+    for thread in threads {
+        let [tag, operand, _] = draft.nodes[usize::from(thread.node) - 1];
+        if tag != 5 {
+            continue;
+        }
+        let channel = match usize::from(operand).checked_sub(512) {
+            Some(variable) => thread.variables[variable],
+            None => operand,
+        };
+        let [_, kind] = match usize::from(channel).checked_sub(385) {
+            Some(number) => made[number],
+            None => draft.channels[usize::from(channel) - 257],
+        };
+        totals[usize::from(kind) - 1] += 1;
+    }
+    totals
+}
+
+impl Lists {
+    /// How many of the threads that count wait on each kind, in lists with nothing
+    /// wrong in them.
+    pub fn waiting(&self, draft: &Draft) -> [u16; TOTALS] {
+        let [threads, made] = [0, 1].map(|at| usize::from(self.beside[at]));
+        let made = &self.beside[2..].as_chunks().0[..made];
+        count_waiting(draft, &self.threads[..threads], made)
+    }
 }
 
 /// A thread's record, as the engine takes it.
@@ -93,7 +126,7 @@ impl<N: Display, O: Display> Call<'_, N, O> {
              `xxd -r -p`:\n{}",
             threads.len(),
             beside.len(),
-            &beside[..beside.len().min(130)],
+            &beside[..beside.len().min(BESIDE)],
             file.len(),
             file.iter()
                 .map(|byte| format!("{byte:02x}"))

@@ -9,7 +9,7 @@ pub use tally::StartTally;
 use crate::answers::second_read;
 use crate::lists::{by_engine, Call, Lists};
 use second::draft::Draft;
-use second::{Thread, Verdict, Version, BESIDE, RECORDS};
+use second::{Thread, Verdict, Version, BEFORE_TOTALS, BESIDE, RECORDS};
 use std::fmt::Display;
 
 /// The engine's answer, in the second implementation's form.
@@ -49,8 +49,9 @@ fn judge(file: &[u8], before: &Lists, after: &Lists, verdict: Verdict) -> Result
 /// The lists that are left where the file starts in these.
 fn started(file: &[u8], before: &Lists) -> Lists {
     let mut lists = before.clone();
-    let sessions = Draft::of(file).sessions;
-    for (thread, &[user, mask, root]) in lists.threads.iter_mut().zip(&sessions) {
+    let draft = Draft::of(file);
+    let sessions = &draft.sessions;
+    for (thread, &[user, mask, root]) in lists.threads.iter_mut().zip(sessions) {
         *thread = Thread {
             user,
             node: root,
@@ -59,6 +60,8 @@ fn started(file: &[u8], before: &Lists) -> Lists {
         };
     }
     lists.beside[..2].copy_from_slice(&[sessions.len() as u16, 0]);
+    let totals = lists.waiting(&draft);
+    lists.beside[BEFORE_TOTALS..].copy_from_slice(&totals);
     lists
 }
 

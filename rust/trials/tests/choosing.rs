@@ -2,7 +2,7 @@
 //! the second implementation.
 
 use second::draft::Draft;
-use second::{Thread, Version, BESIDE, RECORDS};
+use second::{Thread, Version, BEFORE_TOTALS, BESIDE, RECORDS, TOTALS};
 use trials::{
     agreed_choice, compare_choosing, engine_choose, lengthened, long_run_by_choices, run_by_choices,
 };
@@ -67,8 +67,8 @@ fn lists_of_any_length() {
             let due = if records == RECORDS { 0 } else { 18 };
             assert_eq!(agreed(&lent.file, &lists, lent.choice), (due, 0));
         }
-        let far = [255, 256, 260, 65_535, 65_536, 65_536 + BESIDE];
-        for words in (0..=140).chain(far) {
+        let far = [255, 256, 324, 65_535, 65_536, 65_536 + BESIDE];
+        for words in (0..=170).chain(far) {
             let mut lists = lent.lists.clone();
             lists.beside.resize(words, 0);
             let due = if words == BESIDE { 0 } else { 18 };
@@ -86,6 +86,38 @@ fn counts_of_any_size() {
             lists.beside[at] = count;
             assert_eq!(agreed(&lent.file, &lists, lent.choice), (18, 0));
         }
+    }
+}
+
+/// Each of the 32 totals with any other value that differs in one bit, is one up or
+/// one down, and each two of them exchanged.
+#[test]
+fn totals_of_any_value() {
+    for lent in [typical_lent(seed()), full_lent(seed())] {
+        let mut waiting = 0;
+        for at in BEFORE_TOTALS..BESIDE {
+            let right = lent.lists.beside[at];
+            waiting += right;
+            let bits = (0..16).map(|bit| right ^ 1 << bit);
+            for wrong in bits.chain([right.wrapping_add(1), right.wrapping_sub(1)]) {
+                let mut lists = lent.lists.clone();
+                lists.beside[at] = wrong;
+                assert_eq!(agreed(&lent.file, &lists, lent.choice), (18, 0));
+            }
+            for other in BEFORE_TOTALS..at {
+                let mut lists = lent.lists.clone();
+                lists.beside.swap(at, other);
+                let due = if lists == lent.lists { 0 } else { 18 };
+                assert_eq!(agreed(&lent.file, &lists, lent.choice), (due, 0));
+            }
+        }
+        assert!(waiting > 0);
+        // All of them one further, and all of them 0.
+        let mut lists = lent.lists.clone();
+        lists.beside[BEFORE_TOTALS..].rotate_right(1);
+        assert_eq!(agreed(&lent.file, &lists, lent.choice), (18, 0));
+        lists.beside[BEFORE_TOTALS..].copy_from_slice(&[0; TOTALS]);
+        assert_eq!(agreed(&lent.file, &lists, lent.choice), (18, 0));
     }
 }
 

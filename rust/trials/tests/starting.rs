@@ -55,8 +55,8 @@ fn lists_of_any_length() {
             let due = if records == RECORDS { 0 } else { 18 };
             assert_eq!(agreed(&file, &lists), (due, 0));
         }
-        let far = [255, 256, 260, 65_535, 65_536, 65_536 + BESIDE];
-        for words in (0..=140).chain(far) {
+        let far = [255, 256, 324, 65_535, 65_536, 65_536 + BESIDE];
+        for words in (0..=170).chain(far) {
             let mut lists = right.clone();
             lists.beside.resize(words, 0);
             let due = if words == BESIDE { 0 } else { 18 };

@@ -10,8 +10,8 @@ use Rattle.dispatching.proofs.visits.go_round.Reads as go-round-reads
 
 returns : tie.Need-returns
 returns c =
-    let a = c .before .before .before .before .before .before .before .args in
-    none-added (clinicOf (contentsAt (a .file .now) (a .head))) (a .refusal) (a .threads .now) (a .beside .now) (a .words .now) (c .if1 .taken) (c .before .before .before .before .before .before .before .pre .3) (c .before .before .before .before .before .before .before .pre .4)
+    let a = c .before .before .before .before .before .before .before .before .args in
+    none-added (clinicOf (contentsAt (a .file .now) (a .head))) (a .refusal) (a .threads .now) (a .beside .now) (a .words .now) (c .if1 .taken) (c .before .before .before .before .before .before .before .before .pre .3) (c .before .before .before .before .before .before .before .before .pre .4)
 
 go-round-requires : tie.Need-go-round-requires
 go-round-requires c κs = search needs
@@ -27,7 +27,7 @@ same-length-3 c = search needs
 
 returns-2 : tie.Need-returns-2
 returns-2 c =
-    let a = c .before .before .before .before .before .before .before .before .before .before .before .before .before .before .before .before .before .args in
+    let a = c .before .before .before .before .before .before .before .before .before .before .before .before .before .before .before .before .before .before .args in
     round-added (clinicOf (contentsAt (a .file .now) (a .head))) (a .refusal) (c .before .before .before .before .before .before .go-round .result) _ _ _ _ (c .before .before .before .before .before .before .before .before .before .before .if1 .left) (c .before .before .before .before .before .before .go-round .ensures)
 
 pub add-round-spec : {M : Type 1} → statement M

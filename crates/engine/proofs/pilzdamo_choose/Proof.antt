@@ -266,7 +266,7 @@ module _ {M : Type 1} (𝓤 : URA M) (H : Heap 𝓤) (A : Atoms 𝓤) (W : Given
               by ! (refuses (verdictOf it) rv is-r (left it it-is bars))))
               (λ passes. skips ! $ exec ! (𝓣 .C) (𝓣 .Λ) En mirs.t-10 (atRet En Post) $ forget ! 21 refl $ chooses (headed it passes .0) (headed it passes .1))
 
-      module _ (zs : List ℕ) (long₀ : length zs ≡ 1025) where
+      module _ (zs : List ℕ) (long₀ : length zs ≡ 1025) (none₀ : zs ≡ replicate (length zs) 0) where
         abbrev At2 : List (Item 𝓤)
         At2 = ‵ owned-list ∷ ‵ (flft κ₁ q₁) ∷ ‵ owned-words ∷ ‵ (flft κ₂ q₂) ∷ ‵ bytes ∷ ‵ (flft κ₀ q₀) ∷ ‵ (row u64 fullShare zs l6 0) ∷ ‵ (froom (sliceTy (tyRef erased mut half)) l20 0) ∷ ‵ (fdies (sliceTy (tyRef erased mut half)) l20) ∷ ‵ (froom (tyRef erased mut half) l19 0) ∷ ‵ (fdies (tyRef erased mut half) l19) ∷ ‵ (froom (sliceTy (tyRef erased imm word)) l18 0) ∷ ‵ (fdies (sliceTy (tyRef erased imm word)) l18) ∷ ‵ (froom (tyRef erased imm (tyArray word 1025)) l17 0) ∷ ‵ (fdies (tyRef erased imm (tyArray word 1025)) l17) ∷ ‵ (froom HH′.mir l16 0) ∷ ‵ (fdies HH′.mir l16) ∷ ‵ (froom (sliceTy record-ref) l15 0) ∷ ‵ (fdies (sliceTy record-ref) l15) ∷ ‵ (froom record-ref l14 0) ∷ ‵ (fdies record-ref l14) ∷ ‵ (froom tyBool l13 0) ∷ ‵ (fdies tyBool l13) ∷ ‵ (froom (sliceTy (tyRef erased mut word)) l12 0) ∷ ‵ (fdies (sliceTy (tyRef erased mut word)) l12) ∷ ‵ (froom (tyRef erased mut (tyArray word 1025)) l11 0) ∷ ‵ (fdies (tyRef erased mut (tyArray word 1025)) l11) ∷ ‵ (froom (sliceTy (tyRef erased imm half)) l10 0) ∷ ‵ (fdies (sliceTy (tyRef erased imm half)) l10) ∷ ‵ (froom (tyRef erased imm half) l9 0) ∷ ‵ (fdies (tyRef erased imm half) l9) ∷ ‵ (froom word l8 0) ∷ ‵ (fdies word l8) ∷ ‵ (froom O′.mir l7 0) ∷ ‵ (fdies O′.mir l7) ∷ Tail
 
@@ -282,7 +282,7 @@ module _ {M : Type 1} (𝓤 : URA M) (H : Heap 𝓤) (A : Atoms 𝓤) (W : Given
             nothing ! $ move ! (7 ∷ 0 ∷ []) $ fjoin ! $ move ! (4 ∷ 0 ∷ []) $ fjoin ! $ owned ! usize (Is usize) (uint-makes 𝓤 H A W w64) (length ys) _ (refl, room₁ .0) $ fjoin ! $ move ! (1 ∷ 0 ∷ []) $ fjoin ! $
             nothing ! $ move ! (5 ∷ 0 ∷ []) $ join ! $ move ! (3 ∷ 0 ∷ []) $ join ! $ move ! (7 ∷ 0 ∷ []) $ join ! $
             calls-any 𝓤 H A am.ended (am.clauses 𝓤 H A mem run) ((κ₀, (ν′ ∷ [], (ν ∷ [], tt))), (q₀, (fullShare, (fullShare, tt))), tt, (file, (length ys, (slice-at u16 b₂ o₂ δ′ bs, (slice-at u64 l6 0 δ zs, tt)))), (fv ∷ [], (vint w64 (length ys) ∷ [], (bv ∷ [], (sliceVal (l6, 0) 1025 ∷ [], tt))))) tt ! 𝓣 (known .admit) refl
-            (factI 𝓤 (length zs ≡ 1025) (emp 𝓤) long₀)
+            (factI 𝓤 ((length zs ≡ 1025) × (zs ≡ replicate (length zs) 0)) (emp 𝓤) (long₀, none₀))
             (λ r ws. (r ≡ admitted (now file) (length ys) bs) × (length (ws .1 .1 .1 .0) ≡ 1025) × Admits (now file) (length ys) bs (ws .1 .1 .1 .0) r) (λ r ws. id⊢ 𝓤 _)
             (and-then ! (of-local ! 43 refl) (and-then ! (of-local ! 30 refl) (and-then ! (of-local ! 26 refl) (and-then ! (of-local ! 22 refl) (no-more !))))) (λ iv it ws way is-it.
             fsplit ! $ move ! (1 ∷ []) $ fsplit ! $ move ! (1 ∷ []) $ fsplit ! $ move ! (1 ∷ []) $ fsplit ! $ fsplit ! $ move ! (1 ∷ []) $ feqL ! (λ _. move ! (1 ∷ 2 ∷ 3 ∷ 4 ∷ []) $ drop ! $ drop ! $ drop ! $ drop ! $
@@ -305,7 +305,7 @@ module _ {M : Type 1} (𝓤 : URA M) (H : Heap 𝓤) (A : Atoms 𝓤) (W : Given
         -- [what threads owns; its token; what beside owns; its token; what file owns; its token; _20; …; _0; …]
         assigns ! (rep ! 1025 (lit ! tt)) (from ! (stop !)) (init ! 34 refl (zeros-typed 𝓤 H A W 1025)) $
         move ! (34 ∷ []) $ lays 1025 l6 ! $ move ! (1 ∷ 2 ∷ 3 ∷ 4 ∷ 5 ∷ 6 ∷ 0 ∷ []) $
-        enters l0 l1 l2 l3 l4 l5 l6 l7 l8 l9 l10 l11 l12 l13 l14 l15 l16 l17 l18 l19 l20 (replicate 1025 0) (length-replicate {A = ℕ} 1025 0))))))))))))))))))))))
+        enters l0 l1 l2 l3 l4 l5 l6 l7 l8 l9 l10 l11 l12 l13 l14 l15 l16 l17 l18 l19 l20 (replicate 1025 0) (length-replicate {A = ℕ} 1025 0) (ap (λ (x : ℕ). replicate x 0) (sym (length-replicate {A = ℕ} 1025 0))))))))))))))))))))))))
 
 module _ {M : Type 1} (𝓤 : URA M) (H : Heap 𝓤) (A : Atoms 𝓤) (W : Given 𝓤 H A) (mem : Memory → SProp 𝓤) (run : Routine → Fun 𝓤) where
   walks : (𝓣 : Tables 𝓤 H) → Cites 𝓤 H A mem run (𝓣 .C) → Walks 𝓤 H A ch.ended stayed (WpFn 𝓤 H (𝓣 .C) (𝓣 .Λ) code.function) (ch.clauses 𝓤 H A mem run)

@@ -45,7 +45,7 @@ same-length c = search needs
 returns : tie.Need-returns
 returns c =
     let a = c .before .before .before .before .before .before .before .before .before .before .before .before .before .args in
-    admit-sizes (a .file .now) (a .records) (a .beside .now) (a .table .now) _ (c .before .before .before .before .before .before .before .before .before .before .before .before .before .pre) (c .before .before .before .before .before .before .before .before .enter-scoped .ensures .1) _ (told (c .before .before .before)) (c .unlendable .result) (c .unlendable .ensures) (sym (c .before .before .sizes-fit .ensures) ∙ not-true _ (c .before .if1 .taken))
+    admit-sizes (a .file .now) (a .records) (a .beside .now) (a .table .now) _ (c .before .before .before .before .before .before .before .before .before .before .before .before .before .pre .0) (c .before .before .before .before .before .before .before .before .before .before .before .before .before .pre .1) (c .before .before .before .before .before .before .before .before .enter-scoped .ensures .1) _ (told (c .before .before .before)) (c .unlendable .result) (c .unlendable .ensures) (sym (c .before .before .sizes-fit .ensures) ∙ not-true _ (c .before .if1 .taken))
 
 made-fit-requires : tie.Need-made-fit-requires
 made-fit-requires c κs = let (w, r, t, m) = sizes-true (c .before .before .before .before .before .before .before .before .before .before .before .before .args .records) (c .before .before .before .before .before .before .before .before .before .before .before .before .args .beside .now) (fit c) in (w, m)
@@ -59,7 +59,7 @@ same-length-2 c = search needs
 returns-2 : tie.Need-returns-2
 returns-2 c =
     let a = c .before .before .before .before .before .before .before .before .before .before .before .before .before .before .before .args in
-    admit-made (a .file .now) (a .records) (a .beside .now) (a .table .now) _ (c .before .before .before .before .before .before .before .before .before .before .before .before .before .before .before .pre) (c .before .before .before .before .before .before .before .before .before .before .enter-scoped .ensures .1) _ (told (c .before .before .before .before .before)) (c .unlendable2 .result) (c .before .before .made-fit .result) (c .unlendable2 .ensures) (fit (c .before .before .before)) (c .before .before .made-fit .ensures (a .file .now)) (not-true _ (c .before .if2 .taken))
+    admit-made (a .file .now) (a .records) (a .beside .now) (a .table .now) _ (c .before .before .before .before .before .before .before .before .before .before .before .before .before .before .before .pre .0) (c .before .before .before .before .before .before .before .before .before .before .before .before .before .before .before .pre .1) (c .before .before .before .before .before .before .before .before .before .before .enter-scoped .ensures .1) _ (told (c .before .before .before .before .before)) (c .unlendable2 .result) (c .before .before .made-fit .result) (c .unlendable2 .ensures) (fit (c .before .before .before)) (c .before .before .made-fit .ensures (a .file .now)) (not-true _ (c .before .if2 .taken))
 
 same-length-3 : tie.Need-same-length-3
 same-length-3 c = search needs
@@ -67,7 +67,7 @@ same-length-3 c = search needs
 returns-3 : tie.Need-returns-3
 returns-3 c =
     let a = c .before .before .before .before .before .before .before .before .before .before .args in
-    admit-names (a .file .now) (a .records) (a .beside .now) (a .table .now) _ (c .before .before .before .before .before .before .before .before .before .before .pre) (c .before .before .before .before .before .enter-scoped .ensures .1) _ (sym (c .before .before .before .before .before .enter-scoped .ensures .0) ∙ c .before .answer .given .1)
+    admit-names (a .file .now) (a .records) (a .beside .now) (a .table .now) _ (c .before .before .before .before .before .before .before .before .before .before .pre .0) (c .before .before .before .before .before .before .before .before .before .before .pre .1) (c .before .before .before .before .before .enter-scoped .ensures .1) _ (sym (c .before .before .before .before .before .enter-scoped .ensures .0) ∙ c .before .answer .given .1)
 
 same-length-4 : tie.Need-same-length-4
 same-length-4 c = search needs
@@ -75,7 +75,7 @@ same-length-4 c = search needs
 returns-4 : tie.Need-returns-4
 returns-4 c =
     let a = c .before .before .before .before .before .before .before .before .before .before .before .before .before .before .args in
-    admit-fine (a .file .now) (a .records) (a .beside .now) (a .table .now) _ (c .before .before .before .before .before .before .before .before .before .before .before .before .before .before .pre) (c .before .before .before .before .before .before .before .before .before .enter-scoped .ensures .1) _ (told (c .before .before .before .before)) (c .before .made-fit .result) (fit (c .before .before)) (c .before .made-fit .ensures (a .file .now)) (not-false _ (c .if2 .left))
+    admit-fine (a .file .now) (a .records) (a .beside .now) (a .table .now) _ (c .before .before .before .before .before .before .before .before .before .before .before .before .before .before .pre .0) (c .before .before .before .before .before .before .before .before .before .before .before .before .before .before .pre .1) (c .before .before .before .before .before .before .before .before .before .enter-scoped .ensures .1) _ (told (c .before .before .before .before)) (c .before .made-fit .result) (fit (c .before .before)) (c .before .made-fit .ensures (a .file .now)) (not-false _ (c .if2 .left))
 
 pub admit-spec : {M : Type 1} → statement M
 admit-spec =

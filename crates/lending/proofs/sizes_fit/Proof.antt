@@ -20,7 +20,7 @@ made-count-requires c κs = search needs
 returns : tie.Need-returns
 returns c =
     let a = c .before .before .before .args in
-    ap₂ (λ (t m : ℕ). eqb (length (a .beside .now)) 130 && ((eqb (a .records) 64 && leb t 64) && leb m 64)) (c .before .thread-count .ensures) (c .made-count .ensures)
+    ap₂ (λ (t m : ℕ). eqb (length (a .beside .now)) 162 && ((eqb (a .records) 64 && leb t 64) && leb m 64)) (c .before .thread-count .ensures) (c .made-count .ensures)
 
 pub sizes-fit-spec : {M : Type 1} → statement M
 sizes-fit-spec = tie.close (tie.spec thread-count-requires made-count-requires returns)

@@ -24,21 +24,24 @@ slice-aggregate-run-by-3 c = search needs
 slice-aggregate-run-by-4 : tie.Need-slice-aggregate-run-by-4
 slice-aggregate-run-by-4 c = search needs
 
+slice-aggregate-run-by-5 : tie.Need-slice-aggregate-run-by-5
+slice-aggregate-run-by-5 c = search needs
+
 run-by-requires : tie.Need-run-by-requires
 run-by-requires c κs = search needs
 
 stopped-at-requires : tie.Need-stopped-at-requires
 stopped-at-requires c κs =
-    let a = c .before .before .before .before .before .before .before .before .before .before .before .args in
+    let a = c .before .before .before .before .before .before .before .before .before .before .before .before .args in
     let done = c .before .before .before .before .run-by in
-    place-word (clinicOf (contentsAt (a .file .now) (a .head))) (start (contentsAt (a .file .now) (a .head))) (a .choices .now) (done .result) (done .ensures .0 .0) (c .before .before .before .before .before .before .before .before .before .before .before .pre .1)
+    place-word (clinicOf (contentsAt (a .file .now) (a .head))) (start (contentsAt (a .file .now) (a .head))) (a .choices .now) (done .result) (done .ensures .0 .0) (c .before .before .before .before .before .before .before .before .before .before .before .before .pre .1)
 
 no-pair-requires : tie.Need-no-pair-requires
 no-pair-requires c κs = search needs
 
 returns : tie.Need-returns
 returns c =
-    let a = c .before .before .before .before .before .before .before .before .before .before .before .before .before .before .before .args in
+    let a = c .before .before .before .before .before .before .before .before .before .before .before .before .before .before .before .before .args in
     let done = c .before .before .before .before .before .before .before .before .run-by in
     let v = c .before .before .before .stopped-at in
     let R = run (clinicOf (contentsAt (a .file .now) (a .head))) (start (contentsAt (a .file .now) (a .head))) (a .choices .now) in
@@ -61,7 +64,7 @@ ready-pair-requires c κs = search needs
 
 returns-2 : tie.Need-returns-2
 returns-2 c =
-    let a = c .before .before .before .before .before .before .before .before .before .before .before .before .before .before .before .before .before .before .before .args in
+    let a = c .before .before .before .before .before .before .before .before .before .before .before .before .before .before .before .before .before .before .before .before .args in
     let done = c .before .before .before .before .before .before .before .before .before .before .before .before .run-by in
     let v = c .before .before .before .before .before .before .before .stopped-at in
     let C = clinicOf (contentsAt (a .file .now) (a .head)) in
@@ -76,6 +79,7 @@ ready-in-spec =
     slice-aggregate-run-by-2
     slice-aggregate-run-by-3
     slice-aggregate-run-by-4
+    slice-aggregate-run-by-5
     run-by-requires
     stopped-at-requires
     no-pair-requires

@@ -31,16 +31,16 @@ put-state-requires c κs = search needs
 
 stopped-at-requires : tie.Need-stopped-at-requires
 stopped-at-requires c κs =
-    let a = c .before .before .before .before .before .before .before .before .before .before .before .before .before .before .args in
+    let a = c .before .before .before .before .before .before .before .before .before .before .before .before .before .before .before .args in
     let done = c .before .before .before .before .before .before .before .before .run-list in
-    place-word (clinicOf (contentsAt (a .file .now) (a .head))) (start (contentsAt (a .file .now) (a .head))) (a .choices .now) (done .result) (done .ensures .0) (c .before .before .before .before .before .before .before .before .before .before .before .before .before .before .pre .1)
+    place-word (clinicOf (contentsAt (a .file .now) (a .head))) (start (contentsAt (a .file .now) (a .head))) (a .choices .now) (done .result) (done .ensures .0) (c .before .before .before .before .before .before .before .before .before .before .before .before .before .before .before .pre .1)
 
 same-length : tie.Need-same-length
 same-length c = search needs
 
 returns : tie.Need-returns
 returns c =
-    let a = c .before .before .before .before .before .before .before .before .before .before .before .before .before .before .before .args in
+    let a = c .before .before .before .before .before .before .before .before .before .before .before .before .before .before .before .before .args in
     let done = c .before .before .before .before .before .before .before .before .before .run-list in
     let put = c .before .before .before .put-state in
     let R = run (clinicOf (contentsAt (a .file .now) (a .head))) (start (contentsAt (a .file .now) (a .head))) (a .choices .now) in (

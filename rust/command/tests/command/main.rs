@@ -18,4 +18,5 @@ mod script;
 mod show;
 mod spring;
 mod streams;
+mod waiting;
 mod wrong_use;

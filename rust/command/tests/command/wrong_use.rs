@@ -13,7 +13,7 @@ fn help_and_version() {
         );
     }
     let words = [
-        "check", "place", "measure", "run", "round", "dispatch", "show", "explain",
+        "check", "place", "measure", "run", "waiting", "round", "dispatch", "show", "explain",
     ];
     for word in words {
         assert!(help.contains(&format!("  pilzdamo {word} ")));
@@ -26,7 +26,7 @@ fn help_and_version() {
 
 #[test]
 fn words() {
-    let wrong: [(&[&str], &str); 46] = [
+    let wrong: [(&[&str], &str); 51] = [
         (&[], "what to do?"),
         (&[""], "there is no word ''"),
         (&["judge", "a"], "there is no word 'judge'"),
@@ -96,6 +96,17 @@ fn words() {
             &["run", "-", "-"],
             "run: only one of FILE and CHOICES can be standard input",
         ),
+        (&["waiting"], "waiting: FILE is missing"),
+        (&["waiting", "a"], "waiting: CHOICES is missing"),
+        (&["waiting", "a", "b", "1"], "waiting: '1' is too many"),
+        (
+            &["waiting", "-", "-"],
+            "waiting: only one of FILE and CHOICES can be standard input",
+        ),
+        (
+            &["waiting", "a", "b", "--at", "Mon 07:30"],
+            "waiting has no option '--at'",
+        ),
         (&["round"], "round: FILE is missing"),
         (&["round", "a"], "round: CHOICES is missing"),
         (&["round", "a", "b", "c"], "round: 'c' is too many"),
@@ -156,7 +167,7 @@ fn files_that_cannot_be_read() {
         (&here, "it is a folder"),
     ] {
         let due = format!("pilzdamo: {file}: can't be read: {why}\n");
-        let uses: [&[&str]; 11] = [
+        let uses: [&[&str]; 13] = [
             &["check", file],
             &["place", file],
             &["measure", file],
@@ -165,6 +176,8 @@ fn files_that_cannot_be_read() {
             &["show", file],
             &["run", file, &sound],
             &["run", &sound, file],
+            &["waiting", file, &sound],
+            &["waiting", &sound, file],
             &["round", file, &sound],
             &["round", &sound, file],
             &["dispatch", file],

@@ -127,6 +127,28 @@ static void print_state(const uint8_t *state) {
     }
 }
 
+/* The kinds that threads wait on, by the words beside a lent list. */
+static void print_waiting(const char *call, const uint16_t *beside) {
+    uint16_t kind;
+    printf("%s:", call);
+    for (kind = 1; kind <= PILZDAMO_TOTALS; kind++) {
+        uint16_t total = pilzdamo_total(beside, PILZDAMO_BESIDE, kind);
+        if (total != 0) {
+            printf(" %d on kind %d", total, kind);
+        }
+    }
+    printf("\n");
+}
+
+static void print_totals(const char *call, pilzdamo_kind_totals told) {
+    size_t kind;
+    printf("%s: refusal %d %d, totals", call, told.number, told.place);
+    for (kind = 1; kind <= PILZDAMO_TOTALS; kind++) {
+        printf(" %d", told.totals[kind - 1]);
+    }
+    printf("\n");
+}
+
 /* Both schedulers read bed 4, in a run and choice by choice. */
 static void both_read(const char *folder) {
     static const uint16_t choices[] = {3, 0, 4, 0, 5, 0, 6, 0, 3, 4, 1, 0,
@@ -159,7 +181,9 @@ static void both_read(const char *folder) {
                (int)i + 1, threads[i].user, threads[i].node, threads[i].mask,
                threads[i].vars[0], threads[i].vars[7]);
     }
-    printf("behind them: %x %x\n", threads[beside[0]].user, beside[2]);
+    printf("behind them: %x %x %x\n", threads[beside[0]].user, beside[2],
+           beside[PILZDAMO_BESIDE - PILZDAMO_TOTALS - 1]);
+    print_waiting("waiting at the start", beside);
     for (i = 0; i < words; i += 2) {
         pilzdamo_verdict verdict =
             pilzdamo_choose(cut.bytes, cut.len, threads, PILZDAMO_RECORDS, beside,
@@ -170,12 +194,36 @@ static void both_read(const char *folder) {
     }
     printf("chosen: %d threads, nodes %d and %d, first variables %d and %d\n", beside[0],
            threads[0].node, threads[1].node, threads[0].vars[0], threads[1].vars[0]);
+    print_waiting("waiting", beside);
     print("choose no thread",
           pilzdamo_choose(cut.bytes, cut.len, threads, PILZDAMO_RECORDS, beside,
                           PILZDAMO_BESIDE, 7, 0));
     print("lend too little",
           pilzdamo_choose(cut.bytes, cut.len, threads, PILZDAMO_RECORDS - 1, beside,
                           PILZDAMO_BESIDE, 1, 0));
+    print("lend a word too little",
+          pilzdamo_choose(cut.bytes, cut.len, threads, PILZDAMO_RECORDS, beside,
+                          PILZDAMO_BESIDE - 1, 1, 0));
+    beside[PILZDAMO_BESIDE - 1]++;
+    print("lend a total too many",
+          pilzdamo_choose(cut.bytes, cut.len, threads, PILZDAMO_RECORDS, beside,
+                          PILZDAMO_BESIDE, 1, 0));
+    printf("total of kind 32: %d, of kinds 0 and 33: %d %d, of a word less: %d\n",
+           pilzdamo_total(beside, PILZDAMO_BESIDE, 32),
+           pilzdamo_total(beside, PILZDAMO_BESIDE, 0),
+           pilzdamo_total(beside, PILZDAMO_BESIDE, 33),
+           pilzdamo_total(beside, PILZDAMO_BESIDE - 1, 32));
+}
+
+/* Who is waiting on what: before the run, in the midst of it, and where it stops. */
+static void waiting(const char *folder) {
+    static const uint16_t choices[] = {3, 0, 4, 0, 5, 0, 6, 0, 1, 0, 2, 0, 9, 0};
+    clinic cut = example(folder, "spring/cut.clinic");
+    print_totals("at the start", pilzdamo_totals(cut.bytes, cut.len, choices, 0));
+    print_totals("after six", pilzdamo_totals(cut.bytes, cut.len, choices, 12));
+    print_totals("where it stops", pilzdamo_totals(cut.bytes, cut.len, choices, 14));
+    print_totals("half a choice", pilzdamo_totals(cut.bytes, cut.len, choices, 3));
+    print_totals("no file", pilzdamo_totals(cut.bytes, 1, choices, 2));
 }
 
 /* The rounds of two bookings and the desk that takes them, up to one that is empty. */
@@ -234,17 +282,20 @@ int main(int argc, char **argv) {
         fprintf(stderr, "the folder of the examples is wanted\n");
         return 2;
     }
-    printf("sizes: %d %d %d %d %d\n", (int)sizeof(pilzdamo_verdict),
+    printf("sizes: %d %d %d %d %d %d\n", (int)sizeof(pilzdamo_verdict),
            (int)sizeof(pilzdamo_placed), (int)sizeof(pilzdamo_ready_pair),
-           (int)sizeof(pilzdamo_round_choices), (int)sizeof(pilzdamo_thread));
+           (int)sizeof(pilzdamo_round_choices), (int)sizeof(pilzdamo_kind_totals),
+           (int)sizeof(pilzdamo_thread));
     printf("rooms: %d %d %d %d %d\n", PILZDAMO_ROOM, PILZDAMO_ROOM_1, PILZDAMO_RUN_ROOM,
            PILZDAMO_RECORDS, PILZDAMO_BESIDE);
     printf("hours: %d %d\n", PILZDAMO_WEEK, PILZDAMO_ROWS);
     printf("rounds: %d %d\n", PILZDAMO_ROUND_WORDS, PILZDAMO_BEFORE_ROUND);
+    printf("totals: %d\n", PILZDAMO_TOTALS);
     booking(argv[1]);
     head_nurse(argv[1]);
     hours(argv[1]);
     both_read(argv[1]);
+    waiting(argv[1]);
     dispatch(argv[1]);
     refusals(argv[1]);
     return 0;

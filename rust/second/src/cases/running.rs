@@ -8,10 +8,12 @@ mod ready;
 mod refusals;
 mod rounds;
 mod steps;
+mod totals;
 
 pub use booking::{booking, placed_booking};
 pub use lent::{cases as choose_cases, start_cases, ChooseCase, Lent, StartCase};
 pub use rounds::{cases as round_cases, RoundCase};
+pub use totals::{cases as totals_cases, TotalsCase};
 
 use crate::draft::{set_word, Draft};
 use crate::{Ready, Verdict, RUN_ROOM};

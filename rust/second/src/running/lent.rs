@@ -1,7 +1,8 @@
 //! A list of threads that is lent: its start, and what must hold of it for a
 //! choice.
 
-use super::state::{counted, made, BESIDE, MADE, NAMED, RECORDS};
+use super::state::{count_totals, counted, made, totals};
+use super::state::{BEFORE_TOTALS, BESIDE, MADE, NAMED, RECORDS};
 use super::{Thread, Unfit};
 use crate::file::{three, word, File, Section};
 use crate::names::Context;
@@ -27,25 +28,31 @@ impl<'l> Lent<'l> {
     pub fn of(threads: &'l mut [Thread], beside: &'l mut [u16]) -> Result<Lent<'l>, Unfit> {
         let lent = Lent::sized(threads, beside)?;
         unless(usize::from(lent.beside[0]) > RECORDS, Unfit::Threads)?;
-        unless(usize::from(lent.beside[1]) > (BESIDE - 2) / 2, Unfit::Made)?;
+        unless(
+            usize::from(lent.beside[1]) > (BEFORE_TOTALS - 2) / 2,
+            Unfit::Made,
+        )?;
         Ok(lent)
     }
 
-    /// A thread for each session, in order, at its root, and no made channel.
+    /// A thread for each session, in order, at its root, no made channel, and the
+    /// totals of these threads.
     pub fn start(self, file: &File) {
         for (thread, session) in self.threads.iter_mut().zip(file.sessions) {
             *thread = Thread::start(three(session));
         }
         self.beside[0] = file.sessions.len() as u16;
         self.beside[1] = 0;
+        let totals = count_totals(file, self.counted(), self.beside);
+        self.beside[BEFORE_TOTALS..].copy_from_slice(&totals);
     }
 
     pub fn counted(&self) -> &[Thread] {
         counted(self.threads, self.beside)
     }
 
-    /// Judges the made channels and the counted threads, on a file that 1 to
-    /// 10 leave clean. The scopes are those of the nodes of these threads.
+    /// Judges the made channels, the counted threads and the totals, on a file that
+    /// 1 to 10 leave clean. The scopes are those of the nodes of these threads.
     pub fn judge(&self, file: &File, scopes: &Scopes) -> Result<(), Unfit> {
         let made = made(self.beside);
         for channel in made {
@@ -56,7 +63,11 @@ impl<'l> Lent<'l> {
             in_count(thread.node, nodes, Unfit::NodeZero, Unfit::NodeAbove)?;
             judge_thread(file, made, thread, scopes.at(thread.node))?;
         }
-        Ok(())
+        let due = count_totals(file, self.counted(), self.beside);
+        let of_file = file.kinds.len();
+        let lent = totals(self.beside);
+        unless(lent[..of_file] != due[..of_file], Unfit::Total)?;
+        unless(lent[of_file..] != due[of_file..], Unfit::TotalAbove)
     }
 }
 

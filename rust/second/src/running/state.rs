@@ -9,9 +9,16 @@ pub const RECORDS: usize = 64;
 
 const MOST_MADE: usize = 64;
 
-/// Words beside the threads: how many threads there are, how many made
+/// The kinds that there can be, for each of which a total is kept.
+pub const TOTALS: usize = 32;
+
+/// The words before the totals: how many threads there are, how many made
 /// channels, and the owner and kind of each made channel.
-pub const BESIDE: usize = 2 + 2 * MOST_MADE;
+pub const BEFORE_TOTALS: usize = 2 + 2 * MOST_MADE;
+
+/// Words beside the threads. Last come the totals of kinds 1 to 32: how many
+/// threads stand at a receive whose channel has that kind.
+pub const BESIDE: usize = BEFORE_TOTALS + TOTALS;
 
 pub const END: u16 = 0;
 pub const FORK: u16 = 1;
@@ -50,6 +57,31 @@ pub fn kind_of(file: &File, beside: &[u16; BESIDE], channel: u16) -> u16 {
     }
 }
 
+/// The kind of the channel that a thread waits on; none if it isn't at a receive.
+pub fn waits_on(file: &File, beside: &[u16; BESIDE], thread: &Thread) -> Option<u16> {
+    let [tag, operand, _] = node_of(file, thread);
+    (tag == RECEIVE).then(|| kind_of(file, beside, thread.value_of(operand)))
+}
+
+/// The totals as they are kept.
+pub fn totals(beside: &[u16; BESIDE]) -> &[u16; TOTALS] {
+    beside.last_chunk().expect("they stand last")
+}
+
+/// The total of a kind from 1 to 32, to be changed.
+pub fn total_mut(beside: &mut [u16; BESIDE], kind: u16) -> &mut u16 {
+    &mut beside[BEFORE_TOTALS + usize::from(kind) - 1]
+}
+
+/// The totals that are due, from all threads.
+pub fn count_totals(file: &File, threads: &[Thread], beside: &[u16; BESIDE]) -> [u16; TOTALS] {
+    let mut totals = [0; TOTALS];
+    for kind in threads.iter().filter_map(|it| waits_on(file, beside, it)) {
+        totals[usize::from(kind) - 1] += 1;
+    }
+    totals
+}
+
 /// A state of a file: a run's own, or one that is lent.
 pub struct State<'s, R> {
     pub file: &'s File<'s>,
@@ -59,7 +91,9 @@ pub struct State<'s, R> {
 }
 
 impl<R: Rights> State<'_, R> {
-    /// Carries out a choice. Refused, it leaves the state as it was.
+    /// Carries out a choice. Refused, it leaves the state as it was. The totals
+    /// change by the receives that threads leave and come to; only a meeting
+    /// leaves one.
     pub fn choose(&mut self, thread: u16, partner: u16) -> Result<(), Halt> {
         let at = self.index(thread, Halt::ThreadZero, Halt::ThreadAbove)?;
         let [tag, f1, f2] = node_of(self.file, &self.threads[at]);
@@ -67,7 +101,10 @@ impl<R: Rights> State<'_, R> {
             SEND => self.send(at, partner, f1, f2)?,
             RECEIVE => return Err(Halt::ReceiveFirst),
             _ if partner != 0 => return Err(Halt::PartnerOfLone { tag }),
-            END => self.remove(at),
+            END => {
+                self.remove(at);
+                return Ok(());
+            }
             FORK => {
                 self.add(at, f1, Halt::ThreadsFullAtFork)?;
                 self.threads[at].advance();
@@ -85,7 +122,15 @@ impl<R: Rights> State<'_, R> {
             }
             _ => self.threads[at].put_off(f1)?,
         }
+        self.arrive(at);
         Ok(())
+    }
+
+    /// Adds the thread at `at` to its kind's total, if it has come to a receive.
+    fn arrive(&mut self, at: usize) {
+        if let Some(kind) = waits_on(self.file, self.beside, &self.threads[at]) {
+            *total_mut(self.beside, kind) += 1;
+        }
     }
 
     /// The kind of a channel, by its value.
@@ -122,6 +167,7 @@ impl<R: Rights> State<'_, R> {
         }
         self.threads[count] = self.threads[at].twin(node);
         self.beside[0] += 1;
+        self.arrive(count);
         Ok(())
     }
 
@@ -163,8 +209,10 @@ impl<R: Rights> State<'_, R> {
             return Err(Halt::ChannelsDiffer);
         }
         let value = sender.value_of(value);
+        *total_mut(self.beside, self.kind_of(received_on)) -= 1;
         self.threads[from].advance();
         self.threads[to].bind(value);
+        self.arrive(to);
         Ok(())
     }
 }

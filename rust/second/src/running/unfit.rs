@@ -32,11 +32,15 @@ pub enum Unfit {
     OtherKind,
     /// A variable with a value before it is bound.
     Unbound,
+    /// Another total of a kind than the threads give.
+    Total,
+    /// A total that isn't 0, of a kind above the count.
+    TotalAbove,
 }
 
 impl Unfit {
     /// All of them, in the order in which they are judged.
-    pub const ALL: [Unfit; 17] = {
+    pub const ALL: [Unfit; 19] = {
         use Unfit::*;
         [
             Records,
@@ -56,6 +60,8 @@ impl Unfit {
             ChannelForPlain,
             OtherKind,
             Unbound,
+            Total,
+            TotalAbove,
         ]
     };
 }

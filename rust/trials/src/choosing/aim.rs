@@ -5,7 +5,7 @@ use super::fit::{any_thread, Clinic};
 use crate::juniors;
 use crate::lists::Lists;
 use crate::rng::Rng;
-use second::{Thread, Unfit, BESIDE, RECORDS};
+use second::{Thread, Unfit, BEFORE_TOTALS, BESIDE, RECORDS, TOTALS};
 
 /// Lists that fit a file, on the way to fit it no more.
 pub struct Aim<'a> {
@@ -47,6 +47,8 @@ impl Aim<'_> {
             }
             Unfit::Mask => self.add_role(),
             Unfit::Unbound => self.bind_early(),
+            Unfit::Total => self.other_total(),
+            Unfit::TotalAbove => self.total_above(),
             Unfit::Nothing | Unfit::PlainForChannel | Unfit::ChannelForPlain | Unfit::OtherKind => {
                 self.set_bound(unfit)
             }
@@ -69,7 +71,11 @@ impl Aim<'_> {
         };
         let [count, made] = [lists.beside[0], lists.beside[1]].map(usize::from);
         let word = if count == 0 || rng.once_in(5) {
-            &mut lists.beside[rng.below(2 + 2 * made)]
+            let at = match rng.below(3) {
+                0 => BEFORE_TOTALS + rng.below(TOTALS),
+                _ => rng.below(2 + 2 * made),
+            };
+            &mut lists.beside[at]
         } else {
             let thread = &mut lists.threads[rng.below(count)];
             match rng.below(8) {
@@ -93,7 +99,8 @@ impl Aim<'_> {
     fn other_words(&mut self) {
         let rng = &mut *self.rng;
         let few = rng.below(BESIDE);
-        let words = *rng.of(&[few, 0, 1, 2, 64, 128, 129, 131, 132, 260]);
+        let near = *rng.of(&[161, 163]);
+        let words = *rng.of(&[few, 0, 2, 130, 164, 324, near, near, near, near, near, near]);
         self.lists.beside.resize_with(words, || rng.word());
     }
 
@@ -121,6 +128,43 @@ impl Aim<'_> {
         }
         let number = self.rng.index(usize::from(beside[1]).min(64));
         beside[2 + 2 * number + word] = value;
+    }
+
+    /// Gives a kind of the file another total, mostly one more or one less, or two of
+    /// them each other's.
+    fn other_total(&mut self) {
+        let kinds = self.clinic.draft.kinds.len();
+        let rng = &mut *self.rng;
+        if self.lists.beside.len() != BESIDE || kinds == 0 {
+            return;
+        }
+        let totals = &mut self.lists.beside[BEFORE_TOTALS..][..kinds];
+        let (any, drawn) = (rng.word(), rng.index(kinds));
+        let waited = rng.find(totals, |total| *total != 0);
+        let at = waited.filter(|_| rng.once_in(2)).unwrap_or(drawn);
+        match rng.below(10) {
+            0..=1 => totals[at] = totals[at].wrapping_add(1),
+            2..=4 => totals[at] = totals[at].wrapping_sub(1),
+            5..=8 => {
+                let total = totals[at];
+                if let Some(other) = rng.find(totals, |other| *other != total) {
+                    totals.swap(at, other);
+                }
+            }
+            _ => totals[at] = *rng.of(&[0, 64, 256, any, totals[at] | 256]),
+        }
+    }
+
+    /// Gives a kind that the file doesn't have a total.
+    fn total_above(&mut self) {
+        let kinds = self.clinic.draft.kinds.len();
+        if self.lists.beside.len() != BESIDE || kinds == TOTALS {
+            return;
+        }
+        let totals = &mut self.lists.beside[BEFORE_TOTALS + kinds..];
+        let at = self.rng.below(totals.len());
+        let any = self.rng.word();
+        totals[at] = *self.rng.of(&[1, 1, u16::MAX, u16::MAX, any]);
     }
 
     /// How many records count.
@@ -195,7 +239,7 @@ impl Aim<'_> {
             return;
         }
         let number = usize::from(self.lists.beside[1]).min(64);
-        let words = self.lists.beside[2..].to_vec();
+        let words = self.lists.beside[2..BEFORE_TOTALS].to_vec();
         let (made, past) = words.as_chunks().0.split_at(number);
         let plain = unfit == Unfit::ChannelForPlain;
         let will_do = |kind: &u16| unfit == Unfit::Nothing || (*kind == 0) == plain;

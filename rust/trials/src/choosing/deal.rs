@@ -11,7 +11,8 @@ use crate::lists::Lists;
 use crate::rng::Rng;
 use crate::schedule::{any_choice, enabled, refused, schedule, Goal, Steer};
 use second::draft::Draft;
-use second::{Cause, Halt, Run, Thread, Unfit, Version, BESIDE, RECORDS};
+use second::{Cause, Halt, Run, Thread, Unfit, Version};
+use second::{BEFORE_TOTALS, BESIDE, RECORDS};
 
 /// How many lists there are for a file that 1 to 10 leave clean, and for one
 /// that they refuse.
@@ -33,6 +34,9 @@ const MISSED: [Unfit; 4] = [
     Unfit::ChannelForPlain,
     Unfit::OtherKind,
 ];
+
+/// Those in which the totals come in: each of them can be wrong in several ways.
+const OF_TOTALS: [Unfit; 4] = [Unfit::Total, Unfit::Total, Unfit::TotalAbove, Unfit::Beside];
 
 /// What is lent with file `index` of this version under `seed`; some damaged
 /// files have another.
@@ -174,10 +178,10 @@ fn changed(rng: &mut Rng, clinic: &Clinic, file: &[u8], mut lists: Lists, sort: 
         _ => 1 + aim.rng.below(3),
     };
     for _ in 0..times {
-        let unfit = if aim.rng.once_in(5) {
-            *aim.rng.of(&MISSED)
-        } else {
-            *aim.rng.of(&Unfit::ALL)
+        let unfit = match aim.rng.below(10) {
+            0..=1 => *aim.rng.of(&MISSED),
+            2..=3 => *aim.rng.of(&OF_TOTALS),
+            _ => *aim.rng.of(&Unfit::ALL),
         };
         aim.at(unfit);
     }
@@ -240,6 +244,9 @@ fn of_any_words(rng: &mut Rng, file: Vec<u8>) -> Lent {
         for word in &mut beside[2..] {
             *word %= 4;
         }
+    }
+    if !rng.once_in(4) {
+        beside[BEFORE_TOTALS..].fill(0);
     }
     if rng.once_in(10) {
         threads.truncate(rng.below(RECORDS));

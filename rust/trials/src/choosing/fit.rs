@@ -4,7 +4,7 @@ use crate::lists::Lists;
 use crate::rng::Rng;
 use crate::trees::Trees;
 use second::draft::Draft;
-use second::{Halt, Thread, BESIDE, RECORDS};
+use second::{Halt, Thread, BEFORE_TOTALS, RECORDS, TOTALS};
 
 const TAGS: [u16; 9] = [0, 1, 2, 3, 4, 5, 6, 7, 8];
 
@@ -188,6 +188,19 @@ impl Clinic {
         }
     }
 
+    /// How many of these threads wait on each kind, by the kinds that rule 1 gives the
+    /// channels of their receives. Those at no node don't.
+    pub fn totals(&self, threads: &[Thread]) -> [u16; TOTALS] {
+        let mut totals = [0; TOTALS];
+        for thread in threads {
+            let at = usize::from(thread.node).wrapping_sub(1);
+            if self.draft.nodes.get(at).is_some_and(|node| node[0] == 5) {
+                totals[usize::from(self.channel_kind(at)) - 1] += 1;
+            }
+        }
+        totals
+    }
+
     /// Whether what is sent on that channel is a channel.
     fn carries_channels(&self, at: usize) -> bool {
         self.draft.kinds[usize::from(self.channel_kind(at)) - 1] != [0]
@@ -266,8 +279,8 @@ impl Clinic {
         self.with_rest(rng, &threads, &made)
     }
 
-    /// Lists of full length: past what counts they hold anything, often what
-    /// might as well count.
+    /// Lists of full length, with the totals of the threads that count: past what
+    /// counts they hold anything, often what might as well count.
     pub fn with_rest(&self, rng: &mut Rng, counted: &[Thread], made: &[[u16; 2]]) -> Lists {
         let mut threads = counted.to_vec();
         let mut beside = vec![counted.len() as u16, made.len() as u16];
@@ -277,16 +290,17 @@ impl Clinic {
             let more: Vec<Thread> = more.collect();
             let left = RECORDS - threads.len();
             threads.extend(more.iter().cycle().take(left));
-            while let Some(channel) = self.channel(rng).filter(|_| beside.len() < BESIDE) {
+            while let Some(channel) = self.channel(rng).filter(|_| beside.len() < BEFORE_TOTALS) {
                 beside.extend(channel);
             }
         }
         if rng.once_in(6) {
             threads.resize(RECORDS, Thread::default());
-            beside.resize(BESIDE, 0);
+            beside.resize(BEFORE_TOTALS, 0);
         }
         threads.resize_with(RECORDS, || any_thread(rng));
-        beside.resize_with(BESIDE, || rng.word());
+        beside.resize_with(BEFORE_TOTALS, || rng.word());
+        beside.extend(self.totals(counted));
         Lists { threads, beside }
     }
 

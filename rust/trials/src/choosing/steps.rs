@@ -5,8 +5,9 @@ use crate::lists::Lists;
 use crate::rng::Rng;
 use crate::running::{deal_run, engine_run};
 use crate::starting::{agreed_start, any_lists};
+use crate::totals::engine_totals;
 use second::draft::to_bytes;
-use second::{Run, Verdict, Version, RUN_ROOM};
+use second::{Run, Verdict, Version, BEFORE_TOTALS, RUN_ROOM};
 
 /// What came up over the runs.
 #[derive(Debug, Default)]
@@ -60,15 +61,31 @@ fn assert_run(file: &[u8], choices: &[u16], lists: &Lists, refusal: u16, origin:
         out[..due.len()] == due,
         "{origin}: another state after {all} choices"
     );
+    let told = engine_totals(file, choices);
+    assert_eq!((told.number, usize::from(told.place)), (refusal, place));
+    let totals = &lists.beside[BEFORE_TOTALS..];
+    assert_eq!(told.totals, totals, "{origin}: other totals");
+    assert_read(&lists.beside, origin);
 }
 
-/// Whether the lists hold the state of a run.
+/// Asserts that a kind's total is read from the words beside a list.
+fn assert_read(beside: &[u16], origin: &str) {
+    let totals = [&[0], &beside[BEFORE_TOTALS..], &[0; 3]].concat();
+    for (kind, total) in (0..).zip(totals) {
+        assert_eq!(pilzdamo::total(beside, kind), total, "{origin}: {kind}");
+        assert_eq!(second::total(beside, kind), total, "{origin}: {kind}");
+    }
+}
+
+/// Whether the lists hold the state of a run, and its totals.
 fn holds(lists: &Lists, run: &Run) -> bool {
     let Lists { threads, beside } = lists;
     let (counted, made) = (run.threads(), run.made().as_flattened());
     beside[..2] == [counted.len() as u16, made.len() as u16 / 2]
         && beside[2..].starts_with(made)
         && threads.starts_with(counted)
+        && beside[BEFORE_TOTALS..] == *run.totals()
+        && *run.totals() == run.counted_totals()
 }
 
 /// Goes through `runs` runs of files of a version by choices, both

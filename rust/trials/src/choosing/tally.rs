@@ -5,7 +5,8 @@ use super::Lent;
 use crate::juniors;
 use crate::lists::Lists;
 use second::draft::Draft;
-use second::{is_of_file, Cause, Halt, Unfit, Verdict, Version, BESIDE, RECORDS};
+use second::{is_of_file, Cause, Halt, Unfit, Verdict, Version};
+use second::{BEFORE_TOTALS, BESIDE, RECORDS, TOTALS};
 use std::collections::BTreeMap;
 
 /// The least number of choices for each cause, of those refused with each
@@ -16,7 +17,7 @@ const LEAST_OF_EACH: u64 = 500;
 const TAGS: [u16; 8] = [0, 1, 2, 3, 4, 6, 7, 8];
 
 /// What has to come up, and in how many choices.
-const LEAST: [(&str, u64); 19] = [
+const LEAST: [(&str, u64); 28] = [
     ("choices done", 10_000),
     ("choices done with 64 threads", 500),
     ("choices done with 64 made channels", 500),
@@ -36,7 +37,20 @@ const LEAST: [(&str, u64); 19] = [
     ("18 at place 0 for a made channel past the number", 500),
     ("18 at place 1 for a thread past the count", 500),
     ("11 to 13 where the check passes the file", 500),
+    ("choices done while threads wait", 500),
+    ("choices done that change one total", 500),
+    ("choices done that change several totals", 300),
+    ("18 at place 0 for a total that is one up", 500),
+    ("18 at place 0 for a total that is one down", 500),
+    ("18 at place 0 for two totals exchanged", 500),
+    ("18 at place 0 for a kind out of count", 500),
+    ("18 at place 0 for 161 words", 500),
+    ("18 at place 0 for 163 words", 500),
 ];
+
+/// The least number of lists for each of the 32 totals, one up and one down; 65,535 is
+/// one down from 0.
+const LEAST_OF_TOTAL: u64 = 30;
 
 /// What has to come up in version 2 besides. A chain of two counts where the
 /// juniors of juniors make a difference.
@@ -55,6 +69,8 @@ pub struct ChooseTally {
     by_number: BTreeMap<(u16, bool), u64>,
     by_cause: BTreeMap<Cause, u64>,
     done_by_tag: BTreeMap<u16, u64>,
+    /// Lists with nothing wrong but one total: its kind, and whether it is one up.
+    by_total: BTreeMap<(u16, bool), u64>,
 }
 
 /// Why the choice is refused, if it is.
@@ -74,10 +90,14 @@ fn cause_with(lent: &Lent, draft: Draft) -> Option<Cause> {
     })
 }
 
-/// Why it is refused if the two counts are these.
+/// Why it is refused if the two counts are these, and the totals are those of the
+/// threads that then count.
 fn cause_if_counted(lent: &Lent, counts: [u16; 2]) -> Option<Cause> {
     let mut counted = lent.clone();
-    counted.lists.beside[..2].copy_from_slice(&counts);
+    let Lists { threads, beside } = &mut counted.lists;
+    beside[..2].copy_from_slice(&counts);
+    let totals = Clinic::of(&lent.file).totals(&threads[..counts[0].into()]);
+    beside[BEFORE_TOTALS..].copy_from_slice(&totals);
     cause_of(&counted)
 }
 
@@ -95,6 +115,7 @@ impl ChooseTally {
             by_number: BTreeMap::new(),
             by_cause: BTreeMap::new(),
             done_by_tag: BTreeMap::new(),
+            by_total: BTreeMap::new(),
         }
     }
 
@@ -146,6 +167,13 @@ impl ChooseTally {
         self.note("choices done that add the 64th thread", full);
         let full = after.beside[1] == 64 && beside[1] == 63;
         self.note("choices done that make the 64th channel", full);
+        let [totals, totals_after] = [beside, &after.beside].map(|it| &it[BEFORE_TOTALS..]);
+        let waiting = totals.iter().any(|total| *total != 0);
+        self.note("choices done while threads wait", waiting);
+        let changed = (0..TOTALS).filter(|&at| totals[at] != totals_after[at]);
+        let changed = changed.count();
+        self.note("choices done that change one total", changed == 1);
+        self.note("choices done that change several totals", changed > 1);
         let behind = number < counted.len();
         self.note("ends done with threads behind", tag == 0 && behind);
         if tag == 6 {
@@ -156,7 +184,7 @@ impl ChooseTally {
             };
             let bound = clinic.kinds(&threads[partner - 1]).len();
             let value = after.threads[partner - 1].variables[bound];
-            let mut channels = clinic.channels(beside[2..].as_chunks().0);
+            let mut channels = clinic.channels(beside[2..BEFORE_TOTALS].as_chunks().0);
             let high = channels.any(|(found, kind)| found == channel && kind > 16);
             self.note("sends done to a thread before", partner < number);
             self.note("sends done on a channel of kind 17 to 32", high);
@@ -201,6 +229,38 @@ impl ChooseTally {
                     thread.mask & !reached == 0
                 });
                 self.note("18 at place 0 for a junior that isn't assigned", junior);
+            }
+            Unfit::Beside => {
+                self.note("18 at place 0 for 161 words", beside.len() == 161);
+                self.note("18 at place 0 for 163 words", beside.len() == 163);
+            }
+            Unfit::Total | Unfit::TotalAbove => self.count_totals(lent, unfit),
+            _ => {}
+        }
+    }
+
+    /// Counts in what way totals are wrong where nothing else is.
+    fn count_totals(&mut self, lent: &Lent, unfit: Unfit) {
+        let Lists { threads, beside } = &lent.lists;
+        let due = Clinic::of(&lent.file).totals(&threads[..beside[0].into()]);
+        let lent = &beside[BEFORE_TOTALS..];
+        let wrong: Vec<usize> = (0..TOTALS).filter(|&at| lent[at] != due[at]).collect();
+        let above = unfit == Unfit::TotalAbove;
+        self.note("18 at place 0 for a kind out of count", above);
+        match wrong[..] {
+            [at] => {
+                let up = lent[at] == due[at] + 1;
+                let down = lent[at] == due[at].wrapping_sub(1);
+                self.note("18 at place 0 for a total that is one up", up);
+                let there = down && due[at] > 0;
+                self.note("18 at place 0 for a total that is one down", there);
+                if up || down {
+                    *self.by_total.entry((at as u16 + 1, up)).or_default() += 1;
+                }
+            }
+            [one, other] => {
+                let exchanged = (lent[one], lent[other]) == (due[other], due[one]);
+                self.note("18 at place 0 for two totals exchanged", exchanged);
             }
             _ => {}
         }
@@ -253,6 +313,11 @@ impl ChooseTally {
         for (what, _) in all() {
             println!("{:>9} {what}", self.counts.get(what).copied().unwrap_or(0));
         }
+        let of_total = |kind, up| self.by_total.get(&(kind, up)).copied().unwrap_or(0);
+        for kind in 1..=TOTALS as u16 {
+            let [up, down] = [true, false].map(|up| of_total(kind, up));
+            println!("{up:>9} total of kind {kind} one up, {down} one down");
+        }
         println!("{:>9} choices", self.by_number.values().sum::<u64>());
         for cause in Cause::of_choosing() {
             assert!(of_cause(cause) >= LEAST_OF_EACH, "too few of {cause:?}");
@@ -263,6 +328,10 @@ impl ChooseTally {
         for number in [11, 12, 13, 18, 19, 20] {
             let count = of_number((number, true));
             assert!(count >= LEAST_OF_EACH, "too few of {number} at place 1");
+        }
+        for kind in 1..=TOTALS as u16 {
+            let fewest = of_total(kind, true).min(of_total(kind, false));
+            assert!(fewest >= LEAST_OF_TOTAL, "too few totals of kind {kind}");
         }
         for (what, least) in all() {
             let count = self.counts.get(what).copied().unwrap_or(0);

@@ -13,6 +13,7 @@ pub fn sends_in(file: &[u8], choices: &[u16]) -> u64 {
 pub struct Replay<'a> {
     pub run: Run<'a>,
     nodes: Vec<[u16; 3]>,
+    channels: Vec<[u16; 2]>,
 }
 
 /// What is known of a state's ready pair: whether there is one, and whether a
@@ -25,9 +26,13 @@ pub struct Meeting {
 
 impl<'a> Replay<'a> {
     pub fn start(file: &'a [u8]) -> Replay<'a> {
+        let Draft {
+            nodes, channels, ..
+        } = Draft::of(file);
         Replay {
             run: second::begin(file).expect("1 to 10 leave it clean"),
-            nodes: Draft::of(file).nodes,
+            nodes,
+            channels,
         }
     }
 
@@ -45,6 +50,16 @@ impl<'a> Replay<'a> {
             operand @ 512.. => thread.variables[usize::from(operand) - 512],
             operand => operand,
         }
+    }
+
+    /// The kind of a channel that a thread at a send or receive names.
+    pub fn kind_of(&self, thread: &Thread) -> u16 {
+        let channel = usize::from(self.channel_of(thread));
+        let [_, kind] = match channel.checked_sub(385) {
+            Some(number) => self.run.made()[number],
+            None => self.channels[channel - 257],
+        };
+        kind
     }
 
     /// What there is to say of the ready pair.

@@ -51,9 +51,19 @@ pub fn any_lists(rng: &mut Rng, file: &[u8]) -> Lists {
     lists
 }
 
-/// Another length than the right one: shorter, longer, or that of the other
-/// list.
+/// Another length than the right one: shorter, longer, that of the other list, or
+/// that of the words before there were totals.
 fn other_length(rng: &mut Rng, right: usize, other: usize) -> usize {
     let (few, many) = (rng.below(right), right + 1 + rng.below(300));
-    *rng.of(&[few, few, many, 0, right - 1, right + 1, 2 * right, other])
+    *rng.of(&[
+        few,
+        few,
+        many,
+        0,
+        130,
+        right - 1,
+        right + 1,
+        2 * right,
+        other,
+    ])
 }

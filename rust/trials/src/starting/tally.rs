@@ -2,14 +2,14 @@
 
 use crate::lists::Lists;
 use second::draft::Draft;
-use second::{is_of_file, Cause, Verdict, Version, BESIDE, RECORDS};
+use second::{is_of_file, Cause, Verdict, Version, BEFORE_TOTALS, BESIDE, RECORDS};
 use std::collections::BTreeMap;
 
 /// The least number of starts for each number and cause.
 const LEAST_OF_EACH: u64 = 500;
 
 /// What has to come up, and in how many starts.
-const LEAST: [(&str, u64); 8] = [
+const LEAST: [(&str, u64); 10] = [
     ("starts", 10_000),
     ("starts without sessions", 500),
     ("starts of 32 sessions", 500),
@@ -18,6 +18,8 @@ const LEAST: [(&str, u64); 8] = [
     ("starts over a list that may be lent", 1_000),
     ("starts over one that may not", 1_000),
     ("1 to 10 before 18 at place 0", 1_000),
+    ("starts at which threads wait", 1_000),
+    ("starts over other totals", 1_000),
 ];
 
 /// What came up over many starts of files of a version.
@@ -65,6 +67,13 @@ impl StartTally {
         self.note("starts in a role", in_role);
         let refused = second::check(file) != Verdict::CLEAN;
         self.note("starts where the check refuses the file", refused);
+        let totals = second::totals(file, &[]).totals;
+        let waiting = totals.iter().any(|total| *total != 0);
+        self.note("starts at which threads wait", waiting);
+        self.note(
+            "starts over other totals",
+            beside[BEFORE_TOTALS..] != totals,
+        );
         let fits = second::resume(file, threads, beside).is_ok();
         self.note("starts over a list that may be lent", fits);
         self.note("starts over one that may not", !fits);

@@ -11,6 +11,7 @@ use native.Mathlib.Omega.{arith}
 use borrow.Author.Needs.{needs}
 use lib.ListN.{length}
 use Rattle.format.specs.Contents.{contentsAt}
+use Rattle.naming.specs.Scopes.{awaitedBy}
 use Rattle.steps.specs.Choice.{clinicOf}
 use Rattle.choices.specs.Choices.{run}
 use Rattle.choices.specs.Stored.{untried, tried}
@@ -34,17 +35,17 @@ going answers.Ends h r = r
 going answers.Meets h r = r
 
 abbrev Inv-loop : tie.InvT-loop
-Inv-loop file head sends receives choices threads₀ beside₀ n last₀ k₀ threads beside last k =
+Inv-loop file head sends receives table choices threads₀ beside₀ n last₀ k₀ threads beside last k =
     (k ≤ length choices / 2) × (length choices ≤ 131070) × Sized threads beside × Left (clinicOf (contentsAt file head)) (stateIn threads₀ beside₀) choices k (stateIn threads beside)
-    × LeftTried (clinicOf (contentsAt file head)) (stateIn threads₀ beside₀) (untried beside₀) choices k (stateIn threads beside) (record { beside = beside; last = last })
+    × LeftTried (awaitedBy table) (clinicOf (contentsAt file head)) (stateIn threads₀ beside₀) (untried beside₀) choices k (stateIn threads beside) (record { beside = beside; last = last })
 
 abbrev μ-loop : tie.MeasureT-loop
-μ-loop file head sends receives choices threads₀ beside₀ n last₀ k₀ threads beside last k = length choices / 2 - k
+μ-loop file head sends receives table choices threads₀ beside₀ n last₀ k₀ threads beside last k = length choices / 2 - k
 
 loop-holds : tie.Need-loop-holds Inv-loop μ-loop
 loop-holds c =
-    let a = c .before .before .before .before .before .before .args in
-    let p = c .before .before .before .before .before .before .pre in
+    let a = c .before .before .before .before .before .before .before .args in
+    let p = c .before .before .before .before .before .before .before .pre in
     (omega arith, p .3, p .4, left-begin (clinicOf (contentsAt (a .file .now) (a .head))) (stateIn (a .threads .now) (a .beside .now)) (a .choices .now), refl)
 
 mul-i : tie.Need-mul-i Inv-loop μ-loop
@@ -70,7 +71,7 @@ shared-slice-read-p c = omega arith
 
 choose-requires : tie.Need-choose-requires Inv-loop μ-loop
 choose-requires c κs =
-    let p = c .before .before .before .before .before .before .before .before .before .before .before .before .pre in
+    let p = c .before .before .before .before .before .before .before .before .before .before .before .before .before .pre in
     (p .0, p .1, p .2, c .before .before .before .before .before .loop .inv .2)
 
 enum-known-answer : tie.Need-enum-known-answer Inv-loop μ-loop
@@ -87,7 +88,7 @@ same-length-2 c = search needs
 
 returns : tie.Need-returns Inv-loop μ-loop
 returns c =
-    let a = c .before .before .before .before .before .before .before .before .before .before .before .before .before .before .before .before .before .before .before .before .before .args in
+    let a = c .before .before .before .before .before .before .before .before .before .before .before .before .before .before .before .before .before .before .before .before .before .before .args in
     let l = c .before .before .before .before .before .before .before .before .before .before .before .before .before .before .loop in
     let chosen = c .before .before .before .before .before .before .before .before .choose in
     let told = c .before .before .answer .given in
@@ -95,10 +96,10 @@ returns c =
     let s = stateIn (a .threads .now) (a .beside .now) in
     let left = stateIn (l .threads) (l .beside) in
     let refused = sym (told .1) ∙ chosen .ensures .0 in
-    let all = left-halts C s (a .choices .now) (l .k) left (stateIn (chosen .last .1 .1 .1 .1 .0) (chosen .last .1 .1 .1 .1 .1 .0)) (omega arith) (l .inv .3) _ refl (chosen .ensures .1) (told .0 .0) refused in
-    let also = tried-halts C s (untried (a .beside .now)) (a .choices .now) (l .k) left (stateIn (chosen .last .1 .1 .1 .1 .0) (chosen .last .1 .1 .1 .1 .1 .0)) (record { beside = l .beside; last = l .last }) (record { beside = chosen .last .1 .1 .1 .1 .1 .0; last = answers.Refused (told .0 .0) })
+    let all = left-halts C s (a .choices .now) (l .k) left (stateIn (chosen .last .1 .1 .1 .1 .1 .0) (chosen .last .1 .1 .1 .1 .1 .1 .0)) (omega arith) (l .inv .3) _ refl (chosen .ensures .1) (told .0 .0) refused in
+    let also = tried-halts (awaitedBy (a .table .now)) C s (untried (a .beside .now)) (a .choices .now) (l .k) left (stateIn (chosen .last .1 .1 .1 .1 .1 .0) (chosen .last .1 .1 .1 .1 .1 .1 .0)) (record { beside = l .beside; last = l .last }) (record { beside = chosen .last .1 .1 .1 .1 .1 .1 .0; last = answers.Refused (told .0 .0) })
     (omega arith) (l .inv .4) _ refl (chosen .ensures .1) (ap₂ (λ (b : List ℕ) (x : Answer). record { beside = b; last = x }) (chosen .ensures .2) refused) (told .0 .0) refused in
-    through (run C s (a .choices .now)) (tried C s (untried (a .beside .now)) (a .choices .now)) (l .k) _ _ (c .narrow .result) (told .0 .0) (answers.Refused (told .0 .0)) all also (c .narrow .ensures) (chosen .ensures .3)
+    through (run C s (a .choices .now)) (tried (awaitedBy (a .table .now)) C s (untried (a .beside .now)) (a .choices .now)) (l .k) _ _ (c .narrow .result) (told .0 .0) (answers.Refused (told .0 .0)) all also (c .narrow .ensures) (chosen .ensures .3)
 
 add-k : tie.Need-add-k Inv-loop μ-loop
 add-k c = omega arith
@@ -108,14 +109,14 @@ loop-less c = omega arith
 
 loop-again : tie.Need-loop-again Inv-loop μ-loop
 loop-again c =
-    let a = c .before .before .before .before .before .before .before .before .before .before .before .before .before .before .before .before .before .before .args in
+    let a = c .before .before .before .before .before .before .before .before .before .before .before .before .before .before .before .before .before .before .before .args in
     let l = c .before .before .before .before .before .before .before .before .before .before .before .loop in
     let chosen = c .before .before .before .before .before .choose in
     let C = clinicOf (contentsAt (a .file .now) (a .head)) in
     let s = stateIn (a .threads .now) (a .beside .now) in
-    let left = left-goes C s (a .choices .now) (l .k) (stateIn (l .threads) (l .beside)) (stateIn (chosen .last .1 .1 .1 .1 .0) (chosen .last .1 .1 .1 .1 .1 .0)) (omega arith) (l .inv .3) _ refl (chosen .ensures .1)
+    let left = left-goes C s (a .choices .now) (l .k) (stateIn (l .threads) (l .beside)) (stateIn (chosen .last .1 .1 .1 .1 .1 .0) (chosen .last .1 .1 .1 .1 .1 .1 .0)) (omega arith) (l .inv .3) _ refl (chosen .ensures .1)
     (λ r. going (chosen .result) (c .match .keys2) (subst Refuses (sym (chosen .ensures .0)) r)) in
-    let also = tried-goes C s (untried (a .beside .now)) (a .choices .now) (l .k) (stateIn (l .threads) (l .beside)) (stateIn (chosen .last .1 .1 .1 .1 .0) (chosen .last .1 .1 .1 .1 .1 .0)) (record { beside = l .beside; last = l .last }) (record { beside = chosen .last .1 .1 .1 .1 .1 .0; last = chosen .result })
+    let also = tried-goes (awaitedBy (a .table .now)) C s (untried (a .beside .now)) (a .choices .now) (l .k) (stateIn (l .threads) (l .beside)) (stateIn (chosen .last .1 .1 .1 .1 .1 .0) (chosen .last .1 .1 .1 .1 .1 .1 .0)) (record { beside = l .beside; last = l .last }) (record { beside = chosen .last .1 .1 .1 .1 .1 .1 .0; last = chosen .result })
     (omega arith) (l .inv .4) _ refl (chosen .ensures .1) (ap₂ (λ (b : List ℕ) (x : Answer). record { beside = b; last = x }) (chosen .ensures .2) (chosen .ensures .0))
     (λ r. going (chosen .result) (c .match .keys2) (subst Refuses (sym (chosen .ensures .0)) r)) in
     (omega arith, l .inv .1, chosen .ensures .3, left, also)
@@ -131,13 +132,13 @@ same-length-4 c = search needs
 
 returns-2 : tie.Need-returns-2 Inv-loop μ-loop
 returns-2 c =
-    let a = c .before .before .before .before .before .before .before .before .before .args in
+    let a = c .before .before .before .before .before .before .before .before .before .before .args in
     let l = c .before .before .loop in
     let C = clinicOf (contentsAt (a .file .now) (a .head)) in
     let s = stateIn (a .threads .now) (a .beside .now) in
     let all = left-ends C s (a .choices .now) (l .k) (stateIn (l .threads) (l .beside)) (omega arith) (l .inv .3) in
-    let also = tried-ends C s (untried (a .beside .now)) (a .choices .now) (l .k) (stateIn (l .threads) (l .beside)) (record { beside = l .beside; last = l .last }) (omega arith) (l .inv .4) in
-    through (run C s (a .choices .now)) (tried C s (untried (a .beside .now)) (a .choices .now)) (l .k) _ _ (c .narrow2 .result) 0 (l .last) all also (c .narrow2 .ensures) (l .inv .2)
+    let also = tried-ends (awaitedBy (a .table .now)) C s (untried (a .beside .now)) (a .choices .now) (l .k) (stateIn (l .threads) (l .beside)) (record { beside = l .beside; last = l .last }) (omega arith) (l .inv .4) in
+    through (run C s (a .choices .now)) (tried (awaitedBy (a .table .now)) C s (untried (a .beside .now)) (a .choices .now)) (l .k) _ _ (c .narrow2 .result) 0 (l .last) all also (c .narrow2 .ensures) (l .inv .2)
 
 pub go-through-spec : {M : Type 1} → statement M
 go-through-spec =

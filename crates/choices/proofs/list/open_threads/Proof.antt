@@ -7,6 +7,7 @@ use borrow.Author.Needs.{needs}
 use lib.ListN.{length}
 use Rattle.format.specs.Contents.{contentsAt, item}
 use Rattle.format.proofs.ContentsLaws.{sessions-held}
+use Rattle.naming.specs.Scopes.{awaitedBy}
 use Rattle.steps.specs.Threads.{noThread}
 use Rattle.choices.specs.Choices.{threadsFrom, start}
 use Rattle.steps.specs.Records.{threadsIn}
@@ -20,59 +21,59 @@ use Rattle.choices.proofs.list.open_threads.Lts as lts
 use Rattle.format.proofs.words.narrow.Reads as narrow-reads
 use Rattle.format.proofs.words.wide.Reads as wide-reads
 use Rattle.choices.proofs.list.opening.Reads as opening-reads
-use Rattle.steps.proofs.beside.start_words.Reads as start-words-reads
+use Rattle.choices.proofs.list.start_beside.Reads as start-beside-reads
 use Rattle.steps.proofs.records.put_thread.Reads as put-thread-reads
 
 abbrev Inv-loop : tie.InvT-loop
-Inv-loop file head threads₀ beside sessions n i₀ threads i =
+Inv-loop file head table threads₀ beside n i₀ threads i =
     (i ≤ n) × (length threads ≡ 704) × Opened (contentsAt file head .sessions) threads i
 
 abbrev μ-loop : tie.MeasureT-loop
-μ-loop file head threads₀ beside sessions n i₀ threads i = n - i
+μ-loop file head table threads₀ beside n i₀ threads i = n - i
 
 wide-requires : tie.Need-wide-requires Inv-loop μ-loop
 wide-requires c κs = search needs
 
 loop-holds : tie.Need-loop-holds Inv-loop μ-loop
 unfolding threadsIn threadsFrom
-loop-holds c = (omega arith, c .before .before .before .before .pre .1, refl)
+loop-holds c = (omega arith, c .before .before .before .before .before .pre .1, refl)
 
 add-narrow : tie.Need-add-narrow Inv-loop μ-loop
-add-narrow c = omega (arith, c .before .before .before .before .before .before .before .pre .0 .sessions, c .before .before .before .wide .ensures .0)
+add-narrow c = omega (arith, c .before .before .before .before .before .before .before .before .pre .0 .sessions, c .before .before .before .wide .ensures .0)
 
 narrow-requires : tie.Need-narrow-requires Inv-loop μ-loop
-narrow-requires c κs = omega (arith, c .before .before .before .before .before .before .before .pre .0 .sessions, c .before .before .before .wide .ensures .0)
+narrow-requires c κs = omega (arith, c .before .before .before .before .before .before .before .before .pre .0 .sessions, c .before .before .before .wide .ensures .0)
 
 opening-requires : tie.Need-opening-requires Inv-loop μ-loop
 opening-requires c κs = search needs
 
 put-thread-requires : tie.Need-put-thread-requires Inv-loop μ-loop
-put-thread-requires c κs = omega (arith, c .before .before .before .before .before .before .before .before .before .pre .0 .sessions, c .before .before .before .before .before .wide .ensures .0, c .before .before .before .before .loop .inv .1)
+put-thread-requires c κs = omega (arith, c .before .before .before .before .before .before .before .before .before .before .pre .0 .sessions, c .before .before .before .before .before .wide .ensures .0, c .before .before .before .before .loop .inv .1)
 
 add-i : tie.Need-add-i Inv-loop μ-loop
-add-i c = omega (arith, c .before .before .before .before .before .before .before .before .before .before .before .before .pre .0 .sessions, c .before .before .before .before .before .before .before .before .wide .ensures .0)
+add-i c = omega (arith, c .before .before .before .before .before .before .before .before .before .before .before .before .before .pre .0 .sessions, c .before .before .before .before .before .before .before .before .wide .ensures .0)
 
 loop-less : tie.Need-loop-less Inv-loop μ-loop
 loop-less c = search needs
 
 loop-again : tie.Need-loop-again Inv-loop μ-loop
 loop-again c =
-    let a = c .before .before .before .before .before .before .before .before .before .before .before .before .args in
+    let a = c .before .before .before .before .before .before .before .before .before .before .before .before .before .args in
     let l = c .before .before .before .before .before .before .before .loop in
     let put = c .before .before .put-thread .ensures in
     let t = c .before .before .before .opening .result in
     let ss = contentsAt (a .file .now) (a .head) .sessions in
     let is = c .before .before .before .opening .ensures ∙ ap (item noThread (threadsFrom ss)) (c .before .before .before .before .narrow .ensures) ∙ sym (opened-item ss (l .i + 1)) in
     let held = sessions-held (a .file .now) (a .head) in
-    let few = c .before .before .before .before .before .before .before .before .before .before .before .before .pre .0 .sessions in
+    let few = c .before .before .before .before .before .before .before .before .before .before .before .before .before .pre .0 .sessions in
     let all = c .before .before .before .before .before .before .before .before .wide .ensures .0 in (
       omega arith,
       ap length (put .0) ∙ stored-length (l .threads) (11 * l .i) t ∙ l .inv .1,
       open-more ss (l .threads) _ (l .i) t (omega (arith, few, all, l .inv .1)) (omega (arith, held, all)) is put (l .inv .2),
     )
 
-start-words-requires : tie.Need-start-words-requires Inv-loop μ-loop
-start-words-requires c κs = c .before .before .before .before .before .before .before .pre .2
+start-beside-requires : tie.Need-start-beside-requires Inv-loop μ-loop
+start-beside-requires c κs = let p = c .before .before .before .before .before .before .before .before .pre in (p .0, p .2)
 
 same-length : tie.Need-same-length Inv-loop μ-loop
 same-length c = search needs
@@ -82,13 +83,15 @@ same-length-2 c = search needs
 
 returns : tie.Need-returns Inv-loop μ-loop
 returns c =
-    let a = c .before .before .before .before .before .before .before .before .before .before .args in
-    let p = c .before .before .before .before .before .before .before .before .before .before .pre in
+    let a = c .before .before .before .before .before .before .before .before .before .before .before .args in
+    let p = c .before .before .before .before .before .before .before .before .before .before .before .pre in
     let l = c .before .before .before .before .before .loop in
     let C = contentsAt (a .file .now) (a .head) in
     let all : l .i ≡ a .head .count .sessions = omega (arith, c .before .before .before .before .before .before .wide .ensures .0) in
-    let opened = open-state C (l .threads) (a .beside .now) (a .head .count .sessions) (l .inv .1) (p .2) (p .0 .sessions) (sessions-held (a .file .now) (a .head)) (subst (Opened (C .sessions) (l .threads)) all (l .inv .2)) in
-    subst (λ (b : List ℕ). (stateIn (l .threads) b ≡ start C) × Sized (l .threads) b) (sym (c .before .before .start-words .ensures)) opened
+    let e = c .before .before .start-beside .ensures in
+    let opened = open-state C (awaitedBy (a .table .now)) (l .threads) (a .beside .now) (a .head .count .sessions) (l .inv .1) (p .2) (p .0 .sessions) (sessions-held (a .file .now) (a .head)) (subst (Opened (C .sessions) (l .threads)) all (l .inv .2)) in
+    let kept = subst (λ (b : List ℕ). (stateIn (l .threads) b ≡ start C) × Sized (l .threads) b) (sym e) opened in
+    (kept .0, kept .1, e)
 
 pub open-threads-spec : {M : Type 1} → statement M
 open-threads-spec =
@@ -105,7 +108,7 @@ open-threads-spec =
     add-i
     loop-less
     loop-again
-    start-words-requires
+    start-beside-requires
     same-length
     same-length-2
     returns)

@@ -18,24 +18,24 @@ use Rattle.format.proofs.words.narrow.Reads as narrow-reads
 use Rattle.steps.proofs.beside.thread_count.Reads as thread-count-reads
 
 abbrev Inv-loop : tie.InvT-loop
-Inv-loop file head sends receives threads₀ beside₀ words₀ i₀ there₀ moved₀ n₀ threads beside words i there moved n =
+Inv-loop file head sends receives table threads₀ beside₀ words₀ i₀ there₀ moved₀ n₀ threads beside words i there moved n =
     Left (clinicOf (contentsAt file head)) (roundOf (clinicOf (contentsAt file head)) (stateIn threads₀ beside₀)) threads beside words i there moved n
 
 abbrev μ-loop : tie.MeasureT-loop
-μ-loop file head sends receives threads₀ beside₀ words₀ i₀ there₀ moved₀ n₀ threads beside words i there moved n = suc there - i
+μ-loop file head sends receives table threads₀ beside₀ words₀ i₀ there₀ moved₀ n₀ threads beside words i there moved n = suc there - i
 
 thread-count-requires : tie.Need-thread-count-requires Inv-loop μ-loop
 thread-count-requires c κs = search needs
 
 loop-holds : tie.Need-loop-holds Inv-loop μ-loop
 loop-holds c =
-    let a = c .before .before .before .before .before .before .before .before .args in
-    let q = c .before .before .before .before .before .before .before .before .pre in
+    let a = c .before .before .before .before .before .before .before .before .before .args in
+    let q = c .before .before .before .before .before .before .before .before .before .pre in
     left-begin (clinicOf (contentsAt (a .file .now) (a .head))) (a .threads .now) (a .beside .now) (a .words .now) (c .thread-count .result) (q .3) (q .4) (c .thread-count .ensures)
 
 visit-requires : tie.Need-visit-requires Inv-loop μ-loop
 visit-requires c κs =
-    let q = c .before .before .before .before .before .before .before .before .before .before .before .before .pre in
+    let q = c .before .before .before .before .before .before .before .before .before .before .before .before .before .pre in
     let l = c .before .before .before .loop in
     (q .0, q .1, q .2, l .inv .sized, l .inv .pos, c .before .before .loop-test .taken, l .inv .few)
 
@@ -67,7 +67,7 @@ same-length-2 : tie.Need-same-length-2 Inv-loop μ-loop
 same-length-2 c = search needs
 
 same-length-3 : tie.Need-same-length-3 Inv-loop μ-loop
-same-length-3 c = length-left _ _ _ _ _ _ _ _ _ (c .before .before .loop .inv) ∙ sym (ap length (c .before .before .before .before .before .before .before .before .before .before .before .pre .4))
+same-length-3 c = length-left _ _ _ _ _ _ _ _ _ (c .before .before .loop .inv) ∙ sym (ap length (c .before .before .before .before .before .before .before .before .before .before .before .before .pre .4))
 
 returns : tie.Need-returns Inv-loop μ-loop
 returns c =

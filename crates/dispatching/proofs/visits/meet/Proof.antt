@@ -15,8 +15,8 @@ use Rattle.dispatching.proofs.visits.receiver_for.Reads as receiver-for
 receiver-for-requires : tie.Need-receiver-for-requires
 receiver-for-requires c κs = search needs
 
-add-t17 : tie.Need-add-t17
-add-t17 c = search needs
+add-t18 : tie.Need-add-t18
+add-t18 c = search needs
 
 same-length : tie.Need-same-length
 same-length c = search needs
@@ -26,8 +26,8 @@ same-length-2 c = search needs
 
 returns : tie.Need-returns
 returns c =
-    let a = c .before .before .before .before .before .before .before .before .before .args in
-    let q = c .before .before .before .before .before .before .before .before .before .pre in
+    let a = c .before .before .before .before .before .before .before .before .before .before .args in
+    let q = c .before .before .before .before .before .before .before .before .before .before .pre in
     told-nothing (clinicOf (contentsAt (a .file .now) (a .head))) (a .threads .now) (a .beside .now) (q .3) (a .i) (a .there) (a .moved) (q .4) (q .5) (q .6) (c .before .receiver-for .result) (c .before .receiver-for .ensures) (c .if1 .taken)
 
 slice-aggregate-go-through : tie.Need-slice-aggregate-go-through
@@ -36,13 +36,13 @@ slice-aggregate-go-through c = search needs
 go-through-requires : tie.Need-go-through-requires
 go-through-requires c κs = search needs
 
-add-t25 : tie.Need-add-t25
-add-t25 c = search needs
+add-t26 : tie.Need-add-t26
+add-t26 c = search needs
 
 with-moved-requires : tie.Need-with-moved-requires
 with-moved-requires c κs =
-    let a = c .before .before .before .before .before .before .before .before .before .before .before .before .before .before .before .before .before .args in
-    let q = c .before .before .before .before .before .before .before .before .before .before .before .before .before .before .before .before .before .pre in
+    let a = c .before .before .before .before .before .before .before .before .before .before .before .before .before .before .before .before .before .before .args in
+    let q = c .before .before .before .before .before .before .before .before .before .before .before .before .before .before .before .before .before .before .pre in
     let (l, h) = found-there (clinicOf (contentsAt (a .file .now) (a .head))) (a .threads .now) (a .beside .now) (q .3) (a .i) (a .there) (a .moved) (q .4) (q .5) (q .6) (c .before .before .before .before .before .before .before .before .before .receiver-for .result) (c .before .before .before .before .before .before .before .before .before .receiver-for .ensures) (c .before .before .before .before .before .before .before .before .if1 .left) in
     (l, omega (arith, h, q .6, q .3 .threads))
 
@@ -57,9 +57,9 @@ same-length-4 c = search needs
 
 returns-2 : tie.Need-returns-2
 returns-2 c =
-    let a = c .before .before .before .before .before .before .before .before .before .before .before .before .before .before .before .before .before .before .before .args in
-    let q = c .before .before .before .before .before .before .before .before .before .before .before .before .before .before .before .before .before .before .before .pre in
-    told-met (clinicOf (contentsAt (a .file .now) (a .head))) (a .threads .now) (a .beside .now) (q .3) (a .i) (a .there) (a .moved) (q .4) (q .5) (q .6) (c .before .before .before .before .before .before .before .before .before .before .before .receiver-for .result) (c .before .before .before .before .before .before .go-through .result) _ _ (c .before .with-moved .result) (c .with-moved2 .result)
+    let a = c .before .before .before .before .before .before .before .before .before .before .before .before .before .before .before .before .before .before .before .before .args in
+    let q = c .before .before .before .before .before .before .before .before .before .before .before .before .before .before .before .before .before .before .before .before .pre in
+    told-met (clinicOf (contentsAt (a .file .now) (a .head))) (a .threads .now) (a .beside .now) (q .3) (a .i) (a .there) (a .moved) (q .4) (q .5) (q .6) _ (c .before .before .before .before .before .before .before .before .before .before .before .receiver-for .result) (c .before .before .before .before .before .before .go-through .result) _ _ (c .before .with-moved .result) (c .with-moved2 .result)
     (c .before .before .before .before .before .before .before .before .before .before .before .receiver-for .ensures) (c .before .before .before .before .before .before .before .before .before .before .if1 .left) (c .before .before .before .before .before .before .go-through .ensures) (c .before .with-moved .ensures) (c .with-moved2 .ensures)
 
 pub meet-spec : {M : Type 1} → statement M
@@ -67,13 +67,13 @@ meet-spec =
     tie.close
     (tie.spec
     receiver-for-requires
-    add-t17
+    add-t18
     same-length
     same-length-2
     returns
     slice-aggregate-go-through
     go-through-requires
-    add-t25
+    add-t26
     with-moved-requires
     with-moved-requires-2
     same-length-3

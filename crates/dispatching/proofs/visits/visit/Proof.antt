@@ -38,24 +38,24 @@ enum-told c = search needs
 
 meet-requires : tie.Need-meet-requires
 meet-requires c κs =
-    let a = c .before .before .before .before .before .before .before .before .before .before .before .before .before .before .before .before .before .args in
-    let q = c .before .before .before .before .before .before .before .before .before .before .before .before .before .before .before .before .before .pre in
+    let a = c .before .before .before .before .before .before .before .before .before .before .before .before .before .before .before .before .before .before .args in
+    let q = c .before .before .before .before .before .before .before .before .before .before .before .before .before .before .before .before .before .before .pre in
     let told = c .before .before .enum-told .given in
     let g = c .before .before .before .before .before .before .before .before .go-through in
-    let (_, few, _) = lone-refused (clinicOf (contentsAt (a .file .now) (a .head))) (a .threads .now) (a .beside .now) (q .3) (a .i) (a .there) (a .moved) (q .4) (q .5) (q .6) (g .result) _ _ (g .ensures) (told .0 .0) (told .1) in
+    let (_, few, _) = lone-refused (clinicOf (contentsAt (a .file .now) (a .head))) (a .threads .now) (a .beside .now) (q .3) (a .i) (a .there) (a .moved) (q .4) (q .5) (q .6) _ (g .result) _ _ (g .ensures) (told .0 .0) (told .1) in
     (q .0, q .1, q .2, g .ensures .3, q .4, q .5, few)
 
 enum-told-2 : tie.Need-enum-told-2
 enum-told-2 c = search needs
 
-sub-t24 : tie.Need-sub-t24
-sub-t24 c = search needs
+sub-t25 : tie.Need-sub-t25
+sub-t25 c = search needs
 
 close-up-requires : tie.Need-close-up-requires
 close-up-requires c κs = search needs
 
-add-t26 : tie.Need-add-t26
-add-t26 c = search needs
+add-t27 : tie.Need-add-t27
+add-t27 c = search needs
 
 with-moved-requires : tie.Need-with-moved-requires
 with-moved-requires c κs = search needs
@@ -68,11 +68,11 @@ same-length-2 c = search needs
 
 returns : tie.Need-returns
 returns c =
-    let a = c .before .before .before .before .before .before .before .before .before .before .before .before .before .before .before .before .before .before .before .before .before .before .args in
-    let q = c .before .before .before .before .before .before .before .before .before .before .before .before .before .before .before .before .before .before .before .before .before .before .pre in
+    let a = c .before .before .before .before .before .before .before .before .before .before .before .before .before .before .before .before .before .before .before .before .before .before .before .args in
+    let q = c .before .before .before .before .before .before .before .before .before .before .before .before .before .before .before .before .before .before .before .before .before .before .before .pre in
     let told = c .before .before .before .before .before .before .before .enum-told .given in
     let g = c .before .before .before .before .before .before .before .before .before .before .before .before .before .go-through in
-    let (same, _, by) = lone-refused (clinicOf (contentsAt (a .file .now) (a .head))) (a .threads .now) (a .beside .now) (q .3) (a .i) (a .there) (a .moved) (q .4) (q .5) (q .6) (g .result) _ _ (g .ensures) (told .0 .0) (told .1) in
+    let (same, _, by) = lone-refused (clinicOf (contentsAt (a .file .now) (a .head))) (a .threads .now) (a .beside .now) (q .3) (a .i) (a .there) (a .moved) (q .4) (q .5) (q .6) _ (g .result) _ _ (g .ensures) (told .0 .0) (told .1) in
     met-told (clinicOf (contentsAt (a .file .now) (a .head))) (a .threads .now) (a .beside .now) (q .3) (a .i) (a .there) (a .moved) (q .4) (q .5) (q .6) _ (c .before .before .before .before .meet .result) _ _ same by (c .before .before .before .before .meet .ensures)
 
 same-length-3 : tie.Need-same-length-3
@@ -83,10 +83,10 @@ same-length-4 c = search needs
 
 returns-2 : tie.Need-returns-2
 returns-2 c =
-    let a = c .before .before .before .before .before .before .before .before .before .before .before .before .before .before .before .before .args in
-    let q = c .before .before .before .before .before .before .before .before .before .before .before .before .before .before .before .before .pre in
+    let a = c .before .before .before .before .before .before .before .before .before .before .before .before .before .before .before .before .before .args in
+    let q = c .before .before .before .before .before .before .before .before .before .before .before .before .before .before .before .before .before .pre in
     let g = c .before .before .before .before .before .before .before .go-through in
-    lone-ends (clinicOf (contentsAt (a .file .now) (a .head))) (a .threads .now) (a .beside .now) (q .3) (a .i) (a .there) (a .moved) (q .4) (q .5) (q .6) (g .result) _ _ (g .ensures) (c .close-up .result) (c .before .enum-told2 .given .1) (c .close-up .ensures)
+    lone-ends (clinicOf (contentsAt (a .file .now) (a .head))) (a .threads .now) (a .beside .now) (q .3) (a .i) (a .there) (a .moved) (q .4) (q .5) (q .6) _ (g .result) _ _ (g .ensures) (c .close-up .result) (c .before .enum-told2 .given .1) (c .close-up .ensures)
 
 same-length-5 : tie.Need-same-length-5
 same-length-5 c = search needs
@@ -96,10 +96,10 @@ same-length-6 c = search needs
 
 returns-3 : tie.Need-returns-3
 returns-3 c =
-    let a = c .before .before .before .before .before .before .before .before .before .before .before .before .before .before .before .args in
-    let q = c .before .before .before .before .before .before .before .before .before .before .before .before .before .before .before .pre in
+    let a = c .before .before .before .before .before .before .before .before .before .before .before .before .before .before .before .before .args in
+    let q = c .before .before .before .before .before .before .before .before .before .before .before .before .before .before .before .before .pre in
     let g = c .before .before .before .before .before .before .go-through in
-    lone-goes (clinicOf (contentsAt (a .file .now) (a .head))) (a .threads .now) (a .beside .now) (q .3) (a .i) (a .there) (a .moved) (q .4) (q .5) (q .6) (g .result) _ _ (g .ensures) (c .with-moved .result) (going-on (g .result .last) (c .before .match .keys3)) (c .with-moved .ensures)
+    lone-goes (clinicOf (contentsAt (a .file .now) (a .head))) (a .threads .now) (a .beside .now) (q .3) (a .i) (a .there) (a .moved) (q .4) (q .5) (q .6) _ (g .result) _ _ (g .ensures) (c .with-moved .result) (going-on (g .result .last) (c .before .match .keys3)) (c .with-moved .ensures)
 
 pub visit-spec : {M : Type 1} → statement M
 visit-spec =
@@ -110,9 +110,9 @@ visit-spec =
     enum-told
     meet-requires
     enum-told-2
-    sub-t24
+    sub-t25
     close-up-requires
-    add-t26
+    add-t27
     with-moved-requires
     same-length
     same-length-2

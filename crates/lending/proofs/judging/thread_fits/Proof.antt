@@ -13,6 +13,7 @@ use Rattle.lending.proofs.judging.thread_fits.Statement.{statement}
 use Rattle.lending.proofs.judging.thread_fits.Tie as tie
 use Rattle.lending.proofs.judging.thread_fits.Reads as reads
 use Rattle.lending.proofs.judging.thread_fits.Lts as lts
+use Rattle.naming.proofs.scopes.scope_in.Reads as scope-in-reads
 use Rattle.format.proofs.sections.in_count.Reads as in-count-reads
 use Rattle.format.proofs.sections.user_roles.Reads as user-roles-reads
 use Rattle.format.proofs.words.wide.Reads as wide-reads
@@ -34,23 +35,26 @@ returns c =
 wide-requires : tie.Need-wide-requires
 wide-requires c κs = search needs
 
-mul-w : tie.Need-mul-w
-mul-w c = search needs
+mul-scope-in : tie.Need-mul-scope-in
+mul-scope-in c = search needs
 
-shared-slice-read-w : tie.Need-shared-slice-read-w
-shared-slice-read-w c =
+shared-slice-read-scope-in : tie.Need-shared-slice-read-scope-in
+shared-slice-read-scope-in c =
     let a = c .before .before .before .before .before .before .before .args in
     let few = in-count (length (contentsAt (a .file .now) (a .head) .nodes)) (a .t .node) (counted (c .before .before .before) (not-false _ (c .before .before .if1 .left))) in
     omega (arith, few, nodes-held (a .file .now) (a .head), c .before .before .before .before .before .before .before .pre .0 .nodes, c .before .wide .ensures)
+
+scope-in-requires : tie.Need-scope-in-requires
+scope-in-requires c κs = search needs
 
 cast-if2 : tie.Need-cast-if2
 cast-if2 c = search needs
 
 returns-2 : tie.Need-returns-2
 returns-2 c =
-    let a = c .before .before .before .before .before .before .before .before .before .args in
-    let node = counted (c .before .before .before .before .before) (not-false _ (c .before .before .before .before .if1 .left)) in
-    thread-user (contentsAt (a .file .now) (a .head)) (madeIn (a .beside .now) 2 (getD (a .beside .now) 1 0)) (a .t) (a .table .now) (c .before .before .before .wide .result) (c .before .before .before .before .before .before .before .before .before .pre .2) (c .before .before .before .wide .ensures .0) node (c .if2 .taken)
+    let a = c .before .before .before .before .before .before .before .before .before .before .args in
+    let node = counted (c .before .before .before .before .before .before) (not-false _ (c .before .before .before .before .before .if1 .left)) in
+    thread-user (contentsAt (a .file .now) (a .head)) (madeIn (a .beside .now) 2 (getD (a .beside .now) 1 0)) (a .t) (a .table .now) (c .before .before .before .before .wide .result) (c .before .before .before .before .before .before .before .before .before .before .pre .2) (c .before .before .before .before .wide .ensures .0) node (c .before .before .scope-in .result) (c .before .before .scope-in .ensures) (c .if2 .taken)
 
 user-roles-requires : tie.Need-user-roles-requires
 user-roles-requires c κs = search needs
@@ -60,20 +64,20 @@ roles-within-requires c κs = search needs
 
 returns-3 : tie.Need-returns-3
 returns-3 c =
-    let a = c .before .before .before .before .before .before .before .before .before .before .before .before .args in
-    let node = counted (c .before .before .before .before .before .before .before .before) (not-false _ (c .before .before .before .before .before .before .before .if1 .left)) in
+    let a = c .before .before .before .before .before .before .before .before .before .before .before .before .before .args in
+    let node = counted (c .before .before .before .before .before .before .before .before .before) (not-false _ (c .before .before .before .before .before .before .before .before .if1 .left)) in
     let mask = ap (within (a .t .mask)) (sym (c .before .before .user-roles .ensures)) ∙ sym (c .before .roles-within .ensures) ∙ not-true _ (c .if3 .taken) in
-    thread-mask (contentsAt (a .file .now) (a .head)) (madeIn (a .beside .now) 2 (getD (a .beside .now) 1 0)) (a .t) (a .table .now) (c .before .before .before .before .before .before .wide .result) (c .before .before .before .before .before .before .before .before .before .before .before .before .pre .2) (c .before .before .before .before .before .before .wide .ensures .0) node (c .before .before .before .if2 .left) mask
+    thread-mask (contentsAt (a .file .now) (a .head)) (madeIn (a .beside .now) 2 (getD (a .beside .now) 1 0)) (a .t) (a .table .now) (c .before .before .before .before .before .before .before .wide .result) (c .before .before .before .before .before .before .before .before .before .before .before .before .before .pre .2) (c .before .before .before .before .before .before .before .wide .ensures .0) node (c .before .before .before .before .before .scope-in .result) (c .before .before .before .before .before .scope-in .ensures) (c .before .before .before .if2 .left) mask
 
 vars-fit-requires : tie.Need-vars-fit-requires
 vars-fit-requires c κs = search needs
 
 returns-4 : tie.Need-returns-4
 returns-4 c =
-    let a = c .before .before .before .before .before .before .before .before .before .before .before .before .before .before .args in
-    let node = counted (c .before .before .before .before .before .before .before .before .before .before) (not-false _ (c .before .before .before .before .before .before .before .before .before .if1 .left)) in
+    let a = c .before .before .before .before .before .before .before .before .before .before .before .before .before .before .before .args in
+    let node = counted (c .before .before .before .before .before .before .before .before .before .before .before) (not-false _ (c .before .before .before .before .before .before .before .before .before .before .if1 .left)) in
     let mask = ap (within (a .t .mask)) (sym (c .before .before .before .before .user-roles .ensures)) ∙ sym (c .before .before .before .roles-within .ensures) ∙ not-false _ (c .before .before .if3 .left) in
-    thread-vars (contentsAt (a .file .now) (a .head)) (madeIn (a .beside .now) 2 (getD (a .beside .now) 1 0)) (a .t) (a .table .now) (c .before .before .before .before .before .before .before .before .wide .result) (c .before .before .before .before .before .before .before .before .before .before .before .before .before .before .pre .2) (c .before .before .before .before .before .before .before .before .wide .ensures .0) node (c .vars-fit .result) (c .before .before .before .before .before .if2 .left) mask (c .vars-fit .ensures)
+    thread-vars (contentsAt (a .file .now) (a .head)) (madeIn (a .beside .now) 2 (getD (a .beside .now) 1 0)) (a .t) (a .table .now) (c .before .before .before .before .before .before .before .before .before .wide .result) (c .before .before .before .before .before .before .before .before .before .before .before .before .before .before .before .pre .2) (c .before .before .before .before .before .before .before .before .before .wide .ensures .0) node (c .before .before .before .before .before .before .before .scope-in .result) (c .before .before .before .before .before .before .before .scope-in .ensures) (c .vars-fit .result) (c .before .before .before .before .before .if2 .left) mask (c .vars-fit .ensures)
 
 pub thread-fits-spec : {M : Type 1} → statement M
 thread-fits-spec =
@@ -82,8 +86,9 @@ thread-fits-spec =
     in-count-requires
     returns
     wide-requires
-    mul-w
-    shared-slice-read-w
+    mul-scope-in
+    shared-slice-read-scope-in
+    scope-in-requires
     cast-if2
     returns-2
     user-roles-requires

@@ -15,8 +15,8 @@ fill-grants-requires c κs = search needs
 
 step-in-requires : tie.Need-step-in-requires
 step-in-requires c κs =
-    let a = c .before .before .before .before .before .before .before .before .before .before .before .before .before .before .before .before .args in
-    let q = c .before .before .before .before .before .before .before .before .before .before .before .before .before .before .before .before .pre in
+    let a = c .before .before .before .before .before .before .before .before .before .before .before .before .before .before .before .before .before .args in
+    let q = c .before .before .before .before .before .before .before .before .before .before .before .before .before .before .before .before .before .pre in
     let D = schemaOf (contentsAt (a .file .now) (a .head)) in
     let filled = c .before .before .before .before .before .before .before .before .fill-grants .ensures in (
       q .0,

@@ -3,21 +3,25 @@
 mod refusals;
 mod starts;
 mod steps;
+mod totals;
 mod unfit;
 
 pub use starts::{cases as start_cases, StartCase};
 
 use super::RunCase;
 use crate::draft::Draft;
-use crate::{Thread, Verdict, BESIDE, RECORDS};
+use crate::file::File;
+use crate::{Thread, Verdict, BEFORE_TOTALS, BESIDE, RECORDS, TOTALS};
 
 /// What is lent: the threads and made channels that count, by two counts that
-/// need not be theirs, and how many records and words beside them there are.
+/// need not be theirs, the totals, if they aren't to be any words, and how many
+/// records and words beside them there are.
 #[derive(Clone)]
 pub struct Lent {
     pub threads: Vec<Thread>,
     pub made: Vec<[u16; 2]>,
     pub counts: [u16; 2],
+    pub totals: Option<[u16; TOTALS]>,
     pub records: usize,
     pub words: usize,
 }
@@ -28,9 +32,46 @@ impl Lent {
             counts: [threads.len() as u16, made.len() as u16],
             threads: threads.to_vec(),
             made: made.to_vec(),
+            totals: None,
             records: RECORDS,
             words: BESIDE,
         }
+    }
+
+    /// With the totals of these kinds, and all others 0.
+    fn waiting(self, totals: &[(u16, u16)]) -> Lent {
+        let totals = Some(spread(totals));
+        Lent { totals, ..self }
+    }
+
+    /// With the totals that its threads have in a file, where none are said.
+    fn counted_in(mut self, file: &Draft) -> Lent {
+        if self.totals.is_none() {
+            let mut totals = [0; TOTALS];
+            let counted = self.threads.iter().take(self.counts[0].into());
+            for kind in counted.filter_map(|it| self.waits_on(file, it)) {
+                let at = usize::from(kind).wrapping_sub(1);
+                totals.get_mut(at).into_iter().for_each(|total| *total += 1);
+            }
+            self.totals = Some(totals);
+        }
+        self
+    }
+
+    /// The kind of the channel that a thread waits on, if it is at a receive and
+    /// there is such a channel.
+    fn waits_on(&self, file: &Draft, thread: &Thread) -> Option<u16> {
+        let at = |number: u16, first: u16| usize::from(number).checked_sub(first.into());
+        let &[tag, operand, _] = file.nodes.get(at(thread.node, 1)?)?;
+        let channel = match operand {
+            512.. => thread.variables[at(operand, 512)?],
+            _ => operand,
+        };
+        let channels = match channel {
+            385.. => self.made.get(at(channel, 385)?),
+            _ => file.channels.get(at(channel, 257)?),
+        };
+        channels.filter(|_| tag == 5).map(|[_, kind]| *kind)
     }
 
     /// Writes what counts into lists, and leaves what they hold past it.
@@ -41,6 +82,10 @@ impl Lent {
         let words = self.counts.iter().chain(self.made.as_flattened());
         for (slot, word) in beside.iter_mut().zip(words) {
             *slot = *word;
+        }
+        let last = beside.iter_mut().skip(BEFORE_TOTALS);
+        for (slot, total) in last.zip(self.totals.iter().flatten()) {
+            *slot = *total;
         }
     }
 
@@ -117,6 +162,15 @@ impl ChooseCase {
     }
 }
 
+/// The totals of these kinds, with all others 0.
+pub fn spread(totals: &[(u16, u16)]) -> [u16; TOTALS] {
+    let mut spread = [0; TOTALS];
+    for &(kind, total) in totals {
+        spread[usize::from(kind) - 1] = total;
+    }
+    spread
+}
+
 /// A thread's record, with the variables that are bound.
 pub fn record(user: u16, node: u16, mask: u16, bound: &[u16]) -> Thread {
     let mut variables = [0; 8];
@@ -129,7 +183,7 @@ pub fn record(user: u16, node: u16, mask: u16, bound: &[u16]) -> Thread {
     }
 }
 
-/// A choice that is done.
+/// A choice that is done. Where no totals are said they are those of the threads.
 pub fn done(
     name: &'static str,
     file: &Draft,
@@ -140,14 +194,15 @@ pub fn done(
     ChooseCase {
         name,
         file: file.bytes(),
-        lent,
+        lent: lent.counted_in(file),
         choice,
         answer: (0, 0),
-        after: Some(after),
+        after: Some(after.counted_in(file)),
     }
 }
 
-/// A choice that is refused.
+/// A choice that is refused. Where no totals are said they are those of the
+/// threads, if the file can be taken apart.
 pub fn refused(
     name: &'static str,
     file: Vec<u8>,
@@ -155,6 +210,10 @@ pub fn refused(
     lent: Lent,
     answer: (u16, u16),
 ) -> ChooseCase {
+    let lent = match File::open(&file) {
+        Ok(_) => lent.counted_in(&Draft::of(&file)),
+        Err(_) => lent,
+    };
     ChooseCase {
         name,
         file,
@@ -185,6 +244,7 @@ pub fn cases() -> Vec<ChooseCase> {
         steps::cases(),
         unfit::fitting(),
         unfit::cases(),
+        totals::cases(),
         refusals::cases(),
         super::juniors::choices(),
         super::cases().into_iter().filter_map(of_halted).collect(),

@@ -1,7 +1,7 @@
 //! What is timed: a question to both, with its input.
 
 use crate::timing::{Samples, Times, ROUNDS};
-use second::{Ready, Verdict, ROOM, RUN_ROOM};
+use second::{Ready, Verdict, BEFORE_TOTALS, ROOM, RUN_ROOM};
 use std::hint::black_box;
 use trials::{At, Dealt, Lent, Lists};
 
@@ -37,8 +37,15 @@ pub enum Input {
         file: Vec<u8>,
         choices: Vec<u16>,
     },
+    /// The totals after a list that is done.
+    Totals {
+        file: Vec<u8>,
+        choices: Vec<u16>,
+    },
     /// A send that is done.
     Choose(Lent),
+    /// A start in these lists.
+    Start(Lent),
 }
 
 /// A row of a table.
@@ -59,8 +66,9 @@ impl Case {
         match &self.input {
             Input::Read(file) | Input::Check(file) | Input::Measure(file) => file,
             Input::Place { file, .. } | Input::Run { file, .. } => file,
-            Input::Round { file, .. } => file,
-            Input::Ready { file, .. } | Input::Choose(Lent { file, .. }) => file,
+            Input::Round { file, .. } | Input::Totals { file, .. } => file,
+            Input::Ready { file, .. } => file,
+            Input::Choose(Lent { file, .. }) | Input::Start(Lent { file, .. }) => file,
             Input::CheckAt(At { file, .. }) | Input::PlaceAt(At { file, .. }) => file,
         }
     }
@@ -113,6 +121,16 @@ impl Case {
                 let none = Ready::pair(0, 0);
                 assert_eq!(trials::engine_ready(file, choices), none, "{name}");
                 assert_eq!(second::ready(file, choices), none, "{name}");
+                Vec::new()
+            }
+            Input::Totals { file, choices } => {
+                let told = trials::agreed_totals(file, choices, name);
+                assert_eq!(told.number, 0, "{name}");
+                Vec::new()
+            }
+            Input::Start(Lent { file, lists, .. }) => {
+                let (verdict, _) = trials::agreed_start(file, lists, name);
+                assert_eq!(verdict, Verdict::CLEAN, "{name}");
                 Vec::new()
             }
             Input::Choose(Lent {
@@ -182,7 +200,13 @@ impl Case {
                 || pilzdamo::ready(black_box(file), black_box(choices)),
                 || second::ready(black_box(file), black_box(choices)),
             ),
+            Input::Totals { file, choices } => samples.take(
+                self.calls,
+                || pilzdamo::totals(black_box(file), black_box(choices)),
+                || second::totals(black_box(file), black_box(choices)),
+            ),
             Input::Choose(lent) => choose(lent, self.calls, samples),
+            Input::Start(lent) => start(lent, self.calls, samples),
         }
     }
 }
@@ -229,8 +253,25 @@ fn place_at(at: &At, calls: u32, samples: &mut Samples) {
     samples.take(calls, engine, second);
 }
 
-/// Before each call the two threads that the send moves are put back; nothing
-/// else is changed by it.
+/// A start writes the same each time.
+fn start(lent: &Lent, calls: u32, samples: &mut Samples) {
+    let Lent { file, lists, .. } = lent;
+    let mut threads: Vec<_> = lists.threads.iter().map(trials::to_engine).collect();
+    let mut beside = lists.beside.clone();
+    let engine = || {
+        let (threads, beside) = (black_box(&mut threads), black_box(&mut beside));
+        pilzdamo::start(black_box(file), threads, beside)
+    };
+    let mut of_second = lists.clone();
+    let second = || {
+        let Lists { threads, beside } = black_box(&mut of_second);
+        second::start(black_box(file), threads, beside)
+    };
+    samples.take(calls, engine, second);
+}
+
+/// Before each call the two threads that the send moves and the totals are put back;
+/// nothing else is changed by it.
 fn choose(lent: &Lent, calls: u32, samples: &mut Samples) {
     let Lent {
         file,
@@ -238,6 +279,7 @@ fn choose(lent: &Lent, calls: u32, samples: &mut Samples) {
         choice,
     } = lent;
     let [thread, partner] = *choice;
+    let totals = &lists.beside[BEFORE_TOTALS..];
     let moved = choice.map(|number| usize::from(number) - 1);
     let records: Vec<_> = lists.threads.iter().map(trials::to_engine).collect();
     let (mut threads, mut beside) = (records.clone(), lists.beside.clone());
@@ -245,6 +287,7 @@ fn choose(lent: &Lent, calls: u32, samples: &mut Samples) {
         for at in moved {
             threads[at] = records[at];
         }
+        beside[BEFORE_TOTALS..].copy_from_slice(totals);
         let (threads, beside) = (black_box(&mut threads), black_box(&mut beside));
         pilzdamo::choose(black_box(file), threads, beside, thread, partner)
     };
@@ -253,6 +296,7 @@ fn choose(lent: &Lent, calls: u32, samples: &mut Samples) {
         for at in moved {
             of_second.threads[at] = lists.threads[at];
         }
+        of_second.beside[BEFORE_TOTALS..].copy_from_slice(totals);
         let Lists { threads, beside } = black_box(&mut of_second);
         second::choose(black_box(file), threads, beside, thread, partner)
     };

@@ -91,7 +91,12 @@ impl Inputs {
                 count,
             }
         };
+        let totals = |(file, choices): &Run| {
+            let (file, choices) = (file.clone(), choices.clone());
+            Input::Totals { file, choices }
+        };
         let choose = |lent: &Lent| Input::Choose(lent.clone());
+        let start = |lent: &Lent| Input::Start(lent.clone());
         vec![
             Case::new("read largest", read(&self.largest), 50),
             Case::new("read typical", read(&self.typical), 300),
@@ -125,6 +130,10 @@ impl Inputs {
             Case::new("round lone", round(&self.lone_round), 100),
             Case::new("round idle", round(&self.crowded), 100),
             Case::new("round typical", round(&self.typical_round), 300),
+            Case::new("totals crowded", totals(&self.crowded), 100),
+            Case::new("totals typical", totals(&self.typical_run), 300),
+            Case::new("start largest", start(&self.largest_lent), 50),
+            Case::new("start typical", start(&self.typical_lent), 300),
         ]
     }
 
@@ -155,7 +164,10 @@ impl Inputs {
              Check at and place at: the largest, with 64 rows of hours, four to each role.\n\
              Round, of 64 threads after 32 choices: crowded has 32 sends, each past the receivers\n\
              before its own, and 32 lone steps; lone has 64 lone steps; in idle no two can meet, as\n\
-             in ready. Typical has {} choices, and then {}.\n",
+             in ready. Typical has {} choices, and then {}.\n\
+             Totals: how many threads wait on each kind. Crowded is ready's input, typical that of\n\
+             run. A run keeps the totals, and choose judges all 32. Start: the files of choose,\n\
+             into its lists.\n",
             run(&self.largest_run),
             run(&self.typical_run),
             run(&self.short_run),

@@ -18,7 +18,7 @@ use timing::{Times, ROUNDS, SAMPLES};
 const CLEARING: &str = "\
 Clearing: outputs and lent lists are not cleared between calls. Both clear their own
 working tables in each call, and that is in their times. In choose the two threads that
-move are put back before each call, and that is in both times.
+move and the totals are put back before each call, and that is in both times.
 ";
 
 const GROWTH: &str = "

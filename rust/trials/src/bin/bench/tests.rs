@@ -2,7 +2,7 @@
 
 use crate::case::{Case, Input};
 use crate::growth::{by_nodes, by_roles, NODES, ROLES};
-use crate::inputs::{round_of, Inputs};
+use crate::inputs::{round_of, Inputs, Run};
 use second::draft::{word_at, Draft};
 use second::{Verdict, Version, RUN_ROOM};
 use trials::{seed, sends_in, Lent, MOST_CHOICES};
@@ -103,6 +103,19 @@ fn rounds_have_their_threads_and_choices() {
     assert_eq!((nodes(file), roles(file)), (40, 4));
     let round = round_of(&inputs.typical_round);
     assert!(round.len() >= 4 && round.iter().any(|[_, partner]| *partner != 0));
+}
+
+/// Threads wait where their totals are timed: half of the crowd, and some after the
+/// typical run.
+#[test]
+fn totals_are_of_threads_that_wait() {
+    let inputs = Inputs::new(seed());
+    let waiting = |(file, choices): &Run| {
+        let totals = second::totals(file, choices).totals;
+        totals.iter().sum::<u16>()
+    };
+    assert_eq!(waiting(&inputs.crowded), 32);
+    assert!(waiting(&inputs.typical_run) > 0);
 }
 
 /// Each sender of the crowded round goes past all that receive before its own.

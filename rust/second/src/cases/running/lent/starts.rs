@@ -2,7 +2,7 @@
 
 use super::super::juniors::{against_21, meeting};
 use super::super::{compare, desk, fork, new, on, send, REPEAT};
-use super::{record, Lent};
+use super::{record, totals, Lent};
 use crate::cases::END;
 use crate::draft::Draft;
 use crate::{Thread, Verdict, BESIDE, RECORDS};
@@ -50,13 +50,13 @@ fn three_threads() -> [Thread; 3] {
     ]
 }
 
-fn started(name: &'static str, file: &Draft, lent: Lent, threads: &[Thread]) -> StartCase {
+pub fn started(name: &'static str, file: &Draft, lent: Lent, threads: &[Thread]) -> StartCase {
     StartCase {
         name,
         file: file.bytes(),
         lent,
         answer: (0, 0),
-        after: Some(Lent::of(threads, &[])),
+        after: Some(Lent::of(threads, &[]).counted_in(file)),
     }
 }
 
@@ -71,7 +71,7 @@ fn refused(name: &'static str, file: Vec<u8>, lent: Lent, answer: (u16, u16)) ->
 }
 
 /// Lists of this length that hold another state, or none.
-fn sized(records: usize, words: usize) -> Lent {
+pub fn sized(records: usize, words: usize) -> Lent {
     Lent {
         counts: [65, 65_535],
         records,
@@ -82,7 +82,10 @@ fn sized(records: usize, words: usize) -> Lent {
 
 /// All of them.
 pub fn cases() -> Vec<StartCase> {
-    [starts(), refusals()].into_iter().flatten().collect()
+    [starts(), totals::starts(), refusals()]
+        .into_iter()
+        .flatten()
+        .collect()
 }
 
 fn starts() -> Vec<StartCase> {
@@ -166,8 +169,9 @@ fn refusals() -> Vec<StartCase> {
         other("as many records as sessions", 3, BESIDE),
         other("no words beside", RECORDS, 0),
         other("2 words beside", RECORDS, 2),
-        other("129 words beside", RECORDS, BESIDE - 1),
-        other("131 words beside", RECORDS, BESIDE + 1),
+        other("161 words beside", RECORDS, BESIDE - 1),
+        other("163 words beside", RECORDS, BESIDE + 1),
+        other("130 words beside", RECORDS, 130),
         other("the two lengths exchanged", BESIDE, RECORDS),
         other("nothing lent", 0, 0),
     ]

@@ -1,0 +1,87 @@
+-- The invariant: counting the sessions that are left from here gives what counting them all gives.
+use Prim.Native.Nat.{ℕ, _+_, _-_, _≤_}
+use mathlib.Core.Path.{_≡_, refl, sym, ap, _∙_}
+use native.Mathlib.Omega.{arith}
+use lib.ListN.{length, set, length-set}
+use borrow.Author.Needs.{needs}
+use Rattle.format.specs.Contents.{contentsAt}
+use Rattle.format.proofs.ContentsLaws.{sessions-held}
+use Rattle.naming.specs.Scopes.{awaitedBy}
+use Rattle.steps.specs.Beside.{startWords}
+use Rattle.steps.proofs.TotalLaws.{cleared-length, more-length}
+use Rattle.choices.proofs.RunLaws.{Counting, counting-on, counting-ends}
+use Rattle.choices.proofs.list.start_beside.Statement.{statement}
+use Rattle.choices.proofs.list.start_beside.Tie as tie
+use Rattle.choices.proofs.list.start_beside.Reads as reads
+use Rattle.choices.proofs.list.start_beside.Lts as lts
+use Rattle.format.proofs.sections.session.Reads as session-reads
+use Rattle.steps.proofs.beside.reach.Reads as reach-reads
+use Rattle.steps.proofs.beside.start_words.Reads as start-words-reads
+
+abbrev Inv-loop : tie.InvT-loop
+Inv-loop file head table beside₀ sessions k₀ beside k =
+    (k ≤ sessions) × (length beside ≡ 162) × Counting (contentsAt file head) (awaitedBy table) beside₀ beside k
+
+abbrev μ-loop : tie.MeasureT-loop
+μ-loop file head table beside₀ sessions k₀ beside k = sessions - k
+
+start-words-requires : tie.Need-start-words-requires Inv-loop μ-loop
+start-words-requires c κs = search needs
+
+loop-holds : tie.Need-loop-holds Inv-loop μ-loop
+loop-holds c =
+    let a = c .before .before .before .before .before .before .before .args in
+    let e = c .before .before .start-words .ensures in
+    let b = set (a .beside .now) 0 (a .head .count .sessions) in (
+      omega arith,
+      ap length e ∙ cleared-length (set b 1 0) ∙ length-set b 1 0 ∙ length-set (a .beside .now) 0 (a .head .count .sessions) ∙ c .before .before .before .before .before .before .before .pre .1,
+      refl,
+    )
+
+add-k : tie.Need-add-k Inv-loop μ-loop
+add-k c = omega (arith, c .before .before .before .before .before .before .before .before .before .pre .0 .sessions)
+
+session-requires : tie.Need-session-requires Inv-loop μ-loop
+session-requires c κs = search needs
+
+reach-requires : tie.Need-reach-requires Inv-loop μ-loop
+reach-requires c κs = c .before .before .before .loop .inv .1
+
+loop-less : tie.Need-loop-less Inv-loop μ-loop
+loop-less c = search needs
+
+loop-again : tie.Need-loop-again Inv-loop μ-loop
+loop-again c =
+    let a = c .before .before .before .before .before .before .before .before .before .before .before .before .before .before .args in
+    let l = c .before .before .before .before .before .before .loop in
+    let it = c .before .before .before .before .session in
+    let e = c .before .before .reach .ensures in (
+      omega arith,
+      ap length e ∙ more-length (l .beside) (awaitedBy (a .table .now) (it .result .root)) ∙ l .inv .1,
+      counting-on (contentsAt (a .file .now) (a .head)) (awaitedBy (a .table .now)) _ (l .beside) _ (l .k) (l .k + 1) (it .result) (omega (arith, sessions-held (a .file .now) (a .head), c .before .before .before .before .before .loop-test .taken)) refl (it .ensures) e (l .inv .2),
+    )
+
+same-length : tie.Need-same-length Inv-loop μ-loop
+same-length c = c .before .loop .inv .1 ∙ sym (c .before .before .before .before .before .before .before .before .before .pre .1)
+
+returns : tie.Need-returns Inv-loop μ-loop
+returns c =
+    let a = c .before .before .before .before .before .before .before .before .before .args in
+    let l = c .before .loop in
+    counting-ends (contentsAt (a .file .now) (a .head)) (awaitedBy (a .table .now)) (a .beside .now) _ (l .beside) (l .k) (a .head .count .sessions) (sessions-held (a .file .now) (a .head)) (c .loop-test .left) (c .before .before .before .before .start-words .ensures) (l .inv .2)
+
+pub start-beside-spec : {M : Type 1} → statement M
+start-beside-spec =
+    tie.close
+    (tie.spec
+    Inv-loop
+    μ-loop
+    start-words-requires
+    loop-holds
+    add-k
+    session-requires
+    reach-requires
+    loop-less
+    loop-again
+    same-length
+    returns)
