@@ -6,7 +6,8 @@ use mathlib.Core.List.{List, [], _∷_}
 use native.Mathlib.Omega.{arith}
 use lib.Dec.{eqb, ltb}
 use lib.ListN.{length, getD, set, take, drop, replicate, length-set, drop-of-length-le}
-use lib.Seq.{sets, length-sets, ext-getD, getD-set-same, getD-set-other, getD-drop, getD-take, length-take-le, drop-cons}
+use lib.Seq.{sets, length-sets, ext-getD, getD-set-same, getD-set-other, getD-drop, getD-take, set-getD, length-take-le, drop-cons}
+use mir.Val.{boolByte}
 use borrow.Author.Tests.{eqb-true, eqb-false, eq-eqb, ltb-true, ltb-false}
 use Rattle.format.specs.Contents.{Contents, inCount}
 use Rattle.format.proofs.ContentsLaws.{in-count, inCount-iff}
@@ -90,6 +91,55 @@ same-end xs ys a k h g = sym (ap₂ (λ (u v : List ℕ). a && same u v) (drop-o
     whole : (a : Bool) → a && true ≡ a
     whole true = refl
     whole false = refl
+
+-- one more where the kind is among the first k
+abbrev pub oneUpto : List ℕ → ℕ → ℕ → List ℕ
+oneUpto l a k = cond (inCount k a) (set l (a - 1) ((getD l (a - 1) 0 + 1) % 65536)) l
+
+pub one-none : (l : List ℕ) (a : ℕ) → l ≡ oneUpto l a 0
+one-none l a = go (inCount 0 a) refl
+  where
+    go : (b : Bool) → inCount 0 a ≡ b → l ≡ cond b (set l (a - 1) ((getD l (a - 1) 0 + 1) % 65536)) l
+    go true q = let some = in-count 0 a q in let no : ⊥ = omega (arith, some .0, some .1) in absurd no
+    go false q = refl
+
+-- so for the next one: its total gets 1 where it is the kind, and else 0
+pub one-on : (l m : List ℕ) (a k at v w : ℕ) → m ≡ oneUpto l a k → at ≡ k → v ≡ getD m at 0 → v < 65536 → w ≡ boolByte (eqb a (k + 1)) → set m at ((v + w) % 65536) ≡ oneUpto l a (k + 1)
+one-on l m a k at v w e there is small one = go (eqb a (k + 1)) refl
+  where
+    held : v ≡ getD m k 0
+    held = is ∙ ap (λ (x : ℕ). getD m x 0) there
+
+    count-off : (n : ℕ) → (InCount n a → ⊥) → inCount n a ≡ false
+    count-off n h = off (inCount n a) refl
+      where
+        off : (b : Bool) → inCount n a ≡ b → b ≡ false
+        off true q = absurd (h (in-count n a q))
+        off false q = refl
+
+    go : (b : Bool) → eqb a (k + 1) ≡ b → set m at ((v + w) % 65536) ≡ oneUpto l a (k + 1)
+    go true q =
+        let kind : a ≡ k + 1 = eqb-true a (k + 1) q in
+        let before : a - 1 ≡ k = omega (arith, kind) in
+        let none : inCount k a ≡ false = count-off k (λ h. omega (arith, h .1, kind)) in
+        let all : m ≡ l = e ∙ ap (λ (p : Bool). cond p (set l (a - 1) ((getD l (a - 1) 0 + 1) % 65536)) l) none in
+        let first : w ≡ 1 = one ∙ ap boolByte q in
+        ap₂ (λ (x y : ℕ). set m x ((y + w) % 65536)) (there ∙ sym before) (held ∙ ap (λ (x : ℕ). getD m x 0) (sym before))
+        ∙ ap₂ (λ (x : List ℕ) (y : ℕ). set x (a - 1) ((getD x (a - 1) 0 + y) % 65536)) all first
+        ∙ ap (λ (p : Bool). cond p (set l (a - 1) ((getD l (a - 1) 0 + 1) % 65536)) l) (sym (inCount-iff (k + 1) a .1 (omega (arith, kind), omega (arith, kind))))
+    go false q =
+        let other : a ≡ k + 1 → ⊥ = eqb-false a (k + 1) q in
+        let zero-more : w ≡ 0 = one ∙ ap boolByte q in
+        let stays : (v + w) % 65536 ≡ getD m k 0 = let z : (v + w) % 65536 ≡ v = omega (arith, zero-more, small) in z ∙ held in
+        ap₂ (set m) there stays ∙ set-getD m k 0 ∙ e
+        ∙ ap (λ (p : Bool). cond p (set l (a - 1) ((getD l (a - 1) 0 + 1) % 65536)) l) (same-count (inCount k a) refl)
+      where
+        same-count : (b : Bool) → inCount k a ≡ b → b ≡ inCount (k + 1) a
+        same-count true h = let some = in-count k a h in sym (inCount-iff (k + 1) a .1 (some .0, omega (arith, some .1)))
+        same-count false h = sym (count-off (k + 1) (λ some. false≢true (sym h ∙ inCount-iff k a .1 (some .0, small-one (eqb-false a (k + 1) q) (some .1)))))
+          where
+            small-one : (a ≡ k + 1 → ⊥) → a ≤ k + 1 → a ≤ k
+            small-one n h = omega (arith, n, h)
 
 -- one more in a total
 in-long : (l : List ℕ) (k : ℕ) → length (oneIn l k) ≡ length l

@@ -125,15 +125,18 @@ pub fn thread_fits(file: &[u8], head: Head, table: &[u64], beside: &[u16], t: Th
     vars_fit(file, head, beside, w, vars)
 }
 
-// One more that waits for a kind; for none where it is no kind.
+// One more that waits for a kind; for none where it is no kind. All totals are gone through alike, so that they stay in registers from record to record.
 fn one_in(totals: [u16; 32], kind: ChannelKind) -> [u16; 32]
     requires { ⌜ length totals ≡ 32 ⌝ }
     ensures { λ r. ⌜ r ≡ oneIn totals (kind .0) ⌝ }
 {
     let mut all = totals;
-    if in_count(32, kind.0) {
-        let i = wide(kind.0 - 1);
-        all[i] = ((wide(all[i]) + 1) % 65536) as u16;
+    let mut k: u16 = 0;
+    while k < 32 {
+        let at = wide(k);
+        k += 1;
+        let one = (kind.0 == k) as u16;
+        all[at] = ((wide(all[at]) + wide(one)) % 65536) as u16;
     }
     all
 }

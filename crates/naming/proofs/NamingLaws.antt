@@ -1,12 +1,12 @@
 -- The rules at one node for names alone, from those of all rules.
 use Prim.Native.Nat.{ℕ, _+_, _≤_}
-use mathlib.Core.Path.{_≡_, refl, sym, ap, _∙_}
+use mathlib.Core.Path.{_≡_, refl, sym, ap, ap₂, _∙_}
 use mathlib.Core.Bool.{Bool, true, false, cond}
 use mathlib.Core.List.{List}
 use lib.ListN.{length, set}
 use native.Mathlib.Omega.{arith}
 use lib.Dec.{eqb}
-use borrow.Author.Tests.{eqb-true, eqb-false}
+use borrow.Author.Tests.{eqb-true, eqb-false, eq-eqb, ne-eqb}
 use Rattle.format.specs.Contents.{inCount}
 use Rattle.format.specs.declared.Node.{Node}
 use Rattle.rules.specs.declared.Point.{Point}
@@ -15,27 +15,38 @@ use Rattle.naming.specs.declared.NameStep.{NameStep}
 use Rattle.rules.specs.Schema.{Schema}
 use Rattle.rules.specs.Names.{named}
 use Rattle.rules.specs.Rules.{namesFit, kindsFit, wrong, childOf}
-use Rattle.rules.specs.Kept.{NameTable, varsOf, contextOf, graded, staying, turning, stepOf, unmasked}
+use Rattle.rules.specs.Kept.{kindIn, look, NameTable, varsOf, contextOf, graded, staying, turning, stepOf, unmasked}
 use Rattle.naming.specs.Kept.{barePoint, namingFrom, namingOf, awaitedAt}
 use Rattle.naming.specs.Scopes.{awaited}
 use Rattle.rules.proofs.NameLaws.{Held, said}
 use Rattle.rules.proofs.StepLaws.{Right, step-on, step-off, step-other}
 
+-- a thread at any other node than a receive waits for no kind
+pub no-receive : (t : List ℕ) (b : ℕ) (n : Node) → (n .tag ≡ 5 → ⊥) → awaitedAt t b n ≡ 0
+no-receive t b n other = rw (ne-eqb (n .tag) 5 other)
+
+-- one at a receive waits for its channel's
+pub its-channels : (t : List ℕ) (b : ℕ) (n : Node) → n .tag ≡ 5 → awaitedAt t b n ≡ kindIn (look t b (n .f1))
+its-channels t b n five = rw (eq-eqb (n .tag) 5 five)
+
 -- where a role is turned on or off and at any further tag
-turned : (p : Point) (q : Bool) (b m : ℕ) → record { wrong = graded q true; binding = 0; bound = p .bound } ≡ namingFrom (cond q (turning p b m) (staying p 9 0 0))
+turned : (p : Point) (q : Bool) (b m : ℕ) → record { wrong = graded q true; binding = 0; bound = p .bound; awaits = 0 } ≡ namingFrom 0 (cond q (turning p b m) (staying p 9 0 0))
 turned p true b m = refl
 turned p false b m = refl
 
 pub naming-other : (D : Schema) (t : List ℕ) (u b : ℕ) (n : Node) {k : ℕ} → D .roles ≡ k → (n .tag ≡ 2 → ⊥) → (n .tag ≡ 3 → ⊥) → (n .tag ≡ 4 → ⊥) → (n .tag ≡ 5 → ⊥) → (n .tag ≡ 6 → ⊥)
-    → record { wrong = graded (inCount k (n .f1)) true; binding = 0; bound = b } ≡ namingOf D t u b n
+    → record { wrong = graded (inCount k (n .f1)) true; binding = 0; bound = b; awaits = 0 } ≡ namingOf D t u b n
 naming-other D t u b n {k} m x2 x3 x4 x5 x6 = go7 (eqb (n .tag) 7) refl
   where
-    go8 : (n .tag ≡ 7 → ⊥) → (q : Bool) → eqb (n .tag) 8 ≡ q → record { wrong = graded (inCount k (n .f1)) true; binding = 0; bound = b } ≡ namingOf D t u b n
-    go8 x7 true e = turned (barePoint D u b) (inCount k (n .f1)) _ _ ∙ ap namingFrom (step-off D t (barePoint D u b) n m (eqb-true (n .tag) 8 e))
-    go8 x7 false e = ap namingFrom (step-other D t (barePoint D u b) n m x2 x3 x4 x5 x6 x7 (eqb-false (n .tag) 8 e))
+    none : 0 ≡ awaitedAt t b n
+    none = sym (no-receive t b n x5)
 
-    go7 : (q : Bool) → eqb (n .tag) 7 ≡ q → record { wrong = graded (inCount k (n .f1)) true; binding = 0; bound = b } ≡ namingOf D t u b n
-    go7 true e = turned (barePoint D u b) (inCount k (n .f1)) _ _ ∙ ap namingFrom (step-on D t (barePoint D u b) n m (eqb-true (n .tag) 7 e))
+    go8 : (n .tag ≡ 7 → ⊥) → (q : Bool) → eqb (n .tag) 8 ≡ q → record { wrong = graded (inCount k (n .f1)) true; binding = 0; bound = b; awaits = 0 } ≡ namingOf D t u b n
+    go8 x7 true e = turned (barePoint D u b) (inCount k (n .f1)) _ _ ∙ ap₂ namingFrom none (step-off D t (barePoint D u b) n m (eqb-true (n .tag) 8 e))
+    go8 x7 false e = ap₂ namingFrom none (step-other D t (barePoint D u b) n m x2 x3 x4 x5 x6 x7 (eqb-false (n .tag) 8 e))
+
+    go7 : (q : Bool) → eqb (n .tag) 7 ≡ q → record { wrong = graded (inCount k (n .f1)) true; binding = 0; bound = b; awaits = 0 } ≡ namingOf D t u b n
+    go7 true e = turned (barePoint D u b) (inCount k (n .f1)) _ _ ∙ ap₂ namingFrom none (step-on D t (barePoint D u b) n m (eqb-true (n .tag) 7 e))
     go7 false e = go8 (eqb-false (n .tag) 7 e) (eqb (n .tag) 8) refl
 
 -- what a node comes to

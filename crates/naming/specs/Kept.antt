@@ -21,13 +21,13 @@ unpaired D w = barePoint D (kindIn w) (ownerIn w)
 abbrev pub queued : Schema → List ℕ → ℕ → List Point
 queued D a d = map (unpaired D) (stacked 0 a d)
 
--- a node that is no end and no fork
-abbrev pub namingFrom : RuleStep → NameStep
-namingFrom s = record { wrong = s .wrong; binding = s .binding; bound = s .child .bound }
-
-abbrev pub namingOf : Schema → List ℕ → ℕ → ℕ → Node → NameStep
-namingOf D t u b n = namingFrom (stepOf D t (barePoint D u b) n)
-
 -- the kind of a receive's channel, by the table of names; 0 for any other node
 abbrev pub awaitedAt : List ℕ → ℕ → Node → ℕ
 awaitedAt t b n = cond (eqb (n .tag) 5) (kindIn (look t b (n .f1))) 0
+
+-- a node that is no end and no fork
+abbrev pub namingFrom : ℕ → RuleStep → NameStep
+namingFrom kind s = record { wrong = s .wrong; binding = s .binding; bound = s .child .bound; awaits = kind }
+
+abbrev pub namingOf : Schema → List ℕ → ℕ → ℕ → Node → NameStep
+namingOf D t u b n = namingFrom (awaitedAt t b n) (stepOf D t (barePoint D u b) n)

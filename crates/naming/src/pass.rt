@@ -33,23 +33,25 @@ ghost use Rattle.rules.specs.Kept.{kindIn, entry, look, contextOf, Waits, unmas
 ghost use Rattle.naming.specs.Kept.{queued, namingOf};
 
 fn staying(wrong: u16, bound: u16) -> NameStep
-    ensures { λ r. ⌜ r ≡ record { wrong = wrong; binding = 0; bound = bound } ⌝ }
+    ensures { λ r. ⌜ r ≡ record { wrong = wrong; binding = 0; bound = bound; awaits = 0 } ⌝ }
 {
     NameStep {
         wrong,
         binding: 0,
         bound,
+        awaits: 0,
     }
 }
 
-fn binding(wrong: u16, kind: ChannelKind, owner: u16, bound: u16) -> NameStep
+fn binding(wrong: u16, kind: ChannelKind, owner: u16, bound: u16, awaits: u16) -> NameStep
     requires { ⌜ bound < 65535 ⌝ }
-    ensures { λ r. ⌜ r ≡ record { wrong = wrong; binding = entry (kind .0) owner; bound = bound + 1 } ⌝ }
+    ensures { λ r. ⌜ r ≡ record { wrong = wrong; binding = entry (kind .0) owner; bound = bound + 1; awaits = awaits } ⌝ }
 {
     NameStep {
         wrong,
         binding: paired(kind.0, owner),
         bound: bound + 1,
+        awaits,
     }
 }
 
@@ -67,6 +69,7 @@ fn naming_at(file: &[u8], head: Head, names: &[u32], user: u16, bound: u16, it: 
             ChannelKind(it.f1),
             user + 2,
             bound,
+            0,
         ),
         4 => {
             let one = look_up(names, bound, it.f1);
@@ -77,11 +80,13 @@ fn naming_at(file: &[u8], head: Head, names: &[u32], user: u16, bound: u16, it: 
         5 => {
             let on = look_up(names, bound, it.f1);
             let owner = owner_of(on);
+            let kind = kind_of(on);
             binding(
                 graded(owner != 0, owner == user + 2),
-                carries(file, head, kind_of(on)),
+                carries(file, head, kind),
                 1,
                 bound,
+                kind.0,
             )
         }
         6 => {
@@ -164,7 +169,7 @@ fn walk_names(
         i += 1;
         match tag {
             0 => {
-                keep(scopes, wide(at), here, names, bound, it);
+                keep(scopes, wide(at), here, ChannelKind(0));
                 if depth == 0 {
                     return fine;
                 }
@@ -175,7 +180,7 @@ fn walk_names(
                 here = waits[depth];
             }
             1 => {
-                keep(scopes, wide(at), here, names, bound, it);
+                keep(scopes, wide(at), here, ChannelKind(0));
                 stack[depth] = paired(user, bound);
                 waits[depth] = here;
                 depth += 1;
@@ -188,7 +193,7 @@ fn walk_names(
                         place: at,
                     };
                 }
-                keep(scopes, wide(at), here, names, bound, it);
+                keep(scopes, wide(at), here, ChannelKind(step.awaits));
                 names[512 + wide(bound)] = step.binding;
                 here = scope_after(here, bound, step, wide(at) < scopes.len());
                 bound = step.bound;

@@ -1,18 +1,15 @@
 // What is asked of a node, as one number: the session's user, how many variables are bound, their kinds, and of a receive the kind of its channel.
 use super::NameStep;
-use format::Node;
 use format::words::wide;
 use masks::ChannelKind;
 use rules::names::kind_of;
-use rules::names::look_up;
 ghost use mathlib.Core.Path.{_≡_};
 ghost use mathlib.Core.Bool.{true, cond};
 ghost use Prim.Native.Nat.{_+_, _%_, _^_, _≤_};
 ghost use lib.Dec.{eqb};
-ghost use lib.ListN.{length, set};
+ghost use lib.ListN.{set};
 ghost use Rattle.rules.specs.Kept.{kindIn};
 ghost use Rattle.naming.specs.Scopes.{boundIn, kindAt, bindScope, awaitedIn, marked, awaitedBy};
-ghost use Rattle.naming.specs.Kept.{awaitedAt};
 
 // How many variables are bound.
 pub fn bound_in(w: u64) -> u64
@@ -53,31 +50,19 @@ pub fn scope_after(w: u64, bound: u16, step: NameStep, wanted: bool) -> u64
     bind(w, kind_of(step.binding))
 }
 
-// The kind of a receive's channel, 0 for any other node, where so many variables are bound.
-fn awaited_at(names: &[u32], bound: u16, it: Node) -> ChannelKind
-    requires { ⌜ 512 + bound ≤ length (now names) ⌝ }
-    ensures { λ r. ⌜ r .0 ≡ awaitedAt (now (names .entry)) bound it ⌝ }
-{
-    if it.tag == 5 {
-        return kind_of(look_up(names, bound, it.f1));
-    }
-    ChannelKind(0)
-}
-
-// With that kind above the rest.
+// With the kind that a thread there waits for above the rest.
 fn marked(w: u64, kind: ChannelKind) -> u64
     ensures { λ r. ⌜ r ≡ marked w (kind .0) ⌝ }
 {
     w % 288230376151711744 + ((kind.0 % 64) as u64) * 288230376151711744
 }
 
-// A node in its context, which is w: stored at its number, if there is room.
-pub fn keep(scopes: &mut [u64], at: usize, w: u64, names: &[u32], bound: u16, it: Node)
-    requires { ⌜ 512 + bound ≤ length (now names) ⌝ }
-    ensures { λ r. ⌜ now (scopes .exit) ≡ set (now (scopes .entry)) at (marked w (awaitedAt (now (names .entry)) bound it)) ⌝ }
+// A node in its context, which is w, and the kind that a thread there waits for: stored at its number, if there is room.
+pub fn keep(scopes: &mut [u64], at: usize, w: u64, kind: ChannelKind)
+    ensures { λ r. ⌜ now (scopes .exit) ≡ set (now (scopes .entry)) at (marked w (kind .0)) ⌝ }
 {
     if at < scopes.len() {
-        scopes[at] = marked(w, awaited_at(names, bound, it));
+        scopes[at] = marked(w, kind);
     }
 }
 

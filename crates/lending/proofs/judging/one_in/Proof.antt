@@ -1,71 +1,92 @@
-use mathlib.Core.Path.{sym, ap, ap₂, _∙_}
-use Prim.Native.Nat.{ℕ, _+_, _%_}
+-- The invariant: the kinds gone through so far have their one more.
+use Prim.Native.Nat.{ℕ, _+_, _-_, _%_, _≤_}
+use mathlib.Core.Path.{_≡_, ap, _∙_}
 use native.Mathlib.Omega.{arith}
-use lib.ListN.{getD, set}
+use lib.ListN.{length, length-set}
 use borrow.Author.Needs.{needs}
-use Rattle.format.proofs.ContentsLaws.{in-count}
 use Rattle.lending.specs.Walk.{oneIn}
+use Rattle.lending.proofs.TotalsLaws.{oneUpto, one-none, one-on}
 use Rattle.lending.proofs.judging.one_in.Statement.{statement}
 use Rattle.lending.proofs.judging.one_in.Tie as tie
 use Rattle.lending.proofs.judging.one_in.Reads as reads
 use Rattle.lending.proofs.judging.one_in.Lts as lts
-use Rattle.format.proofs.sections.in_count.Reads as in-count-reads
 use Rattle.format.proofs.words.wide.Reads as wide-reads
 
-in-count-requires : tie.Need-in-count-requires
-in-count-requires c κs = search needs
+abbrev Inv-loop : tie.InvT-loop
+Inv-loop kind all₀ k₀ all k = (k ≤ 32) × (length all ≡ 32) × (all ≡ oneUpto all₀ (kind .0) k)
 
-sub-wide : tie.Need-sub-wide
-sub-wide c = let some = in-count 32 (c .before .before .before .args .kind .0) (sym (c .before .before .in-count .ensures) ∙ c .before .if1 .taken) in omega (arith, some .0)
+abbrev μ-loop : tie.MeasureT-loop
+μ-loop kind all₀ k₀ all k = 32 - k
 
-wide-requires : tie.Need-wide-requires
+loop-holds : tie.Need-loop-holds Inv-loop μ-loop
+loop-holds c = (omega arith, c .pre, one-none (c .args .totals) (c .args .kind .0))
+
+wide-requires : tie.Need-wide-requires Inv-loop μ-loop
 wide-requires c κs = search needs
 
-mul-wide : tie.Need-mul-wide
+add-k : tie.Need-add-k Inv-loop μ-loop
+add-k c = omega (arith, c .before .loop-test .taken)
+
+cast-one : tie.Need-cast-one Inv-loop μ-loop
+cast-one c = search needs
+
+mul-wide : tie.Need-mul-wide Inv-loop μ-loop
 mul-wide c = search needs
 
-array-read-wide : tie.Need-array-read-wide
-array-read-wide c = let some = in-count 32 (c .before .before .before .before .args .kind .0) (sym (c .before .before .before .in-count .ensures) ∙ c .before .before .if1 .taken) in omega (arith, some .0, some .1, c .wide .ensures .0)
+array-read-wide : tie.Need-array-read-wide Inv-loop μ-loop
+array-read-wide c = omega (arith, c .before .wide .ensures .0, c .before .before .loop-test .taken, c .before .before .before .loop .inv .1)
 
-wide-requires-2 : tie.Need-wide-requires-2
+wide-requires-2 : tie.Need-wide-requires-2 Inv-loop μ-loop
 wide-requires-2 c κs = search needs
 
-add-all : tie.Need-add-all
-add-all c = search needs
+wide-requires-3 : tie.Need-wide-requires-3 Inv-loop μ-loop
+wide-requires-3 c κs = search needs
 
-cast-all : tie.Need-cast-all
+add-all : tie.Need-add-all Inv-loop μ-loop
+add-all c = omega (arith, c .before .wide2 .ensures .1, c .wide3 .ensures .1)
+
+cast-all : tie.Need-cast-all Inv-loop μ-loop
 cast-all c = search needs
 
-mul-all : tie.Need-mul-all
+mul-all : tie.Need-mul-all Inv-loop μ-loop
 mul-all c = search needs
 
-array-write-all : tie.Need-array-write-all
-array-write-all c = let some = in-count 32 (c .before .before .before .before .before .args .kind .0) (sym (c .before .before .before .before .in-count .ensures) ∙ c .before .before .before .if1 .taken) in omega (arith, some .0, some .1, c .before .wide .ensures .0)
+array-write-all : tie.Need-array-write-all Inv-loop μ-loop
+array-write-all c = omega (arith, c .before .before .before .wide .ensures .0, c .before .before .before .before .loop-test .taken, c .before .before .before .before .before .loop .inv .1)
 
-returns : tie.Need-returns
-unfolding oneIn
-returns c =
-    let l = c .before .before .before .before .before .args .totals in
-    let at = c .before .wide .ensures .0 in
-    rw (sym (c .before .before .before .before .in-count .ensures) ∙ c .before .before .before .if1 .taken) (ap₂ (λ (x v : ℕ). set l x ((v + 1) % 65536)) at (c .wide2 .ensures .0 ∙ ap (λ (x : ℕ). getD l x 0) at))
+loop-less : tie.Need-loop-less Inv-loop μ-loop
+loop-less c = search needs
 
-returns-2 : tie.Need-returns-2
+loop-again : tie.Need-loop-again Inv-loop μ-loop
+loop-again c =
+    let l = c .before .before .before .before .before .loop in (
+      omega (arith, c .before .before .before .before .loop-test .taken),
+      length-set (l .all) (c .before .before .before .wide .result) ((c .before .wide2 .result + c .wide3 .result) % 65536) ∙ l .inv .1,
+      one-on (c .before .before .before .before .before .before .args .totals) (l .all) (c .before .before .before .before .before .before .args .kind .0) (l .k) (c .before .before .before .wide .result) (c .before .wide2 .result) (c .wide3 .result) (l .inv .2) (c .before .before .before .wide .ensures .0) (c .before .wide2 .ensures .0) (c .before .wide2 .ensures .1) (c .wide3 .ensures .0),
+    )
+
+returns : tie.Need-returns Inv-loop μ-loop
 unfolding oneIn
-returns-2 c = rw (sym (c .before .in-count .ensures) ∙ c .if1 .left)
+returns c = let l = c .before .loop in let over : l .k ≡ 32 = omega (arith, l .inv .0, c .loop-test .left) in l .inv .2 ∙ ap (oneUpto (c .before .before .args .totals) (c .before .before .args .kind .0)) over
 
 pub one-in-spec : {M : Type 1} → statement M
 one-in-spec =
     tie.close
     (tie.spec
-    in-count-requires
-    sub-wide
+    Inv-loop
+    μ-loop
+    loop-holds
     wide-requires
+    add-k
+    cast-one
     mul-wide
     array-read-wide
     wide-requires-2
+    wide-requires-3
     add-all
     cast-all
     mul-all
     array-write-all
-    returns
-    returns-2)
+    loop-less
+    loop-again
+    returns)

@@ -1,11 +1,13 @@
-use mathlib.Core.Path.{ap, _∙_}
+use Prim.Native.Nat.{ℕ, _+_}
+use mathlib.Core.Path.{_≡_, sym, ap, ap₂, _∙_}
 use native.Mathlib.Omega.{arith}
 use Rattle.format.specs.Contents.{contentsAt}
 use Rattle.format.proofs.ContentsLaws.{roles-held, kinds-held}
 use Rattle.rules.specs.Schema.{schemaOf}
-use Rattle.naming.specs.Kept.{barePoint, namingFrom}
+use Rattle.rules.specs.Kept.{kindIn, entry}
+use Rattle.naming.specs.Kept.{barePoint, namingFrom, awaitedAt}
 use Rattle.rules.proofs.StepLaws.{step-repeat, step-new, step-compare, step-receive, step-send}
-use Rattle.naming.proofs.NamingLaws.{naming-other}
+use Rattle.naming.proofs.NamingLaws.{no-receive, its-channels, naming-other}
 use borrow.Author.Needs.{needs}
 use Rattle.naming.proofs.pass.naming_at.Statement.{statement}
 use Rattle.naming.proofs.pass.naming_at.Tie as tie
@@ -120,7 +122,7 @@ returns : tie.Need-returns
 returns c =
     let a = c .before .before .before .before .args in
     let D = schemaOf (contentsAt (a .file .now) (a .head)) in (
-      c .staying .ensures ∙ ap namingFrom (step-repeat D (a .names .now) (barePoint D (a .user) (a .bound)) (a .it) (c .before .match .keys1)),
+      c .staying .ensures ∙ ap₂ namingFrom (sym (no-receive (a .names .now) (a .bound) (a .it) (λ z. omega (arith, c .before .match .keys1, z)))) (step-repeat D (a .names .now) (barePoint D (a .user) (a .bound)) (a .it) (c .before .match .keys1)),
       λ z. let no : ⊥ = omega (arith, c .before .match .keys1, z) in absurd no,
     )
 
@@ -129,7 +131,7 @@ returns-2 c =
     let a = c .before .before .before .before .before .before .args in
     let D = schemaOf (contentsAt (a .file .now) (a .head)) in
     let law = step-new D (a .names .now) (barePoint D (a .user) (a .bound)) (a .it) (kinds-held (a .file .now) (a .head)) (c .before .before .before .match .keys2) in (
-      c .binding .ensures ∙ rw (c .before .graded .ensures, c .before .before .in-count .ensures) (ap namingFrom law),
+      c .binding .ensures ∙ rw (c .before .graded .ensures, c .before .before .in-count .ensures) (ap₂ namingFrom (sym (no-receive (a .names .now) (a .bound) (a .it) (λ z. omega (arith, c .before .before .before .match .keys2, z)))) law),
       λ z. let no : ⊥ = omega (arith, c .before .before .before .match .keys2, z) in absurd no,
     )
 
@@ -147,7 +149,7 @@ returns-3 c =
             c .before .before .before .before .before .before .before .owner-of .ensures,
             c .before .before .before .before .before .before .before .before .look-up2 .ensures,
             c .before .before .before .before .before .before .before .before .before .look-up .ensures,
-          ) (ap namingFrom law),
+          ) (ap₂ namingFrom (sym (no-receive (a .names .now) (a .bound) (a .it) (λ z. omega (arith, c .before .before .before .before .before .before .before .before .before .before .match .keys3, z)))) law),
       λ z. let no : ⊥ = omega (arith, c .before .before .before .before .before .before .before .before .before .before .match .keys3, z) in absurd no,
     )
 
@@ -155,9 +157,12 @@ returns-4 : tie.Need-returns-4
 returns-4 c =
     let a = c .before .before .before .before .before .before .before .before .before .args in
     let D = schemaOf (contentsAt (a .file .now) (a .head)) in
-    let law = step-receive D (a .names .now) (barePoint D (a .user) (a .bound)) (a .it) (c .before .before .before .before .before .before .match .keys4) in (
-      c .binding2 .ensures ∙ rw (c .before .carries .ensures, c .before .before .before .graded3 .ensures, c .before .before .kind-of3 .ensures, c .before .before .before .before .owner-of3 .ensures, c .before .before .before .before .before .look-up3 .ensures) (ap namingFrom law),
-      λ z. rw (← c .before .before .before .before .before .look-up3 .ensures, ← c .before .before .kind-of3 .ensures) (omega (arith, c .before .carries .ensures)),
+    let law = step-receive D (a .names .now) (barePoint D (a .user) (a .bound)) (a .it) (c .before .before .before .before .before .before .match .keys4) in
+    let kind : c .before .before .before .kind-of3 .result .0 ≡ awaitedAt (a .names .now) (a .bound) (a .it) = c .before .before .before .kind-of3 .ensures ∙ ap kindIn (c .before .before .before .before .before .look-up3 .ensures) ∙ sym (its-channels (a .names .now) (a .bound) (a .it) (c .before .before .before .before .before .before .match .keys4)) in (
+      c .binding2 .ensures
+          ∙ ap (λ (k : ℕ). record { wrong = c .before .before .graded3 .result; binding = entry (c .before .carries .result .0) 1; bound = a .bound + 1; awaits = k }) kind
+          ∙ rw (c .before .carries .ensures, c .before .before .graded3 .ensures, c .before .before .before .kind-of3 .ensures, c .before .before .before .before .owner-of3 .ensures, c .before .before .before .before .before .look-up3 .ensures) (ap (namingFrom (awaitedAt (a .names .now) (a .bound) (a .it))) law),
+      λ z. rw (← c .before .before .before .before .before .look-up3 .ensures, ← c .before .before .before .kind-of3 .ensures) (omega (arith, c .before .carries .ensures)),
     )
 
 returns-5 : tie.Need-returns-5
@@ -175,7 +180,7 @@ returns-5 c =
             c .before .before .before .before .before .before .before .before .before .kind-of4 .ensures,
             c .before .before .before .before .before .before .before .before .before .before .look-up5 .ensures,
             c .before .before .before .before .before .before .before .before .before .before .before .look-up4 .ensures,
-          ) (ap namingFrom law),
+          ) (ap₂ namingFrom (sym (no-receive (a .names .now) (a .bound) (a .it) (λ z. omega (arith, c .before .before .before .before .before .before .before .before .before .before .before .before .match .keys5, z)))) law),
       λ z. let no : ⊥ = omega (arith, c .before .before .before .before .before .before .before .before .before .before .before .before .match .keys5, z) in absurd no,
     )
 
@@ -207,9 +212,9 @@ naming-at-spec =
     staying-requires-2
     look-up-requires-3
     owner-of-requires-3
+    kind-of-requires-3
     add-graded
     graded-requires-3
-    kind-of-requires-3
     carries-requires
     binding-requires-2
     look-up-requires-4

@@ -20,7 +20,7 @@ use Rattle.rules.specs.Rules.{Context, wrong, waitingAfter}
 use Rattle.rules.specs.Checking.{openings}
 use Rattle.naming.specs.Scopes.{bindScope, scopeOf, marked, awaited}
 use Rattle.rules.specs.Kept.{kindIn, NameTable, contextOf, Waits, unmasked, Ownable}
-use Rattle.naming.specs.Kept.{barePoint, unpaired, queued, awaitedAt}
+use Rattle.naming.specs.Kept.{barePoint, unpaired, queued}
 use Rattle.rules.proofs.NameLaws.{Held, held-less, named-kept}
 use Rattle.rules.proofs.StepLaws.{step-right}
 use Rattle.naming.proofs.NamingLaws.{NamesJudged, told, awaited-right}
@@ -74,7 +74,7 @@ told-at c =
 
 -- the kind that is kept with it
 kind-at : (c : tie.After-naming-at Inv-loop μ-loop) → wrong (schemaOf (contentsAt (c .before .before .before .before .before .before .before .before .before .before .before .before .before .before .before .before .before .before .before .before .before .before .before .before .before .before .before .args .file .now) (c .before .before .before .before .before .before .before .before .before .before .before .before .before .before .before .before .before .before .before .before .before .before .before .before .before .before .before .args .head))) (contextOf (c .before .before .before .before .before .loop .names) (barePoint (schemaOf (contentsAt (c .before .before .before .before .before .before .before .before .before .before .before .before .before .before .before .before .before .before .before .before .before .before .before .before .before .before .before .args .file .now) (c .before .before .before .before .before .before .before .before .before .before .before .before .before .before .before .before .before .before .before .before .before .before .before .before .before .before .before .args .head))) (c .before .before .before .before .before .loop .user) (c .before .before .before .before .before .loop .bound))) (c .before .before .before .node .result) ≡ 0
-    → awaitedAt (c .before .before .before .before .before .loop .names) (c .before .before .before .before .before .loop .bound) (c .before .before .before .node .result) ≡ awaited (schemaOf (contentsAt (c .before .before .before .before .before .before .before .before .before .before .before .before .before .before .before .before .before .before .before .before .before .before .before .before .before .before .before .args .file .now) (c .before .before .before .before .before .before .before .before .before .before .before .before .before .before .before .before .before .before .before .before .before .before .before .before .before .before .before .args .head))) (contextOf (c .before .before .before .before .before .loop .names) (barePoint (schemaOf (contentsAt (c .before .before .before .before .before .before .before .before .before .before .before .before .before .before .before .before .before .before .before .before .before .before .before .before .before .before .before .args .file .now) (c .before .before .before .before .before .before .before .before .before .before .before .before .before .before .before .before .before .before .before .before .before .before .before .before .before .before .before .args .head))) (c .before .before .before .before .before .loop .user) (c .before .before .before .before .before .loop .bound))) (c .before .before .before .node .result)
+    → c .naming-at .result .awaits ≡ awaited (schemaOf (contentsAt (c .before .before .before .before .before .before .before .before .before .before .before .before .before .before .before .before .before .before .before .before .before .before .before .before .before .before .before .args .file .now) (c .before .before .before .before .before .before .before .before .before .before .before .before .before .before .before .before .before .before .before .before .before .before .before .before .before .before .before .args .head))) (contextOf (c .before .before .before .before .before .loop .names) (barePoint (schemaOf (contentsAt (c .before .before .before .before .before .before .before .before .before .before .before .before .before .before .before .before .before .before .before .before .before .before .before .before .before .before .before .args .file .now) (c .before .before .before .before .before .before .before .before .before .before .before .before .before .before .before .before .before .before .before .before .before .before .before .before .before .before .before .args .head))) (c .before .before .before .before .before .loop .user) (c .before .before .before .before .before .loop .bound))) (c .before .before .before .node .result)
 kind-at c good =
     let a = c .before .before .before .before .before .before .before .before .before .before .before .before .before .before .before .before .before .before .before .before .before .before .before .before .before .before .before .args in
     let pre = c .before .before .before .before .before .before .before .before .before .before .before .before .before .before .before .before .before .before .before .before .before .before .before .before .before .before .before .pre in
@@ -85,7 +85,7 @@ kind-at c good =
     let channels = channels-held (a .file .now) (a .head) in
     let named = subst (λ k. NameTable D k (D .channels) (l .names)) (sym users) (subst (λ k. NameTable D (a .head .count .users) k (l .names)) (sym channels) (l .inv .7)) in
     let long : 512 + l .bound < length (l .names) = omega (arith, l .inv .3, l .inv .5, c .before .before .before .before .loop-test .taken, c .before .before .before .before .before .before .before .before .before .before .before .before .before .before .before .before .before .before .before .before .name-all .ensures .0, pre .2) in
-    awaited-right D (l .names) (l .user) (l .bound) n (omega (arith, users, pre .0 .users)) (omega (arith, channels, pre .0 .channels)) named (omega (arith, long)) (l .inv .8) good
+    ap (λ (s : NameStep). s .awaits) (c .naming-at .ensures .0) ∙ awaited-right D (l .names) (l .user) (l .bound) n (omega (arith, users, pre .0 .users)) (omega (arith, channels, pre .0 .channels)) named (omega (arith, long)) (l .inv .8) good
 
 name-all-requires : tie.Need-name-all-requires Inv-loop μ-loop
 name-all-requires c κs = search needs
@@ -190,28 +190,28 @@ same-length-6 : tie.Need-same-length-6 Inv-loop μ-loop
 same-length-6 c = search needs
 
 same-length-7 : tie.Need-same-length-7 Inv-loop μ-loop
-same-length-7 c = let l = c .before .before .before .before .before .before .before .before .before .before .loop in let n = c .before .before .before .before .before .before .before .before .node in ap length (c .before .before .before .keep .ensures) ∙ length-set (l .scopes) (c .before .before .before .before .before .wide .result) (marked (l .here) (awaitedAt (l .names) (l .bound) (n .result))) ∙ l .inv .14
+same-length-7 c = let l = c .before .before .before .before .before .before .before .before .before .loop in let n = c .before .before .before .before .before .before .before .node in ap length (c .before .before .before .keep .ensures) ∙ length-set (l .scopes) (c .before .before .before .before .wide .result) (marked (l .here) 0) ∙ l .inv .14
 
 returns-2 : tie.Need-returns-2 Inv-loop μ-loop
 returns-2 c =
-    let a = c .before .before .before .before .before .before .before .before .before .before .before .before .before .before .before .before .before .before .before .before .before .before .before .before .before .before .before .before .before .before .before .before .args in
-    let l = c .before .before .before .before .before .before .before .before .before .before .loop in
-    let n = c .before .before .before .before .before .before .before .before .node in
+    let a = c .before .before .before .before .before .before .before .before .before .before .before .before .before .before .before .before .before .before .before .before .before .before .before .before .before .before .before .before .before .before .before .args in
+    let l = c .before .before .before .before .before .before .before .before .before .loop in
+    let n = c .before .before .before .before .before .before .before .node in
     let C = contentsAt (a .file .now) (a .head) in
     let st : map (contextOf (l .names)) (queued (schemaOf C) (l .stack) (l .depth)) ≡ [] =
     ap (λ d. map (contextOf (l .names)) (queued (schemaOf C) (l .stack) d)) (c .if2 .taken) ∙ ap (map (contextOf (l .names))) (read-none 0 (unpaired (schemaOf C)) (l .stack)) in
-    let left = scoping-tree C (a .scopes .now) (l .i) (contextOf (l .names) (barePoint (schemaOf C) (l .user) (l .bound))) _ (l .scopes) (n .result) (l .inv .0) (omega (arith, nodes-held (a .file .now) (a .head), c .before .before .before .before .before .before .before .before .before .loop-test .taken)) (n .ensures) (l .inv .10) (c .before .before .before .before .before .wide .result) (l .here) (awaitedAt (l .names) (l .bound) (n .result)) (c .before .before .before .before .before .wide .ensures .0) (l .inv .12) (λ _. rw (c .before .before .before .before .before .before .before .match .keys1)) (c .before .before .before .before .before .before .before .match .keys1) in
-    let done = scoping-out C (a .scopes .now) (l .i + 1) _ (subst (λ (x : List Context). Scoping C (a .scopes .now) (l .i + 1) x (set (l .scopes) (c .before .before .before .before .before .wide .result) (marked (l .here) (awaitedAt (l .names) (l .bound) (n .result))))) st left) in
+    let left = scoping-tree C (a .scopes .now) (l .i) (contextOf (l .names) (barePoint (schemaOf C) (l .user) (l .bound))) _ (l .scopes) (n .result) (l .inv .0) (omega (arith, nodes-held (a .file .now) (a .head), c .before .before .before .before .before .before .before .before .loop-test .taken)) (n .ensures) (l .inv .10) (c .before .before .before .before .wide .result) (l .here) 0 (c .before .before .before .before .wide .ensures .0) (l .inv .12) (λ _. rw (c .before .before .before .before .before .before .match .keys1)) (c .before .before .before .before .before .before .match .keys1) in
+    let done = scoping-out C (a .scopes .now) (l .i + 1) _ (subst (λ (x : List Context). Scoping C (a .scopes .now) (l .i + 1) x (set (l .scopes) (c .before .before .before .before .wide .result) (marked (l .here) 0))) st left) in
     (done .0, c .before .before .before .keep .ensures ∙ done .1)
 
 sub-depth-2 : tie.Need-sub-depth-2 Inv-loop μ-loop
 sub-depth-2 c = search needs
 
 mul-next : tie.Need-mul-next Inv-loop μ-loop
-mul-next c = let l = c .before .before .before .before .before .before .before .before .before .before .loop in omega (arith, l .inv .4, c .before .before .before .before .before .before .before .before .before .loop-test .taken, c .before .before .before .before .before .before .before .before .before .before .before .before .before .before .before .before .before .before .before .before .before .before .before .before .before .before .before .before .before .before .before .before .pre .0 .sessions, c .before .before .before .before .before .before .before .before .before .before .before .before .before .before .before .before .before .before .before .before .before .before .before .before .before .before .before .before .before .before .before .before .pre .0 .nodes)
+mul-next c = let l = c .before .before .before .before .before .before .before .before .before .loop in omega (arith, l .inv .4, c .before .before .before .before .before .before .before .before .loop-test .taken, c .before .before .before .before .before .before .before .before .before .before .before .before .before .before .before .before .before .before .before .before .before .before .before .before .before .before .before .before .before .before .before .pre .0 .sessions, c .before .before .before .before .before .before .before .before .before .before .before .before .before .before .before .before .before .before .before .before .before .before .before .before .before .before .before .before .before .before .before .pre .0 .nodes)
 
 slice-read-next : tie.Need-slice-read-next Inv-loop μ-loop
-slice-read-next c = let l = c .before .before .before .before .before .before .before .before .before .before .before .loop in omega (arith, l .inv .4, l .inv .2, c .before .before .before .before .before .before .before .before .before .before .loop-test .taken, c .before .before .before .before .before .before .before .before .before .before .before .before .before .before .before .before .before .before .before .before .before .before .before .before .before .before .before .before .before .before .before .before .before .pre .4)
+slice-read-next c = let l = c .before .before .before .before .before .before .before .before .before .before .loop in omega (arith, l .inv .4, l .inv .2, c .before .before .before .before .before .before .before .before .before .loop-test .taken, c .before .before .before .before .before .before .before .before .before .before .before .before .before .before .before .before .before .before .before .before .before .before .before .before .before .before .before .before .before .before .before .before .pre .4)
 
 user-in-requires-2 : tie.Need-user-in-requires-2 Inv-loop μ-loop
 user-in-requires-2 c κs = search needs
@@ -220,19 +220,19 @@ bound-with-requires-2 : tie.Need-bound-with-requires-2 Inv-loop μ-loop
 bound-with-requires-2 c κs = search needs
 
 mul-here-2 : tie.Need-mul-here-2 Inv-loop μ-loop
-mul-here-2 c = let l = c .before .before .before .before .before .before .before .before .before .before .before .before .before .loop in omega (arith, l .inv .4, c .before .before .before .before .before .before .before .before .before .before .before .before .loop-test .taken, c .before .before .before .before .before .before .before .before .before .before .before .before .before .before .before .before .before .before .before .before .before .before .before .before .before .before .before .before .before .before .before .before .before .before .before .pre .0 .sessions, c .before .before .before .before .before .before .before .before .before .before .before .before .before .before .before .before .before .before .before .before .before .before .before .before .before .before .before .before .before .before .before .before .before .before .before .pre .0 .nodes)
+mul-here-2 c = let l = c .before .before .before .before .before .before .before .before .before .before .before .before .loop in omega (arith, l .inv .4, c .before .before .before .before .before .before .before .before .before .before .before .loop-test .taken, c .before .before .before .before .before .before .before .before .before .before .before .before .before .before .before .before .before .before .before .before .before .before .before .before .before .before .before .before .before .before .before .before .before .before .pre .0 .sessions, c .before .before .before .before .before .before .before .before .before .before .before .before .before .before .before .before .before .before .before .before .before .before .before .before .before .before .before .before .before .before .before .before .before .before .pre .0 .nodes)
 
 slice-read-here-2 : tie.Need-slice-read-here-2 Inv-loop μ-loop
-slice-read-here-2 c = let l = c .before .before .before .before .before .before .before .before .before .before .before .before .before .before .loop in omega (arith, l .inv .4, l .inv .11, c .before .before .before .before .before .before .before .before .before .before .before .before .before .loop-test .taken, c .before .before .before .before .before .before .before .before .before .before .before .before .before .before .before .before .before .before .before .before .before .before .before .before .before .before .before .before .before .before .before .before .before .before .before .before .pre .5)
+slice-read-here-2 c = let l = c .before .before .before .before .before .before .before .before .before .before .before .before .before .loop in omega (arith, l .inv .4, l .inv .11, c .before .before .before .before .before .before .before .before .before .before .before .before .loop-test .taken, c .before .before .before .before .before .before .before .before .before .before .before .before .before .before .before .before .before .before .before .before .before .before .before .before .before .before .before .before .before .before .before .before .before .before .before .pre .5)
 
 loop-less : tie.Need-loop-less Inv-loop μ-loop
 loop-less c = search needs
 
 loop-again : tie.Need-loop-again Inv-loop μ-loop
 loop-again c =
-    let a = c .before .before .before .before .before .before .before .before .before .before .before .before .before .before .before .before .before .before .before .before .before .before .before .before .before .before .before .before .before .before .before .before .before .before .before .before .args in
-    let l = c .before .before .before .before .before .before .before .before .before .before .before .before .before .before .loop in
-    let n = c .before .before .before .before .before .before .before .before .before .before .before .before .node in
+    let a = c .before .before .before .before .before .before .before .before .before .before .before .before .before .before .before .before .before .before .before .before .before .before .before .before .before .before .before .before .before .before .before .before .before .before .before .args in
+    let l = c .before .before .before .before .before .before .before .before .before .before .before .before .before .loop in
+    let n = c .before .before .before .before .before .before .before .before .before .before .before .node in
     let C = contentsAt (a .file .now) (a .head) in
     let D = schemaOf C in
     let p = barePoint D (c .before .before .user-in2 .result) (c .before .bound-with2 .result) in
@@ -240,8 +240,8 @@ loop-again c =
     let top : queued D (l .stack) (l .depth) ≡ p ∷ queued D (l .stack) (l .depth - 1) =
     read-top 0 (unpaired D) (l .stack) (l .depth) pos ∙ ap (λ (q : Point). q ∷ queued D (l .stack) (l .depth - 1)) (ap₂ (barePoint D) (sym (c .before .before .user-in2 .ensures)) (sym (c .before .bound-with2 .ensures))) in
     let w : Waits Ownable (l .bound) (p ∷ queued D (l .stack) (l .depth - 1)) = subst (λ (ps : List Point). Waits Ownable (l .bound) ps) top (l .inv .9) in
-    let left = scoping-tree C (a .scopes .now) (l .i) (contextOf (l .names) (barePoint D (l .user) (l .bound))) _ (l .scopes) (n .result) (l .inv .0) (omega (arith, nodes-held (a .file .now) (a .head), c .before .before .before .before .before .before .before .before .before .before .before .before .before .loop-test .taken)) (n .ensures) (l .inv .10) (c .before .before .before .before .before .before .before .before .before .wide .result) (l .here) (awaitedAt (l .names) (l .bound) (n .result)) (c .before .before .before .before .before .before .before .before .before .wide .ensures .0) (l .inv .12) (λ _. rw (c .before .before .before .before .before .before .before .before .before .before .before .match .keys1)) (c .before .before .before .before .before .before .before .before .before .before .before .match .keys1) in
-    let long : length (set (l .scopes) (c .before .before .before .before .before .before .before .before .before .wide .result) (marked (l .here) (awaitedAt (l .names) (l .bound) (n .result)))) ≡ length (l .scopes) = length-set (l .scopes) (c .before .before .before .before .before .before .before .before .before .wide .result) (marked (l .here) (awaitedAt (l .names) (l .bound) (n .result))) in
+    let left = scoping-tree C (a .scopes .now) (l .i) (contextOf (l .names) (barePoint D (l .user) (l .bound))) _ (l .scopes) (n .result) (l .inv .0) (omega (arith, nodes-held (a .file .now) (a .head), c .before .before .before .before .before .before .before .before .before .before .before .before .loop-test .taken)) (n .ensures) (l .inv .10) (c .before .before .before .before .before .before .before .before .wide .result) (l .here) 0 (c .before .before .before .before .before .before .before .before .wide .ensures .0) (l .inv .12) (λ _. rw (c .before .before .before .before .before .before .before .before .before .before .match .keys1)) (c .before .before .before .before .before .before .before .before .before .before .match .keys1) in
+    let long : length (set (l .scopes) (c .before .before .before .before .before .before .before .before .wide .result) (marked (l .here) 0)) ≡ length (l .scopes) = length-set (l .scopes) (c .before .before .before .before .before .before .before .before .wide .result) (marked (l .here) 0) in
     let popped : l .i < length (l .scopes) → (getD (l .waits) (l .depth - 1) 0 ≡ scopeOf (contextOf (l .names) p)) × (stacked 0 (l .waits) (l .depth - 1) ≡ map scopeOf (map (contextOf (l .names)) (queued D (l .stack) (l .depth - 1)))) =
     λ room. scope-popped (l .waits) (l .depth) (contextOf (l .names) p) (map (contextOf (l .names)) (queued D (l .stack) (l .depth - 1))) pos (l .inv .13 room ∙ ap (λ (ps : List Point). map scopeOf (map (contextOf (l .names)) ps)) top) in (
       omega arith,
@@ -254,7 +254,7 @@ loop-again c =
       l .inv .7,
       held-less (l .names) (l .bound) (p .bound) (w .0) (l .inv .8),
       w .2,
-      rw (c .before .before .before .before .before .before .before .keep .ensures) (subst (λ (ps : List Point). Scoping C (a .scopes .now) (l .i + 1) (map (contextOf (l .names)) ps) (set (l .scopes) (c .before .before .before .before .before .before .before .before .before .wide .result) (marked (l .here) (awaitedAt (l .names) (l .bound) (n .result))))) top left),
+      rw (c .before .before .before .before .before .before .before .keep .ensures) (subst (λ (ps : List Point). Scoping C (a .scopes .now) (l .i + 1) (map (contextOf (l .names)) ps) (set (l .scopes) (c .before .before .before .before .before .before .before .before .wide .result) (marked (l .here) 0))) top left),
       l .inv .11,
       (λ room. popped (omega (arith, room, ap length (c .before .before .before .before .before .before .before .keep .ensures), long)) .0),
       (λ room. popped (omega (arith, room, ap length (c .before .before .before .before .before .before .before .keep .ensures), long)) .1),
@@ -271,37 +271,37 @@ paired-requires : tie.Need-paired-requires Inv-loop μ-loop
 paired-requires c κs = search needs
 
 mul-stack : tie.Need-mul-stack Inv-loop μ-loop
-mul-stack c = let l = c .before .before .before .before .before .before .before .before .before .before .loop in omega (arith, l .inv .4, c .before .before .before .before .before .before .before .before .before .loop-test .taken, c .before .before .before .before .before .before .before .before .before .before .before .before .before .before .before .before .before .before .before .before .before .before .before .before .before .before .before .before .before .before .before .before .pre .0 .sessions, c .before .before .before .before .before .before .before .before .before .before .before .before .before .before .before .before .before .before .before .before .before .before .before .before .before .before .before .before .before .before .before .before .pre .0 .nodes)
+mul-stack c = let l = c .before .before .before .before .before .before .before .before .before .loop in omega (arith, l .inv .4, c .before .before .before .before .before .before .before .before .loop-test .taken, c .before .before .before .before .before .before .before .before .before .before .before .before .before .before .before .before .before .before .before .before .before .before .before .before .before .before .before .before .before .before .before .pre .0 .sessions, c .before .before .before .before .before .before .before .before .before .before .before .before .before .before .before .before .before .before .before .before .before .before .before .before .before .before .before .before .before .before .before .pre .0 .nodes)
 
 slice-write-stack : tie.Need-slice-write-stack Inv-loop μ-loop
-slice-write-stack c = let l = c .before .before .before .before .before .before .before .before .before .before .loop in omega (arith, l .inv .4, l .inv .2, c .before .before .before .before .before .before .before .before .before .loop-test .taken, c .before .before .before .before .before .before .before .before .before .before .before .before .before .before .before .before .before .before .before .before .before .before .before .before .before .before .before .before .before .before .before .before .pre .4)
+slice-write-stack c = let l = c .before .before .before .before .before .before .before .before .before .loop in omega (arith, l .inv .4, l .inv .2, c .before .before .before .before .before .before .before .before .loop-test .taken, c .before .before .before .before .before .before .before .before .before .before .before .before .before .before .before .before .before .before .before .before .before .before .before .before .before .before .before .before .before .before .before .pre .4)
 
 mul-waits : tie.Need-mul-waits Inv-loop μ-loop
-mul-waits c = let l = c .before .before .before .before .before .before .before .before .before .before .loop in omega (arith, l .inv .4, c .before .before .before .before .before .before .before .before .before .loop-test .taken, c .before .before .before .before .before .before .before .before .before .before .before .before .before .before .before .before .before .before .before .before .before .before .before .before .before .before .before .before .before .before .before .before .pre .0 .sessions, c .before .before .before .before .before .before .before .before .before .before .before .before .before .before .before .before .before .before .before .before .before .before .before .before .before .before .before .before .before .before .before .before .pre .0 .nodes)
+mul-waits c = let l = c .before .before .before .before .before .before .before .before .before .loop in omega (arith, l .inv .4, c .before .before .before .before .before .before .before .before .loop-test .taken, c .before .before .before .before .before .before .before .before .before .before .before .before .before .before .before .before .before .before .before .before .before .before .before .before .before .before .before .before .before .before .before .pre .0 .sessions, c .before .before .before .before .before .before .before .before .before .before .before .before .before .before .before .before .before .before .before .before .before .before .before .before .before .before .before .before .before .before .before .pre .0 .nodes)
 
 slice-write-waits : tie.Need-slice-write-waits Inv-loop μ-loop
-slice-write-waits c = let l = c .before .before .before .before .before .before .before .before .before .before .loop in omega (arith, l .inv .4, l .inv .11, c .before .before .before .before .before .before .before .before .before .loop-test .taken, c .before .before .before .before .before .before .before .before .before .before .before .before .before .before .before .before .before .before .before .before .before .before .before .before .before .before .before .before .before .before .before .before .pre .5)
+slice-write-waits c = let l = c .before .before .before .before .before .before .before .before .before .loop in omega (arith, l .inv .4, l .inv .11, c .before .before .before .before .before .before .before .before .loop-test .taken, c .before .before .before .before .before .before .before .before .before .before .before .before .before .before .before .before .before .before .before .before .before .before .before .before .before .before .before .before .before .before .before .pre .5)
 
 add-depth : tie.Need-add-depth Inv-loop μ-loop
-add-depth c = let l = c .before .before .before .before .before .before .before .before .before .before .loop in omega (arith, l .inv .4, c .before .before .before .before .before .before .before .before .before .loop-test .taken, c .before .before .before .before .before .before .before .before .before .before .before .before .before .before .before .before .before .before .before .before .before .before .before .before .before .before .before .before .before .before .before .before .pre .0 .sessions, c .before .before .before .before .before .before .before .before .before .before .before .before .before .before .before .before .before .before .before .before .before .before .before .before .before .before .before .before .before .before .before .before .pre .0 .nodes)
+add-depth c = let l = c .before .before .before .before .before .before .before .before .before .loop in omega (arith, l .inv .4, c .before .before .before .before .before .before .before .before .loop-test .taken, c .before .before .before .before .before .before .before .before .before .before .before .before .before .before .before .before .before .before .before .before .before .before .before .before .before .before .before .before .before .before .before .pre .0 .sessions, c .before .before .before .before .before .before .before .before .before .before .before .before .before .before .before .before .before .before .before .before .before .before .before .before .before .before .before .before .before .before .before .pre .0 .nodes)
 
 loop-less-2 : tie.Need-loop-less-2 Inv-loop μ-loop
 loop-less-2 c = search needs
 
 loop-again-2 : tie.Need-loop-again-2 Inv-loop μ-loop
 loop-again-2 c =
-    let a = c .before .before .before .before .before .before .before .before .before .before .before .before .before .before .before .before .before .before .before .before .before .before .before .before .before .before .before .before .before .before .before .before .args in
-    let l = c .before .before .before .before .before .before .before .before .before .before .loop in
-    let n = c .before .before .before .before .before .before .before .before .node in
+    let a = c .before .before .before .before .before .before .before .before .before .before .before .before .before .before .before .before .before .before .before .before .before .before .before .before .before .before .before .before .before .before .before .args in
+    let l = c .before .before .before .before .before .before .before .before .before .loop in
+    let n = c .before .before .before .before .before .before .before .node in
     let C = contentsAt (a .file .now) (a .head) in
     let D = schemaOf C in
     let p = barePoint D (l .user) (l .bound) in
-    let room : l .depth < length (l .stack) = omega (arith, l .inv .4, l .inv .2, c .before .before .before .before .before .before .before .before .before .loop-test .taken, c .before .before .before .before .before .before .before .before .before .before .before .before .before .before .before .before .before .before .before .before .before .before .before .before .before .before .before .before .before .before .before .before .pre .4) in
-    let beside : l .depth < length (l .waits) = omega (arith, l .inv .4, l .inv .11, c .before .before .before .before .before .before .before .before .before .loop-test .taken, c .before .before .before .before .before .before .before .before .before .before .before .before .before .before .before .before .before .before .before .before .before .before .before .before .before .before .before .before .before .before .before .before .pre .5) in
+    let room : l .depth < length (l .stack) = omega (arith, l .inv .4, l .inv .2, c .before .before .before .before .before .before .before .before .loop-test .taken, c .before .before .before .before .before .before .before .before .before .before .before .before .before .before .before .before .before .before .before .before .before .before .before .before .before .before .before .before .before .before .before .pre .4) in
+    let beside : l .depth < length (l .waits) = omega (arith, l .inv .4, l .inv .11, c .before .before .before .before .before .before .before .before .loop-test .taken, c .before .before .before .before .before .before .before .before .before .before .before .before .before .before .before .before .before .before .before .before .before .before .before .before .before .before .before .before .before .before .before .pre .5) in
     let is : unpaired D (c .paired .result) ≡ p = ap₂ (barePoint D) (omega (arith, c .paired .ensures)) (omega (arith, c .paired .ensures)) in
-    let long : length (set (l .scopes) (c .before .before .before .before .before .wide2 .result) (marked (l .here) (awaitedAt (l .names) (l .bound) (n .result)))) ≡ length (l .scopes) = length-set (l .scopes) (c .before .before .before .before .before .wide2 .result) (marked (l .here) (awaitedAt (l .names) (l .bound) (n .result))) in
+    let long : length (set (l .scopes) (c .before .before .before .before .wide2 .result) (marked (l .here) 0)) ≡ length (l .scopes) = length-set (l .scopes) (c .before .before .before .before .wide2 .result) (marked (l .here) 0) in
     let push = read-push 0 (unpaired D) (l .stack) (l .depth) (c .paired .result) p room is in
-    let left = scoping-fork C (a .scopes .now) (l .i) (contextOf (l .names) p) (map (contextOf (l .names)) (queued D (l .stack) (l .depth))) (l .scopes) (n .result) (l .inv .0) (omega (arith, nodes-held (a .file .now) (a .head), c .before .before .before .before .before .before .before .before .before .loop-test .taken)) (n .ensures) (l .inv .10) (c .before .before .before .before .before .wide2 .result) (l .here) (awaitedAt (l .names) (l .bound) (n .result)) (c .before .before .before .before .before .wide2 .ensures .0) (l .inv .12) (λ _. rw (c .before .before .before .before .before .before .before .match .keys2)) (c .before .before .before .before .before .before .before .match .keys2) in (
+    let left = scoping-fork C (a .scopes .now) (l .i) (contextOf (l .names) p) (map (contextOf (l .names)) (queued D (l .stack) (l .depth))) (l .scopes) (n .result) (l .inv .0) (omega (arith, nodes-held (a .file .now) (a .head), c .before .before .before .before .before .before .before .before .loop-test .taken)) (n .ensures) (l .inv .10) (c .before .before .before .before .wide2 .result) (l .here) 0 (c .before .before .before .before .wide2 .ensures .0) (l .inv .12) (λ _. rw (c .before .before .before .before .before .before .match .keys2)) (c .before .before .before .before .before .before .match .keys2) in (
       omega arith,
       omega arith,
       simp length-set (l .inv .2),
@@ -312,7 +312,7 @@ loop-again-2 c =
       l .inv .7,
       l .inv .8,
       waits-push (unpaired D) Ownable (l .bound) (l .stack) (l .depth) (c .paired .result) p room is (omega arith) (l .inv .6) (l .inv .9),
-      rw (c .before .before .before .keep2 .ensures) (subst (λ (ps : List Point). Scoping C (a .scopes .now) (l .i + 1) (contextOf (l .names) p ∷ map (contextOf (l .names)) ps) (set (l .scopes) (c .before .before .before .before .before .wide2 .result) (marked (l .here) (awaitedAt (l .names) (l .bound) (n .result))))) (sym push) left),
+      rw (c .before .before .before .keep2 .ensures) (subst (λ (ps : List Point). Scoping C (a .scopes .now) (l .i + 1) (contextOf (l .names) p ∷ map (contextOf (l .names)) ps) (set (l .scopes) (c .before .before .before .before .wide2 .result) (marked (l .here) 0))) (sym push) left),
       simp length-set (l .inv .11),
       (λ room. l .inv .12 (omega (arith, room, ap length (c .before .before .before .keep2 .ensures), long))),
       (λ room.
@@ -349,7 +349,7 @@ wide-requires-3 : tie.Need-wide-requires-3 Inv-loop μ-loop
 wide-requires-3 c κs = search needs
 
 keep-requires-3 : tie.Need-keep-requires-3 Inv-loop μ-loop
-keep-requires-3 c κs = let l = c .before .before .before .before .before .before .before .before .before .before .loop in omega (arith, l .inv .3, l .inv .5, c .before .before .before .before .before .before .before .before .before .loop-test .taken, c .before .before .before .before .before .before .before .before .before .before .before .before .before .before .before .before .before .before .before .before .before .before .before .before .before .name-all .ensures .0, c .before .before .before .before .before .before .before .before .before .before .before .before .before .before .before .before .before .before .before .before .before .before .before .before .before .before .before .before .before .before .before .before .pre .2)
+keep-requires-3 c κs = search needs
 
 wide-requires-4 : tie.Need-wide-requires-4 Inv-loop μ-loop
 wide-requires-4 c κs = search needs
@@ -361,7 +361,7 @@ mul-names : tie.Need-mul-names Inv-loop μ-loop
 mul-names c = search needs
 
 slice-write-names : tie.Need-slice-write-names Inv-loop μ-loop
-slice-write-names c = let l = c .before .before .before .before .before .before .before .before .before .before .before .before .before .before .loop in omega (arith, c .wide4 .ensures .0, l .inv .3, l .inv .5, c .before .before .before .before .before .before .before .before .before .before .before .before .before .loop-test .taken, c .before .before .before .before .before .before .before .before .before .before .before .before .before .before .before .before .before .before .before .before .before .before .before .before .before .before .before .before .before .name-all .ensures .0, c .before .before .before .before .before .before .before .before .before .before .before .before .before .before .before .before .before .before .before .before .before .before .before .before .before .before .before .before .before .before .before .before .before .before .before .before .pre .2)
+slice-write-names c = let l = c .before .before .before .before .before .before .before .before .before .before .before .before .before .loop in omega (arith, c .wide4 .ensures .0, l .inv .3, l .inv .5, c .before .before .before .before .before .before .before .before .before .before .before .before .loop-test .taken, c .before .before .before .before .before .before .before .before .before .before .before .before .before .before .before .before .before .before .before .before .before .before .before .before .before .before .before .before .name-all .ensures .0, c .before .before .before .before .before .before .before .before .before .before .before .before .before .before .before .before .before .before .before .before .before .before .before .before .before .before .before .before .before .before .before .before .before .before .before .pre .2)
 
 wide-requires-5 : tie.Need-wide-requires-5 Inv-loop μ-loop
 wide-requires-5 c κs = search needs
@@ -374,26 +374,26 @@ loop-less-3 c = search needs
 
 loop-again-3 : tie.Need-loop-again-3 Inv-loop μ-loop
 loop-again-3 c =
-    let a = c .before .before .before .before .before .before .before .before .before .before .before .before .before .before .before .before .before .before .before .before .before .before .before .before .before .before .before .before .before .before .before .before .before .before .before .before .before .before .args in
-    let l = c .before .before .before .before .before .before .before .before .before .before .before .before .before .before .before .before .loop in
-    let n = c .before .before .before .before .before .before .before .before .before .before .before .before .before .before .node in
+    let a = c .before .before .before .before .before .before .before .before .before .before .before .before .before .before .before .before .before .before .before .before .before .before .before .before .before .before .before .before .before .before .before .before .before .before .before .before .before .args in
+    let l = c .before .before .before .before .before .before .before .before .before .before .before .before .before .before .before .loop in
+    let n = c .before .before .before .before .before .before .before .before .before .before .before .before .before .node in
     let C = contentsAt (a .file .now) (a .head) in
     let D = schemaOf C in
-    let s = c .before .before .before .before .before .before .before .before .before .before .before .naming-at .result in
-    let it = told-at (c .before .before .before .before .before .before .before .before .before .before .before) in
-    let good = c .before .before .before .before .before .before .before .before .before .if3 .left in
+    let s = c .before .before .before .before .before .before .before .before .before .before .naming-at .result in
+    let it = told-at (c .before .before .before .before .before .before .before .before .before .before) in
+    let good = c .before .before .before .before .before .before .before .before .if3 .left in
     let here = contextOf (l .names) (barePoint D (l .user) (l .bound)) in
     let rest = map (contextOf (l .names)) (queued D (l .stack) (l .depth)) in
     let to : 512 + c .before .before .wide4 .result ≡ 512 + l .bound = ap (λ k. 512 + k) (c .before .before .wide4 .ensures .0) in
-    let long : 512 + l .bound < length (l .names) = omega (arith, l .inv .3, l .inv .5, c .before .before .before .before .before .before .before .before .before .before .before .before .before .before .before .loop-test .taken, c .before .before .before .before .before .before .before .before .before .before .before .before .before .before .before .before .before .before .before .before .before .before .before .before .before .before .before .before .before .before .before .name-all .ensures .0, c .before .before .before .before .before .before .before .before .before .before .before .before .before .before .before .before .before .before .before .before .before .before .before .before .before .before .before .before .before .before .before .before .before .before .before .before .before .before .pre .2) in
+    let long : 512 + l .bound < length (l .names) = omega (arith, l .inv .3, l .inv .5, c .before .before .before .before .before .before .before .before .before .before .before .before .before .before .loop-test .taken, c .before .before .before .before .before .before .before .before .before .before .before .before .before .before .before .before .before .before .before .before .before .before .before .before .before .before .before .before .before .before .name-all .ensures .0, c .before .before .before .before .before .before .before .before .before .before .before .before .before .before .before .before .before .before .before .before .before .before .before .before .before .before .before .before .before .before .before .before .before .before .before .before .before .pre .2) in
     let same : l .bound ≤ l .bound = omega arith in
     let kept = contexts-kept Ownable (l .names) (l .bound) (s .binding) (l .bound) (queued D (l .stack) (l .depth)) same (l .inv .9) in
     let t = set (l .names) (512 + l .bound) (s .binding) in
     let more = contextOf t (barePoint D (l .user) (s .bound)) ∷ map (contextOf t) (queued D (l .stack) (l .depth)) in
     let next : map unmasked more ≡ map unmasked (waitingAfter D here (n .result) rest) =
-    ap₂ _∷_ (it .child good) (ap (map unmasked) kept) ∙ ap (map unmasked) (after-step D here (n .result) rest (c .before .before .before .before .before .before .before .before .before .before .before .before .before .match .rest .0 .1) (c .before .before .before .before .before .before .before .before .before .before .before .before .before .match .rest .1) refl refl) in
-    let left = scoping-on C (a .scopes .now) (l .i) here rest (l .scopes) (n .result) (l .inv .0) (omega (arith, nodes-held (a .file .now) (a .head), c .before .before .before .before .before .before .before .before .before .before .before .before .before .before .before .loop-test .taken)) (n .ensures) (l .inv .10) (c .before .before .before .before .before .before .before .wide3 .result) (l .here) (awaitedAt (l .names) (l .bound) (n .result)) (c .before .before .before .before .before .before .before .wide3 .ensures .0) (l .inv .12) (kind-at (c .before .before .before .before .before .before .before .before .before .before .before)) more (sym (it .wrong) ∙ good) next in
-    let same-room : length (set (l .scopes) (c .before .before .before .before .before .before .before .wide3 .result) (marked (l .here) (awaitedAt (l .names) (l .bound) (n .result)))) ≡ length (l .scopes) = length-set (l .scopes) (c .before .before .before .before .before .before .before .wide3 .result) (marked (l .here) (awaitedAt (l .names) (l .bound) (n .result))) in
+    ap₂ _∷_ (it .child good) (ap (map unmasked) kept) ∙ ap (map unmasked) (after-step D here (n .result) rest (c .before .before .before .before .before .before .before .before .before .before .before .before .match .rest .0 .1) (c .before .before .before .before .before .before .before .before .before .before .before .before .match .rest .1) refl refl) in
+    let left = scoping-on C (a .scopes .now) (l .i) here rest (l .scopes) (n .result) (l .inv .0) (omega (arith, nodes-held (a .file .now) (a .head), c .before .before .before .before .before .before .before .before .before .before .before .before .before .before .loop-test .taken)) (n .ensures) (l .inv .10) (c .before .before .before .before .before .before .wide3 .result) (l .here) (s .awaits) (c .before .before .before .before .before .before .wide3 .ensures .0) (l .inv .12) (kind-at (c .before .before .before .before .before .before .before .before .before .before)) more (sym (it .wrong) ∙ good) next in
+    let same-room : length (set (l .scopes) (c .before .before .before .before .before .before .wide3 .result) (marked (l .here) (s .awaits))) ≡ length (l .scopes) = length-set (l .scopes) (c .before .before .before .before .before .before .wide3 .result) (marked (l .here) (s .awaits)) in
     let child : l .i < length (l .scopes) → c .scope-after .result ≡ scopeOf (contextOf t (barePoint D (l .user) (s .bound))) =
     λ due.
     c .scope-after .ensures (lt-ltb (c .before .wide5 .result) (length (c .before .before .before .before .before .keep3 .last .0)) (omega (arith, due, c .before .wide5 .ensures .0, ap length (c .before .before .before .before .before .keep3 .ensures), same-room)))
@@ -401,7 +401,7 @@ loop-again-3 c =
     ∙ scope-next D (l .names) (l .user) (l .bound) (s .binding) (s .bound) long (it .least good) (it .most good) in
     rw (to, c .before .before .before .before .before .keep3 .ensures) (
       omega arith,
-      omega (arith, c .before .before .before .before .before .before .before .before .before .before .before .before .before .before .before .loop-test .taken),
+      omega (arith, c .before .before .before .before .before .before .before .before .before .before .before .before .before .before .loop-test .taken),
       l .inv .2,
       length-set (l .names) (512 + l .bound) _ ∙ l .inv .3,
       omega (arith, l .inv .4),

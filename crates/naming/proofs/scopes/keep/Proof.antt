@@ -1,18 +1,13 @@
-use mathlib.Core.Path.{sym, ap, _∙_}
+use mathlib.Core.Path.{sym, ap}
 use lib.Seq.{set-out}
 use lib.ListN.{set}
 use borrow.Author.Needs.{needs}
 use Rattle.naming.specs.Scopes.{marked}
-use Rattle.naming.specs.Kept.{awaitedAt}
 use Rattle.naming.proofs.scopes.keep.Statement.{statement}
 use Rattle.naming.proofs.scopes.keep.Tie as tie
 use Rattle.naming.proofs.scopes.keep.Reads as reads
 use Rattle.naming.proofs.scopes.keep.Lts as lts
-use Rattle.naming.proofs.scopes.awaited_at.Reads as awaited-at-reads
 use Rattle.naming.proofs.scopes.marked.Reads as marked-reads
-
-awaited-at-requires : tie.Need-awaited-at-requires
-awaited-at-requires c κs = search needs
 
 marked-requires : tie.Need-marked-requires
 marked-requires c κs = search needs
@@ -27,10 +22,10 @@ same-length : tie.Need-same-length
 same-length c = search needs
 
 returns : tie.Need-returns
-returns c = let a = c .before .before .before .before .before .args in ap (set (a .scopes .now) (a .at)) (c .marked .ensures ∙ ap (marked (a .w)) (c .before .awaited-at .ensures))
+returns c = let a = c .before .before .before .args in ap (set (a .scopes .now) (a .at)) (c .marked .ensures)
 
 returns-2 : tie.Need-returns-2
-returns-2 c = let a = c .before .before .before .args in sym (set-out (a .scopes .now) (a .at) (marked (a .w) (awaitedAt (a .names .now) (a .bound) (a .it))) (c .if1 .left))
+returns-2 c = let a = c .before .before .args in sym (set-out (a .scopes .now) (a .at) (marked (a .w) (a .kind .0)) (c .if1 .left))
 
 pub keep-spec : {M : Type 1} → statement M
-keep-spec = tie.close (tie.spec awaited-at-requires marked-requires mul-scopes slice-write-scopes same-length returns returns-2)
+keep-spec = tie.close (tie.spec marked-requires mul-scopes slice-write-scopes same-length returns returns-2)
