@@ -21,7 +21,10 @@
  * to 20, and in a run for 11 to 13 too, a choice, from 1; for 23 a row, from 1. Where
  * nothing is refused both are 0.
  *
- * Files have version 1, or version 2, in which a role has a word of junior roles.
+ * Files have version 1, or version 2, in which a role has a word of junior roles. A
+ * file of no bytes (its pointer isn't null either) is that of a clinic with nothing
+ * planned: it is read as the version 1 file with all counts 0, and placed as its 26
+ * bytes.
  * Wherever refusals 1 to 10 are spoken of, 21 is among them, for a junior whose
  * number isn't lower than its senior's: it has its turn behind 6 and before 7.
  */

@@ -98,5 +98,7 @@ roundCases =
     -- an odd list, too little room, and what is no file
     ∷ isRefused desk (1 ∷ []) 1802 17 0
     ∷ isRefused desk [] 1799 17 0
-    ∷ isRefused [] [] 1802 1 0
+    ∷ isRefused (1 ∷ []) [] 1802 1 0
+    -- zero bytes: nothing can be done
+    ∷ rounds [] [] [] (0 ∷ 0 ∷ 0 ∷ 0 ∷ [])
     ∷ []

@@ -1,6 +1,7 @@
 pub mod SameContents
 pub mod LongHours
 pub mod LongInputs
+pub mod NothingPlanned
 pub mod Promises
 -- walks by hand: calls of covered functions, calls that lend a list again, the records of a list, a local array
 pub mod Again

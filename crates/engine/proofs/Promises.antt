@@ -21,7 +21,7 @@ use Rattle.format.specs.Header.{Counted, versionAt, roomFor}
 use Rattle.format.specs.declared.Six.{Six}
 use Rattle.reading.specs.Reading.{reading}
 use Rattle.reading_exact.specs.Lists.{All}
-use Rattle.reading_exact.specs.File.{InCount, rolesOf, File, WellFormed, asSecond, nodesOf, contentsFor, encode}
+use Rattle.reading_exact.specs.File.{InCount, rolesOf, File, WellFormed, asSecond, nodesOf, contentsFor, encode, unplanned, ReadsAs}
 use Rattle.reading_exact.specs.ByWords.{CountedByWords, ByWords}
 use Rattle.reading_exact.specs.Order.{OfFile, First}
 use Rattle.reading_exact.specs.Refusals.{OneChild, lengthOf, Refusable, readingOrder}
@@ -43,7 +43,7 @@ use Rattle.placing_exact.specs.Placed.{AllStates, listedAll, insertAll, Bare}
 use Rattle.placing_exact.specs.Idle.{idleNodesOf, idleIn, idleAmong}
 use Rattle.placing_exact.specs.Causes.{SomeMask, IsSwitch, Unserved, PlacedWith, Cause, refusalIn, placingOrder}
 use Rattle.placing_exact.specs.Promised.{WellPlaced, Ruled, Clean, Lowest, Unrefused, NoPlacement, session, Covers}
-use Rattle.placing_exact.specs.Cases.{Shown, cases, juniorCases}
+use Rattle.placing_exact.specs.Cases.{Shown, cases, juniorCases, nothingCases}
 use Rattle.format.specs.declared.Node.{Node}
 use Rattle.rules.specs.Rules.{Context, childOf}
 use Rattle.steps.specs.declared.Thread.{Thread}
@@ -84,7 +84,7 @@ use Rattle.placing_exact.proofs.PlacingFirst.{placing-first}
 use Rattle.placing_exact.proofs.OneRole.{one-role-written}
 use Rattle.placing_exact.proofs.RivalsByRoles.{rivals-all, fewest-of-all, none-at-all}
 use Rattle.placing_exact.proofs.IdleRivals.{least-idle-of-all, idle-stated}
-use Rattle.placing_exact.proofs.StarredCases.{starred, ranked}
+use Rattle.placing_exact.proofs.StarredCases.{starred, ranked, unplanned as unplanned-shown}
 use Rattle.running_exact.proofs.Operands.{stands-for}
 use Rattle.running_exact.proofs.Agree.{agree, one-result, refused-first, done-free}
 use Rattle.running_exact.proofs.StepEffects.{step-effect}
@@ -128,27 +128,28 @@ use Rattle.dispatching_exact.proofs.DispatchRounds.{some-round, one-round, roun
 use Rattle.dispatching_exact.proofs.RoundAnswers.{round-unfit, round-seventeen, round-most, round-names, round-unwritten, round-stopped, round-answered}
 use Rattle.dispatching_exact.proofs.RoundsShown.{rounds-shown}
 use Rattle.engine.proofs.LongInputs.{kept-alike}
+use Rattle.engine.proofs.NothingPlanned.{nothing-alike, nothing-checked, nothing-measured, nothing-placed, nothing-short, nothing-over, nothing-run, nothing-chosen, short-one, short-second}
 use Rattle.reading_exact.proofs.Bytes.{length-bytesOf, word-back, small-bytes}
 use Rattle.reading_exact.proofs.RecordWords.{counted-by-words, by-words, item-out}
-use Rattle.reading_exact.proofs.FileContents.{contents-back}
-use Rattle.reading_exact.proofs.Exact.{sound, complete, single}
+use Rattle.reading_exact.proofs.FileContents.{contents-back, contents-held, single, unplanned-bytes}
+use Rattle.reading_exact.proofs.Exact.{sound, complete-read, one-read, two-read}
 use Rattle.reading_exact.proofs.EncodedBytes.{encode-bytes}
 use Rattle.reading_exact.proofs.FirstRefusal.{first-refusal, reading-fine}
 
--- "The check passes a file exactly when it obeys the format and the role and channel rules": for all bytes, none of 1 to 13 is refused exactly when they are the encoding of a
+-- "The check passes a file exactly when it obeys the format and the role and channel rules": for all bytes, none of 1 to 13 is refused exactly when they read as a
 -- well formed file in which every session's tree is well typed.
-pub checks-exactly : (f : List ℕ) → All (λ b. b < 256) f → (checking f ≡ fine) ↔ ((F : File) × WellFormed F × (encode F ≡ f) × Obeys F)
+pub checks-exactly : (f : List ℕ) → All (λ b. b < 256) f → (checking f ≡ fine) ↔ ((F : File) × WellFormed F × ReadsAs f F × Obeys F)
 checks-exactly = check-exact
 
 -- "a file that meets refusals 1 to 10 clean": well formed, with names and kinds by rules 1 to 4.
-pub names-exactly : (f : List ℕ) → All (λ b. b < 256) f → (readingNames f ≡ fine) ↔ ((F : File) × WellFormed F × (encode F ≡ f) × WellKinded F)
+pub names-exactly : (f : List ℕ) → All (λ b. b < 256) f → (readingNames f ≡ fine) ↔ ((F : File) × WellFormed F × ReadsAs f F × WellKinded F)
 names-exactly = names-exact
 
--- The format alone: none of 1 to 8 is refused exactly when the bytes are the encoding of a well formed file.
-pub reads-exactly : (f : List ℕ) → All (λ b. b < 256) f → (reading f ≡ fine) ↔ ((F : File) × WellFormed F × (encode F ≡ f))
-reads-exactly f bytes = (sound f bytes, λ (F, formed, same). rw same at (complete F formed))
+-- The format alone: none of 1 to 8 is refused exactly when the bytes read as a well formed file: they are its encoding, or there are none and it is the file with nothing planned (K7).
+pub reads-exactly : (f : List ℕ) → All (λ b. b < 256) f → (reading f ≡ fine) ↔ ((F : File) × WellFormed F × ReadsAs f F)
+reads-exactly f bytes = (sound f bytes, λ (F, formed, same). complete-read f F formed same)
 
--- .. and of exactly one file: two files with the same bytes are the same; and an encoding consists of bytes.
+-- .. and as exactly one file (`read-as-one`): two files with the same bytes are the same; and an encoding consists of bytes.
 pub one-file : (F G : File) → encode F ≡ encode G → F ≡ G
 one-file = single
 
@@ -243,17 +244,17 @@ no-role-exactly = fifteen-exactly
 
 -- "it passes if rules 5 and 6 hold .. Demand 3's rivals are all placements that pass and hold so, whatever their form": `Placement` asks a rival for every rule of the check, `PlacementByRoles` for
 -- rules 5 and 6 alone, and for a file that 1 to 10 let through the two are the same.
-pub rivals-are-all : (f : List ℕ) → All (λ b. b < 256) f → readingNames f ≡ fine → (F : File) → encode F ≡ f → (ts : List Tree) → Placement F ts ↔ PlacementByRoles F ts
+pub rivals-are-all : (f : List ℕ) → All (λ b. b < 256) f → readingNames f ≡ fine → (F : File) → ReadsAs f F → (ts : List Tree) → Placement F ts ↔ PlacementByRoles F ts
 rivals-are-all = rivals-all
 
 -- So what is placed has the fewest on steps of all that pass by rules 5 and 6 ..
-pub fewest-of-all-rivals : (f : List ℕ) → All (λ b. b < 256) f → (room : ℕ) → placing f room .number ≡ 0 → (F : File) → encode F ≡ f → (ts : List Tree) → PlacementByRoles F ts
+pub fewest-of-all-rivals : (f : List ℕ) → All (λ b. b < 256) f → (room : ℕ) → placing f room .number ≡ 0 → (F : File) → ReadsAs f F → (ts : List Tree) → PlacementByRoles F ts
     → placing f room .«on_steps» ≤ onStepsOf ts
 fewest-of-all-rivals = fewest-of-all
 
 -- .. "no placement of demand 3's kind with as few on steps holds a role through fewer such nodes" (02, K4) than the file written, those by rules 5 and 6 alone among them, counted by the active set with which a node of
 -- tags 0 to 4 is reached; where on and off were put in by states these are the nodes of such a tag "in a state other than 0" ..
-pub least-idle-of-all-rivals : (f : List ℕ) → All (λ b. b < 256) f → (room : ℕ) → placing f room .number ≡ 0 → (F G : File) → encode F ≡ f → encode G ≡ placedBytes f
+pub least-idle-of-all-rivals : (f : List ℕ) → All (λ b. b < 256) f → (room : ℕ) → placing f room .number ≡ 0 → (F G : File) → ReadsAs f F → encode G ≡ placedBytes f
     → (ts : List Tree) → PlacementByRoles F ts → onStepsOf ts ≤ placing f room .«on_steps» → idleNodesOf (G .sessions) ≤ idleIn F ts
 least-idle-of-all-rivals = least-idle-of-all
 
@@ -263,12 +264,12 @@ idle-by-states = idle-stated
 
 -- .. and "15 is the answer exactly when nothing before it in the order below refuses and there is none of these".
 pub no-role-no-rival : (f : List ℕ) → All (λ b. b < 256) f → (room : ℕ)
-    → ((p : ℕ) × (placing f room ≡ noPlace 15 p)) ↔ (Unrefused f room × ((F : File) → encode F ≡ f → (ts : List Tree) → PlacementByRoles F ts → ⊥))
+    → ((p : ℕ) × (placing f room ≡ noPlace 15 p)) ↔ (Unrefused f room × ((F : File) → ReadsAs f F → (ts : List Tree) → PlacementByRoles F ts → ⊥))
 no-role-no-rival = none-at-all
 
 -- "The states taken have the fewest on steps", then "the fewest nodes of tags 0 to 4 in a state other than 0 .., and only then the smallest list" (02, K4), in node order at the first difference: for every file that nothing
 -- before 15 refuses and that has a placement there is exactly one such list of allowed states, it is the one taken, and the file measured by 16 and the one written have these states.
-pub tie-rule : (f : List ℕ) → All (λ b. b < 256) f → (room : ℕ) → Unrefused f room → (F : File) → encode F ≡ f → (ts : List Tree) → Placement F ts → Ruled f F
+pub tie-rule : (f : List ℕ) → All (λ b. b < 256) f → (room : ℕ) → Unrefused f room → (F : File) → ReadsAs f F → (ts : List Tree) → Placement F ts → Ruled f F
 tie-rule = ruled
 
 -- "16 placing only: the result has over 1,024 nodes (place 0)": exactly when nothing before it refuses, and the file that the tie rule fixes is a placement and has more.
@@ -314,7 +315,7 @@ nothing-written = out-kept
 
 -- A session all of whose sends and receives one role of its user permits has at most one on step in the file written. (Where no one role permits them all, two steps that one role permits may
 -- be cut: {1}, {1, 2}, {2} has the states 1, 1, 2.)
-pub one-role-once : (f : List ℕ) → All (λ b. b < 256) f → (room : ℕ) → placing f room .number ≡ 0 → (F G : File) → encode F ≡ f → encode G ≡ placedBytes f
+pub one-role-once : (f : List ℕ) → All (λ b. b < 256) f → (room : ℕ) → placing f room .number ≡ 0 → (F G : File) → ReadsAs f F → encode G ≡ placedBytes f
     → (k r : ℕ) → InCount (length (F .sessions)) k → Covers F k r → onSteps (session G k .tree) ≤ 1
 one-role-once = one-role-written
 
@@ -643,10 +644,10 @@ pub tables-without-hours : (t : List ℕ) (m : ℕ) (F : File)
     → (length (openFile t m F .users) ≡ length (F .users)) × (openFile t m F .grants ≡ F .grants) × (openFile t m F .kinds ≡ F .kinds) × (openFile t m F .channels ≡ F .channels)
 tables-without-hours t m F = (users-open t m F, refl, refl, refl)
 
--- "Check .. can be called for a minute": nothing is refused exactly where the table is of whole rows, at most 64, and the minute one of the week, where the bytes are the encoding of a well formed file (7 by
+-- "Check .. can be called for a minute": nothing is refused exactly where the table is of whole rows, at most 64, and the minute one of the week, where the bytes read as a well formed file (7 by
 -- the whole masks), every row fits its roles, and the file as it stands at the minute obeys the rules.
 pub checks-at-exactly : (f : List ℕ) → All (λ b. b < 256) f → (t : List ℕ) (m : ℕ)
-    → (checkingAt f t m ≡ fine) ↔ (TableFits t m × ((F : File) × WellFormed F × (encode F ≡ f) × (RowsFit (length (rolesOf (F .grants))) t × Obeys (openFile t m F))))
+    → (checkingAt f t m ≡ fine) ↔ (TableFits t m × ((F : File) × WellFormed F × ReadsAs f F × (RowsFit (length (rolesOf (F .grants))) t × Obeys (openFile t m F))))
 checks-at-exactly f bytes t m = check-at-exact f t m bytes
 
 -- "22 .. directly after 17; 23 .. after 8; 24, on of a closed role, place the node, in the check only, directly after 11": the refusal answered is the first in that order that has its cause, each in the request's own
@@ -655,7 +656,7 @@ pub first-of-check-at : (f t : List ℕ) (m : ℕ) → First (withHours checkOrd
 first-of-check-at = check-at-first
 
 -- "placing, the placements it is compared with, and 15 then count open roles only". Where nothing before 15 refuses, the answer is that for the file as it stands at the minute ..
-pub placed-as-it-stands : (f : List ℕ) → All (λ b. b < 256) f → (t : List ℕ) (m room : ℕ) → UnrefusedAt f t m room → (F : File) → encode F ≡ f
+pub placed-as-it-stands : (f : List ℕ) → All (λ b. b < 256) f → (t : List ℕ) (m room : ℕ) → UnrefusedAt f t m room → (F : File) → ReadsAs f F
     → placingAt f t m room ≡ placing (encode (openFile t m F)) (roomFor (encode (openFile t m F)))
 placed-as-it-stands f bytes t m room u F e = placed-standing f bytes t m F (left-at f bytes t m u F e) u
 
@@ -666,20 +667,20 @@ places-well-at = well-at
 
 -- No placement with open roles only, of those that pass by rules 5 and 6, has fewer on steps, nor, with as few, holds a role through fewer nodes of tags 0 to 4; 15 is the answer exactly where nothing before it refuses and there is none of these (by all rules, and by 5 and 6 alone), and
 -- its place is the lowest send or receive that no open role of the user permits.
-pub fewest-of-open-rivals : (f : List ℕ) → All (λ b. b < 256) f → (t : List ℕ) (m room : ℕ) → placingAt f t m room .number ≡ 0 → (F : File) → encode F ≡ f → (ts : List Tree)
+pub fewest-of-open-rivals : (f : List ℕ) → All (λ b. b < 256) f → (t : List ℕ) (m room : ℕ) → placingAt f t m room .number ≡ 0 → (F : File) → ReadsAs f F → (ts : List Tree)
     → PlacementByRoles (openFile t m F) ts → placingAt f t m room .«on_steps» ≤ onStepsOf ts
 fewest-of-open-rivals = fewest-at
 
-pub least-idle-of-open-rivals : (f : List ℕ) → All (λ b. b < 256) f → (t : List ℕ) (m room : ℕ) → placingAt f t m room .number ≡ 0 → (F G : File) → encode F ≡ f → encode G ≡ placedBytesAt f t m
+pub least-idle-of-open-rivals : (f : List ℕ) → All (λ b. b < 256) f → (t : List ℕ) (m room : ℕ) → placingAt f t m room .number ≡ 0 → (F G : File) → ReadsAs f F → encode G ≡ placedBytesAt f t m
     → (ts : List Tree) → PlacementByRoles (openFile t m F) ts → onStepsOf ts ≤ placingAt f t m room .«on_steps» → idleNodesOf (G .sessions) ≤ idleIn F ts
 least-idle-of-open-rivals = least-idle-at
 
 pub no-open-role-exactly : (f : List ℕ) → All (λ b. b < 256) f → (t : List ℕ) (m room : ℕ)
-    → ((p : ℕ) × (placingAt f t m room ≡ noPlace 15 p)) ↔ (UnrefusedAt f t m room × ((F : File) → encode F ≡ f → (ts : List Tree) → Placement (openFile t m F) ts → ⊥))
+    → ((p : ℕ) × (placingAt f t m room ≡ noPlace 15 p)) ↔ (UnrefusedAt f t m room × ((F : File) → ReadsAs f F → (ts : List Tree) → Placement (openFile t m F) ts → ⊥))
 no-open-role-exactly = fifteen-at
 
 pub no-open-role-no-rival : (f : List ℕ) → All (λ b. b < 256) f → (t : List ℕ) (m room : ℕ)
-    → ((p : ℕ) × (placingAt f t m room ≡ noPlace 15 p)) ↔ (UnrefusedAt f t m room × ((F : File) → encode F ≡ f → (ts : List Tree) → PlacementByRoles (openFile t m F) ts → ⊥))
+    → ((p : ℕ) × (placingAt f t m room ≡ noPlace 15 p)) ↔ (UnrefusedAt f t m room × ((F : File) → ReadsAs f F → (ts : List Tree) → PlacementByRoles (openFile t m F) ts → ⊥))
 no-open-role-no-rival = none-at
 
 pub lowest-unserved-at : (f : List ℕ) → All (λ b. b < 256) f → (t : List ℕ) (m room p : ℕ)
@@ -687,7 +688,7 @@ pub lowest-unserved-at : (f : List ℕ) → All (λ b. b < 256) f → (t : List 
 lowest-unserved-at = fifteen-place-at
 
 -- The tie rule, 16, 17, and that a file is placed in all other cases.
-pub tie-rule-at : (f : List ℕ) → All (λ b. b < 256) f → (t : List ℕ) (m room : ℕ) → UnrefusedAt f t m room → (F : File) → encode F ≡ f → (ts : List Tree) → Placement (openFile t m F) ts → RuledAt f t m F
+pub tie-rule-at : (f : List ℕ) → All (λ b. b < 256) f → (t : List ℕ) (m room : ℕ) → UnrefusedAt f t m room → (F : File) → ReadsAs f F → (ts : List Tree) → Placement (openFile t m F) ts → RuledAt f t m F
 tie-rule-at = ruled-at
 
 pub too-large-at-exactly : (f : List ℕ) → All (λ b. b < 256) f → (t : List ℕ) (m room p : ℕ)
@@ -800,3 +801,53 @@ empty-exactly = empty-round
 -- In literal words: rounds of small states, and of files with all that is answered and written.
 pub rounds-in-words : All RoundShown roundCases
 rounds-in-words = rounds-shown
+
+-- Request K7. "New clinics send zero bytes before their first plan. Zero bytes shall read as the version 1 file with all counts 0": bytes read as a file (`ReadsAs`, in every promise above that speaks of the file that bytes are) where they are its
+-- encoding, or there are none and it is that file, whose encoding has 26 bytes. Bytes read as one file only, whatever they are ..
+pub unplanned-encoded : encode unplanned ≡ 1 ∷ 0 ∷ 0 ∷ 0 ∷ 0 ∷ 0 ∷ 0 ∷ 0 ∷ 0 ∷ 0 ∷ 0 ∷ 0 ∷ 0 ∷ 0 ∷ 13 ∷ 0 ∷ 13 ∷ 0 ∷ 13 ∷ 0 ∷ 13 ∷ 0 ∷ 13 ∷ 0 ∷ 13 ∷ 0 ∷ []
+unplanned-encoded = unplanned-bytes
+
+pub read-as-one : (f : List ℕ) (F G : File) → ReadsAs f F → ReadsAs f G → F ≡ G
+read-as-one = one-read
+
+-- .. and no file is read from two strings of bytes, but that one from zero bytes too.
+pub one-other-string : (f g : List ℕ) (F : File) → ReadsAs f F → ReadsAs g F → f ≢ g → (F ≡ unplanned) × ((f ≡ []) ⊎ (g ≡ []))
+one-other-string = two-read
+
+-- They hold what the file holds that they read as; and zero bytes have every answer of the 26, to every caller.
+pub read-as-held : (F : File) (f : List ℕ) → ReadsAs f F → contentsOf f ≡ contentsFor F
+read-as-held = contents-held
+
+pub zero-bytes-alike : Alike [] (1 ∷ 0 ∷ 0 ∷ 0 ∷ 0 ∷ 0 ∷ 0 ∷ 0 ∷ 0 ∷ 0 ∷ 0 ∷ 0 ∷ 0 ∷ 0 ∷ 13 ∷ 0 ∷ 13 ∷ 0 ∷ 13 ∷ 0 ∷ 13 ∷ 0 ∷ 13 ∷ 0 ∷ 13 ∷ 0 ∷ [])
+zero-bytes-alike = nothing-alike
+
+-- "It passes, places to that 26-byte file with 0 on steps", measured or written, in an output of 6,874 bytes or more; in a shorter one 17 comes first.
+pub zero-bytes-pass : checking [] ≡ record { number = 0; place = 0 }
+zero-bytes-pass = nothing-checked
+
+pub zero-bytes-placed : (measuring [] ≡ record { number = 0; place = 0; length = 26; «on_steps» = 0 })
+    × ((room : ℕ) → 6874 ≤ room → placing [] room ≡ record { number = 0; place = 0; length = 26; «on_steps» = 0 }) × ((room : ℕ) → room < 6874 → placing [] room ≡ noPlace 17 0)
+zero-bytes-placed = (nothing-measured, nothing-placed, nothing-short)
+
+pub zero-bytes-written : (out : List ℕ) → 6874 ≤ length out
+    → placedOver [] out ≡ (1 ∷ 0 ∷ 0 ∷ 0 ∷ 0 ∷ 0 ∷ 0 ∷ 0 ∷ 0 ∷ 0 ∷ 0 ∷ 0 ∷ 0 ∷ 0 ∷ 13 ∷ 0 ∷ 13 ∷ 0 ∷ 13 ∷ 0 ∷ 13 ∷ 0 ∷ 13 ∷ 0 ∷ 13 ∷ 0 ∷ []) ++ drop 26 out
+zero-bytes-written = nothing-over
+
+-- "and runs with no threads": four words of 0, and nothing after them. A lent list of no threads and no made channels has 18 at place 1 for every choice.
+pub zero-bytes-run : (out : List ℕ) → 1800 ≤ length out → (running [] [] (length out) ≡ fine) × (runOver [] [] out ≡ (0 ∷ 0 ∷ 0 ∷ 0 ∷ 0 ∷ 0 ∷ 0 ∷ 0 ∷ []) ++ drop 8 out)
+zero-bytes-run = nothing-run
+
+pub no-thread-to-choose : (l : List Thread) (b : List ℕ) → length l ≡ 64 → length b ≡ 162 → getD b 0 0 ≡ 0 → getD b 1 0 ≡ 0 → take 32 (drop 130 b) ≡ replicate 32 0
+    → (i p : ℕ) → choosing [] l b i p ≡ refused 18 1
+no-thread-to-choose = nothing-chosen
+
+-- "One to 25 bytes still give 1", up to 27 where the first word is 2.
+pub short-refused : (f : List ℕ) → 1 ≤ length f → length f ≤ 25 → (readingNames f ≡ refused 1 0) × (checking f ≡ refused 1 0) × (measuring f ≡ noPlace 1 0)
+short-refused = short-one
+
+pub short-second-refused : (f : List ℕ) → wordAt f 0 ≡ 2 → length f ≤ 27 → (readingNames f ≡ refused 1 0) × (checking f ≡ refused 1 0) × (measuring f ≡ noPlace 1 0)
+short-second-refused = short-second
+
+-- "The empty-input case of 01 is amended so": in literal words.
+pub zero-bytes-cases : All Shown nothingCases
+zero-bytes-cases = unplanned-shown

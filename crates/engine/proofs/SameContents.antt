@@ -10,7 +10,7 @@ use Rattle.checking.proofs.CheckLaws.{names-headed}
 use Rattle.placing.proofs.PlaceLaws.{room-by-word, over-room}
 use Prim.Native.Nat.{ℕ}
 use mathlib.Core.Bool.{Bool, true, false, cond}
-use mathlib.Core.List.{List}
+use mathlib.Core.List.{List, [], _∷_}
 use lib.Dec.{eqb, ltb}
 use lib.ListN.{length}
 use lib.Seq.{sets}
@@ -84,9 +84,13 @@ module _ (f g : List ℕ) (r : reading f ≡ reading g) (c : contentsOf f ≡ co
 
   -- with as much output wanted
   module _ (w : roomFor f ≡ roomFor g) where
-    wanted : (h : List ℕ) → Headed h → ((wordAt h 0 ≡ 1) × (roomFor h ≡ 6874)) ⊎ ((wordAt h 0 ≡ 2) × (roomFor h ≡ 6908))
-    wanted h d = by (d .version)
+    wanted : (h : List ℕ) → Headed h → ((versionAt h ≡ 1) × (roomFor h ≡ 6874)) ⊎ ((versionAt h ≡ 2) × (roomFor h ≡ 6908))
+    wanted [] d = inl (refl, refl)
+    wanted (x ∷ xs) d = by (d .version)
       where
+        h : List ℕ
+        h = x ∷ xs
+
         by : IsVersion (wordAt h 0) → ((wordAt h 0 ≡ 1) × (roomFor h ≡ 6874)) ⊎ ((wordAt h 0 ≡ 2) × (roomFor h ≡ 6908))
         by (inl e) = inl (e, room-by-word h .1 (λ (l, two). omega (arith, e, two)))
         by (inr e) = inr (e, room-by-word h .0 (let l : Laid h (headAt h) = d .laid in omega (arith, l), e))
@@ -94,7 +98,7 @@ module _ (f g : List ℕ) (r : reading f ≡ reading g) (c : contentsOf f ≡ co
     versions : NoRefusal (readingNames g) → versionAt f ≡ versionAt g
     versions q = both (wanted f (names-headed f (subst NoRefusal (sym names) q))) (wanted g (names-headed g q))
       where
-        both : ((wordAt f 0 ≡ 1) × (roomFor f ≡ 6874)) ⊎ ((wordAt f 0 ≡ 2) × (roomFor f ≡ 6908)) → ((wordAt g 0 ≡ 1) × (roomFor g ≡ 6874)) ⊎ ((wordAt g 0 ≡ 2) × (roomFor g ≡ 6908)) → versionAt f ≡ versionAt g
+        both : ((versionAt f ≡ 1) × (roomFor f ≡ 6874)) ⊎ ((versionAt f ≡ 2) × (roomFor f ≡ 6908)) → ((versionAt g ≡ 1) × (roomFor g ≡ 6874)) ⊎ ((versionAt g ≡ 2) × (roomFor g ≡ 6908)) → versionAt f ≡ versionAt g
         both (inl (a, x)) (inl (b, y)) = a ∙ sym b
         both (inr (a, x)) (inr (b, y)) = a ∙ sym b
         both (inl (a, x)) (inr (b, y)) = absurd (omega (arith, x, y, w))

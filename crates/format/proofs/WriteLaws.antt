@@ -76,7 +76,7 @@ bytes-words f p (suc k) b h =
     rw (two, drop-cons f (2 * p) 0 (omega arith), drop-cons f (suc (2 * p)) 0 (omega arith), next, low, high, add-one (2 * p), bytes-words f (suc p) k b (omega arith))
 
 -- all of them, once there was one to read
-pub bytes-all : (l l₀ f : List ℕ) (p q i : ℕ) → p ≤ q → i ≡ 2 * q → 2 * q ≤ length f → (2 * p < i → Bytes f)
+pub bytes-all : (l l₀ f : List ℕ) (p q i : ℕ) → p ≤ q → i ≡ 2 * q → (p < q → 2 * q ≤ length f) → (2 * p < i → Bytes f)
     → sets l i (take (2 * q - i) (drop i f)) ≡ sets l₀ (2 * p) (take (2 * q - 2 * p) (drop (2 * p) f)) → l ≡ sets l₀ (2 * p) (bytesOf (wordsFrom f p (q - p)))
 unfolding bytesOf wordsFrom
 bytes-all l l₀ f p q i h e len b inv = go (q - p) refl
@@ -88,7 +88,7 @@ bytes-all l l₀ f p q i h e len b inv = go (q - p) refl
     go zero c = let w : 2 * q - 2 * p ≡ 0 = omega (arith, c) in rw c (rw (z, w) at inv)
     go (suc k) c =
         let w : 2 * q - 2 * p ≡ 2 * suc k = omega (arith, c) in
-        rw (c, ← bytes-words f p (suc k) (b (omega (arith, c, e))) (omega (arith, c, len))) (rw (z, w) at inv)
+        rw (c, ← bytes-words f p (suc k) (b (omega (arith, c, e))) (omega (arith, c, len (omega (arith, c))))) (rw (z, w) at inv)
 
 -- the words of each table's items, from the place q of the one after i on
 module _ (f : List ℕ) (p : ℕ) where

@@ -55,9 +55,9 @@ pub fn put_head(out: &mut [u8], head: Head)
     put_offsets(out, head.version, at);
 }
 
-// The words between two places, as they are.
+// The words between two places, as they are. Where there are none, the file is not looked at.
 fn put_words(file: &[u8], from: usize, to: usize, out: &mut [u8])
-    requires { ⌜ (from ≤ to) × (2 * to ≤ length (now file)) × (2 * to ≤ length (now out)) ⌝ }
+    requires { ⌜ (from ≤ to) × (from < to → 2 * to ≤ length (now file)) × (2 * to ≤ length (now out)) ⌝ }
     ensures { λ r. ⌜ now (out .exit) ≡ sets (now (out .entry)) (2 * from) (bytesOf (wordsFrom (now (file .entry)) from (to - from))) ⌝ }
 {
     let end = 2 * to;

@@ -3,7 +3,7 @@ use mathlib.Core.Path.{refl}
 use Rattle.masks.specs.Mask.{has, with, without, minus, namesOnly, within}
 use Rattle.format.specs.Words.{bytesOf}
 use Rattle.format.specs.Answers.{firstOf}
-use Rattle.format.specs.Header.{from2, from3, from4, from5, headOf}
+use Rattle.format.specs.Header.{from1, from2, from3, from4, from5, headOf}
 use Rattle.format.specs.Contents.{tabled, item, contentsAt}
 use Rattle.format.specs.Writing.{roleWords, channelWords, sessionWords, nodeWords, tableWords, fileWords, encoded}
 use Rattle.tables.specs.Records.{recordFits, sectionAnswer, recordsAnswer}
@@ -27,6 +27,6 @@ use Rattle.reading_exact.specs.Lists.{All}
 use Rattle.hours_exact.specs.HourCases.{Shown, cases}
 
 pub hours-shown : All Shown cases
-unfolding has with without minus namesOnly within bytesOf firstOf from2 from3 from4 from5 headOf tabled item contentsAt roleWords channelWords sessionWords nodeWords tableWords fileWords encoded recordFits sectionAnswer recordsAnswer following nodeFits shapeFrom roots shapeAnswer reading together effective permits permittingTo named kindOf mine namesFit kindsFit able wrong barred childOf reached openingsFrom firstBy rightly namesAnswer rolesAnswer candidates candidatesIn tableAnswer rowsAnswer rolesOf shut shutAnswer rolesAnswerAt readingAt readingNamesAt checkingAt scan gate suits up rowOf taken rows turnsFrom turnsOf labelled before sizesOf onsOf startsFrom groupsFrom sessionsFrom masksAnswer switchesAnswer unservedFrom placeable judgingAt measuringAt placingAt placedBytesAt
+unfolding has with without minus namesOnly within bytesOf firstOf from1 from2 from3 from4 from5 headOf tabled item contentsAt roleWords channelWords sessionWords nodeWords tableWords fileWords encoded recordFits sectionAnswer recordsAnswer following nodeFits shapeFrom roots shapeAnswer reading together effective permits permittingTo named kindOf mine namesFit kindsFit able wrong barred childOf reached openingsFrom firstBy rightly namesAnswer rolesAnswer candidates candidatesIn tableAnswer rowsAnswer rolesOf shut shutAnswer rolesAnswerAt readingAt readingNamesAt checkingAt scan gate suits up rowOf taken rows turnsFrom turnsOf labelled before sizesOf onsOf startsFrom groupsFrom sessionsFrom masksAnswer switchesAnswer unservedFrom placeable judgingAt measuringAt placingAt placedBytesAt
 hours-shown =
-    (refl, (refl, (refl, (refl, (refl, ((refl, refl), (refl, ((refl, refl), ((refl, refl), (refl, ((refl, refl), (refl, (refl, (refl, (refl, (refl, (refl, (refl, (refl, (refl, (refl, (refl, (refl, (refl, (refl, (refl, tt))))))))))))))))))))))))))
+    (refl, (refl, (refl, (refl, (refl, ((refl, refl), (refl, ((refl, refl), ((refl, refl), (refl, ((refl, refl), (refl, (refl, (refl, (refl, (refl, (refl, (refl, (refl, (refl, (refl, (refl, (refl, (refl, (refl, (refl, (refl, (refl, ((refl, refl), tt)))))))))))))))))))))))))))))

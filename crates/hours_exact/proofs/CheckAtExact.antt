@@ -23,7 +23,7 @@ use Rattle.hours.specs.Hours.{tableAnswer, TableFits, rowsAnswer, shut}
 use Rattle.checking_at.specs.CheckAt.{shutAnswer, rolesAnswerAt, readingAt, readingNamesAt, checkingAt}
 use Rattle.placing_at.proofs.OpenLaws.{open-names}
 use Rattle.reading_exact.specs.Lists.{All}
-use Rattle.reading_exact.specs.File.{rolesOf, File, WellFormed, contentsFor, encode}
+use Rattle.reading_exact.specs.File.{rolesOf, File, WellFormed, contentsFor, encode, ReadsAs}
 use Rattle.reading_exact.proofs.FirstLaws.{number-of, both-zero, both-fine}
 use Rattle.reading_exact.proofs.FirstRefusal.{reading-zero}
 use Rattle.reading_exact.proofs.FileContents.{contents-back}
@@ -95,6 +95,6 @@ module _ (f t : List ℕ) (m : ℕ) where
       )
 
   pub check-at-exact : All (λ b. b < 256) f
-      → (checkingAt f t m ≡ fine) ↔ (TableFits t m × ((F : File) × WellFormed F × (encode F ≡ f) × (RowsFit (length (rolesOf (F .grants))) t × Obeys (openFile t m F))))
+      → (checkingAt f t m ≡ fine) ↔ (TableFits t m × ((F : File) × WellFormed F × ReadsAs f F × (RowsFit (length (rolesOf (F .grants))) t × Obeys (openFile t m F))))
   check-at-exact bytes =
       Iff·trans stages (Iff·and ((λ h. h), (λ h. h)) (read-with Rest (λ F. RowsFit (length (rolesOf (F .grants))) t × Obeys (openFile t m F)) rest-iff f bytes))

@@ -3,7 +3,7 @@ use Prim.Native.Nat.{ℕ, _+_, _*_, _≤_, _<_}
 use mathlib.Core.Path.{_≡_, refl, sym, ap, _∙_, subst}
 use mathlib.Core.Logic.{_↔_, _⊎_, inl, inr, _≢_}
 use mathlib.Core.Bool.{Bool, true, false, cond}
-use mathlib.Core.List.{List, _++_}
+use mathlib.Core.List.{List, [], _∷_, _++_}
 use native.Mathlib.Omega.{arith}
 use lib.Dec.{eqb, ltb}
 use lib.ListN.{length, drop}
@@ -11,8 +11,7 @@ use lib.Seq.{sets-eq}
 use borrow.Author.Tests.{eq-eqb, ne-eqb, lt-ltb, ltb-true, ltb-false}
 use Rattle.format.specs.Contents.{Contents, contentsOf}
 use Rattle.format.specs.Answers.{fine, refused}
-use Rattle.format.specs.Words.{wordAt}
-use Rattle.format.specs.Header.{headAt, Laid, largest, largestFirst, roomFor}
+use Rattle.format.specs.Header.{headAt, versionAt, Laid, largest, largestFirst, roomFor}
 use Rattle.format.specs.declared.Verdict.{Verdict}
 use Rattle.format.proofs.HeadLaws.{Headed}
 use Rattle.checking.specs.Check.{readingNames}
@@ -25,11 +24,11 @@ use Rattle.placing_at.specs.PlaceAt.{openContents, turnsAt, measuringAt, placin
 use Rattle.placing_at.proofs.PlaceAtLaws.{too-small-at, answers-at}
 use Rattle.reading_exact.specs.Lists.{All}
 use Rattle.reading_exact.specs.Tree.{Tree}
-use Rattle.reading_exact.specs.File.{File, encode}
+use Rattle.reading_exact.specs.File.{File, encode, ReadsAs, sent}
 use Rattle.reading_exact.specs.Order.{OfFile, Order, Sooner, First}
 use Rattle.reading_exact.proofs.Turns.{not-of-file}
-use Rattle.reading_exact.proofs.FileContents.{version-back}
-use Rattle.reading_exact.proofs.Exact.{single}
+use Rattle.reading_exact.proofs.FileContents.{version-back, version-read, single}
+use Rattle.reading_exact.proofs.Exact.{one-read}
 use Rattle.reading_exact.proofs.FirstLaws.{number-of, first-zero, first-clear}
 use Rattle.checking_exact.specs.Faults.{Objection, checkOrder}
 use Rattle.checking_exact.specs.Tables.{schemaFor}
@@ -64,8 +63,9 @@ low-stage : (n : ℕ) → OfFile n → o .stage n ≤ 36
 low-stage n h = omega (arith, stage-other placingOrder n (other-file n h), stage-low n h .1)
 
 -- how much output is wanted, by the version
-room-of : (h : List ℕ) → Headed h → roomFor h ≡ cond (eqb (wordAt h 0) 2) largest largestFirst
-room-of h d = let l : Laid h (headAt h) = d .laid in rw (lt-ltb 1 (length h) (omega (arith, l)))
+room-of : (h : List ℕ) → Headed h → roomFor h ≡ cond (eqb (versionAt h) 2) largest largestFirst
+room-of [] d = refl
+room-of (x ∷ xs) d = let l : Laid (x ∷ xs) (headAt (x ∷ xs)) = d .laid in rw (lt-ltb 1 (length (x ∷ xs)) (omega (arith, l)))
 
 module _ (f : List ℕ) (bytes : All (λ b. b < 256) f) (t : List ℕ) (m room : ℕ) where
   abbrev answer : Placed
@@ -135,7 +135,7 @@ module _ (f : List ℕ) (bytes : All (λ b. b < 256) f) (t : List ℕ) (m room :
   unrefused-placed : answer .number ≡ 0 → UnrefusedAt f t m room
   unrefused-placed z = unrefused-by (λ k q c. absurd (first-zero o (CauseAt f t m room) (refusalIn answer) cause-number (place-at-first f bytes t m room) z .1 k q c))
 
-  some-file : UnrefusedAt f t m room → (F : File) × (encode F ≡ f)
+  some-file : UnrefusedAt f t m room → (F : File) × ReadsAs f F
   some-file u = let (F, W, e, N) = names-exact f bytes .0 (u .names) in (F, e)
 
   -- 17: output under 6,874 bytes, or 6,908 where the first word is 2
@@ -153,7 +153,7 @@ module _ (f : List ℕ) (bytes : All (λ b. b < 256) f) (t : List ℕ) (m room :
       of (too-large a b h) = absurd (omega (arith, a))
 
   -- a file as it stands at the minute, where nothing before 15 refuses
-  module _ (u : UnrefusedAt f t m room) (F : File) (e : encode F ≡ f) where
+  module _ (u : UnrefusedAt f t m room) (F : File) (e : ReadsAs f F) where
     abbrev G : File
     G = openFile t m F
 
@@ -173,28 +173,28 @@ module _ (f : List ℕ) (bytes : All (λ b. b < 256) f) (t : List ℕ) (m room :
     clear = standing-unrefused f bytes t m F l
 
   -- 15: there is no placement with the open roles
-  pub fifteen-at : ((p : ℕ) × (placingAt f t m room ≡ noPlace 15 p)) ↔ (UnrefusedAt f t m room × ((F : File) → encode F ≡ f → (ts : List Tree) → Placement (openFile t m F) ts → ⊥))
+  pub fifteen-at : ((p : ℕ) × (placingAt f t m room ≡ noPlace 15 p)) ↔ (UnrefusedAt f t m room × ((F : File) → ReadsAs f F → (ts : List Tree) → Placement (openFile t m F) ts → ⊥))
   fifteen-at = (
     λ (p, h).
         let u = unrefused-late 15 p (omega arith) (omega arith) h in
-        (u, λ F e ts P. fifteen-exactly (g u F e) (gbytes u F e) (roomFor (g u F e)) .0 (p, sym (same u F e) ∙ h) .1 (openFile t m F) refl ts P),
+        (u, λ F e ts P. fifteen-exactly (g u F e) (gbytes u F e) (roomFor (g u F e)) .0 (p, sym (same u F e) ∙ h) .1 (openFile t m F) (sent refl) ts P),
     λ (u, none).
         let (F, e) = some-file u in
-        let no : NoPlacement (g u F e) = λ X i ts P. none F e ts (subst (λ (Y : File). Placement Y ts) (single X (openFile t m F) i) P) in
+        let no : NoPlacement (g u F e) = λ X i ts P. none F e ts (subst (λ (Y : File). Placement Y ts) (one-read (g u F e) X (openFile t m F) i (sent refl)) P) in
         let (p, h) = fifteen-exactly (g u F e) (gbytes u F e) (roomFor (g u F e)) .1 (clear u F e, no) in
         (p, same u F e ∙ h),
   )
 
   -- of any rivals by rules 5 and 6
-  pub none-at : ((p : ℕ) × (placingAt f t m room ≡ noPlace 15 p)) ↔ (UnrefusedAt f t m room × ((F : File) → encode F ≡ f → (ts : List Tree) → PlacementByRoles (openFile t m F) ts → ⊥))
+  pub none-at : ((p : ℕ) × (placingAt f t m room ≡ noPlace 15 p)) ↔ (UnrefusedAt f t m room × ((F : File) → ReadsAs f F → (ts : List Tree) → PlacementByRoles (openFile t m F) ts → ⊥))
   none-at = (
     λ (p, h).
         let u = unrefused-late 15 p (omega arith) (omega arith) h in
-        (u, λ F e ts P. none-at-all (g u F e) (gbytes u F e) (roomFor (g u F e)) .0 (p, sym (same u F e) ∙ h) .1 (openFile t m F) refl ts P),
+        (u, λ F e ts P. none-at-all (g u F e) (gbytes u F e) (roomFor (g u F e)) .0 (p, sym (same u F e) ∙ h) .1 (openFile t m F) (sent refl) ts P),
     λ (u, none).
         let (F, e) = some-file u in
         let (p, h) = none-at-all (g u F e) (gbytes u F e) (roomFor (g u F e)) .1
-        (clear u F e, λ X i ts P. none F e ts (subst (λ (Y : File). PlacementByRoles Y ts) (single X (openFile t m F) i) P)) in
+        (clear u F e, λ X i ts P. none F e ts (subst (λ (Y : File). PlacementByRoles Y ts) (one-read (g u F e) X (openFile t m F) i (sent refl)) P)) in
         (p, same u F e ∙ h),
   )
 
@@ -212,8 +212,8 @@ module _ (f : List ℕ) (bytes : All (λ b. b < 256) f) (t : List ℕ) (m room :
   )
 
   -- the size of what the tie rule fixes of the file as it stands
-  standing-size : (Size : ℕ → Type 0) → Standing (PlacedWith Size) f t m → (F : File) → encode F ≡ f → PlacedWith Size (encode (openFile t m F))
-  standing-size Size (X, i, h) F e = subst (λ (Y : File). PlacedWith Size (encode (openFile t m Y))) (single X F (i ∙ sym e)) h
+  standing-size : (Size : ℕ → Type 0) → Standing (PlacedWith Size) f t m → (F : File) → ReadsAs f F → PlacedWith Size (encode (openFile t m F))
+  standing-size Size (X, i, h) F e = subst (λ (Y : File). PlacedWith Size (encode (openFile t m Y))) (one-read f X F i e) h
 
   -- 16, at place 0
   pub sixteen-at : (p : ℕ) → (placingAt f t m room ≡ noPlace 16 p) ↔ ((p ≡ 0) × UnrefusedAt f t m room × Standing (PlacedWith (λ n. 1024 < n)) f t m)
@@ -242,9 +242,9 @@ module _ (f : List ℕ) (bytes : All (λ b. b < 256) f) (t : List ℕ) (m room :
   )
 
   -- the tie rule
-  pub ruled-at : UnrefusedAt f t m room → (F : File) → encode F ≡ f → (ts : List Tree) → Placement (openFile t m F) ts → RuledAt f t m F
+  pub ruled-at : UnrefusedAt f t m room → (F : File) → ReadsAs f F → (ts : List Tree) → Placement (openFile t m F) ts → RuledAt f t m F
   ruled-at u F e ts P =
-      let rule = ruled (g u F e) (gbytes u F e) (roomFor (g u F e)) (clear u F e) (openFile t m F) refl ts P in
+      let rule = ruled (g u F e) (gbytes u F e) (roomFor (g u F e)) (clear u F e) (openFile t m F) (sent refl) ts P in
       let r = ready-open t m F (l u F e .ready) in
       let D = schemaFor (openFile t m F) in
       let fixed = taking-fixed (openFile t m F) (r .formed) (r .named) (r .bare) (placement-served (openFile t m F) (r .formed) (r .named) (r .bare) ts P) in
@@ -264,25 +264,25 @@ module _ (f : List ℕ) (bytes : All (λ b. b < 256) f) (t : List ℕ) (m room :
         well-placed-at f bytes t m F (l u F e) u placed
 
     -- no rival with the open roles has fewer on steps
-    pub fewest-at : (F : File) → encode F ≡ f → (ts : List Tree) → PlacementByRoles (openFile t m F) ts → placingAt f t m room .«on_steps» ≤ onStepsOf ts
+    pub fewest-at : (F : File) → ReadsAs f F → (ts : List Tree) → PlacementByRoles (openFile t m F) ts → placingAt f t m room .«on_steps» ≤ onStepsOf ts
     fewest-at F e ts P =
         let u = unrefused-placed placed in
         let there = sym (ap (λ (a : Placed). a .number) (same u F e)) ∙ placed in
-        omega (arith, ap (λ (a : Placed). a .«on_steps») (same u F e), fewest-of-all (g u F e) (gbytes u F e) (roomFor (g u F e)) there (openFile t m F) refl ts P)
+        omega (arith, ap (λ (a : Placed). a .«on_steps») (same u F e), fewest-of-all (g u F e) (gbytes u F e) (roomFor (g u F e)) there (openFile t m F) (sent refl) ts P)
 
     -- nor one with as few holds a role through fewer nodes of tags 0 to 4
-    pub least-idle-at : (F H : File) → encode F ≡ f → encode H ≡ placedBytesAt f t m → (ts : List Tree) → PlacementByRoles (openFile t m F) ts → onStepsOf ts ≤ placingAt f t m room .«on_steps»
+    pub least-idle-at : (F H : File) → ReadsAs f F → encode H ≡ placedBytesAt f t m → (ts : List Tree) → PlacementByRoles (openFile t m F) ts → onStepsOf ts ≤ placingAt f t m room .«on_steps»
         → idleNodesOf (H .sessions) ≤ idleIn F ts
     least-idle-at F H e w ts P few =
         let u = unrefused-placed placed in
         let there = sym (ap (λ (a : Placed). a .number) (same u F e)) ∙ placed in
         let trees : List Tree = placedTrees (schemaFor (openFile t m F)) (F .sessions) in
-        let written = sym (placed-written (g u F e) (gbytes u F e) (roomFor (g u F e)) there (openFile t m F) refl) in
+        let written = sym (placed-written (g u F e) (gbytes u F e) (roomFor (g u F e)) there (openFile t m F) (sent refl)) in
         let fewer : onStepsOf ts ≤ placing (g u F e) (roomFor (g u F e)) .«on_steps» = omega (arith, few, ap (λ (a : Placed). a .«on_steps») (same u F e)) in
         let is : H ≡ graft F trees = single H (graft F trees) (w ∙ written-at f bytes t m F (l u F e)) in
         omega (
           arith,
-          least-idle-of-all (g u F e) (gbytes u F e) (roomFor (g u F e)) there (openFile t m F) (graft (openFile t m F) trees) refl written ts P fewer,
+          least-idle-of-all (g u F e) (gbytes u F e) (roomFor (g u F e)) there (openFile t m F) (graft (openFile t m F) trees) (sent refl) written ts P fewer,
           ap (λ (X : File). idleNodesOf (X .sessions)) is,
         )
 
@@ -291,7 +291,7 @@ module _ (f : List ℕ) (bytes : All (λ b. b < 256) f) (t : List ℕ) (m room :
     fits-at =
         let u = unrefused-placed placed in
         let (F, e) = some-file u in
-        let version : wordAt (g u F e) 0 ≡ wordAt f 0 = version-back (openFile t m F) ∙ sym (version-back F) ∙ ap (λ (h : List ℕ). wordAt h 0) e in
+        let version : versionAt (g u F e) ≡ versionAt f = version-back (openFile t m F) ∙ sym (version-read F f e) in
         let there = names-headed (g u F e) (number-of (clear u F e .names)) in
         let wanted = room-of (g u F e) there ∙ ap (λ (v : ℕ). cond (eqb v 2) largest largestFirst) version ∙ sym (room-of f (names-headed f (number-of (u .names)))) in
         omega (arith, well-at .sized, ap (λ (a : Placed). a .length) (same u F e), length-within (g u F e) (roomFor (g u F e)), wanted, u .wide)

@@ -22,7 +22,7 @@ use Rattle.reading_exact.specs.Lists.{All}
 use Rattle.reading_exact.specs.File.{File, InCount, encode}
 use Rattle.reading_exact.specs.Order.{OfFile, Order, Sooner, First}
 use Rattle.reading_exact.specs.Refusals.{nth, Refusable}
-use Rattle.reading_exact.proofs.Exact.{single}
+use Rattle.reading_exact.proofs.Exact.{one-read}
 use Rattle.reading_exact.proofs.FirstLaws.{Both, lowest, first-raise, first-zero, first-clear, first-map, first-or}
 use Rattle.reading_exact.proofs.FirstRefusal.{refusable-turn}
 use Rattle.reading_exact.proofs.Turns.{of-file-turn, turn-of-file}
@@ -144,7 +144,7 @@ module _ (f : List ℕ) (bytes : All (λ b. b < 256) f) (t : List ℕ) (m : ℕ)
 
       from : (F : File) → Left f bytes t m F → (n p : ℕ) → Settling n p → There F n p
       from F l n p (inl (a, h)) = inl (a, subst (λ (X : Contents). Unserved X p) (sym (standing-held f bytes t m F l)) h)
-      from F l n p (inr (a, (z, (X, e, h)))) = inr (a, (z, subst (λ (Y : File). PlacedWith (λ k. 1024 < k) (encode (openFile t m Y))) (single X F (e ∙ sym (l .reads))) h))
+      from F l n p (inr (a, (z, (X, e, h)))) = inr (a, (z, subst (λ (Y : File). PlacedWith (λ k. 1024 < k) (encode (openFile t m Y))) (one-read f X F e (l .reads)) h))
 
   -- the stages
   bared-number : (n p : ℕ) → Bared n p → n ≡ 14

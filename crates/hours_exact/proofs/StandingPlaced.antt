@@ -29,13 +29,13 @@ use Rattle.placing_at.proofs.OpenLaws.{get-minus}
 use Rattle.placing_at.proofs.PlaceAtLaws.{answers-at}
 use Rattle.reading_exact.specs.Lists.{All}
 use Rattle.reading_exact.specs.Tree.{Tree}
-use Rattle.reading_exact.specs.File.{versionOf, rolesOf, Routine, File, WellFormed, InCount, nodesOf, contentsFor, encode}
+use Rattle.reading_exact.specs.File.{versionOf, rolesOf, Routine, File, WellFormed, InCount, nodesOf, contentsFor, encode, ReadsAs, sent}
 use Rattle.reading_exact.proofs.AllLaws.{all-map}
 use Rattle.reading_exact.proofs.FirstLaws.{number-of}
 use Rattle.reading_exact.proofs.EncodedBytes.{encode-bytes}
-use Rattle.reading_exact.proofs.Exact.{single}
+use Rattle.reading_exact.proofs.Exact.{one-read}
 use Rattle.reading_exact.proofs.Places.{length-encoded}
-use Rattle.reading_exact.proofs.FileContents.{version-back, formed-by, contents-back, contents-held}
+use Rattle.reading_exact.proofs.FileContents.{version-back, version-read, formed-by, contents-back, contents-held}
 use Rattle.checking_exact.specs.Tables.{schemaFor}
 use Rattle.checking_exact.specs.Typing.{Obeys}
 use Rattle.checking_exact.proofs.CheckExact.{names-exact}
@@ -107,16 +107,16 @@ withUsers us C = record { users = us; roles = C .roles; juniors = C .juniors; ki
 module _ (f : List ℕ) (bytes : All (λ b. b < 256) f) (t : List ℕ) (m : ℕ) where
   -- what 1 to 10 and 14 leave of a file
   pub record Left (F : File) : Type 0 where
-    pub reads : encode F ≡ f
+    pub reads : ReadsAs f F
     pub ready : Ready F
 
-  pub left : Unrefused f (roomFor f) → (F : File) → encode F ≡ f → Left F
+  pub left : Unrefused f (roomFor f) → (F : File) → ReadsAs f F → Left F
   left u F e =
       let (_, (G, e′, B)) = bare-exactly f bytes (roomFor f) .0 u in
       let (W, N) = named-file f bytes (u .names) F e in
-      record { reads = e; ready = record { formed = W; named = N; bare = subst Bare (single G F (e′ ∙ sym e)) B } }
+      record { reads = e; ready = record { formed = W; named = N; bare = subst Bare (one-read f G F e′ e) B } }
 
-  pub left-at : {room : ℕ} → UnrefusedAt f t m room → (F : File) → encode F ≡ f → Left F
+  pub left-at : {room : ℕ} → UnrefusedAt f t m room → (F : File) → ReadsAs f F → Left F
   left-at u F e = left (record { wide = omega arith; names = u .names; masks = u .masks; switches = u .switches }) F e
 
   module _ (F : File) (l : Left F) where
@@ -137,13 +137,13 @@ module _ (f : List ℕ) (bytes : All (λ b. b < 256) f) (t : List ℕ) (m : ℕ)
     standing-bytes = encode-bytes G (stood .formed)
 
     pub standing-names : readingNames (encode (openFile t m F)) ≡ fine
-    standing-names = names-exact g standing-bytes .1 (G, stood .formed, refl, stood .named)
+    standing-names = names-exact g standing-bytes .1 (G, stood .formed, sent refl, stood .named)
 
     pub standing-unrefused : Unrefused (encode (openFile t m F)) (roomFor (encode (openFile t m F)))
-    standing-unrefused = bare-exactly g standing-bytes (roomFor g) .1 (record { wide = omega arith; names = standing-names }, (G, refl, stood .bare))
+    standing-unrefused = bare-exactly g standing-bytes (roomFor g) .1 (record { wide = omega arith; names = standing-names }, (G, sent refl, stood .bare))
 
     read-version : versionAt f ≡ versionOf (F .grants)
-    read-version = ap versionAt (sym (l .reads)) ∙ version-back F
+    read-version = version-read F f (l .reads)
 
     -- it is answered alike
     answered : placing g (roomFor g) ≡ answerBy (versionAt f) (openContents (shut t m) (contentsOf f)) (turnsAt f t m) (placeable (openContents (shut t m) (contentsOf f)))
@@ -186,12 +186,12 @@ module _ (f : List ℕ) (bytes : All (λ b. b < 256) f) (t : List ℕ) (m : ℕ)
       well = placed-well g standing-bytes (roomFor g) there
 
       in-bytes : placedBytes g ≡ encode (graft G trees)
-      in-bytes = placed-written g standing-bytes (roomFor g) there G refl
+      in-bytes = placed-written g standing-bytes (roomFor g) there G (sent refl)
 
       served : (servedAll (schemaFor G) (G .sessions) ≡ true) × (length (nodesOf (placedFile G)) ≤ 1024)
       served =
           let (X, e, _, s, few) = found g standing-bytes (roomFor g) there in
-          subst (λ (Y : File). (servedAll (schemaFor Y) (Y .sessions) ≡ true) × (length (nodesOf (placedFile Y)) ≤ 1024)) (single X G e) (s, few)
+          subst (λ (Y : File). (servedAll (schemaFor Y) (Y .sessions) ≡ true) × (length (nodesOf (placedFile Y)) ≤ 1024)) (one-read g X G e (sent refl)) (s, few)
 
       good : Placement G trees
       good = placed-good G (stood .formed) (stood .named) (stood .bare) (served .0)
@@ -202,7 +202,7 @@ module _ (f : List ℕ) (bytes : All (λ b. b < 256) f) (t : List ℕ) (m : ℕ)
       passes : checkingAt (encode H) t m ≡ fine
       passes =
           let rows = subst (λ (C : Contents). RowsFit (length (C .roles)) t) (contents-held F f (l .reads)) (u .rows) in
-          check-at-exact (encode H) t m (encode-bytes H formed) .1 (u .table, (H, formed, refl, (rows, good .passes)))
+          check-at-exact (encode H) t m (encode-bytes H formed) .1 (u .table, (H, formed, sent refl, (rows, good .passes)))
 
       as-long : length (encode (graft G trees)) ≡ length (encode H)
       unfolding encode

@@ -82,7 +82,7 @@ cases =
     ∷ checks (file 3 0 4 (7 ∷ 2 ∷ 0 ∷ 8 ∷ 2 ∷ 0 ∷ 6 ∷ 257 ∷ 2 ∷ 0 ∷ 0 ∷ 0 ∷ [])) weekdays 0 (refused 24 1)
     -- 22: a minute past the week, a torn row; 22 before the file, after 17's turn
     ∷ checks booking weekdays 10080 (refused 22 0)
-    ∷ checks [] (2 ∷ 420 ∷ []) 0 (refused 22 0)
+    ∷ checks (1 ∷ []) (2 ∷ 420 ∷ []) 0 (refused 22 0)
     ∷ refuses booking weekdays 10080 22 0
     -- 23: no such role, first not below end, end above 10,080, which 10,080 is not
     ∷ checks booking (2 ∷ 420 ∷ 900 ∷ 3 ∷ 0 ∷ 1 ∷ []) 0 (refused 23 2)
@@ -92,4 +92,8 @@ cases =
     -- 8 before 23, 23 before 9
     ∷ checks (file 3 0 1 (9 ∷ 0 ∷ 0 ∷ [])) (3 ∷ 0 ∷ 1 ∷ []) 0 (refused 8 1)
     ∷ checks (file 3 0 2 (7 ∷ 3 ∷ 0 ∷ 0 ∷ 0 ∷ 0 ∷ [])) (3 ∷ 0 ∷ 1 ∷ []) 0 (refused 23 1)
+    -- zero bytes: no role is there
+    ∷ checks [] [] 10079 fine
+    ∷ checks [] (1 ∷ 0 ∷ 1 ∷ []) 0 (refused 23 1)
+    ∷ places [] [] 0 (1 ∷ 0 ∷ 0 ∷ 0 ∷ 0 ∷ 0 ∷ 0 ∷ 13 ∷ 13 ∷ 13 ∷ 13 ∷ 13 ∷ 13 ∷ []) 0
     ∷ []

@@ -13,7 +13,7 @@ use Rattle.placing.specs.declared.Placed.{Placed}
 use Rattle.placing.specs.Placing.{turnsFor}
 use Rattle.placing_at.specs.PlaceAt.{openContents, turnsAt, placedBytesAt}
 use Rattle.reading_exact.specs.Tree.{Tree}
-use Rattle.reading_exact.specs.File.{File, WellFormed, encode}
+use Rattle.reading_exact.specs.File.{File, WellFormed, encode, ReadsAs}
 use Rattle.reading_exact.specs.Order.{OfFile}
 use Rattle.checking_exact.specs.Tables.{schemaFor}
 use Rattle.checking_exact.specs.Faults.{Objection}
@@ -29,7 +29,7 @@ use Rattle.hours_exact.specs.HourFaults.{TableFault, RowFault}
 pub record WellPlacedAt (f t : List ℕ) (m : ℕ) (a : Placed) (g : List ℕ) : Type 0 where
   pub file : File
   pub formed : WellFormed file
-  pub reads : encode file ≡ f
+  pub reads : ReadsAs f file
   pub trees : List Tree
   -- the trees are those of the file as it stands at the minute, well placed: a placement of it with the fewest on steps of all, by the tie rule
   pub stands : WellPlaced (encode (openFile t m file)) a (encode (graft (openFile t m file) trees))
@@ -53,7 +53,7 @@ pub record UnrefusedAt (f t : List ℕ) (m room : ℕ) : Type 0 where
 
 -- of the bytes of the file as it stands at the minute
 abbrev pub Standing : (List ℕ → Type 0) → List ℕ → List ℕ → ℕ → Type 0
-Standing P f t m = (F : File) × (encode F ≡ f) × P (encode (openFile t m F))
+Standing P f t m = (F : File) × ReadsAs f F × P (encode (openFile t m F))
 
 -- a refusal's number and place have their cause in a file, a table of hours, a minute and the room for the output
 pub data CauseAt (f t : List ℕ) (m room n p : ℕ) : Type 0 where

@@ -7,7 +7,7 @@ use Rattle.reading_exact.specs.Lists.{All}
 use Rattle.masks.specs.Mask.{has, with, namesOnly, within}
 use Rattle.format.specs.Words.{bytesOf}
 use Rattle.format.specs.Answers.{fine, refused, firstOf}
-use Rattle.format.specs.Header.{from2, from3, from4, from5, headOf}
+use Rattle.format.specs.Header.{from1, from2, from3, from4, from5, headOf}
 use Rattle.format.specs.Contents.{tabled, item, contentsAt}
 use Rattle.format.specs.declared.Verdict.{Verdict}
 use Rattle.tables.specs.Records.{recordFits, sectionAnswer, recordsAnswer}
@@ -110,9 +110,12 @@ lentCases =
     ∷ refusing make (two (at 1 2 0 385) (at 9 9 9 9)) (1 ∷ 1 ∷ 1 ∷ 2 ∷ replicate 126 7 ++ waitingOne 0) 1 0 (refused 18 0)
     ∷ refusing make (two (at 1 2 0 386) (at 9 9 9 9)) (1 ∷ 1 ∷ 1 ∷ 1 ∷ replicate 126 7 ++ waitingOne 0) 1 0 (refused 18 0)
     -- what is no file is refused first
-    ∷ refusing [] [] [] 1 0 (refused 1 0)
+    ∷ refusing (1 ∷ []) [] [] 1 0 (refused 1 0)
+    -- zero bytes: nothing but no thread and no made channel may be lent, and no choice can be done
+    ∷ refusing [] (two (at 9 9 9 9) (at 9 9 9 9)) (counts 0 0 0) 1 0 (refused 18 1)
+    ∷ refusing [] (two (at 9 9 9 9) (at 9 9 9 9)) (counts 1 0 0) 1 0 (refused 18 0)
     ∷ []
 
 pub lent-cases : All LentShown lentCases
-unfolding has with namesOnly within bytesOf firstOf from2 from3 from4 from5 headOf tabled item contentsAt recordFits sectionAnswer recordsAnswer following nodeFits shapeFrom roots shapeAnswer reading together effective permits permittingTo named kindOf mine namesFit kindsFit able wrong childOf reached openingsFrom firstBy namesAnswer readingNames value firstFree kindHeld meeting sending lone aloneOnly acting done outcome choice madeIn madeWords isValue varsFit threadFits madeFits every mayBeLent lending choosing recordsOver besideOver same waiting waitingFrom scopeFrom bindScope scopeOf marked nodeScope scopesIn rightly
-lent-cases = ((refl, refl, refl), ((refl, refl, refl), ((refl, refl, refl), ((refl, refl, refl), ((refl, refl, refl), ((refl, refl, refl), ((refl, refl, refl), ((refl, refl, refl), ((refl, refl, refl), ((refl, refl, refl), ((refl, refl, refl), ((refl, refl, refl), ((refl, refl, refl), ((refl, refl, refl), ((refl, refl, refl), ((refl, refl, refl), ((refl, refl, refl), ((refl, refl, refl), ((refl, refl, refl), ((refl, refl, refl), tt))))))))))))))))))))
+unfolding has with namesOnly within bytesOf firstOf from1 from2 from3 from4 from5 headOf tabled item contentsAt recordFits sectionAnswer recordsAnswer following nodeFits shapeFrom roots shapeAnswer reading together effective permits permittingTo named kindOf mine namesFit kindsFit able wrong childOf reached openingsFrom firstBy namesAnswer readingNames value firstFree kindHeld meeting sending lone aloneOnly acting done outcome choice madeIn madeWords isValue varsFit threadFits madeFits every mayBeLent lending choosing recordsOver besideOver same waiting waitingFrom scopeFrom bindScope scopeOf marked nodeScope scopesIn rightly
+lent-cases = ((refl, refl, refl), ((refl, refl, refl), ((refl, refl, refl), ((refl, refl, refl), ((refl, refl, refl), ((refl, refl, refl), ((refl, refl, refl), ((refl, refl, refl), ((refl, refl, refl), ((refl, refl, refl), ((refl, refl, refl), ((refl, refl, refl), ((refl, refl, refl), ((refl, refl, refl), ((refl, refl, refl), ((refl, refl, refl), ((refl, refl, refl), ((refl, refl, refl), ((refl, refl, refl), ((refl, refl, refl), ((refl, refl, refl), ((refl, refl, refl), tt))))))))))))))))))))))

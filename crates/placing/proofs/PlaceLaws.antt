@@ -1,7 +1,7 @@
 -- Placing, whole, from what is decided.
 use Prim.Native.Nat.{ℕ, _+_, _*_, _≤_, _<_}
 use mathlib.Core.Path.{_≡_, refl, sym, ap, ap₂, subst, _∙_}
-use mathlib.Core.List.{List}
+use mathlib.Core.List.{List, [], _∷_}
 use mathlib.Core.Bool.{Bool, true, false, cond, _&&_}
 use native.Mathlib.Omega.{arith}
 use lib.Dec.{eqb, ltb}
@@ -69,8 +69,12 @@ room-by-word f = (
 
 -- the output that a file's version wants has room for every file of that version with its tables
 pub room-enough : (f : List ℕ) (n : ℕ) → Headed f → n ≤ 1024 → lengthFor (headAt f .at .nodes) n ≤ roomFor f
-room-enough f n d few = go (eqb (wordAt f 0) 2) refl
+room-enough [] n d few = omega (arith, few)
+room-enough (x ∷ xs) n d few = go (eqb (wordAt f 0) 2) refl
   where
+    f : List ℕ
+    f = x ∷ xs
+
     l : Laid f (headAt f)
     l = d .laid
 
@@ -145,7 +149,7 @@ module _ (f : List ℕ) where
 
   pub measuring-refused : (v : Verdict) → judging f ≡ v → (NoRefusal v → ⊥) → measuring f ≡ noPlace (v .number) (v .place)
   unfolding measuring
-  measuring-refused v e l = ap (placedAnswer (wordAt f 0) (contentsOf f)) e ∙ rw (ne-eqb (v .number) 0 l)
+  measuring-refused v e l = ap (placedAnswer (versionAt f) (contentsOf f)) e ∙ rw (ne-eqb (v .number) 0 l)
 
   pub placing-refused : (room : ℕ) (v : Verdict) → roomFor f ≤ room → judging f ≡ v → (NoRefusal v → ⊥) → placing f room ≡ noPlace (v .number) (v .place)
   placing-refused room v h e l = answers room h ∙ measuring-refused v e l
@@ -285,7 +289,7 @@ length-within f room = go (ltb room (roomFor f)) refl (eqb (judging f .number) 0
         let quiet : NoRefusal (judging f) = eqb-true (judging f .number) 0 j in
         let (names, rest) = both-quiet NoRefusal (readingNames f) (placeable (contentsOf f)) (λ z. z) .0 quiet in
         let headed : Headed f = names-headed f names in
-        let size : placing f room .length ≡ 2 * (headFor (wordAt f 0) (contentsOf f) .at .nodes + 3 * sizesOf (turnsFor (contentsOf f))) =
+        let size : placing f room .length ≡ 2 * (headFor (versionAt f) (contentsOf f) .at .nodes + 3 * sizesOf (turnsFor (contentsOf f))) =
         ap (λ (a : Placed). a .length) (placing-placed f room (ltb-false room (roomFor f) r) quiet) in
         omega (arith, size, nodes-begin f (headAt f) (headed .laid), room-enough f (sizesOf (turnsFor (contentsOf f))) headed (few-nodes (contentsOf f) (labelsIn (contentsOf f)) rest))
 

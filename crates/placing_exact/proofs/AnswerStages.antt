@@ -9,7 +9,6 @@ use lib.Dec.{eqb, leb, ltb}
 use lib.ListN.{length}
 use borrow.Author.Tests.{eqb-true, eqb-false, eq-eqb, ne-eqb, leb-true, leb-false, ltb-true, ltb-false, lt-ltb, le-ltb}
 use Rattle.format.specs.Contents.{Contents, contentsOf}
-use Rattle.format.specs.Words.{wordAt}
 use Rattle.format.specs.Answers.{fine, refused, orElse}
 use Rattle.format.specs.Header.{versionAt, roomFor}
 use Rattle.format.specs.declared.Verdict.{Verdict}
@@ -188,7 +187,7 @@ module _ (f : List ℕ) (room : ℕ) where
   room-stage = (to (ltb room (roomFor f)) refl (eqb (judging f .number) 0) refl, λ l. rw (lt-ltb room (roomFor f) l))
     where
       to : (b : Bool) → ltb room (roomFor f) ≡ b → (c : Bool) → eqb (judging f .number) 0 ≡ c
-          → cond b (noPlace 17 0) (cond c (placedIn (wordAt f 0) C) (noPlace (judging f .number) (judging f .place))) ≡ noPlace 17 0
+          → cond b (noPlace 17 0) (cond c (placedIn (versionAt f) C) (noPlace (judging f .number) (judging f .place))) ≡ noPlace 17 0
           → room < roomFor f
       to true e c k h = ltb-true room (roomFor f) e
       to false e true k h = absurd (omega (arith, ap (λ (x : Placed). x .number) h))
@@ -199,13 +198,13 @@ module _ (f : List ℕ) (room : ℕ) where
   placed-zero = (to (ltb room (roomFor f)) refl (eqb (judging f .number) 0) refl, λ (l, q). rw (le-ltb room (roomFor f) l, eq-eqb (judging f .number) 0 q))
     where
       to : (b : Bool) → ltb room (roomFor f) ≡ b → (c : Bool) → eqb (judging f .number) 0 ≡ c
-          → cond b (noPlace 17 0) (cond c (placedIn (wordAt f 0) C) (noPlace (judging f .number) (judging f .place))) .number ≡ 0
+          → cond b (noPlace 17 0) (cond c (placedIn (versionAt f) C) (noPlace (judging f .number) (judging f .place))) .number ≡ 0
           → (roomFor f ≤ room) × (judging f .number ≡ 0)
       to true e c k h = absurd (omega arith)
       to false e true k h = (ltb-false room (roomFor f) e, eqb-true (judging f .number) 0 k)
       to false e false k h = absurd (eqb-false (judging f .number) 0 k h)
 
-  pub placed-answer : placing f room .number ≡ 0 → placing f room ≡ placedIn (wordAt f 0) C
+  pub placed-answer : placing f room .number ≡ 0 → placing f room ≡ placedIn (versionAt f) C
   unfolding placing measuring
   placed-answer h = let (l, q) = placed-zero .0 h in rw (le-ltb room (roomFor f) l, eq-eqb (judging f .number) 0 q)
 
@@ -217,7 +216,7 @@ module _ (f : List ℕ) (room : ℕ) where
   )
     where
       to : (b : Bool) → ltb room (roomFor f) ≡ b → (c : Bool) → eqb (judging f .number) 0 ≡ c
-          → cond b (noPlace 17 0) (cond c (placedIn (wordAt f 0) C) (noPlace (judging f .number) (judging f .place))) ≡ noPlace n p
+          → cond b (noPlace 17 0) (cond c (placedIn (versionAt f) C) (noPlace (judging f .number) (judging f .place))) ≡ noPlace n p
           → (roomFor f ≤ room) × (judging f ≡ refused n p)
       to true e c z h = absurd (other (sym (ap (λ (x : Placed). x .number) h)))
       to false e true z h = absurd (omega (arith, ap (λ (x : Placed). x .number) h))

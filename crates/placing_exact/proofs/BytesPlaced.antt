@@ -1,5 +1,5 @@
 -- What placing does with what a well formed file holds that 1 to 10 and 14 leave is what it does with the file's trees.
-use Prim.Native.Nat.{_≤_}
+use Prim.Native.Nat.{ℕ, _≤_}
 use mathlib.Core.Path.{_≡_, sym, ap, _∙_, subst}
 use mathlib.Core.Logic.{_↔_}
 use mathlib.Core.Bool.{true}
@@ -15,9 +15,9 @@ use Rattle.states.specs.declared.Turn.{Turn}
 use Rattle.states.specs.States.{Label, turnsFrom, turnsOf}
 use Rattle.groups.specs.Groups.{sizesOf, onsOf, startsOf, placedContents}
 use Rattle.placing.specs.Placing.{labelsIn, turnsFor, unservedFrom, placedBytes}
-use Rattle.reading_exact.specs.File.{versionOf, File, WellFormed, nodesOf, contentsFor, encode}
+use Rattle.reading_exact.specs.File.{versionOf, File, WellFormed, nodesOf, contentsFor, encode, ReadsAs}
 use Rattle.reading_exact.proofs.Places.{length-encoded}
-use Rattle.reading_exact.proofs.FileContents.{length-rooted, contents-back, version-back, formed-by}
+use Rattle.reading_exact.proofs.FileContents.{length-rooted, version-read, contents-held, formed-by}
 use Rattle.checking_exact.specs.Tables.{schemaFor}
 use Rattle.checking_exact.specs.Typing.{WellKinded}
 use Rattle.placing_exact.specs.Placement.{onStepsOf, graft}
@@ -55,10 +55,11 @@ module _ (F : File) (W : WellFormed F) (N : WellKinded F) (B : Bare F) where
       ap (λ (ts : List Turn). placedContents C ts (startsOf ts)) turns-read ∙ contents-placed F D states (bare-free F B) ∙ ap (λ (G : File). contentsFor G) file-read
 
   -- the bytes written are the placed file
-  pub placed-bytes : placedBytes (encode F) ≡ encode (placedFile F)
+  pub placed-bytes : (f : List ℕ) → ReadsAs f F → placedBytes f ≡ encode (placedFile F)
   unfolding placedBytes encode
-  placed-bytes =
-      (λ i. encoded (version-back F i) (placedContents (contents-back F i) (turnsFor (contents-back F i)) (startsOf (turnsFor (contents-back F i)))))
+  placed-bytes f e =
+      let held = contents-held F f e in
+      (λ i. encoded (version-read F f e i) (placedContents (held i) (turnsFor (held i)) (startsOf (turnsFor (held i)))))
       ∙ ap (encoded (versionOf (F .grants))) placed-contents
 
   pub placed-size : sizesOf (turnsFor (contentsFor F)) ≡ length (nodesOf (placedFile F))

@@ -12,9 +12,10 @@ use Rattle.rules.specs.Rules.{Context, barred}
 use Rattle.placing.specs.Placing.{placing, placedBytes}
 use Rattle.reading_exact.specs.Lists.{All}
 use Rattle.reading_exact.specs.Tree.{Tree, end, fork, step, switch}
-use Rattle.reading_exact.specs.File.{Routine, File, InCount, WellFormed, encode}
+use Rattle.reading_exact.specs.File.{Routine, File, InCount, WellFormed, encode, ReadsAs}
 use Rattle.reading_exact.proofs.AllLaws.{all-get}
-use Rattle.reading_exact.proofs.Exact.{single}
+use Rattle.reading_exact.proofs.FileContents.{single}
+use Rattle.reading_exact.proofs.Exact.{one-read}
 use Rattle.checking_exact.specs.Tables.{schemaFor}
 use Rattle.checking_exact.specs.Typing.{WellKinded}
 use Rattle.checking_exact.proofs.ClearTrees.{Clear}
@@ -67,11 +68,11 @@ module _ (F : File) (W : WellFormed F) (N : WellKinded F) (B : Bare F) where
       let S : Sound D s = all-get (Sound D) (F .sessions) (k - 1) none at-k (sound F W N B) in
       omega (arith, ap onSteps (tree-placed D none (F .sessions) (k - 1) at-k), one-role D (ranged F W) (W .few-roles) s S (suc r) low all)
 
-pub one-role-written : (f : List ℕ) → All (λ b. b < 256) f → (room : ℕ) → placing f room .number ≡ 0 → (F G : File) → encode F ≡ f → encode G ≡ placedBytes f
+pub one-role-written : (f : List ℕ) → All (λ b. b < 256) f → (room : ℕ) → placing f room .number ≡ 0 → (F G : File) → ReadsAs f F → encode G ≡ placedBytes f
     → (k r : ℕ) → InCount (length (F .sessions)) k → Covers F k r → onSteps (session G k .tree) ≤ 1
 one-role-written f bytes room placed F G reads writes k r c h =
     let (H, e, ready, _, _) = found f bytes room placed in
-    let same : H ≡ F = single H F (e ∙ sym reads) in
+    let same : H ≡ F = one-read f H F e reads in
     let Once : File → Type 0 = λ (X : File). InCount (length (X .sessions)) k → Covers X k r → onSteps (session (placedFile X) k .tree) ≤ 1 in
     let once = subst Once same (covered-once H (ready .formed) (ready .named) (ready .bare) k r) c h in
     let whole : G ≡ placedFile F = single G (placedFile F) (writes ∙ placed-written f bytes room placed F reads) in

@@ -20,14 +20,14 @@ use Rattle.placing.specs.declared.Placed.{Placed}
 use Rattle.placing.specs.Placing.{labelsIn, turnsFor, masksAnswer, switchesAnswer, unservedFrom, sizeAnswer, noPlace, placedIn, placing, placedBytes, placedOver}
 use Rattle.reading_exact.specs.Lists.{All}
 use Rattle.reading_exact.specs.Tree.{Tree}
-use Rattle.reading_exact.specs.File.{versionOf, rolesOf, Routine, File, WellFormed, nodesOf, contentsFor, encode}
+use Rattle.reading_exact.specs.File.{versionOf, rolesOf, Routine, File, WellFormed, nodesOf, contentsFor, encode, ReadsAs, sent}
 use Rattle.reading_exact.specs.Order.{OfFile}
 use Rattle.format.proofs.HeadLaws.{more-few, juniors-few}
 use Rattle.reading_exact.proofs.AllLaws.{all-map, all-both}
 use Rattle.reading_exact.proofs.EncodedBytes.{encode-bytes}
-use Rattle.reading_exact.proofs.Exact.{single}
+use Rattle.reading_exact.proofs.Exact.{one-read}
 use Rattle.reading_exact.proofs.Places.{length-encoded}
-use Rattle.reading_exact.proofs.FileContents.{version-back, formed-by, treesOf, length-rooted, contents-back, contents-held}
+use Rattle.reading_exact.proofs.FileContents.{version-read, formed-by, treesOf, length-rooted, contents-held}
 use Rattle.checking_exact.specs.Tables.{schemaFor}
 use Rattle.checking_exact.specs.Typing.{WellKinded}
 use Rattle.checking_exact.proofs.CheckExact.{names-exact, check-exact}
@@ -111,24 +111,24 @@ pub ten-exactly : (f : List ℕ) (room n p : ℕ) → OfFile n → (placing f ro
 ten-exactly f room = names-stage f room
 
 module _ (f : List ℕ) (bytes : All (λ b. b < 256) f) where
-  -- a file whose bytes these are is well formed, and its names and kinds are right
-  pub named-file : readingNames f ≡ fine → (F : File) → encode F ≡ f → WellFormed F × WellKinded F
+  -- a file that these bytes read as is well formed, and its names and kinds are right
+  pub named-file : readingNames f ≡ fine → (F : File) → ReadsAs f F → WellFormed F × WellKinded F
   named-file r F e =
       let (G, W, e′, N) = names-exact f bytes .0 r in
-      subst (λ (H : File). WellFormed H × WellKinded H) (single G F (e′ ∙ sym e)) (W, N)
+      subst (λ (H : File). WellFormed H × WellKinded H) (one-read f G F e′ e) (W, N)
 
   module _ (room : ℕ) where
-    some-file : Unrefused f room → (F : File) × (encode F ≡ f)
+    some-file : Unrefused f room → (F : File) × ReadsAs f F
     some-file u = let (F, W, e, N) = names-exact f bytes .0 (u .names) in (F, e)
 
-    ready : Unrefused f room → (F : File) → encode F ≡ f → Ready F
+    ready : Unrefused f room → (F : File) → ReadsAs f F → Ready F
     ready u F e =
         let (W, N) = named-file (u .names) F e in
         let same = subst (λ (C : Contents). (masksAnswer C ≡ fine) × (switchesAnswer C ≡ fine)) (contents-held F f e) (masks-none (contentsOf f) .1 (u .masks), switches-none f (u .names) .1 (u .switches)) in
         record { formed = W; named = N; bare = bare-iff F .0 same }
 
     -- nothing before 15 refuses exactly where nothing before 14 does, all starting masks are 0 and there is no on or off
-    pub bare-exactly : Unrefused f room ↔ (Clean f room × ((F : File) × (encode F ≡ f) × Bare F))
+    pub bare-exactly : Unrefused f room ↔ (Clean f room × ((F : File) × ReadsAs f F × Bare F))
     bare-exactly = (
       λ u. let (F, e) = some-file u in (record { wide = u .wide; names = u .names }, (F, e, ready u F e .bare)),
       λ (c, (F, e, b)).
@@ -137,12 +137,12 @@ module _ (f : List ℕ) (bytes : All (λ b. b < 256) f) where
     )
 
     -- 15 finds nothing exactly where every node is served; then there is a placement, and only then
-    served-read : (F : File) → encode F ≡ f → Ready F → (unservedFrom 1 (labelsIn (contentsOf f)) ≡ fine) ↔ (servedAll (schemaFor F) (F .sessions) ≡ true)
+    served-read : (F : File) → ReadsAs f F → Ready F → (unservedFrom 1 (labelsIn (contentsOf f)) ≡ fine) ↔ (servedAll (schemaFor F) (F .sessions) ≡ true)
     served-read F e r =
         subst (λ (C : Contents). (unservedFrom 1 (labelsIn C) ≡ fine) ↔ (servedAll (schemaFor F) (F .sessions) ≡ true)) (sym (contents-held F f e))
         (served-answer F (r .formed) (r .named) (r .bare))
 
-    size-read : (F : File) → encode F ≡ f → Ready F → sizesOf (turnsFor (contentsOf f)) ≡ length (nodesOf (placedFile F))
+    size-read : (F : File) → ReadsAs f F → Ready F → sizesOf (turnsFor (contentsOf f)) ≡ length (nodesOf (placedFile F))
     size-read F e r = ap (λ (C : Contents). sizesOf (turnsFor C)) (contents-held F f e) ∙ placed-size F (r .formed) (r .named) (r .bare)
 
     -- 15: there is no placement
@@ -193,7 +193,7 @@ module _ (f : List ℕ) (bytes : All (λ b. b < 256) f) where
         (served-read F e r .1 served, subst Size (ap (λ (ts : List Tree). length (nodesOf (graft F ts))) trees ∙ sym (size-read F e r)) z)
 
     -- where there is a placement the tie rule fixes the states, and what is measured and written
-    pub ruled : Unrefused f room → (F : File) → encode F ≡ f → (ts : List Tree) → Placement F ts → Ruled f F
+    pub ruled : Unrefused f room → (F : File) → ReadsAs f F → (ts : List Tree) → Placement F ts → Ruled f F
     ruled u F e ts P =
         let r = ready u F e in
         let C = contents-held F f e in
@@ -205,7 +205,7 @@ module _ (f : List ℕ) (bytes : All (λ b. b < 256) f) where
           only = λ other h. fixed-single F other (takingAll (schemaFor F) (F .sessions)) h rule;
           taken = ap (λ (C : Contents). map (λ (t : Turn). t .to) (turnsFor C)) C ∙ placed-states F (r .formed) (r .named) (r .bare);
           measured = size-read F e r ∙ ap (λ (ts : List Tree). length (nodesOf (graft F ts))) same;
-          written = ap (λ (b : List ℕ). placedBytes b) (sym e) ∙ placed-bytes F (r .formed) (r .named) (r .bare) ∙ ap (λ (ts : List Tree). encode (graft F ts)) same;
+          written = placed-bytes F (r .formed) (r .named) (r .bare) f e ∙ ap (λ (ts : List Tree). encode (graft F ts)) same;
         }
 
     -- 16, at place 0: the file that the tie rule fixes has over 1,024 nodes
@@ -258,15 +258,15 @@ module _ (f : List ℕ) (bytes : All (λ b. b < 256) f) where
     )
 
 -- a placed file
-module _ (F : File) (r : Ready F) (served : servedAll (schemaFor F) (F .sessions) ≡ true) (few : length (nodesOf (placedFile F)) ≤ 1024) where
+module _ (f : List ℕ) (F : File) (reads : ReadsAs f F) (r : Ready F) (served : servedAll (schemaFor F) (F .sessions) ≡ true) (few : length (nodesOf (placedFile F)) ≤ 1024) where
   abbrev G : File
   G = placedFile F
 
   abbrev g : List ℕ
-  g = placedBytes (encode F)
+  g = placedBytes f
 
   written : encode G ≡ g
-  written = sym (placed-bytes F (r .formed) (r .named) (r .bare))
+  written = sym (placed-bytes F (r .formed) (r .named) (r .bare) f reads)
 
   good : Placement F (placedTrees (schemaFor F) (F .sessions))
   good = placed-good F (r .formed) (r .named) (r .bare) served
@@ -276,7 +276,7 @@ module _ (F : File) (r : Ready F) (served : servedAll (schemaFor F) (F .sessions
 
   checked : checking g ≡ fine
   checked =
-      let whole : checking (encode G) ≡ fine = check-exact (encode G) (encode-bytes G formed) .1 (G, formed, refl, good .passes) in
+      let whole : checking (encode G) ≡ fine = check-exact (encode G) (encode-bytes G formed) .1 (G, formed, sent refl, good .passes) in
       subst (λ (b : List ℕ). checking b ≡ fine) written whole
 
   counted : onsOf (turnsFor (contentsFor F)) ≡ onNodes (contentsOf g .nodes)
@@ -284,15 +284,15 @@ module _ (F : File) (r : Ready F) (served : servedAll (schemaFor F) (F .sessions
       placed-ons F (r .formed) (r .named) (r .bare)
       ∙ ap onStepsOf (sym (grafted-trees (schemaFor F) (F .sessions)))
       ∙ sym (on-nodes G)
-      ∙ ap (λ (C : Contents). onNodes (C .nodes)) (sym (contents-held G g written))
+      ∙ ap (λ (C : Contents). onNodes (C .nodes)) (sym (contents-held G g (sent written)))
 
-  file-well : (a : Placed) → a .length ≡ length g → a .«on_steps» ≡ onsOf (turnsFor (contentsFor F)) → WellPlaced (encode F) a g
+  file-well : (a : Placed) → a .length ≡ length g → a .«on_steps» ≡ onsOf (turnsFor (contentsFor F)) → WellPlaced f a g
   file-well a long ons =
       let steps : a .«on_steps» ≡ onStepsOf (placedTrees (schemaFor F) (F .sessions)) = ons ∙ placed-ons F (r .formed) (r .named) (r .bare) in
       record {
         file = F;
         formed = r .formed;
-        reads = refl;
+        reads = reads;
         trees = placedTrees (schemaFor F) (F .sessions);
         writes = written;
         placement = good;
@@ -303,7 +303,7 @@ module _ (F : File) (r : Ready F) (served : servedAll (schemaFor F) (F .sessions
         least-idle = λ ts P q. least-idle F (r .formed) (r .named) (r .bare) ts P (omega (arith, q, steps));
         states = takingAll (schemaFor F) (F .sessions);
         fixed = taking-fixed F (r .formed) (r .named) (r .bare) served;
-        taken = ap (λ (C : Contents). map (λ (t : Turn). t .to) (turnsFor C)) (contents-back F) ∙ placed-states F (r .formed) (r .named) (r .bare);
+        taken = ap (λ (C : Contents). map (λ (t : Turn). t .to) (turnsFor C)) (contents-held F f reads) ∙ placed-states F (r .formed) (r .named) (r .bare);
         turned = placed-inserted (schemaFor F) (F .sessions);
       }
 
@@ -311,7 +311,7 @@ module _ (F : File) (r : Ready F) (served : servedAll (schemaFor F) (F .sessions
 
 module _ (f : List ℕ) (bytes : All (λ b. b < 256) f) (room : ℕ) (placed : placing f room .number ≡ 0) where
   -- the file, and that all its nodes are served
-  pub found : (F : File) × (encode F ≡ f) × Ready F × (servedAll (schemaFor F) (F .sessions) ≡ true) × (length (nodesOf (placedFile F)) ≤ 1024)
+  pub found : (F : File) × ReadsAs f F × Ready F × (servedAll (schemaFor F) (F .sessions) ≡ true) × (length (nodesOf (placedFile F)) ≤ 1024)
   found =
       let (u, (F, states, e, _, P, _)) = placed-exactly f bytes room .0 placed in
       let r = ready f bytes room u F e in
@@ -322,18 +322,16 @@ module _ (f : List ℕ) (bytes : All (λ b. b < 256) f) (room : ℕ) (placed : p
   pub placed-well : WellPlaced f (placing f room) (placedBytes f)
   placed-well =
       let (F, e, r, s, l) = found in
-      let answer = subst (λ (b : List ℕ). placing b room .number ≡ 0) (sym e) placed in
-      let same = placed-answer (encode F) room answer ∙ (λ i. placedIn (version-back F i) (contents-back F i)) in
-      let long : placing (encode F) room .length ≡ length (placedBytes (encode F)) =
-      ap (λ (a : Placed). a .length) same ∙ placed-length F (r .formed) (r .named) (r .bare) ∙ ap length (written F r s l) in
-      subst (λ (b : List ℕ). WellPlaced b (placing b room) (placedBytes b)) e
-      (file-well F r s l (placing (encode F) room) long (ap (λ (a : Placed). a .«on_steps») same))
+      let same = placed-answer f room placed ∙ (λ i. placedIn (version-read F f e i) (contents-held F f e i)) in
+      let long : placing f room .length ≡ length (placedBytes f) =
+      ap (λ (a : Placed). a .length) same ∙ placed-length F (r .formed) (r .named) (r .bare) ∙ ap length (written f F e r s l) in
+      file-well f F e r s l (placing f room) long (ap (λ (a : Placed). a .«on_steps») same)
 
   -- the file written
-  pub placed-written : (F : File) → encode F ≡ f → placedBytes f ≡ encode (placedFile F)
+  pub placed-written : (F : File) → ReadsAs f F → placedBytes f ≡ encode (placedFile F)
   placed-written F e =
       let r = ready f bytes room (placed-exactly f bytes room .0 placed .0) F e in
-      ap (λ (b : List ℕ). placedBytes b) (sym e) ∙ placed-bytes F (r .formed) (r .named) (r .bare)
+      placed-bytes F (r .formed) (r .named) (r .bare) f e
 
   -- the output has room for it
   pub placed-fits : length (placedBytes f) ≤ room

@@ -8,9 +8,8 @@ use native.Mathlib.Omega.{arith}
 use lib.Dec.{eqb, leb, ltb}
 use borrow.Author.Tests.{eqb-true, ne-eqb, leb-true, leb-false, le-leb, ltb-true, ltb-false}
 use Rattle.format.specs.Contents.{Contents, contentsOf}
-use Rattle.format.specs.Words.{wordAt}
 use Rattle.format.specs.Answers.{fine, refused, orElse}
-use Rattle.format.specs.Header.{roomFor}
+use Rattle.format.specs.Header.{versionAt, roomFor}
 use Rattle.format.specs.declared.Verdict.{Verdict}
 use Rattle.checking.specs.Check.{readingNames}
 use Rattle.groups.specs.Groups.{sizesOf}
@@ -189,7 +188,7 @@ module _ (f : List ℕ) (bytes : All (λ b. b < 256) f) (room : ℕ) where
   in-turn = go (ltb room (roomFor f)) (eqb (judging f .number) 0) refl
     where
       go : (b c : Bool) → eqb (judging f .number) 0 ≡ c
-          → refusalIn (cond b (noPlace 17 0) (cond c (placedIn (wordAt f 0) C) (noPlace (judging f .number) (judging f .place)))) ≡ orElse (cond b (refused 17 0) fine) (judging f)
+          → refusalIn (cond b (noPlace 17 0) (cond c (placedIn (versionAt f) C) (noPlace (judging f .number) (judging f .place)))) ≡ orElse (cond b (refused 17 0) fine) (judging f)
       go true c e = refl
       go false true e = sym (among-fine 2 32 (judging f) (omega arith) (judging-among f room) (eqb-true (judging f .number) 0 e))
       go false false e = refl

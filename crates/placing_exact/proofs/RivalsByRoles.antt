@@ -15,9 +15,9 @@ use Rattle.checking.specs.Check.{readingNames}
 use Rattle.placing.specs.Placing.{noPlace, placing}
 use Rattle.reading_exact.specs.Lists.{All}
 use Rattle.reading_exact.specs.Tree.{Tree, end, fork, step, switch, repeat, new, compare, receive, send, on, off}
-use Rattle.reading_exact.specs.File.{Routine, File, InCount, WellFormed, encode}
+use Rattle.reading_exact.specs.File.{Routine, File, InCount, WellFormed, ReadsAs}
 use Rattle.reading_exact.proofs.AllLaws.{all-map}
-use Rattle.reading_exact.proofs.Exact.{single}
+use Rattle.reading_exact.proofs.Exact.{one-read}
 use Rattle.reading_exact.proofs.FileContents.{treesOf}
 use Rattle.checking_exact.specs.Tables.{schemaFor}
 use Rattle.checking_exact.specs.Typing.{withVariable, Typed, WellKinded}
@@ -103,22 +103,22 @@ rivals-by-roles F W N ts = (
 
 module _ (f : List ℕ) (bytes : All (λ b. b < 256) f) where
   -- of every file that 1 to 10 let through
-  pub rivals-all : readingNames f ≡ fine → (F : File) → encode F ≡ f → (ts : List Tree) → Placement F ts ↔ PlacementByRoles F ts
+  pub rivals-all : readingNames f ≡ fine → (F : File) → ReadsAs f F → (ts : List Tree) → Placement F ts ↔ PlacementByRoles F ts
   rivals-all r F e = let (W, N) = named-file f bytes r F e in rivals-by-roles F W N
 
   module _ (room : ℕ) where
     -- no placement that passes by rules 5 and 6 has fewer on steps than what is placed
-    pub fewest-of-all : placing f room .number ≡ 0 → (F : File) → encode F ≡ f → (ts : List Tree) → PlacementByRoles F ts
+    pub fewest-of-all : placing f room .number ≡ 0 → (F : File) → ReadsAs f F → (ts : List Tree) → PlacementByRoles F ts
         → placing f room .«on_steps» ≤ onStepsOf ts
     fewest-of-all placed F e ts P =
         let w = placed-well f bytes room placed in
         let names = placed-exactly f bytes room .0 placed .0 .names in
-        let one : F ≡ w .file = single F (w .file) (e ∙ sym (w .reads)) in
+        let one : F ≡ w .file = one-read f F (w .file) e (w .reads) in
         w .fewest ts (subst (λ (G : File). Placement G ts) one (rivals-all names F e ts .1 P))
 
     -- 15: there is no placement that passes by rules 5 and 6
     pub none-at-all : ((p : ℕ) × (placing f room ≡ noPlace 15 p))
-        ↔ (Unrefused f room × ((F : File) → encode F ≡ f → (ts : List Tree) → PlacementByRoles F ts → ⊥))
+        ↔ (Unrefused f room × ((F : File) → ReadsAs f F → (ts : List Tree) → PlacementByRoles F ts → ⊥))
     none-at-all = (
       λ h. let (u, n) = fifteen-exactly f bytes room .0 h in (u, λ F e ts P. n F e ts (rivals-all (u .names) F e ts .1 P)),
       λ (u, n). fifteen-exactly f bytes room .1 (u, λ F e ts P. n F e ts (rivals-all (u .names) F e ts .0 P)),

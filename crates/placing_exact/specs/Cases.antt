@@ -1,4 +1,4 @@
--- The paper's starred cases, and those of idle holding (02, K4). Braces hold the roles that permit a step.
+-- The paper's starred cases, those of idle holding (02, K4), of version 2 and of zero bytes (02, K7). Braces hold the roles that permit a step.
 use Prim.Native.Nat.{ℕ, _*_}
 use mathlib.Core.Path.{_≡_}
 use mathlib.Core.List.{List, [], _∷_, _++_, map}
@@ -166,4 +166,18 @@ juniorCases =
     ∷ checks (2 ∷ 0 ∷ 0 ∷ 0 ∷ 0 ∷ 0 ∷ 0 ∷ 13 ∷ 13 ∷ 13 ∷ 13 ∷ 13 ∷ 13 ∷ []) (refused 1 0)
     ∷ checks (2 ∷ 0 ∷ 0 ∷ 0 ∷ 0 ∷ 0 ∷ 0 ∷ 14 ∷ 14 ∷ 14 ∷ 14 ∷ 14 ∷ 14 ∷ 14 ∷ []) fine
     ∷ checks (3 ∷ 0 ∷ 0 ∷ 0 ∷ 0 ∷ 0 ∷ 0 ∷ 14 ∷ 14 ∷ 14 ∷ 14 ∷ 14 ∷ 14 ∷ 14 ∷ []) (refused 2 0)
+    ∷ []
+
+-- "Zero bytes shall read as the version 1 file with all counts 0 .. One to 25 bytes still give 1": one byte and 25 are in the promise of all lengths (`short-refused`)
+abbrev pub nothingCases : List Case
+nothingCases =
+    checks [] fine
+    ∷ takes [] []
+    ∷ placesBytes [] (1 ∷ 0 ∷ 0 ∷ 0 ∷ 0 ∷ 0 ∷ 0 ∷ 0 ∷ 0 ∷ 0 ∷ 0 ∷ 0 ∷ 0 ∷ 0 ∷ 13 ∷ 0 ∷ 13 ∷ 0 ∷ 13 ∷ 0 ∷ 13 ∷ 0 ∷ 13 ∷ 0 ∷ 13 ∷ 0 ∷ []) 0
+    -- that file is placed as it is
+    ∷ places (1 ∷ 0 ∷ 0 ∷ 0 ∷ 0 ∷ 0 ∷ 0 ∷ 13 ∷ 13 ∷ 13 ∷ 13 ∷ 13 ∷ 13 ∷ []) (1 ∷ 0 ∷ 0 ∷ 0 ∷ 0 ∷ 0 ∷ 0 ∷ 13 ∷ 13 ∷ 13 ∷ 13 ∷ 13 ∷ 13 ∷ []) 0
+    -- 2 bytes, 24 and the 26 with an offset of 12
+    ∷ checks (1 ∷ []) (refused 1 0)
+    ∷ checks (1 ∷ 0 ∷ 0 ∷ 0 ∷ 0 ∷ 0 ∷ 0 ∷ 13 ∷ 13 ∷ 13 ∷ 13 ∷ 13 ∷ []) (refused 1 0)
+    ∷ checks (1 ∷ 0 ∷ 0 ∷ 0 ∷ 0 ∷ 0 ∷ 0 ∷ 13 ∷ 13 ∷ 13 ∷ 13 ∷ 13 ∷ 12 ∷ []) (refused 4 0)
     ∷ []

@@ -16,7 +16,7 @@ use Rattle.rules.specs.declared.Way.the-variants.{Sends, Receives}
 use Rattle.rules.specs.Schema.{schemaOf, Permitted}
 use Rattle.rules.specs.Rules.{Context}
 use Rattle.rules.specs.Checking.{openings}
-use Rattle.reading_exact.specs.File.{File, InCount, nodesOf, encode}
+use Rattle.reading_exact.specs.File.{File, InCount, nodesOf, ReadsAs}
 use Rattle.reading_exact.specs.Order.{Order, inTurn, OfFile}
 use Rattle.reading_exact.specs.Refusals.{nth}
 use Rattle.checking_exact.specs.Tables.{schemaFor}
@@ -43,7 +43,7 @@ pub data Unserved (C : Contents) (p : ℕ) : Type 0 where
 -- the file that the tie rule fixes is a placement, and has so many nodes
 abbrev pub PlacedWith : (ℕ → Type 0) → List ℕ → Type 0
 PlacedWith Size f =
-    (F : File) × (states : AllStates (schemaFor F) (F .sessions)) × (encode F ≡ f) × Fixed F states
+    (F : File) × (states : AllStates (schemaFor F) (F .sessions)) × ReadsAs f F × Fixed F states
     × Placement F (insertAll (schemaFor F) (F .sessions) states) × Size (length (nodesOf (graft F (insertAll (schemaFor F) (F .sessions) states))))
 
 -- a refusal's number and place have their cause in a file and the room for the output

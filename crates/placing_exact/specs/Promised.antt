@@ -14,7 +14,7 @@ use Rattle.groups.specs.Groups.{sizesOf}
 use Rattle.placing.specs.Placing.{turnsFor, placedBytes}
 use Rattle.placing.specs.declared.Placed.{Placed}
 use Rattle.reading_exact.specs.Tree.{Tree, end}
-use Rattle.reading_exact.specs.File.{Routine, File, WellFormed, nodesOf, encode}
+use Rattle.reading_exact.specs.File.{Routine, File, WellFormed, nodesOf, encode, ReadsAs}
 use Rattle.checking_exact.specs.Tables.{schemaFor}
 use Rattle.checking_exact.specs.Typing.{ByRoles}
 use Rattle.placing_exact.specs.Placement.{onStepsOf, graft, Placement}
@@ -27,7 +27,7 @@ use Rattle.placing_exact.specs.Causes.{SomeMask, IsSwitch}
 pub record WellPlaced (f : List ℕ) (a : Placed) (g : List ℕ) : Type 0 where
   pub file : File
   pub formed : WellFormed file
-  pub reads : encode file ≡ f
+  pub reads : ReadsAs f file
   pub trees : List Tree
   -- it has its input's version, users, roles with their masks of juniors, kinds and channels, its sessions' users and starting masks
   pub writes : encode (graft file trees) ≡ g
@@ -79,7 +79,7 @@ pub record Unrefused (f : List ℕ) (room : ℕ) : Type 0 where
 
 -- there is no placement of the file that passes and holds so
 abbrev pub NoPlacement : List ℕ → Type 0
-NoPlacement f = (F : File) → encode F ≡ f → (ts : List Tree) → Placement F ts → ⊥
+NoPlacement f = (F : File) → ReadsAs f F → (ts : List Tree) → Placement F ts → ⊥
 
 -- a session by its number
 abbrev pub session : File → ℕ → Routine

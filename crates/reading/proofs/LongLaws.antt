@@ -1,7 +1,7 @@
 -- Inputs longer than any clinic file: refused 1 to 5, by their head and by whether their length is odd; so a start of them is answered alike.
 use Prim.Native.Nat.{ℕ, _+_, _*_, _-_, _%_, _≤_, _<_}
 use mathlib.Core.Path.{_≡_, refl, sym, ap, ap₂, _∙_}
-use mathlib.Core.List.{List, _++_}
+use mathlib.Core.List.{List, [], _∷_, _++_}
 use mathlib.Core.Bool.{Bool, true, false, cond, _||_}
 use native.Mathlib.Omega.{arith}
 use lib.ListN.{length, length-append, take}
@@ -10,7 +10,7 @@ use lib.Dec.{eqb, ltb, leb}
 use borrow.Author.Tests.{ltb-true, ltb-false, leb-true, leb-false, lt-ltb, le-ltb, ne-eqb}
 use Rattle.format.specs.Words.{wordAt}
 use Rattle.format.specs.Answers.{refused}
-use Rattle.format.specs.Header.{more, sixAt, offsetsAt, headAt, headBytes, countsFit, offsetsFit, lengthFor, largest, roomFor, from2, from3, from4, from5, headOf, Laid}
+use Rattle.format.specs.Header.{more, sixAt, offsetsAt, headIn, headAt, headBytes, countsFit, offsetsFit, lengthFor, largest, roomFor, from1, from2, from3, from4, from5, headOf, Laid}
 use Rattle.format.specs.declared.Head.{Head}
 use Rattle.format.specs.declared.HeadAnswer.{HeadAnswer}
 use Rattle.format.specs.declared.HeadAnswer.the-variants.{Refused}
@@ -21,7 +21,8 @@ use Rattle.reading.proofs.ReadingLaws.{refused-by-head}
 
 -- the counts give no longer file
 pub most-bytes : (f : List ℕ) (h : Head) → Laid f h → length f ≤ largest
-most-bytes f h l = omega arith
+most-bytes [] h l = omega arith
+most-bytes (b ∷ bs) h l = omega arith
 
 -- the refusal of a longer input: by its head, 2 to 5, and before that by its length's remainder
 abbrev headNumber : Head → ℕ
@@ -39,15 +40,18 @@ refuses-first : (b : Bool) (a : HeadAnswer) (n k : ℕ) → a ≡ Refused n → 
 refuses-first true a n k e = refl
 refuses-first false a n k e = e
 
-pub long-head : (f : List ℕ) → largest < length f → headOf f ≡ Refused (longNumber (length f % 2) (headAt f))
-unfolding headOf from2 from3 from4 from5
-long-head f long =
+long-words : (x : ℕ) (xs : List ℕ) → largest < length (x ∷ xs) → headOf (x ∷ xs) ≡ Refused (longNumber (length (x ∷ xs) % 2) (headAt (x ∷ xs)))
+unfolding headOf from1 from2 from3 from4 from5
+long-words x xs long =
     rw (le-ltb (length f) (headBytes (wordAt f 0)) (omega (arith, more-few (wordAt f 0))))
     (refuses-first (eqb (length f % 2) 1) (from2 f) (headNumber (headAt f)) 1
     (refuses (eqb (wordAt f 0) 1 || eqb (wordAt f 0) 2) (from3 f) (cond (countsFit (sixAt f 1)) (cond back 5 4) 3) 2 (λ version.
     refuses (countsFit (sixAt f 1)) (from4 f) (cond back 5 4) 3 (λ counts.
     refuses back (from5 f) 5 4 (λ offsets. longer counts offsets)))))
   where
+    f : List ℕ
+    f = x ∷ xs
+
     back : Bool
     back = offsetsFit (wordAt f 0) (sixAt f 1) (offsetsAt f (wordAt f 0))
 
@@ -56,9 +60,13 @@ long-head f long =
         rw (ne-eqb (length f) (lengthFor (headAt f .at .nodes) (wordAt f 6)) (λ same.
         absurd (omega (arith, long, most-bytes f (headAt f) (laid-iff f (headAt f) .0 (counts, offsets, same))))))
 
+pub long-head : (f : List ℕ) → largest < length f → headOf f ≡ Refused (longNumber (length f % 2) (headAt f))
+long-head [] long = absurd (omega (arith, long))
+long-head (x ∷ xs) long = long-words x xs long
+
 -- the head stands in the first 28 bytes
-head-start : (f : List ℕ) → headAt (take 28 f) ≡ headAt f
-head-start f = λ j. record {
+words-start : (f : List ℕ) → headIn (take 28 f) ≡ headIn f
+words-start f = λ j. record {
   version = word 0 (omega arith) j;
   count = record {
     users = word 1 (omega arith) j;
@@ -86,6 +94,10 @@ head-start f = λ j. record {
           sessions = word (11 + more v) (omega (arith, few)) j;
           nodes = word (12 + more v) (omega (arith, few)) j;
         }
+
+head-start : (f : List ℕ) → headAt (take 28 f) ≡ headAt f
+head-start [] = refl
+head-start (x ∷ xs) = words-start (x ∷ xs)
 
 -- What is kept of an input stands for it: all of it, or of one longer than any file the head, and as many bytes as `enough` says.
 pub record StandsFor (kept input : List ℕ) : Type 0 where
@@ -124,7 +136,7 @@ stands-on kept input piece s = go (leb (length input) (largest + 2)) refl
 
 -- it has the input's version, and as much output is wanted for it
 pub stands-version : (kept input : List ℕ) → StandsFor kept input → wordAt kept 0 ≡ wordAt input 0
-stands-version kept input s = ap (λ (h : Head). h .version) (sym (head-start kept) ∙ ap headAt (s .head) ∙ head-start input)
+stands-version kept input s = ap (λ (h : Head). h .version) (sym (words-start kept) ∙ ap headIn (s .head) ∙ words-start input)
 
 pub stands-room : (kept input : List ℕ) → StandsFor kept input → roomFor kept ≡ roomFor input
 stands-room kept input s = go (leb (length input) (largest + 2)) refl

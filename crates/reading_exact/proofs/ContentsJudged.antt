@@ -17,7 +17,7 @@ use Rattle.format.proofs.HeadLaws.{IsVersion, Headed, more-few, juniors-few}
 use Rattle.format.proofs.AnswerLaws.{both-quiet}
 use Rattle.reading.proofs.ReadingLaws.{reading-iff}
 use Rattle.reading_exact.proofs.Standing.{rootsIn, roots-due}
-use Rattle.reading_exact.proofs.SectionRows.{head-back}
+use Rattle.reading_exact.proofs.SectionRows.{written-read, head-back}
 use Rattle.reading_exact.proofs.Places.{Formed, length-encoded, encoded-back}
 use Rattle.reading_exact.proofs.FirstLaws.{number-of}
 use Rattle.reading_exact.proofs.RecordsJudged.{RecordsFit, records-iff}
@@ -80,7 +80,7 @@ module _ (v : ℕ) (C : Contents) (formed : Formed v C) where
     channels-at = refl;
     sessions-at = refl;
     nodes-at = refl;
-    sized = length-encoded v C formed;
+    sized = ap length (written-read v C) ∙ length-encoded v C formed;
   }
 
   fit-headed : IsVersion v → ContentsFit C → Headed file

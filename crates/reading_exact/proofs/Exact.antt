@@ -1,13 +1,13 @@
 -- Reading a file without a refusal of 1 to 8 is the same as its bytes being the encoding of a well formed file, and of exactly one.
 use Prim.Native.Nat.{ℕ, zero, suc, _+_, _≤_, _<_}
 use mathlib.Core.Path.{_≡_, refl, sym, ap, ap₂, _∙_, subst}
-use mathlib.Core.Logic.{inl, inr}
+use mathlib.Core.Logic.{_⊎_, inl, inr}
 use mathlib.Core.Bool.{Bool, true, false}
-use mathlib.Core.List.{List, map}
+use mathlib.Core.List.{List, [], _∷_, map}
 use lib.Dec.{eqb}
 use Rattle.format.specs.Words.{wordAt}
 use Rattle.format.specs.Answers.{fine}
-use Rattle.format.specs.Header.{headAt}
+use Rattle.format.specs.Header.{asRead, headAt, versionAt, from1, from2, from3, from4, from5, headOf}
 use Rattle.format.specs.Sections.{placeOf, juniorsOf, nodeAt}
 use Rattle.format.specs.Contents.{Contents, tabled, contentsAt, contentsOf}
 use Rattle.format.specs.Writing.{encoded}
@@ -20,11 +20,10 @@ use Rattle.trees.specs.declared.Due.the-variants.{Root}
 use Rattle.reading.proofs.ReadingLaws.{reading-iff}
 use Rattle.reading_exact.specs.Lists.{All}
 use Rattle.reading_exact.specs.Tree.{Tree, flatten, height, Worded}
-use Rattle.reading_exact.specs.File.{versionOf, File, WellFormed, rooted, contentsFor, encode}
+use Rattle.reading_exact.specs.File.{versionOf, File, WellFormed, rooted, contentsFor, encode, unplanned, ReadsAs, sent, nothing-sent}
 use Rattle.reading_exact.proofs.Standing.{rootsIn, rootsOf}
 use Rattle.reading_exact.proofs.ShapeComplete.{shape-complete}
 use Rattle.reading_exact.proofs.ShapeSound.{shape-sound}
-use Rattle.reading_exact.proofs.NodeSorts.{flatten-single}
 use Rattle.reading_exact.proofs.WordedTrees.{FieldsFit, worded-trees}
 use Rattle.reading_exact.proofs.Bytes.{Word, small-words}
 use Rattle.reading_exact.proofs.WholeFile.{bytes-back}
@@ -32,7 +31,7 @@ use Rattle.reading_exact.proofs.AllLaws.{all-map, all-both}
 use Rattle.reading_exact.proofs.RecordsJudged.{Seated}
 use Rattle.reading_exact.proofs.ContentsJudged.{ContentsFit, judged, not-refused}
 use Rattle.reading_exact.proofs.FileContents.{treesOf, routines, length-rooted, roots-rooted, trees-routines, rooted-routines, all-rooted, all-trees}
-use Rattle.reading_exact.proofs.FileContents.{fileOf, file-back, contents-back, version-back, formed-by, known, grants-held, version-held}
+use Rattle.reading_exact.proofs.FileContents.{fileOf, formed-by, known, grants-held, version-held, single, reads-iff}
 use Rattle.reading_exact.proofs.Places.{Formed}
 
 -- a tree that a file may have
@@ -86,14 +85,14 @@ same-contents v C ts formed nodes roots =
     λ i. record { users = C .users; roles = roles i; juniors = juniors i; kinds = C .kinds; channels = C .channels; sessions = sessions i; nodes = trees i }
 
 -- what is read is formed by the version that is read
-read-formed : (f : List ℕ) → Formed (wordAt f 0) (contentsOf f)
+read-formed : (f : List ℕ) → Formed (versionAt f) (contentsOf f)
 unfolding contentsAt
-read-formed f = go (eqb (wordAt f 0) 2) refl
+read-formed f = go (eqb (versionAt f) 2) refl
   where
     h : Head
     h = headAt f
 
-    go : (b : Bool) → eqb (wordAt f 0) 2 ≡ b → Formed (wordAt f 0) (contentsOf f)
+    go : (b : Bool) → eqb (versionAt f) 2 ≡ b → Formed (versionAt f) (contentsOf f)
     go true e = inl (e, juniors-held f h ∙ sym (roles-held f h))
     go false e = inr (e, tabled-same (juniorsOf f h) (λ n. 0) 1 (h .count .roles) (λ j p q. rw e) ∙ ap (tabled (λ n. 0) 1) (sym (roles-held f h)))
 
@@ -106,16 +105,22 @@ read-fields f h small = go 1 (h .count .nodes)
     go i zero = tt
     go i (suc k) = ((small (placeOf h Nodes i + 1), small (placeOf h Nodes i + 2)), go (suc i) k)
 
--- read, then encode, gives the bytes back
-pub sound : (f : List ℕ) → All (λ b. b < 256) f → reading f ≡ fine → (F : File) × WellFormed F × (encode F ≡ f)
+-- zero bytes and the file that they read as are answered alike
+pub read-alike : (f : List ℕ) → reading (asRead f) ≡ reading f
+unfolding reading headOf from1 from2 from3 from4 from5 contentsAt tabled
+read-alike [] = refl
+read-alike (x ∷ xs) = refl
+
+-- what is read is a file, and the bytes read as it
+pub sound : (f : List ℕ) → All (λ b. b < 256) f → reading f ≡ fine → (F : File) × WellFormed F × ReadsAs f F
 unfolding encode
 sound f bytes e =
     let (d, body) = reading-iff f .0 e in
-    let v : ℕ = wordAt f 0 in
+    let v : ℕ = versionAt f in
     let C : Contents = contentsOf f in
     let form : Formed v C = read-formed f in
-    let back : encoded v C ≡ f = bytes-back f d bytes in
-    let fit : ContentsFit C = judged v C form (subst (λ (g : List ℕ). reading g ≡ fine) (sym back) e) in
+    let back : encoded v C ≡ asRead f = bytes-back f d bytes in
+    let fit : ContentsFit C = judged v C form (subst (λ (g : List ℕ). reading g ≡ fine) (sym back) (read-alike f ∙ e)) in
     let (ts, nodes, roots, low) = shape-sound (C .nodes) (rootsIn (C .sessions)) (fit .shape) in
     let F : File = fileOf v C ts in
     let same : contentsFor F ≡ C = same-contents v C ts form nodes roots in
@@ -124,7 +129,7 @@ sound f bytes e =
     let worded : All Worded ts = worded-trees 1 ts (subst (All FieldsFit) nodes (read-fields f (headAt f) (small-words f bytes))) in (
       F,
       formed F (subst ContentsFit (sym same) fit) (subst (All Fair) (sym trees) (all-both (λ t. height t ≤ 8) Worded ts low worded)),
-      ap₂ encoded version same ∙ back,
+      reads-iff f F .1 (ap₂ encoded version same ∙ back),
     )
 
 -- encode, then read, is not refused
@@ -132,10 +137,15 @@ pub complete : (F : File) → WellFormed F → reading (encode F) ≡ fine
 unfolding encode
 complete F w = not-refused (versionOf (F .grants)) (contentsFor F) (formed-by F) (known F) (contents-fit F w)
 
--- no two files have the same bytes, well formed or not
-pub single : (F G : File) → encode F ≡ encode G → F ≡ G
-single F G e =
-    let contents = sym (contents-back F) ∙ ap (λ (f : List ℕ). contentsOf f) e ∙ contents-back G in
-    let version = sym (version-back F) ∙ ap (λ (f : List ℕ). wordAt f 0) e ∙ version-back G in
-    let trees = flatten-single (treesOf (F .sessions)) (treesOf (G .sessions)) (ap (λ (C : Contents). C .nodes) contents) in
-    sym (file-back F) ∙ (λ i. fileOf (version i) (contents i) (trees i)) ∙ file-back G
+pub complete-read : (f : List ℕ) (F : File) → WellFormed F → ReadsAs f F → reading f ≡ fine
+complete-read f F w r = sym (read-alike f) ∙ ap reading (sym (reads-iff f F .0 r)) ∙ complete F w
+
+-- no bytes read as two files, well formed or not
+pub one-read : (f : List ℕ) (F G : File) → ReadsAs f F → ReadsAs f G → F ≡ G
+one-read f F G r s = single F G (reads-iff f F .0 r ∙ sym (reads-iff f G .0 s))
+
+-- other bytes read as the same file only where one of the two are none, and the file is the one with nothing planned
+pub two-read : (f g : List ℕ) (F : File) → ReadsAs f F → ReadsAs g F → (f ≡ g → ⊥) → (F ≡ unplanned) × ((f ≡ []) ⊎ (g ≡ []))
+two-read f g F (sent e) (sent d) other = absurd (other (sym e ∙ d))
+two-read f g F (sent e) (nothing-sent none d) other = (d, inr none)
+two-read f g F (nothing-sent none e) s other = (e, inl none)

@@ -8,18 +8,21 @@ use native.Mathlib.Omega.{arith}
 use lib.Dec.{eqb}
 use lib.ListN.{length, length-map}
 use borrow.Author.Tests.{eq-eqb, ne-eqb}
-use Rattle.format.specs.Words.{wordAt}
-use Rattle.format.specs.Contents.{Contents, tabled, contentsOf}
+use Rattle.format.specs.Words.{bytesOf}
+use Rattle.format.specs.Header.{nothingPlanned, asRead, versionAt}
+use Rattle.format.specs.Writing.{roleWords, channelWords, sessionWords, nodeWords, tableWords, fileWords, encoded}
+use Rattle.format.specs.Contents.{Contents, tabled, contentsAt, contentsOf}
 use Rattle.format.specs.declared.Head.{Head}
 use Rattle.format.specs.declared.Role.{Role}
 use Rattle.format.specs.declared.Session.{Session}
 use Rattle.format.proofs.HeadLaws.{IsVersion}
 use Rattle.reading_exact.specs.Lists.{All}
-use Rattle.reading_exact.specs.Tree.{Tree, past}
-use Rattle.reading_exact.specs.File.{Routine, Senior, Grants, first, second, versionOf, rolesOf, juniorsOf, File, rooted, contentsFor, encode}
+use Rattle.reading_exact.specs.Tree.{Tree, past, flatten}
+use Rattle.reading_exact.specs.File.{Routine, Senior, Grants, first, second, versionOf, rolesOf, juniorsOf, File, rooted, contentsFor, encode, unplanned, ReadsAs, sent, nothing-sent}
+use Rattle.reading_exact.proofs.NodeSorts.{flatten-single}
 use Rattle.reading_exact.proofs.Standing.{rootsIn, rootsOf}
 use Rattle.reading_exact.proofs.Places.{Formed, encoded-back}
-use Rattle.reading_exact.proofs.SectionRows.{head-back}
+use Rattle.reading_exact.proofs.SectionRows.{written-read, head-back}
 
 abbrev pub treesOf : List Routine → List Tree
 treesOf ss = map (λ (s : Routine). s .tree) ss
@@ -166,10 +169,42 @@ pub contents-back : (F : File) → contentsOf (encode F) ≡ contentsFor F
 unfolding encode
 contents-back F = encoded-back (versionOf (F .grants)) (contentsFor F) (formed-by F)
 
-pub version-back : (F : File) → wordAt (encode F) 0 ≡ versionOf (F .grants)
+pub version-back : (F : File) → versionAt (encode F) ≡ versionOf (F .grants)
 unfolding encode
 version-back F = ap (λ (h : Head). h .version) (head-back (versionOf (F .grants)) (contentsFor F))
 
--- so that bytes hold what the file holds whose bytes they are
-pub contents-held : (F : File) (f : List ℕ) → encode F ≡ f → contentsOf f ≡ contentsFor F
-contents-held F f e = ap (λ (g : List ℕ). contentsOf g) (sym e) ∙ contents-back F
+-- so that bytes hold what the file holds that they read as
+pub contents-held : (F : File) (f : List ℕ) → ReadsAs f F → contentsOf f ≡ contentsFor F
+unfolding contentsAt tabled rooted flatten
+contents-held F f (sent e) = ap (λ (g : List ℕ). contentsOf g) (sym e) ∙ contents-back F
+contents-held F f (nothing-sent none e) = ap (λ (g : List ℕ). contentsOf g) none ∙ ap (λ (G : File). contentsFor G) (sym e)
+
+pub version-read : (F : File) (f : List ℕ) → ReadsAs f F → versionAt f ≡ versionOf (F .grants)
+version-read F f (sent e) = ap versionAt (sym e) ∙ version-back F
+version-read F f (nothing-sent none e) = ap versionAt none ∙ ap (λ (G : File). versionOf (G .grants)) (sym e)
+
+-- no two files have the same bytes
+pub single : (F G : File) → encode F ≡ encode G → F ≡ G
+single F G e =
+    let contents = sym (contents-back F) ∙ ap (λ (f : List ℕ). contentsOf f) e ∙ contents-back G in
+    let version = sym (version-back F) ∙ ap versionAt e ∙ version-back G in
+    let trees = flatten-single (treesOf (F .sessions)) (treesOf (G .sessions)) (ap (λ (C : Contents). C .nodes) contents) in
+    sym (file-back F) ∙ (λ i. fileOf (version i) (contents i) (trees i)) ∙ file-back G
+
+-- the bytes of the file with nothing planned
+pub unplanned-bytes : encode unplanned ≡ nothingPlanned
+unfolding encode encoded fileWords tableWords roleWords channelWords sessionWords nodeWords rooted flatten bytesOf
+unplanned-bytes = refl
+
+-- bytes read as a file exactly if the bytes as they are read are its own
+pub reads-iff : (f : List ℕ) (F : File) → ReadsAs f F ↔ (encode F ≡ asRead f)
+unfolding encode
+reads-iff f F = (to, back f)
+  where
+    to : ReadsAs f F → encode F ≡ asRead f
+    to (sent e) = sym (written-read (versionOf (F .grants)) (contentsFor F)) ∙ ap asRead e
+    to (nothing-sent none e) = ap encode e ∙ unplanned-bytes ∙ ap asRead (sym none)
+
+    back : (g : List ℕ) → encode F ≡ asRead g → ReadsAs g F
+    back [] e = nothing-sent refl (single F unplanned (e ∙ sym unplanned-bytes))
+    back (x ∷ xs) e = sent e

@@ -11,7 +11,7 @@ use borrow.Author.Tests.{eqb-true, eqb-false, eq-eqb, ne-eqb, ltb-true, lt-ltb}
 use Rattle.format.specs.Words.{wordAt}
 use Rattle.format.specs.Answers.{fine, refused}
 use Rattle.format.specs.Contents.{Contents, contentsAt, contentsOf}
-use Rattle.format.specs.Header.{more, sixAt, offsetsAt, headAt, headBytes, lengthFits, lengthFor, Laid, from5, from4, from3, from2, headOf}
+use Rattle.format.specs.Header.{more, sixAt, offsetsAt, asRead, headAt, headBytes, lengthFits, lengthFor, Laid, from5, from4, from3, from2, from1, headOf}
 use Rattle.tables.specs.Records.{recordsAnswer}
 use Rattle.trees.specs.Shape.{shapeAnswer}
 use Rattle.reading.specs.Reading.{bodyAnswer, readingBy, reading}
@@ -71,25 +71,29 @@ stage f k P Q true x low l t go = let p = t .0 refl in first-none readingOrder (
 stage f k P Q false x low l t go = refuse k (P → ⊥) Q low l (λ p. false≢true (t .1 p))
 
 module _ (f : List ℕ) where
+  -- the bytes as they are read
+  abbrev g : List ℕ
+  g = asRead f
+
   -- what the refusals from a number on object to
   abbrev From5 : ℕ → ℕ → Type 0
-  From5 = Both (OfHead 5 (length f ≢ lengthOf (wordAt f 0) (sixAt f 1))) (BadBody (headAt f) (contentsOf f))
+  From5 = Both (OfHead 5 (length g ≢ lengthOf (wordAt g 0) (sixAt g 1))) (BadBody (headAt f) (contentsOf f))
 
   abbrev From4 : ℕ → ℕ → Type 0
-  From4 = Both (OfHead 4 (BackToBack (wordAt f 0) (sixAt f 1) (offsetsAt f (wordAt f 0)) → ⊥)) From5
+  From4 = Both (OfHead 4 (BackToBack (wordAt g 0) (sixAt g 1) (offsetsAt g (wordAt g 0)) → ⊥)) From5
 
   abbrev From3 : ℕ → ℕ → Type 0
-  From3 = Both (OfHead 3 (Counted (sixAt f 1) → ⊥)) From4
+  From3 = Both (OfHead 3 (Counted (sixAt g 1) → ⊥)) From4
 
   abbrev From2 : ℕ → ℕ → Type 0
-  From2 = Both (OfHead 2 (IsVersion (wordAt f 0) → ⊥)) From3
+  From2 = Both (OfHead 2 (IsVersion (wordAt g 0) → ⊥)) From3
 
   -- under 26 bytes, or a version 2 file under 28
   abbrev Short : Type 0
-  Short = (length f < 26) ⊎ ((wordAt f 0 ≡ 2) × (length f < 28))
+  Short = (length g < 26) ⊎ ((wordAt g 0 ≡ 2) × (length g < 28))
 
   abbrev From1 : ℕ → ℕ → Type 0
-  From1 = Both (OfHead 1 (Short ⊎ (length f % 2 ≡ 1))) From2
+  From1 = Both (OfHead 1 (Short ⊎ (length g % 2 ≡ 1))) From2
 
   later5 : Later 5 From5
   later5 = head-later 5 _ (BadBody (headAt f) (contentsOf f)) (omega arith) (from-six (headAt f) (contentsOf f))
@@ -104,57 +108,57 @@ module _ (f : List ℕ) where
   later2 = head-later 2 _ From3 (omega arith) later3
 
   -- where the offsets are as the counts give, the nodes' offset gives the same length
-  length-iff : BackToBack (wordAt f 0) (sixAt f 1) (offsetsAt f (wordAt f 0)) → (lengthFits (wordAt f 6) (headAt f .at .nodes) (length f) ≡ true) ↔ (length f ≡ lengthOf (wordAt f 0) (sixAt f 1))
+  length-iff : BackToBack (wordAt g 0) (sixAt g 1) (offsetsAt g (wordAt g 0)) → (lengthFits (wordAt g 6) (headAt f .at .nodes) (length g) ≡ true) ↔ (length g ≡ lengthOf (wordAt g 0) (sixAt g 1))
   length-iff b =
-      let same : lengthFor (headAt f .at .nodes) (wordAt f 6) ≡ lengthOf (wordAt f 0) (sixAt f 1) = omega (arith, b) in
+      let same : lengthFor (headAt f .at .nodes) (wordAt g 6) ≡ lengthOf (wordAt g 0) (sixAt g 1) = omega (arith, b) in
       (λ e. eqb-true _ _ e ∙ same, λ e. eq-iff _ _ .1 (e ∙ sym same))
 
-  first5 : Counted (sixAt f 1) → BackToBack (wordAt f 0) (sixAt f 1) (offsetsAt f (wordAt f 0)) → First readingOrder From5 (readingBy f (from5 f))
+  first5 : Counted (sixAt g 1) → BackToBack (wordAt g 0) (sixAt g 1) (offsetsAt g (wordAt g 0)) → First readingOrder From5 (readingBy f (from5 g))
   unfolding from5
   first5 c b = stage f 5 _ (BadBody (headAt f) (contentsOf f)) _ (Fine (headAt f)) (omega arith) (from-six (headAt f) (contentsOf f)) (length-iff b)
-      (λ e. body-first f (headAt f) (laid-iff f (headAt f) .0 (counts-iff (sixAt f 1) .1 c, offsets-iff (wordAt f 0) (sixAt f 1) (offsetsAt f (wordAt f 0)) .1 b, eqb-true _ _ (length-iff b .1 e))))
+      (λ e. body-first f (headAt f) (laid-iff f (headAt f) .0 (counts-iff (sixAt g 1) .1 c, offsets-iff (wordAt g 0) (sixAt g 1) (offsetsAt g (wordAt g 0)) .1 b, eqb-true _ _ (length-iff b .1 e))))
 
-  first4 : Counted (sixAt f 1) → First readingOrder From4 (readingBy f (from4 f))
+  first4 : Counted (sixAt g 1) → First readingOrder From4 (readingBy f (from4 g))
   unfolding from4
-  first4 c = stage f 4 _ From5 _ (from5 f) (omega arith) later5 (offsets-iff (wordAt f 0) (sixAt f 1) (offsetsAt f (wordAt f 0))) (first5 c)
+  first4 c = stage f 4 _ From5 _ (from5 g) (omega arith) later5 (offsets-iff (wordAt g 0) (sixAt g 1) (offsetsAt g (wordAt g 0))) (first5 c)
 
-  first3 : First readingOrder From3 (readingBy f (from3 f))
+  first3 : First readingOrder From3 (readingBy f (from3 g))
   unfolding from3
-  first3 = stage f 3 _ From4 _ (from4 f) (omega arith) later4 (counts-iff (sixAt f 1)) first4
+  first3 = stage f 3 _ From4 _ (from4 g) (omega arith) later4 (counts-iff (sixAt g 1)) first4
 
-  first2 : First readingOrder From2 (readingBy f (from2 f))
+  first2 : First readingOrder From2 (readingBy f (from2 g))
   unfolding from2
-  first2 = stage f 2 _ From3 _ (from3 f) (omega arith) later3 (version-iff (wordAt f 0)) (λ e. first3)
+  first2 = stage f 2 _ From3 _ (from3 g) (omega arith) later3 (version-iff (wordAt g 0)) (λ e. first3)
 
   -- the test of 1 by the first word
-  short-iff : (ltb (length f) (headBytes (wordAt f 0)) ≡ true) ↔ Short
-  short-iff = (to (eqb (wordAt f 0) 2) refl, back)
+  short-iff : (ltb (length g) (headBytes (wordAt g 0)) ≡ true) ↔ Short
+  short-iff = (to (eqb (wordAt g 0) 2) refl, back)
     where
-      to : (b : Bool) → eqb (wordAt f 0) 2 ≡ b → ltb (length f) (headBytes (wordAt f 0)) ≡ true → Short
-      to true e h = let one : more (wordAt f 0) ≡ 1 = rw e in inr (eqb-true (wordAt f 0) 2 e, omega (arith, ltb-true (length f) (headBytes (wordAt f 0)) h, one))
-      to false e h = let none : more (wordAt f 0) ≡ 0 = rw e in inl (omega (arith, ltb-true (length f) (headBytes (wordAt f 0)) h, none))
+      to : (b : Bool) → eqb (wordAt g 0) 2 ≡ b → ltb (length g) (headBytes (wordAt g 0)) ≡ true → Short
+      to true e h = let one : more (wordAt g 0) ≡ 1 = rw e in inr (eqb-true (wordAt g 0) 2 e, omega (arith, ltb-true (length g) (headBytes (wordAt g 0)) h, one))
+      to false e h = let none : more (wordAt g 0) ≡ 0 = rw e in inl (omega (arith, ltb-true (length g) (headBytes (wordAt g 0)) h, none))
 
-      back : Short → ltb (length f) (headBytes (wordAt f 0)) ≡ true
-      back (inl l) = lt-ltb (length f) (headBytes (wordAt f 0)) (omega (arith, l))
-      back (inr (e, l)) = let one : more (wordAt f 0) ≡ 1 = rw (eq-eqb (wordAt f 0) 2 e) in lt-ltb (length f) (headBytes (wordAt f 0)) (omega (arith, l, one))
+      back : Short → ltb (length g) (headBytes (wordAt g 0)) ≡ true
+      back (inl l) = lt-ltb (length g) (headBytes (wordAt g 0)) (omega (arith, l))
+      back (inr (e, l)) = let one : more (wordAt g 0) ≡ 1 = rw (eq-eqb (wordAt g 0) 2 e) in lt-ltb (length g) (headBytes (wordAt g 0)) (omega (arith, l, one))
 
   first1 : First readingOrder From1 (reading f)
-  unfolding reading headOf
-  first1 = go (ltb (length f) (headBytes (wordAt f 0))) refl (eqb (length f % 2) 1) refl
+  unfolding reading headOf from1
+  first1 = go (ltb (length g) (headBytes (wordAt g 0))) refl (eqb (length g % 2) 1) refl
     where
       O : Type 0
-      O = Short ⊎ (length f % 2 ≡ 1)
+      O = Short ⊎ (length g % 2 ≡ 1)
 
-      none : (Short → ⊥) → (length f % 2 ≡ 1 → ⊥) → (n p : ℕ) → OfHead 1 O n p → ⊥
+      none : (Short → ⊥) → (length g % 2 ≡ 1 → ⊥) → (n p : ℕ) → OfHead 1 O n p → ⊥
       none a b n p (_, _, inl l) = a l
       none a b n p (_, _, inr e) = b e
 
-      go : (a : Bool) → ltb (length f) (headBytes (wordAt f 0)) ≡ a → (b : Bool) → eqb (length f % 2) 1 ≡ b
-          → First readingOrder From1 (readingBy f (cond a (Refused 1) (cond b (Refused 1) (from2 f))))
+      go : (a : Bool) → ltb (length g) (headBytes (wordAt g 0)) ≡ a → (b : Bool) → eqb (length g % 2) 1 ≡ b
+          → First readingOrder From1 (readingBy f (cond a (Refused 1) (cond b (Refused 1) (from2 g))))
       go true d b e = refuse 1 O From2 (omega arith) later2 (inl (short-iff .0 d))
-      go false d true e = refuse 1 O From2 (omega arith) later2 (inr (eqb-true (length f % 2) 1 e))
+      go false d true e = refuse 1 O From2 (omega arith) later2 (inr (eqb-true (length g % 2) 1 e))
       go false d false e =
-          first-none readingOrder (OfHead 1 O) From2 (readingBy f (from2 f)) (none (λ s. false≢true (sym d ∙ short-iff .1 s)) (eqb-false (length f % 2) 1 e)) first2
+          first-none readingOrder (OfHead 1 O) From2 (readingBy f (from2 g)) (none (λ s. false≢true (sym d ∙ short-iff .1 s)) (eqb-false (length g % 2) 1 e)) first2
 
   to-refusable : (n p : ℕ) → From1 n p → Refusable f n p
   to-refusable n p (inl (a, b, inl (inl l))) = short a b l
@@ -175,7 +179,7 @@ module _ (f : List ℕ) where
   of-refusable n p (odd a b e) = inl (a, b, inr e)
   of-refusable n p (version a b o s) = inr (inl (a, b, neither))
     where
-      neither : IsVersion (wordAt f 0) → ⊥
+      neither : IsVersion (wordAt g 0) → ⊥
       neither (inl e) = o e
       neither (inr e) = s e
   of-refusable n p (count a b o) = inr (inr (inl (a, b, o)))

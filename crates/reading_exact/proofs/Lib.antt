@@ -13,7 +13,7 @@ pub mod Rows
 pub mod SectionRows
 pub mod Places
 pub mod WholeFile
--- Reading and encoding are inverse: what reading judges of contents, and of files (contents-back, contents-held, sound, complete, single, encode-bytes)
+-- Reading and encoding are inverse: what reading judges of contents, and of files (contents-back, contents-held, single, reads-iff, sound, complete-read, one-read, two-read, encode-bytes)
 pub mod RecordsJudged
 pub mod ContentsJudged
 pub mod FileContents

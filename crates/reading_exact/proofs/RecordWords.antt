@@ -2,7 +2,7 @@
 use Prim.Native.Nat.{ℕ, zero, suc, _+_, _*_, _-_}
 use mathlib.Core.Path.{_≡_, refl, ap, ap₂, _∙_}
 use mathlib.Core.Bool.{Bool, true, false}
-use mathlib.Core.List.{List}
+use mathlib.Core.List.{List, [], _∷_}
 use native.Mathlib.Omega.{arith}
 use lib.Dec.{leb}
 use lib.ListN.{length}
@@ -10,7 +10,7 @@ use borrow.Author.Tests.{leb-true, leb-false, eq-eqb, ne-eqb}
 use Rattle.format.specs.Words.{wordAt, wideAt}
 use Rattle.format.specs.Header.{headAt}
 use Rattle.format.specs.Sections.{placeOf, userRoles, roleOf, juniorsOf, carried, channelOf, sessionOf, nodeAt}
-use Rattle.format.specs.Contents.{item, noRole, noChannel, noSession, noNode, contentsAt}
+use Rattle.format.specs.Contents.{item, noRole, noChannel, noSession, noNode, tabled, contentsAt}
 use Rattle.format.specs.declared.Head.{Head}
 use Rattle.format.specs.declared.Section.the-variants.{Users, Roles, Juniors, Kinds, Channels, Sessions, Nodes}
 use Rattle.format.proofs.ContentsLaws.{item-made, item-past, users-held, roles-held, juniors-held, kinds-held, channels-held, sessions-held, nodes-held}
@@ -28,14 +28,20 @@ item-out z xs (suc n) out = go (leb (suc n) (length xs)) refl
     go false e = item-past z xs (suc n) (leb-false (suc n) (length xs) e)
 
 pub counted-by-words : (f : List ℕ) → CountedByWords f
-counted-by-words f =
+unfolding contentsAt tabled
+counted-by-words [] = record { users = refl; roles = refl; juniors = refl; kinds = refl; channels = refl; sessions = refl; nodes = refl }
+counted-by-words (x ∷ xs) =
+    let f : List ℕ = x ∷ xs in
     let h : Head = headAt f in
     record { users = users-held f h; roles = roles-held f h; juniors = juniors-held f h; kinds = kinds-held f h; channels = channels-held f h; sessions = sessions-held f h; nodes = nodes-held f h }
 
 three : {A : Type 0} (g : ℕ → ℕ → ℕ → A) {a b c x y z : ℕ} → a ≡ x → b ≡ y → c ≡ z → g a b c ≡ g x y z
 three g p q r = λ i. g (p i) (q i) (r i)
 
-module _ (f : List ℕ) where
+module _ (x : ℕ) (xs : List ℕ) where
+  abbrev f : List ℕ
+  f = x ∷ xs
+
   -- a word of a record, from the record's place
   word-on : (at width n j q : ℕ) → q ≡ wordAt f at + width * (n - 1) + j → wordAt f q ≡ recordWord f at width n j
   word-on at width n j q e = ap (wordAt f) e
@@ -45,9 +51,9 @@ module _ (f : List ℕ) where
       let next : q + 1 ≡ wordAt f at + width * (n - 1) + (j + 1) = omega (arith, e) in
       ap₂ (λ x y. x + 65536 * y) (word-on at width n j q e) (word-on at width n (j + 1) (q + 1) next)
 
-  pub by-words : ByWords f
+  by-words-of-some : ByWords f
   unfolding contentsAt
-  by-words = record {
+  by-words-of-some = record {
     user = λ n (pos, le). item-made 0 (userRoles f h) (h .count .users) n pos le ∙ word-on 7 1 n 0 (placeOf h Users n) (omega arith);
     role = λ n (pos, le).
         let p : ℕ = placeOf h Roles n in
@@ -73,3 +79,19 @@ module _ (f : List ℕ) where
     where
       h : Head
       h = headAt f
+
+none-in : {A : Type 0} (n : ℕ) → InCount 0 n → A
+none-in n (pos, le) = absurd (omega (arith, pos, le))
+
+pub by-words : (f : List ℕ) → ByWords f
+by-words [] = record {
+  user = λ n c. none-in n c;
+  role = λ n c. none-in n c;
+  juniors = λ n c e. none-in n c;
+  no-juniors = λ n c e. none-in n c;
+  kind = λ n c. none-in n c;
+  channel = λ n c. none-in n c;
+  session = λ n c. none-in n c;
+  node = λ n c. none-in n c;
+}
+by-words (x ∷ xs) = by-words-of-some x xs

@@ -7,7 +7,7 @@ use native.Mathlib.Omega.{arith}
 use lib.Dec.{eqb}
 use lib.ListN.{getD}
 use Rattle.format.specs.Words.{wordAt, wideAt, bytesOf}
-use Rattle.format.specs.Header.{more, juniorRecords, offsetsAt, headAt, headWords}
+use Rattle.format.specs.Header.{more, juniorRecords, offsetsAt, headIn, asRead, headAt, headWords}
 use Rattle.format.specs.Sections.{nodeAt}
 use Rattle.format.specs.Contents.{Contents}
 use Rattle.format.specs.Writing.{juniorWords, roleWords, channelWords, sessionWords, nodeWords, tableWords, headFor, fileWords, encoded}
@@ -146,7 +146,7 @@ module _ (f : List ℕ) (h : Head) (post : List ℕ) (w : Holds f 0 (headWords h
           let w13 : wordAt f (12 + more (h .version)) ≡ h .at .nodes = rw e (word 12 ∙ rw e) in
           λ i. record { users = word 7 i; roles = word 8 i; juniors = w9 i; kinds = w10 i; channels = w11 i; sessions = w12 i; nodes = w13 i }
 
-  pub head-read : h .at .kinds ≡ h .at .juniors + juniorRecords (h .version) (h .count .roles) → headAt f ≡ h
+  pub head-read : h .at .kinds ≡ h .at .juniors + juniorRecords (h .version) (h .count .roles) → headIn f ≡ h
   head-read back =
       let offsets : offsetsAt f (wordAt f 0) ≡ h .at = ap (offsetsAt f) (word 0) ∙ offsets-read back in
       λ i. record {
@@ -155,6 +155,11 @@ module _ (f : List ℕ) (h : Head) (post : List ℕ) (w : Holds f 0 (headWords h
         at = offsets i;
       }
 
+-- a file written has bytes, and is read as it is
+pub written-read : (v : ℕ) (C : Contents) → asRead (encoded v C) ≡ encoded v C
+unfolding encoded fileWords bytesOf
+written-read v C = refl
+
 pub head-back : (v : ℕ) (C : Contents) → headAt (encoded v C) ≡ headFor v C
 unfolding encoded fileWords
-head-back v C = head-read (bytesOf (fileWords v C)) (headFor v C) _ (holds-all (fileWords v C)) refl
+head-back v C = ap headIn (written-read v C) ∙ head-read (bytesOf (fileWords v C)) (headFor v C) _ (holds-all (fileWords v C)) refl

@@ -7,10 +7,10 @@ use native.Mathlib.Omega.{arith}
 use lib.Dec.{eqb}
 use lib.ListN.{length}
 use Rattle.format.specs.Words.{wordAt, wideAt, bytesOf}
-use Rattle.format.specs.Header.{more, juniorRecords, headAt, headWords, Laid}
+use Rattle.format.specs.Header.{more, juniorRecords, headIn, asRead, headAt, versionAt, headWords, Laid}
 use Rattle.format.specs.Sections.{placeOf, juniorsOf, nodeAt, wordsFrom}
 use Rattle.format.specs.Contents.{tabled, contentsAt, contentsOf}
-use Rattle.format.specs.Writing.{juniorWords, headFor, encoded}
+use Rattle.format.specs.Writing.{roleWords, channelWords, sessionWords, nodeWords, juniorWords, headFor, tableWords, fileWords, encoded}
 use Rattle.format.specs.declared.Head.{Head}
 use Rattle.format.specs.declared.Six.{Six}
 use Rattle.format.specs.declared.Seven.{Seven}
@@ -23,18 +23,18 @@ use Rattle.reading_exact.proofs.Rows.{holds-all, holds-words, words-joi
 use Rattle.reading_exact.proofs.SectionRows.{oneRow, cat-one, roleRow, channelRow, sessionRow, nodeRow, roleAt, channelAt, sessionAt, rowWords, file-rows}
 
 -- the head that the contents read have is the file's own
-same-head : (f : List ℕ) → Headed f → headFor (wordAt f 0) (contentsOf f) ≡ headAt f
+same-head : (f : List ℕ) → Headed f → headFor (versionAt f) (contentsOf f) ≡ headAt f
 same-head f d =
     let h : Head = headAt f in
     let l : Laid f h = d .laid in
     let u = users-held f h in
     let r = roles-held f h in
-    let j : juniorRecords (wordAt f 0) (length (contentsOf f .roles)) ≡ juniorRecords (wordAt f 0) (h .count .roles) = ap (juniorRecords (wordAt f 0)) r in
+    let j : juniorRecords (versionAt f) (length (contentsOf f .roles)) ≡ juniorRecords (versionAt f) (h .count .roles) = ap (juniorRecords (versionAt f)) r in
     let k = kinds-held f h in
     let c = channels-held f h in
     let s = sessions-held f h in
     let n = nodes-held f h in
-    let H : Head = headFor (wordAt f 0) (contentsOf f) in
+    let H : Head = headFor (versionAt f) (contentsOf f) in
     let a-users : H .at .users ≡ h .at .users = omega arith in
     let a-roles : H .at .roles ≡ h .at .roles = omega arith in
     let a-juniors : H .at .juniors ≡ h .at .juniors = omega arith in
@@ -43,16 +43,16 @@ same-head f d =
     let a-sessions : H .at .sessions ≡ h .at .sessions = omega (arith, j) in
     let a-nodes : H .at .nodes ≡ h .at .nodes = omega (arith, j) in
     λ i. record {
-      version = wordAt f 0;
+      version = versionAt f;
       count = record { users = u i; roles = r i; kinds = k i; channels = c i; sessions = s i; nodes = n i };
       at = record { users = a-users i; roles = a-roles i; juniors = a-juniors i; kinds = a-kinds i; channels = a-channels i; sessions = a-sessions i; nodes = a-nodes i };
     }
 
-head-words : (f : List ℕ) → headWords (headAt f) ≡ wordsFrom f 0 (13 + more (wordAt f 0))
+head-words : (f : List ℕ) → headWords (headIn f) ≡ wordsFrom f 0 (13 + more (wordAt f 0))
 unfolding wordsFrom
 head-words f = go (eqb (wordAt f 0) 2) refl
   where
-    go : (b : Bool) → eqb (wordAt f 0) 2 ≡ b → headWords (headAt f) ≡ wordsFrom f 0 (13 + more (wordAt f 0))
+    go : (b : Bool) → eqb (wordAt f 0) 2 ≡ b → headWords (headIn f) ≡ wordsFrom f 0 (13 + more (wordAt f 0))
     go true e = rw e
     go false e = rw e
 
@@ -106,7 +106,10 @@ juniors-words f h = go (eqb (h .version) 2)
         sym (cat-one (tabled (λ n. wordAt f (placeOf h Juniors n)) 1 r)) ∙ rows-words oneRow 1 (λ x. refl) f (wordAt f) (h .at .juniors) (one-words f) r ∙ ap (wordsFrom f (h .at .juniors)) one
     go false = refl
 
-module _ (f : List ℕ) (d : Headed f) (bytes : All Byte f) where
+module _ (x : ℕ) (xs : List ℕ) (d : Headed (x ∷ xs)) (bytes : All Byte (x ∷ xs)) where
+  abbrev f : List ℕ
+  f = x ∷ xs
+
   -- section after section, the words of what is read are the file's
   contents-words : rowWords (wordAt f 0) (contentsOf f) ≡ wordsFrom f 0 (headAt f .at .nodes + 3 * wordAt f 6)
   unfolding contentsAt
@@ -135,12 +138,17 @@ module _ (f : List ℕ) (d : Headed f) (bytes : All Byte f) where
       (join f (at .sessions) (3 * n .sessions) (at .nodes) _ _ _ (sym (l .nodes-at)) sessions nodes))))))
       ∙ ap (wordsFrom f 0) end
 
-  -- read, then written, gives the bytes back
-  pub bytes-back : encoded (wordAt f 0) (contentsOf f) ≡ f
+  some-back : encoded (wordAt f 0) (contentsOf f) ≡ f
   unfolding encoded
-  bytes-back =
+  some-back =
       let l : Laid f (headAt f) = d .laid in
       let (ws, e) = paired f (omega arith) bytes in
       let len : headAt f .at .nodes + 3 * wordAt f 6 ≡ length ws = omega (arith, ap length e, length-bytesOf ws) in
       let all : wordsFrom (bytesOf ws) 0 (length ws) ≡ ws = holds-words (bytesOf ws) 0 ws (holds-all ws) in
       ap bytesOf (file-rows (wordAt f 0) (contentsOf f) ∙ contents-words ∙ ap (wordsFrom f 0) len ∙ ap (λ (g : List ℕ). wordsFrom g 0 (length ws)) (sym e) ∙ all) ∙ e
+
+-- read, then written, gives the bytes back
+pub bytes-back : (f : List ℕ) → Headed f → All Byte f → encoded (versionAt f) (contentsOf f) ≡ asRead f
+unfolding encoded fileWords tableWords contentsAt tabled roleWords channelWords sessionWords nodeWords bytesOf
+bytes-back [] d bytes = refl
+bytes-back (x ∷ xs) d bytes = some-back x xs d bytes

@@ -1,4 +1,4 @@
--- The clinic file as data, when it is well formed, and its bytes.
+-- The clinic file as data, when it is well formed, its bytes, and which bytes read as it.
 use Prim.Native.Nat.{ℕ, suc, _-_, _≤_, _<_}
 use mathlib.Core.Path.{_≡_}
 use mathlib.Core.Bool.{true}
@@ -108,3 +108,12 @@ asSecond F = record { users = F .users; grants = masksNone (F .grants); kinds = 
 -- its bytes
 unfoldable pub encode : File → List ℕ
 encode F = encoded (versionOf (F .grants)) (contentsFor F)
+
+-- "the version 1 file with all counts 0"
+abbrev pub unplanned : File
+unplanned = record { users = []; grants = first []; kinds = []; channels = []; sessions = [] }
+
+-- bytes read as a file: they are its bytes, or there are none and it is the file with nothing planned
+pub data ReadsAs (f : List ℕ) (F : File) : Type 0 where
+  sent : encode F ≡ f → ReadsAs f F
+  nothing-sent : f ≡ [] → F ≡ unplanned → ReadsAs f F

@@ -6,8 +6,7 @@ use mathlib.Core.Bool.{true, false}
 use mathlib.Core.List.{List, map}
 use lib.ListN.{length, getD}
 use Rattle.masks.specs.Mask.{has}
-use Rattle.format.specs.Words.{wordAt}
-use Rattle.format.specs.Header.{more, juniorRecords, sixAt, offsetsAt, headAt, Counted, BackToBack}
+use Rattle.format.specs.Header.{more, juniorRecords, asRead, headAt, versionAt, Counted, BackToBack}
 use Rattle.format.specs.Sections.{placeOf}
 use Rattle.format.specs.Contents.{Contents, item, noRole, noChannel, noSession, noNode, contentsOf}
 use Rattle.trees.specs.Shape.{boundBelow}
@@ -87,15 +86,15 @@ abbrev pub lengthOf : ℕ → Six → ℕ
 lengthOf version n =
     2 * (13 + more version + n .users + 4 * n .roles + juniorRecords version (n .roles) + n .kinds + 2 * n .channels + 3 * n .sessions + 3 * n .nodes)
 
--- a refusal's number and place hold of a file
+-- a refusal's number and place hold of a file; zero bytes are judged as the file that they read as
 pub data Refusable (f : List ℕ) (n p : ℕ) : Type 0 where
-  short : n ≡ 1 → p ≡ 0 → length f < 26 → Refusable f n p
-  short-second : n ≡ 1 → p ≡ 0 → wordAt f 0 ≡ 2 → length f < 28 → Refusable f n p
-  odd : n ≡ 1 → p ≡ 0 → length f % 2 ≡ 1 → Refusable f n p
-  version : n ≡ 2 → p ≡ 0 → wordAt f 0 ≢ 1 → wordAt f 0 ≢ 2 → Refusable f n p
-  count : n ≡ 3 → p ≡ 0 → (Counted (sixAt f 1) → ⊥) → Refusable f n p
-  offset : n ≡ 4 → p ≡ 0 → (BackToBack (wordAt f 0) (sixAt f 1) (offsetsAt f (wordAt f 0)) → ⊥) → Refusable f n p
-  size : n ≡ 5 → p ≡ 0 → length f ≢ lengthOf (wordAt f 0) (sixAt f 1) → Refusable f n p
+  short : n ≡ 1 → p ≡ 0 → length (asRead f) < 26 → Refusable f n p
+  short-second : n ≡ 1 → p ≡ 0 → versionAt f ≡ 2 → length (asRead f) < 28 → Refusable f n p
+  odd : n ≡ 1 → p ≡ 0 → length (asRead f) % 2 ≡ 1 → Refusable f n p
+  version : n ≡ 2 → p ≡ 0 → versionAt f ≢ 1 → versionAt f ≢ 2 → Refusable f n p
+  count : n ≡ 3 → p ≡ 0 → (Counted (headAt f .count) → ⊥) → Refusable f n p
+  offset : n ≡ 4 → p ≡ 0 → (BackToBack (versionAt f) (headAt f .count) (headAt f .at) → ⊥) → Refusable f n p
+  size : n ≡ 5 → p ≡ 0 → length (asRead f) ≢ lengthOf (versionAt f) (headAt f .count) → Refusable f n p
   misnamed : n ≡ 6 → Misnamed (headAt f) (contentsOf f) p → Refusable f n p
   misranked : n ≡ 21 → Misranked (headAt f) (contentsOf f) p → Refusable f n p
   unassigned : n ≡ 7 → Unassigned (contentsOf f) p → Refusable f n p

@@ -70,14 +70,18 @@ runCases =
     -- three threads, and the middle one ends
     ∷ runs three [] fine (0 ∷ 0 ∷ 3 ∷ 0 ∷ shows 1 1 0 0 0 ++ shows 2 2 1 1 0 ++ shows 3 3 1 1 0)
     ∷ runs three (2 ∷ 0 ∷ []) fine (1 ∷ 0 ∷ 2 ∷ 0 ∷ shows 1 1 0 0 0 ++ shows 3 3 1 1 0)
+    -- zero bytes: no threads, and a choice names none
+    ∷ runs [] [] fine (0 ∷ 0 ∷ 0 ∷ 0 ∷ [])
+    ∷ runs [] (1 ∷ 0 ∷ []) (refused 18 1) (0 ∷ 18 ∷ 0 ∷ 0 ∷ [])
     -- an odd list, too little room, and what is no file
     ∷ writesNothing desk (1 ∷ []) 1802 (refused 17 0)
     ∷ writesNothing desk [] 1799 (refused 17 0)
-    ∷ writesNothing [] (1 ∷ 0 ∷ []) 1802 (refused 1 0)
-    -- sender 1 and receiver 4; none at the start; a halted list, an odd one, and what is no file
+    ∷ writesNothing (1 ∷ []) (1 ∷ 0 ∷ []) 1802 (refused 1 0)
+    -- sender 1 and receiver 4; none at the start; a halted list, an odd one, what is no file, and zero bytes
     ∷ readies desk (1 ∷ 0 ∷ 2 ∷ 0 ∷ 4 ∷ 0 ∷ []) (record { number = 0; place = 0; sender = 1; receiver = 4 })
     ∷ readies desk [] (record { number = 0; place = 0; sender = 0; receiver = 0 })
     ∷ readies desk (1 ∷ 0 ∷ 2 ∷ 0 ∷ 4 ∷ 0 ∷ 1 ∷ 0 ∷ []) (record { number = 18; place = 4; sender = 0; receiver = 0 })
     ∷ readies desk (1 ∷ []) (record { number = 17; place = 0; sender = 0; receiver = 0 })
-    ∷ readies [] [] (record { number = 1; place = 0; sender = 0; receiver = 0 })
+    ∷ readies (1 ∷ []) [] (record { number = 1; place = 0; sender = 0; receiver = 0 })
+    ∷ readies [] [] (record { number = 0; place = 0; sender = 0; receiver = 0 })
     ∷ []

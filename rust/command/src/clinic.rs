@@ -60,12 +60,16 @@ fn head_words(version: u16) -> usize {
 /// The word of the head at which the offsets begin.
 const OFFSETS: usize = 1 + COUNTED.len();
 
+/// What zero bytes are read as: version 1, no records, every section behind the head.
+const NOTHING_PLANNED: [u16; 13] = [1, 0, 0, 0, 0, 0, 0, 13, 13, 13, 13, 13, 13];
+
 /// A file taken apart.
 #[derive(Default)]
 pub struct Clinic {
-    /// Its length in bytes.
+    /// Its length in bytes; 0 where nothing is planned.
     pub length: usize,
-    /// The words of its head, or as many as there are.
+    /// The words of its head, or as many as there are. Of zero bytes, the head that
+    /// they are read as.
     pub head: Vec<u16>,
     /// The counts, if the head is whole, its version is known and all of them
     /// are in range. Only then are there records.
@@ -84,7 +88,10 @@ impl Clinic {
     /// Takes any bytes apart: records stand where the counts put them, up to
     /// the end of the file.
     pub fn of(bytes: &[u8]) -> Clinic {
-        let words: Vec<u16> = bytes.chunks_exact(2).map(word).collect();
+        let words: Vec<u16> = match bytes {
+            [] => NOTHING_PLANNED.to_vec(),
+            _ => bytes.chunks_exact(2).map(word).collect(),
+        };
         let version = words.first().copied().unwrap_or(0);
         let (head, mut rest) = words.split_at(head_words(version).min(words.len()));
         let mut clinic = Clinic {

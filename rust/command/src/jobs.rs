@@ -85,7 +85,8 @@ fn check(file: &Source, at: Option<&At>) -> Result<Outcome, WrongUse> {
     };
     if verdict.is_clean() {
         let when = hours.map_or(String::new(), |hours| hours.when("at"));
-        return answer(&format!("{}: passes{when}\n", file.name()));
+        let planned = planned(&bytes);
+        return answer(&format!("{}: passes{when}{planned}\n", file.name()));
     }
     let mut message = refused(file, &bytes, hours.as_ref(), verdict);
     if verdict.number == 13 && Clinic::of(&bytes).is_bare() {
@@ -118,7 +119,8 @@ fn place(file: &Source, at: Option<&At>, out: Option<&Path>) -> Result<Outcome, 
     let (name, told) = (file.name(), size(placed));
     let when = hours.map_or(String::new(), |hours| hours.when("for"));
     let written = out.map_or(String::new(), |path| format!(" in {}", path.display()));
-    output::say(&format!("{name}: placed{when}, {told}{written}"));
+    let planned = planned(&bytes);
+    output::say(&format!("{name}: placed{when}, {told}{written}{planned}"));
     Ok(Outcome::Answer)
 }
 
@@ -133,8 +135,19 @@ fn measure(file: &Source, at: Option<&At>) -> Result<Outcome, WrongUse> {
         return refusal(&refused(file, &bytes, hours.as_ref(), placed.verdict()));
     }
     let when = hours.map_or(String::new(), |hours| hours.when("for"));
-    let told = size(placed);
-    answer(&format!("{}: can be placed{when}, {told}\n", file.name()))
+    let (told, planned) = (size(placed), planned(&bytes));
+    answer(&format!(
+        "{}: can be placed{when}, {told}{planned}\n",
+        file.name()
+    ))
+}
+
+/// Said of zero bytes, so that an input that was lost on its way is seen.
+fn planned(bytes: &[u8]) -> &'static str {
+    match bytes {
+        [] => " (zero bytes: nothing is planned)",
+        _ => "",
+    }
 }
 
 /// The on steps and the length of a placed file.

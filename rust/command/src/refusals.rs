@@ -61,11 +61,12 @@ pub fn counts(number: u16, place: u16, in_run: bool) -> Counts {
 /// The refusals from 1 on.
 pub const ALL: [Refusal; 24] = [
     Refusal {
-        short: "the file has under 26 bytes (28 in version 2), or an odd number",
+        short: "the file has 1 to 25 bytes (to 27 in version 2), or an odd number",
         place: NOTHING,
         who: WRITER,
         wrong: "A file is made of words of two bytes, and its head alone has 13 of them, 14 in \
-            version 2. This one is shorter than a head, or ends in the middle of a word.",
+            version 2. This one is shorter than a head, or ends in the middle of a word. (Zero \
+            bytes are no fault: a clinic that has nothing planned yet sends none.)",
         mend: "Fetch the file again: most often it was cut off on its way. If it is so at its \
             source, write it again.",
     },

@@ -57,6 +57,7 @@ fn judged(clinic: &Clinic, verdict: Verdict) -> String {
 fn length(clinic: &Clinic) -> String {
     let due = 2 * clinic.words();
     match clinic.length {
+        0 => "length: 0 bytes: nothing is planned; read as these 26".to_string(),
         length if clinic.counts.is_some() && length != due => {
             format!("length: {length} bytes ({due} by the counts)")
         }

@@ -62,7 +62,7 @@ impl Verdict {
     /// The refusal as an error, if there is one.
     ///
     /// ```
-    /// let refusal = pilzdamo::check(&[]).result().unwrap_err();
+    /// let refusal = pilzdamo::check(&[1]).result().unwrap_err();
     /// assert_eq!((refusal.number, refusal.place), (1, 0));
     /// ```
     pub fn result(self) -> Result<(), Verdict> {
@@ -77,7 +77,7 @@ impl Verdict {
 /// `clean`, or `refused N P` with number and place.
 ///
 /// ```
-/// assert_eq!(pilzdamo::check(&[]).to_string(), "refused 1 0");
+/// assert_eq!(pilzdamo::check(&[1]).to_string(), "refused 1 0");
 /// ```
 impl fmt::Display for Verdict {
     fn fmt(&self, out: &mut fmt::Formatter<'_>) -> fmt::Result {
@@ -111,7 +111,7 @@ impl Placed {
     /// Whether the file is placed, or can be.
     ///
     /// ```
-    /// assert!(!pilzdamo::place(&[], &mut [0; pilzdamo::ROOM]).is_placed());
+    /// assert!(!pilzdamo::place(&[1], &mut [0; pilzdamo::ROOM]).is_placed());
     /// ```
     pub fn is_placed(self) -> bool {
         self.number == 0
@@ -120,8 +120,8 @@ impl Placed {
     /// The refusal's number and place alone.
     ///
     /// ```
-    /// let placed = pilzdamo::place(&[], &mut [0; pilzdamo::ROOM]);
-    /// assert_eq!(placed.verdict(), pilzdamo::read(&[]));
+    /// let placed = pilzdamo::place(&[1], &mut [0; pilzdamo::ROOM]);
+    /// assert_eq!(placed.verdict(), pilzdamo::read(&[1]));
     /// ```
     pub fn verdict(self) -> Verdict {
         let Placed { number, place, .. } = self;
@@ -133,7 +133,9 @@ impl Placed {
 ///
 /// ```
 /// let mut out = [0; pilzdamo::ROOM];
-/// assert_eq!(pilzdamo::place(&[], &mut out).to_string(), "refused 1 0");
+/// assert_eq!(pilzdamo::place(&[1], &mut out).to_string(), "refused 1 0");
+/// let placed = pilzdamo::place(&[], &mut out);
+/// assert_eq!(placed.to_string(), "placed in 26 bytes, on steps: 0");
 /// ```
 impl fmt::Display for Placed {
     fn fmt(&self, out: &mut fmt::Formatter<'_>) -> fmt::Result {
@@ -177,7 +179,7 @@ impl Ready {
     /// The refusal's number and place alone.
     ///
     /// ```
-    /// assert_eq!(pilzdamo::ready(&[], &[]).verdict(), pilzdamo::read(&[]));
+    /// assert_eq!(pilzdamo::ready(&[1], &[]).verdict(), pilzdamo::read(&[1]));
     /// ```
     pub fn verdict(self) -> Verdict {
         let Ready { number, place, .. } = self;
@@ -189,7 +191,7 @@ impl Ready {
 /// number and place.
 ///
 /// ```
-/// assert_eq!(pilzdamo::ready(&[], &[]).to_string(), "refused 1 0");
+/// assert_eq!(pilzdamo::ready(&[1], &[]).to_string(), "refused 1 0");
 /// ```
 impl fmt::Display for Ready {
     fn fmt(&self, out: &mut fmt::Formatter<'_>) -> fmt::Result {
@@ -244,7 +246,7 @@ impl Round {
     ///
     /// ```
     /// let mut out = [0; pilzdamo::RUN_ROOM];
-    /// assert_eq!(pilzdamo::round(&[], &[], &mut out).verdict(), pilzdamo::read(&[]));
+    /// assert_eq!(pilzdamo::round(&[1], &[], &mut out).verdict(), pilzdamo::read(&[1]));
     /// ```
     pub fn verdict(&self) -> Verdict {
         let &Round { number, place, .. } = self;
@@ -257,7 +259,7 @@ impl Round {
 ///
 /// ```
 /// let mut out = [0; pilzdamo::RUN_ROOM];
-/// assert_eq!(pilzdamo::round(&[], &[], &mut out).to_string(), "refused 1 0");
+/// assert_eq!(pilzdamo::round(&[1], &[], &mut out).to_string(), "refused 1 0");
 /// ```
 impl fmt::Display for Round {
     fn fmt(&self, out: &mut fmt::Formatter<'_>) -> fmt::Result {
@@ -314,7 +316,7 @@ impl Totals {
     /// The refusal's number and place alone.
     ///
     /// ```
-    /// assert_eq!(pilzdamo::totals(&[], &[]).verdict(), pilzdamo::read(&[]));
+    /// assert_eq!(pilzdamo::totals(&[1], &[]).verdict(), pilzdamo::read(&[1]));
     /// ```
     pub fn verdict(&self) -> Verdict {
         let &Totals { number, place, .. } = self;
@@ -326,7 +328,7 @@ impl Totals {
 /// the run halted, and that alone where nobody then waits.
 ///
 /// ```
-/// assert_eq!(pilzdamo::totals(&[], &[]).to_string(), "refused 1 0");
+/// assert_eq!(pilzdamo::totals(&[1], &[]).to_string(), "refused 1 0");
 /// ```
 impl fmt::Display for Totals {
     fn fmt(&self, out: &mut fmt::Formatter<'_>) -> fmt::Result {

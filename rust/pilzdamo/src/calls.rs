@@ -71,6 +71,10 @@ pub fn room(file: &[u8]) -> usize {
 /// let file = std::fs::read("../../examples/booking.clinic")?;
 /// assert!(pilzdamo::read(&file).is_clean());
 ///
+/// // Zero bytes are the file of a clinic with nothing planned. One byte is none.
+/// assert!(pilzdamo::read(&[]).is_clean());
+/// assert_eq!(pilzdamo::read(&[1]).number, 1);
+///
 /// // Another version is refusal 2.
 /// assert_eq!(pilzdamo::read(&[9; 26]).number, 2);
 /// # Ok::<(), std::io::Error>(())

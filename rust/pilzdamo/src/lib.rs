@@ -53,6 +53,22 @@
 //! # Ok::<(), Box<dyn std::error::Error>>(())
 //! ```
 //!
+//! # A clinic with nothing planned
+//!
+//! A new clinic sends zero bytes before its first plan. Wherever a file is taken they
+//! are read as the file of version 1 with all counts 0; 1 to 25 bytes are refused.
+//!
+//! ```
+//! assert!(pilzdamo::check(&[]).is_clean());
+//! let (placed, on_steps) = pilzdamo::placed(&[])?;
+//! let words: [u16; 13] = [1, 0, 0, 0, 0, 0, 0, 13, 13, 13, 13, 13, 13];
+//! assert_eq!((placed, on_steps), (words.map(u16::to_le_bytes).concat(), 0));
+//!
+//! // It runs, with no threads.
+//! assert!(pilzdamo::Desk::start(&[])?.threads().is_empty());
+//! # Ok::<(), Box<dyn std::error::Error>>(())
+//! ```
+//!
 //! # Senior roles
 //!
 //! In version 2 of the format a role has a word of juniors, lower roles whose grants

@@ -86,7 +86,10 @@ thread 3: user 2, node 14, mask 4, roles 1, first variable 2
 65472 choices: refusal 17 0, 0 bytes
 record: refused 6 27
 role: refused 13 4
-no bytes: refused 1 0
+no bytes: clean
+place no bytes: refusal 0 0, 26 bytes, on steps: 0
+what is placed: clean
+one byte: refused 1 0
 odd: refused 17 0
 unequal: refused 19 2
 choices done: 1, refusal: 19

@@ -143,6 +143,7 @@ fn start(file: &[u8], records: usize, words: usize) -> (Verdict, Vec<Thread>, Ve
 fn a_list_of_ones_own_starts_as_a_run_does() {
     for name in [
         "booking.clinic",
+        "nothing.clinic",
         "transfer.clinic",
         "spring/cut.clinic",
         "refused/11-on.clinic",
@@ -190,7 +191,7 @@ fn no_desk() {
     let file = example("refused/choices.clinic");
     assert_eq!(refused(&file, &choices("refused/17-odd.choices")), (17, 0));
     assert_eq!(refused(&example("refused/08-tree.clinic"), &[]), (8, 1));
-    assert_eq!(refused(&[], &[]), (1, 0));
+    assert_eq!(refused(&[1], &[]), (1, 0));
     for name in ["refused/08-tree.clinic", "refused/10-kinds.clinic"] {
         let file = example(name);
         let refusal = Desk::start(&file).expect_err("no desk");

@@ -4,11 +4,13 @@
 mod checking;
 mod hours;
 mod juniors;
+mod nothing;
 mod placing;
 mod reading;
 mod running;
 
 pub use hours::{CheckAtCase, PlaceAtCase};
+pub use nothing::NOTHING;
 pub use placing::{Due, PlaceCase};
 pub use running::{booking, choose_cases, placed_booking, round_cases, start_cases};
 pub use running::{totals_cases, ChooseCase, Lent, RoundCase, RunCase, StartCase, TotalsCase};
@@ -77,6 +79,7 @@ pub fn cases() -> Vec<Case> {
         juniors::heads(),
         juniors::records(),
         juniors::roles(),
+        nothing::checks(),
     ]
     .into_iter()
     .flatten()
@@ -93,6 +96,7 @@ pub fn place_cases() -> Vec<PlaceCase> {
         placing::sizes(),
         juniors::placing(),
         juniors::rooms(),
+        nothing::placings(),
     ]
     .into_iter()
     .flatten()
@@ -101,15 +105,21 @@ pub fn place_cases() -> Vec<PlaceCase> {
 
 /// All of the check at a minute.
 pub fn check_at_cases() -> Vec<CheckAtCase> {
-    [hours::open(), hours::roles(), hours::tables()]
-        .into_iter()
-        .flatten()
-        .collect()
+    [
+        hours::open(),
+        hours::roles(),
+        hours::tables(),
+        nothing::checks_at(),
+    ]
+    .into_iter()
+    .flatten()
+    .collect()
 }
 
 /// All of placing at a minute.
 pub fn place_at_cases() -> Vec<PlaceAtCase> {
-    hours::placing()
+    let of_hours = hours::placing().into_iter();
+    of_hours.chain(nothing::placings_at()).collect()
 }
 
 /// All of runs.

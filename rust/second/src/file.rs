@@ -132,9 +132,20 @@ impl Version {
     }
 }
 
+/// A clinic with nothing planned sends zero bytes. They are read as these: version 1,
+/// all counts 0, and every section where the header ends.
+#[rustfmt::skip]
+const NOTHING_PLANNED: [u8; 26] = [
+    1, 0,
+    0, 0, 0, 0, 0, 0, 0, 0, 0, 0, 0, 0,
+    13, 0, 13, 0, 13, 0, 13, 0, 13, 0, 13, 0,
+];
+
 /// A file that meets refusals 1 to 5 clean.
 #[derive(Clone)]
 pub struct File<'a> {
+    /// All its bytes, as they are read.
+    pub bytes: &'a [u8],
     pub version: Version,
     pub users: &'a [[u8; 2]],
     pub roles: &'a [[u8; 8]],
@@ -163,9 +174,15 @@ pub fn numbered<T>(records: &[T]) -> impl Iterator<Item = (u16, &T)> {
 
 impl<'a> File<'a> {
     pub fn open(file: &'a [u8]) -> Result<File<'a>, Refusal> {
+        let file = if file.is_empty() {
+            &NOTHING_PLANNED
+        } else {
+            file
+        };
         let (version, [users, roles, kinds, channels, sessions, nodes]) = judge_header(file)?;
         let mut rest = &file[2 * version.header()..];
         Ok(File {
+            bytes: file,
             version,
             users: take(&mut rest, users),
             roles: take(&mut rest, roles),

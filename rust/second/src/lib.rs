@@ -63,7 +63,7 @@ pub fn place(file: &[u8], out: &mut [u8]) -> Placed {
     let mut plan = Plan::new();
     let judged = placing::judge_room(file, out.len());
     let judged = judged.and_then(|()| judge_measuring(file, &mut plan));
-    answered(judged, |read| plan.write(file, read, out))
+    answered(judged, |file| plan.write(file, out))
 }
 
 /// Refusal 17, 22, 1 to 8, 23, 9 and 10, and 14 to 16 with the roles that are open
@@ -73,27 +73,27 @@ pub fn place_at(file: &[u8], hours: &[u16], minute: u16, out: &mut [u8]) -> Plac
     let mut plan = Plan::new();
     let judged = placing::judge_room(file, out.len());
     let judged = judged.and_then(|()| judge_measuring_at(file, hours, minute, &mut plan));
-    answered(judged, |read| plan.write(file, read, out))
+    answered(judged, |file| plan.write(file, out))
 }
 
 /// What [`place`] answers in an output that is long enough.
 pub fn measure(file: &[u8]) -> Placed {
     let mut plan = Plan::new();
     let judged = judge_measuring(file, &mut plan);
-    answered(judged, |read| plan.measure(file, read))
+    answered(judged, |file| plan.measure(file))
 }
 
 /// What [`place_at`] answers in an output that is long enough.
 pub fn measure_at(file: &[u8], hours: &[u16], minute: u16) -> Placed {
     let mut plan = Plan::new();
     let judged = judge_measuring_at(file, hours, minute, &mut plan);
-    answered(judged, |read| plan.measure(file, read))
+    answered(judged, |file| plan.measure(file))
 }
 
 /// The refusal, or what is answered where the file can be placed.
 fn answered(judged: Result<File<'_>, Refusal>, place: impl FnOnce(&File<'_>) -> Placed) -> Placed {
     match judged {
-        Ok(read) => place(&read),
+        Ok(file) => place(&file),
         Err(refusal) => {
             let Verdict { number, place } = refusal.verdict();
             Placed::refused(number, place)

@@ -120,19 +120,19 @@ impl Plan {
         self.before[usize::from(number) - 1].start
     }
 
-    /// What is answered where the file, given as bytes and as read, is placed.
-    pub fn measure(&self, bytes: &[u8], file: &File) -> Placed {
-        let head = bytes.len() - BYTES * file.nodes.len();
+    /// What is answered where the file is placed.
+    pub fn measure(&self, file: &File) -> Placed {
+        let head = file.bytes.len() - BYTES * file.nodes.len();
         let length = head + BYTES * usize::from(self.nodes);
         Placed::written(length as u16, self.on_steps)
     }
 
-    /// Writes the placed file, given the file as bytes and as read.
-    pub fn write(&self, bytes: &[u8], file: &File, out: &mut [u8]) -> Placed {
-        let placed = self.measure(bytes, file);
-        let head = bytes.len() - BYTES * file.nodes.len();
+    /// Writes the placed file.
+    pub fn write(&self, file: &File, out: &mut [u8]) -> Placed {
+        let placed = self.measure(file);
+        let head = file.bytes.len() - BYTES * file.nodes.len();
         let (start, nodes) = out[..placed.length.into()].split_at_mut(head);
-        start.copy_from_slice(&bytes[..head]);
+        start.copy_from_slice(&file.bytes[..head]);
         set_word(start, Section::Nodes.count_at(), self.nodes);
         self.write_roots(&mut start[head - BYTES * file.sessions.len()..]);
         self.write_nodes(file, nodes.as_chunks_mut().0);

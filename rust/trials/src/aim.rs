@@ -22,7 +22,7 @@ pub fn at_bytes(rng: &mut Rng, file: &mut Vec<u8>, cause: Cause) {
     let version = Version::claimed(file);
     let header = 2 * version.header();
     match cause {
-        Cause::Short => file.truncate(rng.below(26)),
+        Cause::Short => file.truncate(1 + rng.below(25)),
         Cause::Odd if rng.once_in(2) => file.push(0),
         Cause::Odd => file.truncate((26 + rng.below(file.len() - 25)) | 1),
         Cause::ShortForSecond => file.truncate(26),

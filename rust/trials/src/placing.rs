@@ -6,7 +6,8 @@ pub use tally::PlaceTally;
 
 use crate::bare::deal_bare;
 use crate::trees::Trees;
-use second::draft::Draft;
+use second::cases::NOTHING;
+use second::draft::{to_bytes, Draft};
 use second::{Placed, Verdict, Version};
 use std::fmt::Display;
 
@@ -81,10 +82,12 @@ pub fn judge(
     let on_nodes = draft.nodes.iter().filter(|node| node[0] == 7).count();
     unless(on_nodes != placed.on_steps.into(), "other on steps")?;
     unless(!holds_one_role(&draft), "two roles, or one at an end")?;
-    unless(
-        erased(draft).bytes() != file,
-        "another file without on and off",
-    )
+    let bare = erased(draft).bytes();
+    let same = match file {
+        [] => bare == to_bytes(&NOTHING),
+        _ => bare == file,
+    };
+    unless(!same, "another file without on and off")
 }
 
 /// Whether every node is reached with at most one role, and an end with none.

@@ -32,6 +32,7 @@ pub fn engine_ready(file: &[u8], choices: &[u16]) -> Ready {
 }
 
 /// A file, a list of choices, and an output with what it holds beforehand.
+#[derive(Clone)]
 pub struct Dealt {
     pub file: Vec<u8>,
     pub choices: Vec<u16>,

@@ -18,7 +18,12 @@ fn lengths() -> impl Iterator<Item = usize> {
 #[test]
 fn zeros_ones_and_noise() {
     for length in lengths() {
-        let due = if length < 26 || length % 2 == 1 { 1 } else { 2 };
+        let due = match length {
+            0 => 0,
+            1..26 => 1,
+            _ if length % 2 == 1 => 1,
+            _ => 2,
+        };
         assert_eq!(agreed(&vec![0; length], "zeros"), due);
         assert_eq!(agreed(&vec![0xff; length], "ones"), due);
         let mut rng = Rng::new(seed(), length as u64);
@@ -75,7 +80,8 @@ fn every_prefix_of_a_sound_file() {
         let header = 2 * version.header();
         for sound in [typical(version, seed()), largest(version, seed())] {
             assert_eq!(agreed(&sound, "whole"), 0);
-            for length in 0..sound.len() {
+            assert_eq!(agreed(&sound[..0], "nothing of it"), 0);
+            for length in 1..sound.len() {
                 let short = length < header || length % 2 == 1;
                 assert_eq!(
                     agreed(&sound[..length], "prefix"),

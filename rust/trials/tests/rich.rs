@@ -16,11 +16,14 @@ struct Words {
 
 impl Words {
     fn of(file: &[u8]) -> Words {
-        let pairs = file.as_chunks().0;
+        let draft = Draft::of(file);
+        // Those of the file, unless it has none.
+        let bytes = draft.bytes();
+        let pairs = bytes.as_chunks().0;
         Words {
-            version: Version::claimed(file),
+            version: draft.version(),
             words: pairs.iter().map(|&pair| u16::from_le_bytes(pair)).collect(),
-            draft: Draft::of(file),
+            draft,
         }
     }
 

@@ -119,7 +119,8 @@ fn nodes(file: &[u8]) -> u16 {
 #[test]
 fn ten_thousand_files() {
     let mut dice = Dice(2024);
-    let files: Vec<Vec<u8>> = files::all().into_iter().map(|(_, bytes)| bytes).collect();
+    let mut files: Vec<Vec<u8>> = files::all().into_iter().map(|(_, bytes)| bytes).collect();
+    files.retain(|file| !file.is_empty());
     for i in 0..10_000 {
         let file = match i % 10 {
             0 => noise(&mut dice),

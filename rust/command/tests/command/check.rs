@@ -15,7 +15,7 @@ fn standard_input() {
     let answer = pilzdamo_fed(&["check", "-"], &example_bytes("spring/cut.clinic"));
     assert_eq!(answer.status, 0);
     assert_eq!(answer.text(), "standard input: passes\n");
-    let answer = pilzdamo(&["check", "-"]);
+    let answer = pilzdamo_fed(&["check", "-"], &[1]);
     assert_eq!(answer.status, 1);
     assert!(answer
         .err

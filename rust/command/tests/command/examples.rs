@@ -107,7 +107,7 @@ fn the_readmes_commands() {
             printed += 1;
         }
     }
-    assert_eq!(printed, 3);
+    assert_eq!(printed, 5);
 }
 
 /// The refusal that a line begins with: `- 6 at word 27: ` or `- 3: `.

@@ -5,6 +5,7 @@ use crate::draft::*;
 /// Every binary example: its name there, and its bytes.
 pub fn all() -> Vec<(&'static str, Vec<u8>)> {
     let mut all = vec![
+        ("nothing.clinic", vec![]),
         ("booking.clinic", booking().bytes()),
         ("overlap.clinic", overlap().bytes()),
         ("overlap-placed.clinic", placed_overlap().bytes()),

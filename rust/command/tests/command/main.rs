@@ -10,6 +10,7 @@ mod explain;
 mod files;
 mod hours;
 mod measure;
+mod nothing;
 mod place;
 mod refused;
 mod round;

@@ -299,7 +299,8 @@ fn files_cut_short() {
     let text = command::show::text(&whole[..7]);
     assert!(text.contains("length: 7 bytes\n!! refused 1 at "), "{text}");
     assert!(text.contains("\nhead: 1 2 2\n"), "{text}");
-    assert!(command::show::text(&[]).contains("length: 0 bytes\n!! refused 1 at "));
+    let text = command::show::text(&whole[..1]);
+    assert!(text.contains("length: 1 byte\n!! refused 1 at "), "{text}");
 }
 
 /// A role held through a fork is held in each branch on its own.

@@ -265,12 +265,15 @@ static void dispatch(const char *folder) {
 /* Refusals with their places. */
 static void refusals(const char *folder) {
     static const uint16_t odd[] = {2, 0, 2}, unequal[] = {2, 0, 1, 0};
-    uint8_t out[PILZDAMO_RUN_ROOM], any = 0;
+    uint8_t out[PILZDAMO_RUN_ROOM], any = 0, placed[PILZDAMO_ROOM_1];
     clinic file = example(folder, "refused/06-record.clinic");
     print("record", pilzdamo_read(file.bytes, file.len));
     file = example(folder, "refused/13-role.clinic");
     print("role", pilzdamo_check(file.bytes, file.len));
     print("no bytes", pilzdamo_check(&any, 0));
+    print_placed("place no bytes", pilzdamo_place(&any, 0, placed, sizeof placed));
+    print("what is placed", pilzdamo_check(placed, 26));
+    print("one byte", pilzdamo_check(&any, 1));
     file = example(folder, "refused/choices.clinic");
     print("odd", pilzdamo_run(file.bytes, file.len, odd, 3, out, sizeof out));
     print("unequal", pilzdamo_run(file.bytes, file.len, unequal, 4, out, sizeof out));

@@ -188,8 +188,8 @@ pub fn tables() -> Vec<CheckAtCase> {
         minute,
         answer,
     };
-    let none = |name, minute| CheckAtCase {
-        file: vec![],
+    let byte = |name, minute| CheckAtCase {
+        file: vec![1],
         ..table(name, &[], minute, (22, 0))
     };
     let row = |name, row, answer| at(name, sound(), &[row], 0, answer);
@@ -213,10 +213,10 @@ pub fn tables() -> Vec<CheckAtCase> {
             10_080,
             (22, 0),
         ),
-        none("22 before 1", 10_080),
+        byte("22 before 1", 10_080),
         CheckAtCase {
             answer: (1, 0),
-            ..none("no bytes at minute 0", 0)
+            ..byte("one byte at minute 0", 0)
         },
         row("role 0", [0, 0, 9], (23, 1)),
         row("role 4 of 3", [4, 0, 9], (23, 1)),
@@ -280,7 +280,7 @@ pub fn placing() -> Vec<PlaceAtCase> {
     let at_noon = |case| at(case, &WEEKDAYS, MONDAY_NOON);
     let closed = |case| at(case, &WEEKDAYS, SATURDAY_NOON);
     let shut_2 = |case| at(case, &[[2, 0, 1]], 1);
-    let empty = |number| place_case("no bytes", vec![], Due::Refused(number, 0));
+    let byte = |number| place_case("one byte", vec![1], Due::Refused(number, 0));
     vec![
         at_noon(of_admissions(
             "admissions, open",
@@ -347,9 +347,9 @@ pub fn placing() -> Vec<PlaceAtCase> {
             0,
         ),
         at(refused("a minute", desk("end"), 22, 0), &[], 10_080),
-        at(empty(22), &[], 10_080),
-        at(empty(17).with_room(6_873), &[], 10_080),
-        at(empty(1), &[], 0),
+        at(byte(22), &[], 10_080),
+        at(byte(17).with_room(6_873), &[], 10_080),
+        at(byte(1), &[], 0),
         at(
             refused("17 before 22 in version 2", desk("end"), 17, 0).with_room(6_907),
             &[[9, 9, 9]; 65],

@@ -361,12 +361,12 @@ pub fn forks() -> Vec<PlaceCase> {
 
 /// The refusals and their order.
 pub fn refusals() -> Vec<PlaceCase> {
-    let empty = |number| placing("empty input", vec![], Due::Refused(number, 0));
+    let byte = |number| placing("one byte", vec![1], Due::Refused(number, 0));
     let nine = format!("{} receive3 end", "new1 ".repeat(8));
     vec![
-        empty(1),
-        empty(17).with_room(0),
-        empty(17).with_room(6_873),
+        byte(1),
+        byte(17).with_room(0),
+        byte(17).with_room(6_873),
         refused("17 before 14", started(1, "end"), 17, 0).with_room(6_873),
         refused("17, though it would fit", desk("end"), 17, 0).with_room(6_873),
         booking().with_room(6_875),

@@ -33,7 +33,6 @@ pub fn head() -> Vec<Case> {
     let lone = clinic(&[END]).bytes();
     let longer = |more: usize| [lone.clone(), vec![0; more]].concat();
     vec![
-        case("empty input", vec![], (1, 0)),
         case("25 bytes", lone[..25].to_vec(), (1, 0)),
         case("26 bytes of the header alone", lone[..26].to_vec(), (5, 0)),
         case("odd length", longer(1), (1, 0)),

@@ -4,6 +4,7 @@ mod booking;
 mod halts;
 mod juniors;
 mod lent;
+mod nothing;
 mod ready;
 mod refusals;
 mod rounds;
@@ -198,6 +199,7 @@ pub fn cases() -> Vec<RunCase> {
         ready::cases(),
         refusals::cases(),
         juniors::runs(),
+        nothing::runs(),
     ]
     .into_iter()
     .flatten()

@@ -1,6 +1,8 @@
 //! The program `judge`: the line `passes`, or the refusal.
 
 use crate::run::{of_any_length, refused, Program};
+use second::cases::NOTHING;
+use second::draft::to_bytes;
 use second::Version;
 use std::collections::BTreeSet;
 use trials::{largest, second_check, seed};
@@ -35,6 +37,21 @@ fn inputs_of_any_length() {
         for (what, input) in of_any_length(largest(version, seed())) {
             assert_line(&input, &what);
         }
+    }
+}
+
+/// A clinic with nothing planned, and less than a head.
+#[test]
+fn zero_bytes_1_25_and_26() {
+    let nothing = to_bytes(&NOTHING);
+    for (length, due) in [
+        (0, "passes\n"),
+        (1, "refused 1 0\n"),
+        (25, "refused 1 0\n"),
+        (26, "passes\n"),
+    ] {
+        let what = format!("{length} bytes of nothing planned");
+        JUDGE.assert_writes(&nothing[..length], due.as_bytes(), &what);
     }
 }
 

@@ -1,7 +1,8 @@
 //! The program `place`: the placed file, or the line of the refusal.
 
 use crate::run::{of_any_length, refused, Program};
-use second::cases::{place_cases, Due};
+use second::cases::{place_cases, Due, NOTHING};
+use second::draft::to_bytes;
 use second::{room_for, Version, ROOM};
 use std::collections::BTreeSet;
 use trials::{full_bare, largest_bare, seed};
@@ -42,6 +43,20 @@ fn inputs_of_any_length() {
             number => refused(number, placed.place),
         };
         PLACE.assert_writes(&input, &due, &what);
+    }
+}
+
+/// A clinic with nothing planned is placed as its 26 bytes.
+#[test]
+fn zero_bytes_1_25_and_26() {
+    let nothing = to_bytes(&NOTHING);
+    for length in [0, 1, 25, 26] {
+        let due = match length {
+            0 | 26 => nothing.clone(),
+            _ => refused(1, 0),
+        };
+        let what = format!("{length} bytes of nothing planned");
+        PLACE.assert_writes(&nothing[..length], &due, &what);
     }
 }
 

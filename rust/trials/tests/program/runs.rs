@@ -29,7 +29,7 @@
 //! cannot be read`).
 
 use crate::run::{of_any_length, refused, Program};
-use second::cases::run_cases;
+use second::cases::{run_cases, NOTHING};
 use second::draft::{to_bytes, word_at, Draft};
 use second::{Version, RUN_ROOM};
 use std::collections::BTreeSet;
@@ -152,6 +152,25 @@ fn a_state_as_lines() {
     let none = Draft::default().bytes();
     let due = b"done 0\nthreads 0\nchannels 0\n";
     files.assert_writes(&none, &[], due, "no sessions");
+}
+
+/// A clinic with nothing planned runs with no threads.
+#[test]
+fn zero_bytes_1_25_and_26() {
+    let files = Files::of("nothing");
+    let nothing = to_bytes(&NOTHING);
+    let state = "done 0\nthreads 0\nchannels 0\n";
+    for length in [0, 1, 25, 26] {
+        let sound = matches!(length, 0 | 26);
+        for (choices, halted) in [(&[][..], ""), (&[1, 0], "refused 18 1\n")] {
+            let due = match sound {
+                true => format!("{state}{halted}").into_bytes(),
+                false => refused(1, 0),
+            };
+            let what = format!("{length} bytes of nothing planned, {choices:?}");
+            files.assert_writes(&nothing[..length], &to_bytes(choices), &due, &what);
+        }
+    }
 }
 
 /// The named cases, but for those whose output is too short: the program has

@@ -6,6 +6,8 @@ use Rattle.format.specs.Words.{wordAt}
 use Rattle.format.specs.Header.{juniorRecords}
 use Rattle.format.specs.Sections.{juniorsOf}
 use Rattle.format.specs.Contents.{inCount, contentsAt}
+use Rattle.format.specs.declared.Section.the-variants.{Juniors}
+use Rattle.format.proofs.HeadLaws.{all-there}
 use Rattle.format.proofs.ContentsLaws.{in-count, item-there, item-none}
 use borrow.Author.Needs.{needs}
 use Rattle.format.proofs.sections.juniors.Statement.{statement}
@@ -49,7 +51,7 @@ inner-word-requires c κs =
     let a = c .before .before .before .before .before .before .args in
     let (pos, le) = in-count (a .head .count .roles) (a .n) (sym (c .before .before .before .before .in-count .ensures) ∙ not-false (c .before .before .before .before .in-count .result) (c .before .before .before .if1 .left)) in
     let all : juniorRecords (a .head .version) (a .head .count .roles) ≡ a .head .count .roles = rw (eq-eqb (a .head .version) 2 (c .before .if2 .left)) in
-    omega (arith, all)
+    omega (arith, all, all-there (a .file .now) (a .head) (c .before .before .before .before .before .before .pre) Juniors (a .n) pos le)
 
 -- src/sections.rt:110:1
 returns-3 : tie.Need-returns-3

@@ -7,6 +7,7 @@ use Rattle.format.specs.Sections.{placeOf, nodeAt}
 use Rattle.format.specs.Contents.{inCount, noNode, contentsAt}
 use Rattle.format.specs.declared.Section.the-variants.{Nodes}
 use Rattle.format.specs.declared.Node.{Node}
+use Rattle.format.proofs.HeadLaws.{all-there}
 use Rattle.format.proofs.ContentsLaws.{in-count, item-there, item-none}
 use borrow.Author.Needs.{needs}
 use Rattle.format.proofs.sections.node_tag.Statement.{statement}
@@ -37,7 +38,7 @@ inner-word-requires : tie.Need-inner-word-requires
 inner-word-requires c κs =
     let a = c .before .before .before .before .args in
     let (pos, le) = in-count (a .head .count .nodes) (a .n) (sym (c .before .before .in-count .ensures) ∙ not-false (c .before .before .in-count .result) (c .before .if1 .left)) in
-    omega arith
+    omega (arith, all-there (a .file .now) (a .head) (c .before .before .before .before .pre) Nodes (a .n) pos le)
 
 returns-2 : tie.Need-returns-2
 unfolding contentsAt

@@ -4,6 +4,8 @@ use lib.Seq.{sets}
 use Rattle.format.specs.Words.{bytesOf}
 use Rattle.format.specs.Sections.{wordsFrom}
 use Rattle.format.proofs.WriteLaws.{tables-words}
+use native.Mathlib.Omega.{arith}
+use Rattle.format.proofs.HeadLaws.{some-there}
 use borrow.Author.Needs.{needs}
 use Rattle.format.proofs.writing.put_tables.Statement.{statement}
 use Rattle.format.proofs.writing.put_tables.Tie as tie
@@ -19,7 +21,9 @@ wide-requires-2 : tie.Need-wide-requires-2
 wide-requires-2 c κs = search needs
 
 put-words-requires : tie.Need-put-words-requires
-put-words-requires c κs = search needs
+put-words-requires c κs =
+    let a = c .before .before .before .before .before .args in
+    (omega arith, λ some. omega (arith, some, some-there (a .file .now) (a .head) (c .before .before .before .before .before .pre .0) (omega (arith, some))), omega arith)
 
 same-length : tie.Need-same-length
 same-length c = search needs

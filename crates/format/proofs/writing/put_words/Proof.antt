@@ -27,7 +27,7 @@ loop-holds : tie.Need-loop-holds Inv-loop μ-loop
 loop-holds c = (omega arith, omega arith, refl, λ h. absurd (omega (arith, h)), refl)
 
 shared-slice-read-out : tie.Need-shared-slice-read-out Inv-loop μ-loop
-shared-slice-read-out c = omega arith
+shared-slice-read-out c = omega (arith, c .before .before .before .pre .1 (omega arith))
 
 slice-write-out : tie.Need-slice-write-out Inv-loop μ-loop
 slice-write-out c = omega arith
@@ -46,7 +46,7 @@ loop-again c =
       omega arith,
       simp length-set (omega arith),
       λ h x. c .shared-slice-known .given x .fits,
-      bytes-more (l .out) (set (l .out) (l .i) (getD (a .file .now) (l .i) 0)) (a .file .now) _ (l .i) (2 * a .to) (omega arith) (omega arith) refl (l .inv .4),
+      bytes-more (l .out) (set (l .out) (l .i) (getD (a .file .now) (l .i) 0)) (a .file .now) _ (l .i) (2 * a .to) (omega arith) (omega (arith, c .before .before .before .pre .1 (omega arith))) refl (l .inv .4),
     )
 
 same-length : tie.Need-same-length Inv-loop μ-loop
@@ -56,7 +56,7 @@ returns : tie.Need-returns Inv-loop μ-loop
 returns c =
     let l = c .before .loop in
     let a = c .before .before .args in
-    bytes-all (l .out) (a .out .now) (a .file .now) (a .from) (a .to) (l .i) (omega arith) (omega arith) (omega arith) (l .inv .3) (l .inv .4)
+    bytes-all (l .out) (a .out .now) (a .file .now) (a .from) (a .to) (l .i) (omega arith) (omega arith) (c .before .before .pre .1) (l .inv .3) (l .inv .4)
 
 pub put-words-spec : {M : Type 1} → statement M
 put-words-spec =

@@ -6,7 +6,7 @@ mod steps;
 mod totals;
 mod unfit;
 
-pub use starts::{cases as start_cases, StartCase};
+pub use starts::{cases as start_cases, sized, StartCase};
 
 use super::RunCase;
 use crate::draft::Draft;
@@ -39,7 +39,7 @@ impl Lent {
     }
 
     /// With the totals of these kinds, and all others 0.
-    fn waiting(self, totals: &[(u16, u16)]) -> Lent {
+    pub fn waiting(self, totals: &[(u16, u16)]) -> Lent {
         let totals = Some(spread(totals));
         Lent { totals, ..self }
     }
@@ -247,6 +247,7 @@ pub fn cases() -> Vec<ChooseCase> {
         totals::cases(),
         refusals::cases(),
         super::juniors::choices(),
+        super::nothing::choices(),
         super::cases().into_iter().filter_map(of_halted).collect(),
     ]
     .into_iter()

@@ -20,7 +20,7 @@ pub fn cases() -> Vec<RunCase> {
     vec![
         short(0, &desk, Ready::pair(0, 0)),
         short(RUN_ROOM - 1, &desk, Ready::pair(0, 0)),
-        short(RUN_ROOM - 2, &[], Ready::refused(1, 0)),
+        short(RUN_ROOM - 2, &[0], Ready::refused(1, 0)),
         refused("an odd list", desk.clone(), vec![1], (17, 0)),
         refused(
             "an odd list of 131,071",
@@ -29,14 +29,14 @@ pub fn cases() -> Vec<RunCase> {
             (17, 0),
         ),
         refused("65,536 choices", desk.clone(), ending(65_536), (17, 0)),
-        refused("an odd list before 1", vec![], vec![0; 3], (17, 0)),
+        refused("an odd list before 1", vec![1], vec![0; 3], (17, 0)),
         refused(
             "65,536 choices before 1",
             odd_file.clone(),
             ending(65_536),
             (17, 0),
         ),
-        refused("an empty file", vec![], vec![], (1, 0)),
+        refused("one byte", vec![1], vec![], (1, 0)),
         refused("an odd file", odd_file, ending(1), (1, 0)),
         refused("a refusal of 8", named(&[on(1)]), ending(1), (8, 2)),
         refused(

@@ -88,10 +88,19 @@ pub fn cases() -> Vec<RoundCase> {
     let refused = runs.filter(|case| case.answer != (0, 0));
     let short = refused.filter(|case| case.choices.len() <= 2 * BEFORE_ROUND);
     let stopped = short.map(without).collect();
-    [lone(), meetings(), moved(), full(), lists(), stopped]
-        .into_iter()
-        .flatten()
-        .collect()
+    let nothing = super::nothing::rounds();
+    [
+        lone(),
+        meetings(),
+        moved(),
+        full(),
+        lists(),
+        stopped,
+        nothing,
+    ]
+    .into_iter()
+    .flatten()
+    .collect()
 }
 
 /// Lone steps, done and refused.

@@ -64,7 +64,8 @@ pub fn cases() -> Vec<TotalsCase> {
         answer: case.answer,
         totals: [0; TOTALS],
     });
-    [in_words(), states(), meetings(), halted(), lists()]
+    let nothing = super::nothing::totals();
+    [in_words(), states(), meetings(), halted(), lists(), nothing]
         .into_iter()
         .flatten()
         .chain(refused)

@@ -48,7 +48,7 @@ pub fn cases() -> Vec<ChooseCase> {
         refused(name, sound.clone(), choice, lent, (18, 1))
     };
     vec![
-        refused("1 before 18", vec![], [1, 0], unfit(65), (1, 0)),
+        refused("1 before 18", vec![1], [1, 0], unfit(65), (1, 0)),
         refused("1 before 18 for few records", odd, [1, 0], few(2), (1, 0)),
         refused("8 before 18", named(&[on(1)]), [0, 0], unfit(1), (8, 2)),
         refused(

@@ -1,7 +1,7 @@
 //! Starts: what is written over what, and what is refused.
 
 use super::super::juniors::{against_21, meeting};
-use super::super::{compare, desk, fork, new, on, send, REPEAT};
+use super::super::{compare, desk, fork, new, nothing, on, send, REPEAT};
 use super::{record, totals, Lent};
 use crate::cases::END;
 use crate::draft::Draft;
@@ -82,7 +82,7 @@ pub fn sized(records: usize, words: usize) -> Lent {
 
 /// All of them.
 pub fn cases() -> Vec<StartCase> {
-    [starts(), totals::starts(), refusals()]
+    [starts(), totals::starts(), refusals(), nothing::starts()]
         .into_iter()
         .flatten()
         .collect()
@@ -138,7 +138,7 @@ fn refusals() -> Vec<StartCase> {
         refused(name, sound.clone(), lent, (18, 0))
     };
     vec![
-        refused("no bytes", vec![], any(), (1, 0)),
+        refused("one byte", vec![1], any(), (1, 0)),
         refused("an odd length", odd, any(), (1, 0)),
         refused("a cut tree", named(&[on(1)]), any(), (8, 2)),
         refused("no such role", named(&[new(1), on(4), END]), any(), (9, 2)),
@@ -150,7 +150,7 @@ fn refusals() -> Vec<StartCase> {
         ),
         refused("a junior's number", against_21(), any(), (21, 30)),
         refused("21 before 18", against_21(), sized(0, 0), (21, 30)),
-        refused("1 before 18", vec![], sized(0, 0), (1, 0)),
+        refused("1 before 18", vec![1], sized(0, 0), (1, 0)),
         refused(
             "8 before 18",
             named(&[on(1)]),
