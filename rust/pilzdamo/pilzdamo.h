@@ -60,6 +60,18 @@ extern "C" {
 #define PILZDAMO_BESIDE 162
 /* The most kinds of a file, each of which has a total. */
 #define PILZDAMO_TOTALS 32
+/* The least bytes of the output of pilzdamo_reason and pilzdamo_phrase; no sentence
+ * has more. */
+#define PILZDAMO_SENTENCE 120
+/* What a place counts, in a reason. */
+#define PILZDAMO_COUNTS_NOTHING 0
+#define PILZDAMO_COUNTS_WORDS 1
+#define PILZDAMO_COUNTS_SESSIONS 2
+#define PILZDAMO_COUNTS_NODES 3
+#define PILZDAMO_COUNTS_CHOICES 4
+#define PILZDAMO_COUNTS_ROWS 5
+/* The tag of a reason in which none belongs. */
+#define PILZDAMO_NO_TAG 9
 
 /* A refusal, or 0 and 0. */
 typedef struct {
@@ -99,6 +111,14 @@ typedef struct {
     uint16_t place;
     uint16_t totals[PILZDAMO_TOTALS];
 } pilzdamo_kind_totals;
+
+/* A refusal as a sentence says it; all 0 for bytes that are no sentence. */
+typedef struct {
+    uint16_t number;
+    uint16_t counts; /* what the place counts: PILZDAMO_COUNTS_ */
+    uint16_t place;
+    uint16_t tag; /* the node's, 0 to 8, or PILZDAMO_NO_TAG */
+} pilzdamo_said;
 
 /* A thread's record in a lent list. */
 typedef struct {
@@ -209,6 +229,31 @@ pilzdamo_kind_totals pilzdamo_totals(const uint8_t *file, size_t file_len,
  * number of words than PILZDAMO_BESIDE.
  */
 uint16_t pilzdamo_total(const uint16_t *beside, size_t words, uint16_t kind);
+
+/*
+ * A refusal as a sentence of fixed words, at the start of out: what its number means,
+ * what its place counts, the place, and, for 9 to 15 at a node, that node's tag. Its
+ * length in bytes is answered, 1 to PILZDAMO_SENTENCE, and nothing past it is written.
+ *
+ * What a number's place counts: nothing for 1 to 5, 16, 17 and 22; words for 6 and 21;
+ * sessions for 7; nodes for 8 to 10, 15 and 24; nodes or choices for 11 to 13; nodes or
+ * nothing for 14; nothing or choices for 18; choices for 19 and 20; rows for 23. The
+ * place is 0 exactly where nothing is counted. The tag is 0 to 8 for 9 to 15 at a
+ * node, and PILZDAMO_NO_TAG else. What is against this, and an out_len under
+ * PILZDAMO_SENTENCE, is answered with 0, and nothing is written.
+ */
+uint16_t pilzdamo_reason(uint16_t number, uint16_t counts, uint16_t place,
+                         uint16_t tag, uint8_t *out, size_t out_len);
+
+/* What such a sentence was written from; all 0 for other bytes. */
+pilzdamo_said pilzdamo_read_reason(const uint8_t *sentence, size_t len);
+
+/*
+ * What a refusal's number means, at the start of out, and its length in bytes. A number
+ * that no refusal has, and an out_len under PILZDAMO_SENTENCE, is answered with 0, and
+ * nothing is written.
+ */
+uint16_t pilzdamo_phrase(uint16_t number, uint8_t *out, size_t out_len);
 
 /*
  * Makes a list of threads that is lent start as the file does: PILZDAMO_RECORDS

@@ -4,7 +4,8 @@
 -- and `pilzdamo_place_at` `placingAt`, with `placedOverAt`, `pilzdamo_run`
 -- `running`, with `runOver` in the output, `pilzdamo_ready` `ready`, `pilzdamo_round` `rounding`, with `roundOver` in the output, `pilzdamo_totals` `totalsAfter`, `pilzdamo_total` `totalIn`,
 -- `pilzdamo_start` `starting`, with `recordsStarted` in the lent list and
--- `besideStarted` beside it, and `pilzdamo_choose` `choosing`, with `recordsOver` and `besideOver`.
+-- `besideStarted` beside it, `pilzdamo_choose` `choosing`, with `recordsOver` and `besideOver`, and of a refusal's numbers `pilzdamo_reason` `reasonLength`, with `reasonOver` in the output,
+-- `pilzdamo_phrase` `meaningLength`, with `meaningOver`, and of a sentence `pilzdamo_read_reason` `understood`.
 use Prim.Native.Nat.{ℕ, _+_, _*_, _-_, _/_, _%_, _^_, _≤_, _<_}
 use mathlib.Core.Path.{_≡_, refl, sym, _∙_}
 use mathlib.Core.Logic.{_↔_, _≢_, _⊎_}
@@ -127,6 +128,17 @@ use Rattle.dispatching_exact.specs.RoundCases.{RoundShown, roundCases}
 use Rattle.dispatching_exact.proofs.DispatchRounds.{some-round, one-round, round-steps, lone-in-round, empty-round}
 use Rattle.dispatching_exact.proofs.RoundAnswers.{round-unfit, round-seventeen, round-most, round-names, round-unwritten, round-stopped, round-answered}
 use Rattle.dispatching_exact.proofs.RoundsShown.{rounds-shown}
+use Rattle.phrases.specs.Phrases.{spelled, phrases, phrase}
+use Rattle.phrases.proofs.PhraseLaws.{many}
+use Rattle.reasons.specs.declared.Reason.{Reason}
+use Rattle.reasons.specs.IsReason.{MayCount, TagFits, IsReason, decimalValue}
+use Rattle.reasons.specs.Reasons.{reasonOf, digitsOf, sentence, understood, reasonLength, reasonOver, meaning, meaningLength, meaningOver}
+use Rattle.reasons.specs.ReasonCases.{ReasonShown, reasonCases}
+use Rattle.reasons.proofs.TableBounds.{sentence-length}
+use Rattle.reasons.proofs.ReadBack.{one-reason}
+use Rattle.reasons.proofs.ReasonLaws.{answered, answered-exactly, unanswered, past-sentence, read-written, understood-exactly, no-exactly, none-begins-another, in-decimal, meaning-exactly, meaning-most, past-meaning, meaning-first, in-parts, meant}
+use Rattle.reasons.proofs.NumbersSaid.{number-said}
+use Rattle.reasons.proofs.ReasonsShown.{reasons-shown}
 use Rattle.engine.proofs.LongInputs.{kept-alike}
 use Rattle.engine.proofs.NothingPlanned.{nothing-alike, nothing-checked, nothing-measured, nothing-placed, nothing-short, nothing-over, nothing-run, nothing-chosen, short-one, short-second}
 use Rattle.reading_exact.proofs.Bytes.{length-bytesOf, word-back, small-bytes}
@@ -851,3 +863,76 @@ short-second-refused = short-second
 -- "The empty-input case of 01 is amended so": in literal words.
 pub zero-bytes-cases : All Shown nothingCases
 zero-bytes-cases = unplanned-shown
+
+-- K8: "Each refusal becomes a sentence of fixed words .., at most 120 bytes, with its place, what the place counts (word, session, node, choice, row or none) and, for 9 to 15 at a node, that node's tag in words": with an
+-- output of 120 bytes or more the sentence of every reason stands at its start, and its length is answered ..
+pub sentence-for-each : (n c p t : ℕ) (out : List ℕ) → 120 ≤ length out → IsReason (reasonOf n c p t)
+    → (reasonLength (reasonOf n c p t) (length out) ≡ length (sentence (reasonOf n c p t))) × (reasonOver (reasonOf n c p t) out ≡ sentence (reasonOf n c p t) ++ drop (length (sentence (reasonOf n c p t))) out)
+sentence-for-each n c p t = answered (reasonOf n c p t)
+
+pub sentence-to-120 : (r : Reason) → IsReason r → (1 ≤ length (sentence r)) × (length (sentence r) ≤ 120)
+sentence-to-120 = sentence-length
+
+-- .. it begins with what its number means, that with the number itself, and numbers and places stand in decimal digits.
+pub sentence-says-why : (r : Reason) → IsReason r → (rest : List ℕ) × (sentence r ≡ meaning (r .number) ++ rest)
+sentence-says-why = meaning-first
+
+pub meaning-says-its-number : (n : ℕ) → 1 ≤ n → n ≤ 24 → (rest : List ℕ) × (meaning n ≡ (spelled "Refused " ++ (digitsOf 5 n ++ spelled ": ")) ++ rest)
+meaning-says-its-number = number-said
+
+-- It has four parts: the meaning, what is counted, the place's digits, the tag's ending, each of the last by its row in the table (`reasons-in-words` has each of them in words) ..
+pub sentence-in-parts : (n c p t : ℕ) → IsReason (reasonOf n c p t) → sentence (reasonOf n c p t) ≡ meaning n ++ (phrase (10 + c) ++ (digitsOf 5 p ++ phrase t))
+sentence-in-parts n c p t = in-parts (reasonOf n c p t)
+
+pub place-in-decimal : (p : ℕ) → p ≤ 65535 → decimalValue 0 (digitsOf 5 p) ≡ p
+place-in-decimal = in-decimal
+
+-- "A place is 0 exactly with none, else up to 65,535. A place or tag against this, a number with a count that neither 01 nor a request gives it, or an output under 120 bytes gives length 0" (0 is none): there is a sentence
+-- exactly where none of these is so, and elsewhere nothing is written.
+pub sentence-exactly : (n c p t room : ℕ) → (reasonLength (reasonOf n c p t) room ≢ 0) ↔ ((120 ≤ room) × (MayCount n c × ((p ≡ 0 ↔ c ≡ 0) × (p ≤ 65535)) × TagFits n c t))
+sentence-exactly n c p t = answered-exactly (reasonOf n c p t)
+
+pub no-sentence : (n c p t : ℕ) (out : List ℕ) → ((120 ≤ length out) × (MayCount n c × ((p ≡ 0 ↔ c ≡ 0) × (p ≤ 65535)) × TagFits n c t) → ⊥)
+    → (reasonLength (reasonOf n c p t) (length out) ≡ 0) × (reasonOver (reasonOf n c p t) out ≡ out)
+no-sentence n c p t = unanswered (reasonOf n c p t)
+
+-- "A reader turns any such sentence back into all of these", as it was written ..
+pub sentence-read-back : (n c p t : ℕ) (out : List ℕ) → 120 ≤ length out → IsReason (reasonOf n c p t)
+    → understood (take (reasonLength (reasonOf n c p t) (length out)) (reasonOver (reasonOf n c p t) out)) ≡ reasonOf n c p t
+sentence-read-back n c p t = read-written (reasonOf n c p t)
+
+pub reader-exactly : (s : List ℕ) (r : Reason) → IsReason r → (understood s ≡ r) ↔ (sentence r ≡ s)
+reader-exactly = understood-exactly
+
+-- .. "and says no to other bytes", by four zeros, which are no reason ..
+pub reader-says-no : (s : List ℕ) → (understood s ≡ reasonOf 0 0 0 0) ↔ ((r : Reason) → IsReason r → sentence r ≢ s)
+reader-says-no = no-exactly
+
+-- .. "and no two different reasons share a sentence".
+pub one-sentence-each : (r q : Reason) → IsReason r → IsReason q → sentence r ≡ sentence q → r ≡ q
+one-sentence-each = one-reason
+
+-- "The rule is shown over the whole table of phrases": none of the 40 stands at the start of another.
+pub no-phrase-begins-another : (length phrases ≡ 40) × ((i j : ℕ) → i < 40 → j < 40 → i ≢ j → (x : List ℕ) → phrase i ++ x ≢ phrase j)
+no-phrase-begins-another = (many, none-begins-another)
+
+-- The meaning of a number alone is answered likewise, for the numbers 1 to 24.
+pub meaning-of-each : (n room : ℕ) → (meaningLength n room ≢ 0) ↔ ((120 ≤ room) × (1 ≤ n) × (n ≤ 24))
+meaning-of-each = meaning-exactly
+
+pub meaning-written : (n : ℕ) (out : List ℕ) → 120 ≤ length out → (meaningLength n (length out) ≡ length (meaning n)) × (meaningOver n out ≡ meaning n ++ drop (length (meaning n)) out)
+meaning-written = meant
+
+pub meaning-to-120 : (n room : ℕ) → meaningLength n room ≤ 120
+meaning-to-120 = meaning-most
+
+-- "Here and in later requests an output's length is answered and nothing past it is written."
+pub past-the-sentence : (n c p t : ℕ) (out : List ℕ) → drop (reasonLength (reasonOf n c p t) (length out)) (reasonOver (reasonOf n c p t) out) ≡ drop (reasonLength (reasonOf n c p t) (length out)) out
+past-the-sentence n c p t = past-sentence (reasonOf n c p t)
+
+pub past-the-meaning : (n : ℕ) (out : List ℕ) → drop (meaningLength n (length out)) (meaningOver n out) ≡ drop (meaningLength n (length out)) out
+past-the-meaning = past-meaning
+
+-- In literal words: sentences written and read, bytes that are none, numbers that are no reason.
+pub reasons-in-words : All ReasonShown reasonCases
+reasons-in-words = reasons-shown

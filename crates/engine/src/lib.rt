@@ -14,6 +14,7 @@ use lending::starting::begin;
 use lending::starting::sessions_of;
 use lending::verdict_of;
 use placing::Placed;
+use reasons::Reason;
 use running::Ready;
 use running::Totals;
 use starting::start_records;
@@ -27,6 +28,7 @@ ghost use Rattle.placing_at.specs.PlaceAt.{measuringAt, placingAt, placedOverAt
 ghost use Rattle.steps.specs.Beside.{totalIn};
 ghost use Rattle.running.specs.Run.{running, runOver, ready, totalsAfter};
 ghost use Rattle.dispatching.specs.Dispatch.{rounding, roundOver};
+ghost use Rattle.reasons.specs.Reasons.{reasonOf, understood, reasonLength, reasonOver, meaningLength, meaningOver};
 ghost use Rattle.lending.specs.Lent.{choosing, recordsOver, besideOver};
 ghost use Rattle.lending.specs.Starting.{starting, recordsStarted, besideStarted};
 
@@ -183,4 +185,37 @@ pub extern "C" fn pilzdamo_start(file: &[u8], threads: &mut [Thread], beside: &m
     let it = begin(file, threads.len(), &mut *beside);
     start_records(&mut *threads, file, head_of(it), sessions_of(it));
     verdict_of(it)
+}
+
+// The sentence of a refusal, in fixed words, at the start of the output: its number, what its place counts (0 none, 1 word, 2 session, 3 node, 4 choice, 5 row), the
+// place, and for 9 to 15 at a node that node's tag, 9 elsewhere. Its length in bytes; 0, and nothing is written, for four numbers that are no reason and for an output
+// under 120 bytes. Every other byte of the output stays.
+#[no_mangle]
+pub extern "C" fn pilzdamo_reason(
+    number: u16,
+    counts: u16,
+    place: u16,
+    tag: u16,
+    out: &mut [u8],
+) -> u16
+    ensures { λ r. ⌜ (r ≡ reasonLength (reasonOf number counts place tag) (length (now (out .entry))))
+        × (now (out .exit) ≡ reasonOver (reasonOf number counts place tag) (now (out .entry))) ⌝ }
+{
+    reasons::write_reason(number, counts, place, tag, out)
+}
+
+// What such a sentence says; all 0 for any other bytes.
+#[no_mangle]
+pub extern "C" fn pilzdamo_read_reason(sentence: &[u8]) -> Reason
+    ensures { λ r. ⌜ r ≡ understood (now (sentence .entry)) ⌝ }
+{
+    reasons::read_reason(sentence)
+}
+
+// The meaning of a refusal's number alone: its length in bytes; 0, and nothing is written, for a number that has none and for an output under 120 bytes.
+#[no_mangle]
+pub extern "C" fn pilzdamo_phrase(number: u16, out: &mut [u8]) -> u16
+    ensures { λ r. ⌜ (r ≡ meaningLength number (length (now (out .entry)))) × (now (out .exit) ≡ meaningOver number (now (out .entry))) ⌝ }
+{
+    reasons::write_meaning(number, out)
 }

@@ -5,9 +5,10 @@ use crate::refusals::Refusal;
 /// The widest line, if its words allow it.
 const WIDTH: usize = 78;
 
-/// All that there is to say of a refusal.
+/// All that there is to say of a refusal, behind the engine's phrase for it.
 pub fn text(number: u16, refusal: &Refusal) -> String {
-    let mut text = format!("refusal {number}: {}\n\n", refusal.short);
+    let meaning = pilzdamo::meaning(number).unwrap_or_else(|| format!("Refused {number}"));
+    let mut text = wrapped(&meaning) + "\n";
     let parts = [
         ("the place counts", refusal.place),
         ("who can mend it", refusal.who),

@@ -7,9 +7,9 @@ use crate::output;
 use crate::source::Source;
 use crate::state::State;
 use crate::words::{At, Job};
-use crate::{explain, names, refusals, report, show};
+use crate::{explain, names, reasons, refusals, report, show};
 use crate::{Outcome, WrongUse};
-use pilzdamo::{Placed, Totals, Verdict, BEFORE_ROUND, ROOM, RUN_ROOM};
+use pilzdamo::{Counts, Placed, Totals, Verdict, BEFORE_ROUND, ROOM, RUN_ROOM};
 use std::path::Path;
 
 /// Does a job.
@@ -24,6 +24,7 @@ pub fn carry_out(job: Job) -> Result<Outcome, WrongUse> {
         Job::Dispatch { file, rounds } => dispatch(&file, rounds),
         Job::Show { file } => answer(&show::text(&file.read()?)),
         Job::Explain { number } => explain(number),
+        Job::Reason { sentence } => reason(&sentence),
         Job::Help => answer(include_str!("help.txt")),
         Job::Version => answer(concat!("pilzdamo ", env!("CARGO_PKG_VERSION"), "\n")),
     }
@@ -251,7 +252,7 @@ fn dispatch(file: &Source, most: Option<u16>) -> Result<Outcome, WrongUse> {
 
 /// Whether a run's refusal came at a choice, so that there is a state.
 fn is_halt(verdict: Verdict) -> bool {
-    refusals::counts(verdict.number, verdict.place, true) == refusals::Counts::Choice
+    refusals::counts(verdict.number, verdict.place, true) == Counts::Choice
 }
 
 fn read_choices(list: &Source) -> Result<Vec<u16>, WrongUse> {
@@ -269,4 +270,16 @@ fn explain(number: u16) -> Result<Outcome, WrongUse> {
         Some(refusal) => answer(&explain::text(number, refusal)),
         None => Err(WrongUse(format!("there is no refusal {number}"))),
     }
+}
+
+fn reason(sentence: &[u8]) -> Result<Outcome, WrongUse> {
+    let told = pilzdamo::read_reason(sentence);
+    if told.is_one() {
+        return answer(&reasons::text(told, sentence));
+    }
+    let shown = String::from_utf8_lossy(sentence);
+    let form = "give it as it was printed, from \"Refused\" to the full stop, in quotes";
+    refusal(&format!(
+        "pilzdamo: no refusal has this sentence: '{shown}'\n  {form}"
+    ))
 }

@@ -11,6 +11,7 @@ mod jobs;
 mod names;
 mod output;
 mod page;
+mod reasons;
 mod refusals;
 mod report;
 mod sessions;

@@ -1,8 +1,9 @@
 //! The lines of a shown file, with the refusal at its place.
 
-use crate::refusals::{self, Counts};
+use crate::clinic::Clinic;
+use crate::refusals;
 use crate::report;
-use pilzdamo::Verdict;
+use pilzdamo::{Counts, Verdict};
 
 /// A line at which a refusal can stand.
 #[derive(Clone, Copy, PartialEq)]
@@ -44,8 +45,8 @@ pub struct Page {
 }
 
 impl Page {
-    pub fn new(verdict: Verdict) -> Page {
-        let mark = || (Spot::of(verdict), report::mark(verdict));
+    pub fn new(clinic: &Clinic, verdict: Verdict) -> Page {
+        let mark = || (Spot::of(verdict), report::mark(clinic, verdict));
         Page {
             text: String::new(),
             due: (!verdict.is_clean()).then(mark),

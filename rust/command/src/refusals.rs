@@ -1,9 +1,10 @@
-//! The refusals: what each means, what its place counts, and who can mend it.
+//! The refusals at length: what their places count, who can mend them, and how. What
+//! each number means in a few words is the engine's phrase.
 
-/// One refusal in words.
+use pilzdamo::Counts;
+
+/// One refusal at length.
 pub struct Refusal {
-    /// In a few words.
-    pub short: &'static str,
     /// What its place counts.
     pub place: &'static str,
     /// Who can mend it.
@@ -12,17 +13,6 @@ pub struct Refusal {
     pub wrong: &'static str,
     /// How to mend it.
     pub mend: &'static str,
-}
-
-/// What a place counts.
-#[derive(Clone, Copy, Debug, PartialEq)]
-pub enum Counts {
-    Nothing,
-    Word,
-    Session,
-    Node,
-    Choice,
-    Row,
 }
 
 const WRITER: &str = "the file's writer";
@@ -61,7 +51,6 @@ pub fn counts(number: u16, place: u16, in_run: bool) -> Counts {
 /// The refusals from 1 on.
 pub const ALL: [Refusal; 24] = [
     Refusal {
-        short: "the file has 1 to 25 bytes (to 27 in version 2), or an odd number",
         place: NOTHING,
         who: WRITER,
         wrong: "A file is made of words of two bytes, and its head alone has 13 of them, 14 in \
@@ -71,7 +60,6 @@ pub const ALL: [Refusal; 24] = [
             source, write it again.",
     },
     Refusal {
-        short: "the version is neither 1 nor 2",
         place: NOTHING,
         who: WRITER,
         wrong:
@@ -82,7 +70,6 @@ pub const ALL: [Refusal; 24] = [
             is written low byte first, and that this is a clinic's file at all.",
     },
     Refusal {
-        short: "a count is out of range",
         place: NOTHING,
         who: WRITER,
         wrong: "The head counts the records: at most 32 users, 16 roles, 32 kinds, 64 channels, \
@@ -91,7 +78,6 @@ pub const ALL: [Refusal; 24] = [
             the count.",
     },
     Refusal {
-        short: "an offset isn't the one that the counts give",
         place: NOTHING,
         who: WRITER,
         wrong: "The sections (users, roles, in version 2 the roles' juniors, kinds, channels, \
@@ -101,7 +87,6 @@ pub const ALL: [Refusal; 24] = [
             is due.",
     },
     Refusal {
-        short: "the length isn't the one that the counts give",
         place: NOTHING,
         who: WRITER,
         wrong: "The file is longer or shorter than its head and the records that it counts.",
@@ -109,7 +94,6 @@ pub const ALL: [Refusal; 24] = [
             file that is too short may have been cut off on its way.",
     },
     Refusal {
-        short: "the record names a role, kind or user that isn't there",
         place: WORD,
         who: KEEPER,
         wrong:
@@ -119,7 +103,6 @@ pub const ALL: [Refusal; 24] = [
         mend: "Correct the record, or add the one that it names. `pilzdamo show` marks the record.",
     },
     Refusal {
-        short: "the session's user isn't there, or a starting role isn't that user's",
         place: SESSION,
         who: AUTHOR,
         wrong: "The session names user 0 or a user above the count, or its starting mask has a \
@@ -128,7 +111,6 @@ pub const ALL: [Refusal; 24] = [
             user.",
     },
     Refusal {
-        short: "the tree isn't built as it should be",
         place: "nodes, from 1; one more than there are if a tree runs past the last",
         who: AUTHOR,
         wrong: "Nodes stand in preorder: the first child is the next node, a fork's second child \
@@ -139,7 +121,6 @@ pub const ALL: [Refusal; 24] = [
             marks it, and names the root or second child that is due.",
     },
     Refusal {
-        short: "an operand names nothing, or a role or kind is out of count",
         place: NODE,
         who: AUTHOR,
         wrong: "Operands are users (1 to 32), channels (257 to 320) and variables (512 to 519). \
@@ -149,7 +130,6 @@ pub const ALL: [Refusal; 24] = [
             binds itself.",
     },
     Refusal {
-        short: "the step is against the rules of kinds",
         place: NODE,
         who: AUTHOR,
         wrong: "A send needs a channel, and a value that this channel's kind carries. A receive \
@@ -159,7 +139,6 @@ pub const ALL: [Refusal; 24] = [
             be sent on, but not received on.",
     },
     Refusal {
-        short: "the role put on isn't assigned to the session's user",
         place: NODE_OR_CHOICE,
         who: AUTHOR,
         wrong:
@@ -169,7 +148,6 @@ pub const ALL: [Refusal; 24] = [
             of a placed file never come to this.",
     },
     Refusal {
-        short: "the role put off isn't held",
         place: NODE_OR_CHOICE,
         who: AUTHOR,
         wrong: "An off step may only put off a role that is on. A role is on once: on 1, on 1, \
@@ -178,7 +156,6 @@ pub const ALL: [Refusal; 24] = [
             roles are held at each node. The runs of a placed file never come to this.",
     },
     Refusal {
-        short: "no role that is held permits the send or receive",
         place: NODE_OR_CHOICE,
         who: AUTHOR,
         wrong:
@@ -191,7 +168,6 @@ pub const ALL: [Refusal; 24] = [
             never come to this.",
     },
     Refusal {
-        short: "a routine to be placed, but with on, off or a starting role",
         place: "nodes, from 1: the on or off; or nothing, and is 0, for a starting mask",
         who: AUTHOR,
         wrong: "Placing puts every on and off in by itself. This file has some already, or a \
@@ -201,7 +177,6 @@ pub const ALL: [Refusal; 24] = [
             already is left as it is; `pilzdamo check` judges it.",
     },
     Refusal {
-        short: "no role of the user permits the send or receive",
         place: NODE,
         who: AUTHOR,
         wrong: "Not one role of the session's user may send, or receive, on the kind of this \
@@ -212,7 +187,6 @@ pub const ALL: [Refusal; 24] = [
             version 2), or assigns the user a role that has it.",
     },
     Refusal {
-        short: "the placed file would have over 1,024 nodes",
         place: NOTHING,
         who: AUTHOR,
         wrong:
@@ -222,7 +196,6 @@ pub const ALL: [Refusal; 24] = [
             keeper grant the steps that follow each other to one role.",
     },
     Refusal {
-        short: "the list is odd, or has over 65,535 choices (65,471 before a round)",
         place: NOTHING,
         who: CALLER,
         wrong: "A choice is two numbers, thread and partner, and the list has half a choice too \
@@ -232,7 +205,6 @@ pub const ALL: [Refusal; 24] = [
         mend: "Give each choice its partner, 0 where the thread steps alone.",
     },
     Refusal {
-        short: "there is no such thread, or the two can't make this step",
         place: CHOICE,
         who: CALLER,
         wrong: "Threads are numbered in the order of the list, and after an end those behind it \
@@ -242,7 +214,6 @@ pub const ALL: [Refusal; 24] = [
             stands at. Correct the choice.",
     },
     Refusal {
-        short: "the two values differ, or sender and receiver are on two channels",
         place: CHOICE,
         who: CALLER,
         wrong:
@@ -252,7 +223,6 @@ pub const ALL: [Refusal; 24] = [
             for good.",
     },
     Refusal {
-        short: "it would be the 65th thread, or the 65th made channel",
         place: CHOICE,
         who: CALLER,
         wrong: "A run has at most 64 threads at a time, and makes at most 64 channels in all.",
@@ -260,7 +230,6 @@ pub const ALL: [Refusal; 24] = [
             given back.",
     },
     Refusal {
-        short: "a junior's number isn't lower than its senior's",
         place: JUNIORS,
         who: KEEPER,
         wrong:
@@ -272,7 +241,6 @@ pub const ALL: [Refusal; 24] = [
             the role.",
     },
     Refusal {
-        short: "a minute that no week has, or a table of hours that can't be one",
         place: NOTHING,
         who: CALLER,
         wrong: "Minutes are counted from Monday 00:00, 0 to 10,079. A table of hours has three \
@@ -282,7 +250,6 @@ pub const ALL: [Refusal; 24] = [
             lies in another can go.",
     },
     Refusal {
-        short: "a row of the table of hours names no role, or no stretch of the week",
         place: ROW,
         who: CALLER,
         wrong:
@@ -293,7 +260,6 @@ pub const ALL: [Refusal; 24] = [
             own.",
     },
     Refusal {
-        short: "the role put on isn't open at this minute",
         place: NODE,
         who: AUTHOR,
         wrong:

@@ -1,86 +1,92 @@
-//! Refusals in messages.
+//! Refusals in messages. What a refusal is is said by the engine's own sentence.
 
 use crate::clinic::Clinic;
 use crate::names::{self, Above};
-use crate::refusals::{self, Counts, Refusal};
+use crate::refusals;
 use crate::tree;
-use pilzdamo::Verdict;
-
-const UNKNOWN: Refusal = Refusal {
-    short: "a refusal that this command has no words for",
-    place: "",
-    who: "the caller",
-    wrong: "",
-    mend: "",
-};
+use pilzdamo::{Counts, Verdict, NO_TAG};
 
 /// The message for a refused file, by check or placing.
 pub fn of_file(name: &str, bytes: &[u8], verdict: Verdict) -> String {
-    message(name, verdict, &place_in_file(bytes, verdict))
+    let counts = refusals::counts(verdict.number, verdict.place, false);
+    in_file(name, &Clinic::of(bytes), verdict, counts)
 }
 
 /// The message for a refused run.
 pub fn of_run(name: &str, bytes: &[u8], choices: &[u16], verdict: Verdict) -> String {
-    let Verdict { number, place } = verdict;
-    let place = match refusals::counts(number, place, true) {
-        Counts::Choice => choice(choices, place),
-        Counts::Nothing if number == 17 => "place 0 (the list as a whole)".to_string(),
-        _ => place_in_file(bytes, verdict),
-    };
-    message(name, verdict, &place)
+    let clinic = Clinic::of(bytes);
+    match refusals::counts(verdict.number, verdict.place, true) {
+        Counts::Choice => {
+            let sentence = sentence(&clinic, verdict, Counts::Choice);
+            message(name, verdict, &sentence, choice(choices, verdict.place))
+        }
+        Counts::Nothing if verdict.number == 17 => {
+            let sentence = sentence(&clinic, verdict, Counts::Nothing);
+            message(name, verdict, &sentence, Some(length(choices)))
+        }
+        counts => in_file(name, &clinic, verdict, counts),
+    }
 }
 
 /// The message for a refused table of hours, whose rows come from these lines.
 pub fn of_hours(name: &str, lines: &[usize], verdict: Verdict) -> String {
     let Verdict { number, place } = verdict;
+    let counts = refusals::counts(number, place, false);
+    let sentence = sentence(&Clinic::default(), verdict, counts);
     let row = usize::from(place).checked_sub(1);
-    let place = match row.and_then(|row| lines.get(row)) {
-        Some(line) if number == 23 => format!("row {place} (line {line})"),
-        _ => format!("place {place} (the table as a whole)"),
-    };
-    message(name, verdict, &place)
+    let line = row.and_then(|row| lines.get(row));
+    let line = line.map(|line| format!("row {place} comes from line {line}"));
+    message(name, verdict, &sentence, line)
 }
 
-/// The line that marks a refusal in a shown file.
-pub fn mark(verdict: Verdict) -> String {
-    let Verdict { number, place } = verdict;
-    let refusal = refusals::of(number).unwrap_or(&UNKNOWN);
-    let Refusal { short, who, .. } = refusal;
-    format!(
-        "!! refused {number} at {}: {short} ({who})",
-        spot(verdict, place)
-    )
-}
-
-fn message(name: &str, verdict: Verdict, place: &str) -> String {
-    let number = verdict.number;
-    let Refusal { short, who, .. } = refusals::of(number).unwrap_or(&UNKNOWN);
-    format!(
-        "pilzdamo: {name}: refused {number} at {place}\n  {short}\n  {who} can mend it; more: pilzdamo explain {number}"
-    )
-}
-
-/// A place in a file: what it counts, and its number.
-fn spot(verdict: Verdict, place: u16) -> String {
-    match refusals::counts(verdict.number, place, false) {
-        Counts::Nothing => format!("place {place} (the file as a whole)"),
-        Counts::Word => format!("word {place}"),
-        Counts::Session => format!("session {place}"),
-        Counts::Node => format!("node {place}"),
-        Counts::Choice => format!("choice {place}"),
-        Counts::Row => format!("row {place}"),
+/// The line that marks what a check refuses in a shown file.
+pub fn mark(clinic: &Clinic, verdict: Verdict) -> String {
+    let counts = refusals::counts(verdict.number, verdict.place, false);
+    let sentence = sentence(clinic, verdict, counts);
+    match refusals::of(verdict.number) {
+        Some(refusal) => format!("!! {sentence} ({})", refusal.who),
+        None => format!("!! {sentence}"),
     }
 }
 
-/// A place in a file, and of a node the step as well.
-fn place_in_file(bytes: &[u8], verdict: Verdict) -> String {
-    let spot = spot(verdict, verdict.place);
-    match refusals::counts(verdict.number, verdict.place, false) {
-        Counts::Node => match step(&Clinic::of(bytes), usize::from(verdict.place)) {
-            Some(step) => format!("{spot}: {step}"),
-            None => spot,
-        },
-        _ => spot,
+/// A message with the step of a node, where a node is refused.
+fn in_file(name: &str, clinic: &Clinic, verdict: Verdict, counts: Counts) -> String {
+    let place = verdict.place;
+    let step = match counts {
+        Counts::Node => step(clinic, place.into()),
+        _ => None,
+    };
+    let step = step.map(|step| format!("node {place}: {step}"));
+    message(name, verdict, &sentence(clinic, verdict, counts), step)
+}
+
+/// The sentence, what more there is to say of the place, and who can mend it.
+fn message(name: &str, verdict: Verdict, sentence: &str, more: Option<String>) -> String {
+    let mut lines = vec![format!("pilzdamo: {name}: {sentence}")];
+    lines.extend(more);
+    let number = verdict.number;
+    lines.extend(refusals::of(number).map(|refusal| {
+        let who = refusal.who;
+        format!("{who} can mend it; more: pilzdamo explain {number}")
+    }));
+    lines.join("\n  ")
+}
+
+/// The engine's sentence for a refusal whose place counts so.
+fn sentence(clinic: &Clinic, verdict: Verdict, counts: Counts) -> String {
+    let reason = verdict.reason(counts, tag(clinic, verdict, counts));
+    reason.sentence().unwrap_or_else(|| verdict.to_string())
+}
+
+/// The tag of the node that is refused, where its sentence says it.
+fn tag(clinic: &Clinic, verdict: Verdict, counts: Counts) -> u16 {
+    match (verdict.number, counts) {
+        (9..=15, Counts::Node) => {
+            let index = usize::from(verdict.place).checked_sub(1);
+            let node = index.and_then(|index| clinic.nodes.get(index));
+            node.map_or(NO_TAG, |[tag, ..]| *tag)
+        }
+        _ => NO_TAG,
     }
 }
 
@@ -97,11 +103,20 @@ fn step(clinic: &Clinic, number: usize) -> Option<String> {
     Some(names::step(clinic, *node, above))
 }
 
+/// The length of a list that can't be one.
+fn length(choices: &[u16]) -> String {
+    let numbers = names::several(choices.len(), "number");
+    let most = "at most 65,535 choices (65,471 before a round)";
+    format!("the list has {numbers}: two for each choice, {most}")
+}
+
 /// A choice: its number, thread and partner.
-fn choice(choices: &[u16], number: u16) -> String {
-    let at = 2 * (usize::from(number).saturating_sub(1));
-    match choices.get(at..at + 2) {
-        Some([thread, partner]) => format!("choice {number}: thread {thread}, partner {partner}"),
-        _ => format!("choice {number}"),
-    }
+fn choice(choices: &[u16], number: u16) -> Option<String> {
+    let at = 2 * (usize::from(number).checked_sub(1)?);
+    let [thread, partner] = choices.get(at..at + 2)? else {
+        return None;
+    };
+    Some(format!(
+        "choice {number}: thread {thread}, partner {partner}"
+    ))
 }

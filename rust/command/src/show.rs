@@ -12,7 +12,7 @@ use pilzdamo::Verdict;
 pub fn text(bytes: &[u8]) -> String {
     let verdict = pilzdamo::check(bytes);
     let clinic = Clinic::of(bytes);
-    let mut page = Page::new(verdict);
+    let mut page = Page::new(&clinic, verdict);
     head(&mut page, &clinic, verdict);
     if clinic.counts.is_some() {
         tables(&mut page, &clinic);

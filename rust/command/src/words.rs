@@ -45,6 +45,9 @@ pub enum Job {
     Explain {
         number: u16,
     },
+    Reason {
+        sentence: Vec<u8>,
+    },
     Help,
     Version,
 }
@@ -66,8 +69,8 @@ struct Operands {
 }
 
 /// The words that name a job.
-const WORDS: [&str; 9] = [
-    "check", "place", "measure", "run", "waiting", "round", "dispatch", "show", "explain",
+const WORDS: [&str; 10] = [
+    "check", "place", "measure", "run", "waiting", "round", "dispatch", "show", "explain", "reason",
 ];
 
 /// These words in a sentence.
@@ -120,6 +123,11 @@ fn named(verb: &str, operands: Operands) -> Result<Job, WrongUse> {
         }
         "dispatch" => file_and_rounds(plain),
         "explain" => number(plain).map(|number| Job::Explain { number }),
+        "reason" => {
+            let [sentence] = exactly(verb, ["SENTENCE"], plain)?;
+            let sentence = sentence.into_encoded_bytes();
+            Ok(Job::Reason { sentence })
+        }
         _ => {
             let file = one(verb, "FILE", plain)?;
             let at = minute_and_hours(verb, &file, at, hours)?;
@@ -179,7 +187,7 @@ fn sorted(verb: &str, mut words: impl Iterator<Item = OsString>) -> Result<Opera
                 let wants = format!("{name} wants the name of a file behind it");
                 keep(&name, &wants, &mut operands.hours, words.next())?;
             }
-            option if is_option(option) && verb != "explain" => {
+            option if is_option(option) && has_options(verb) => {
                 return misused(&format!("{verb} has no option '{option}'"));
             }
             _ => operands.plain.push(word),
@@ -190,6 +198,11 @@ fn sorted(verb: &str, mut words: impl Iterator<Item = OsString>) -> Result<Opera
 
 fn is_option(word: &str) -> bool {
     word.starts_with('-') && word != "-"
+}
+
+/// Whether what begins with a hyphen is an option of this word, and not its operand.
+fn has_options(verb: &str) -> bool {
+    !matches!(verb, "explain" | "reason")
 }
 
 /// Whether roles may have hours for this word.

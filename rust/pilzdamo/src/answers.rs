@@ -1,6 +1,7 @@
 //! What the engine answers.
 
-use crate::{ROUND_WORDS, TOTALS};
+use crate::calls::said;
+use crate::{reason, ROUND_WORDS, TOTALS};
 use std::error::Error;
 use std::fmt;
 
@@ -25,7 +26,8 @@ use std::fmt;
 /// | 24 | the node |
 /// | 18 to 20 | the choice; 18 at 0 for a lent list that is none of the file's, has wrong totals, or is of another length |
 ///
-/// In [`choose`](crate::choose) the choice has number 1.
+/// In [`choose`](crate::choose) the choice has number 1. A [`Reason`] says all of it in
+/// a sentence.
 ///
 /// A refusal is an error, so that `?` can hand it on:
 ///
@@ -70,6 +72,25 @@ impl Verdict {
             Ok(())
         } else {
             Err(self)
+        }
+    }
+
+    /// The refusal as a reason: with what its place counts, and the node's tag, or
+    /// [`NO_TAG`] where none belongs.
+    ///
+    /// ```
+    /// use pilzdamo::{Counts, NO_TAG};
+    ///
+    /// let reason = pilzdamo::check(&[1]).reason(Counts::Nothing, NO_TAG);
+    /// assert!(reason.sentence().unwrap().starts_with("Refused 1: "));
+    /// ```
+    pub fn reason(self, counts: Counts, tag: u16) -> Reason {
+        let Verdict { number, place } = self;
+        Reason {
+            number,
+            counts: counts.number(),
+            place,
+            tag,
         }
     }
 }
@@ -347,5 +368,119 @@ impl fmt::Display for Totals {
             "waiting:" => out.write_str("nobody waits"),
             _ => Ok(()),
         }
+    }
+}
+
+/// What a place counts.
+#[derive(Clone, Copy, Debug, PartialEq, Eq, Hash)]
+#[repr(u16)]
+pub enum Counts {
+    /// No place: it is 0.
+    Nothing = 0,
+    /// Words of the file, from 0 at its start.
+    Word = 1,
+    /// Sessions.
+    Session = 2,
+    /// Nodes.
+    Node = 3,
+    /// Choices of a list.
+    Choice = 4,
+    /// Rows of a table of hours.
+    Row = 5,
+}
+
+impl Counts {
+    /// All of them, by their numbers.
+    pub const ALL: [Counts; 6] = [
+        Counts::Nothing,
+        Counts::Word,
+        Counts::Session,
+        Counts::Node,
+        Counts::Choice,
+        Counts::Row,
+    ];
+
+    /// Its number in a [`Reason`].
+    ///
+    /// ```
+    /// assert_eq!(pilzdamo::Counts::Row.number(), 5);
+    /// ```
+    pub const fn number(self) -> u16 {
+        self as u16
+    }
+}
+
+/// The tag of a [`Reason`] in which none belongs.
+pub const NO_TAG: u16 = 9;
+
+/// A refusal as [`reason`](crate::reason) says it and
+/// [`read_reason`](crate::read_reason) reads it: all four are 0 for bytes that are no
+/// sentence.
+///
+/// What the place of a number may count:
+///
+/// | number | counts |
+/// |---|---|
+/// | 1 to 5, 16, 17, 22 | nothing |
+/// | 6, 21 | words |
+/// | 7 | sessions |
+/// | 8, 9, 10, 15, 24 | nodes |
+/// | 11 to 13 | nodes, or choices |
+/// | 14 | nodes, or nothing |
+/// | 18 | nothing, or choices |
+/// | 19, 20 | choices |
+/// | 23 | rows |
+#[repr(C)]
+#[must_use]
+#[derive(Clone, Copy, Debug, PartialEq, Eq, Hash)]
+pub struct Reason {
+    /// The refusal's number, 0 if there is none.
+    pub number: u16,
+    /// What the place counts, by the number of [`Counts`].
+    pub counts: u16,
+    /// The place, 0 exactly where nothing is counted.
+    pub place: u16,
+    /// The node's tag, 0 to 8, for 9 to 15 at a node; else [`NO_TAG`].
+    pub tag: u16,
+}
+
+impl Reason {
+    /// Whether it is one: what [`read_reason`](crate::read_reason) gives for other
+    /// bytes is none.
+    ///
+    /// ```
+    /// assert!(!pilzdamo::read_reason(b"13 at 4").is_one());
+    /// ```
+    pub fn is_one(self) -> bool {
+        self.number != 0
+    }
+
+    /// What the place counts, if `counts` is a number of one of these.
+    ///
+    /// ```
+    /// use pilzdamo::{Counts, Reason, NO_TAG};
+    ///
+    /// let of = Reason { number: 19, counts: 4, place: 2, tag: NO_TAG };
+    /// assert_eq!(of.counted(), Some(Counts::Choice));
+    /// assert_eq!(Reason { counts: 7, ..of }.counted(), None);
+    /// ```
+    pub fn counted(self) -> Option<Counts> {
+        Counts::ALL.get(usize::from(self.counts)).copied()
+    }
+
+    /// [`reason`](crate::reason) with an output of its own: the sentence, if there is
+    /// such a reason.
+    ///
+    /// ```
+    /// use pilzdamo::{read_reason, Reason, NO_TAG};
+    ///
+    /// let of = Reason { number: 14, counts: 0, place: 0, tag: NO_TAG };
+    /// let sentence = of.sentence().unwrap();
+    /// assert!(sentence.ends_with("an on, an off or a starting role; no place."));
+    /// assert_eq!(read_reason(sentence.as_bytes()), of);
+    /// assert_eq!(Reason { place: 1, ..of }.sentence(), None);
+    /// ```
+    pub fn sentence(self) -> Option<String> {
+        said(|out| reason(self, out))
     }
 }

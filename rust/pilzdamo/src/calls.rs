@@ -1,7 +1,7 @@
 //! The engine's functions for Rust.
 
 use crate::raw;
-use crate::{Placed, Ready, Round, Thread, Totals, Verdict};
+use crate::{Placed, Ready, Reason, Round, Thread, Totals, Verdict};
 
 /// As many bytes as [`place`] wants of its output for any file: those of the
 /// largest file of version 2. What it wants for a given file is [`room`].
@@ -38,6 +38,10 @@ pub const BESIDE: usize = 162;
 /// The kinds that a file can have at most, for each of which [`totals`] has a word;
 /// and as many are the last of the [`BESIDE`] words.
 pub const TOTALS: usize = 32;
+
+/// The bytes that [`reason`] and [`phrase`] want of their output. No sentence has
+/// more.
+pub const SENTENCE: usize = 120;
 
 /// The bytes that [`place`] wants of its output for this file: [`ROOM`] where its
 /// first word is 2, else [`ROOM_1`], also where it has no first word.
@@ -463,6 +467,97 @@ pub fn totals(file: &[u8], choices: &[u16]) -> Totals {
 #[inline]
 pub fn total(beside: &[u16], kind: u16) -> u16 {
     raw::total(beside, kind)
+}
+
+/// A refusal as a sentence of fixed words: what its number means, what its place
+/// counts, the place, and, for 9 to 15 at a node, that node's tag. It stands at the
+/// start of `out`, and its length in bytes is answered.
+///
+/// There are sentences for these, and for nothing else: the number is that of a
+/// refusal, and what is counted is one of those that it has ([`Reason`] has the table);
+/// the place is 0 where nothing is counted, and 1 to 65,535 else; the tag is 0 to 8 for
+/// 9 to 15 at a node, and [`NO_TAG`](crate::NO_TAG) else. For anything else, and where
+/// `out` has under [`SENTENCE`] bytes, the answer is 0 and nothing is written. Nothing
+/// past the length is. No two reasons share a sentence. [`Reason::sentence`] has an
+/// output of its own.
+///
+/// ```
+/// use pilzdamo::{reason, Counts, Reason, NO_TAG, SENTENCE};
+///
+/// // 13 at node 4, which sends.
+/// let of = Reason { number: 13, counts: Counts::Node.number(), place: 4, tag: 6 };
+/// let mut out = [0; SENTENCE];
+/// let length = usize::from(reason(of, &mut out));
+/// let sentence = b"Refused 13: no active role permits the step at node 4, a send.";
+/// assert_eq!(&out[..length], sentence);
+///
+/// // Its tag belongs to it; and 3 has no place.
+/// assert_eq!(reason(Reason { tag: NO_TAG, ..of }, &mut out), 0);
+/// assert_eq!(reason(Reason { number: 3, ..of }, &mut out), 0);
+///
+/// // A byte less.
+/// assert_eq!(reason(of, &mut out[1..]), 0);
+/// ```
+#[inline]
+pub fn reason(reason: Reason, out: &mut [u8]) -> u16 {
+    raw::reason(reason, out)
+}
+
+/// The reason that a sentence of [`reason`] says: all that it was written from. Any
+/// other bytes, of any length, are answered with 0 in all four words, number 0 being
+/// none.
+///
+/// ```
+/// use pilzdamo::{read_reason, Counts};
+///
+/// let told = read_reason(b"Refused 13: no active role permits the step at node 4, a send.");
+/// assert_eq!((told.number, told.place, told.tag), (13, 4, 6));
+/// assert_eq!(told.counted(), Some(Counts::Node));
+///
+/// // Node 04 is no place.
+/// let told = read_reason(b"Refused 13: no active role permits the step at node 04, a send.");
+/// assert_eq!((told.number, told.counts, told.place, told.tag), (0, 0, 0, 0));
+/// assert!(!told.is_one());
+/// ```
+#[inline]
+pub fn read_reason(sentence: &[u8]) -> Reason {
+    raw::read_reason(sentence)
+}
+
+/// What a refusal's number means, at the start of `out`, and its length in bytes: the
+/// first part of its sentences. For a number that no refusal has, and where `out` has
+/// under [`SENTENCE`] bytes, the answer is 0 and nothing is written. [`meaning`] has an
+/// output of its own.
+///
+/// ```
+/// let mut out = [0; pilzdamo::SENTENCE];
+/// let length = usize::from(pilzdamo::phrase(3, &mut out));
+/// assert_eq!(&out[..length], b"Refused 3: a count is out of range");
+/// assert_eq!(pilzdamo::phrase(0, &mut out), 0);
+/// ```
+#[inline]
+pub fn phrase(number: u16, out: &mut [u8]) -> u16 {
+    raw::phrase(number, out)
+}
+
+/// [`phrase`] with an output of its own: what a number means, if a refusal has it.
+///
+/// ```
+/// let meaning = pilzdamo::meaning(12).unwrap();
+/// assert_eq!(meaning, "Refused 12: the role put off is not active");
+/// assert_eq!(pilzdamo::meaning(0), None);
+/// ```
+pub fn meaning(number: u16) -> Option<String> {
+    said(|out| phrase(number, out))
+}
+
+/// What is written into an output of its own, if anything is.
+pub(crate) fn said(write: impl FnOnce(&mut [u8]) -> u16) -> Option<String> {
+    let mut out = vec![0; SENTENCE];
+    let length = usize::from(write(&mut out));
+    out.truncate(length);
+    // The phrases are ASCII.
+    (length > 0).then(|| String::from_utf8_lossy(&out).into_owned())
 }
 
 /// Makes a list of threads that is lent start as the file does, so that [`choose`]

@@ -20,6 +20,7 @@
 //! | find the two threads that can meet | [`ready`] |
 //! | let a dispatcher choose, round by round | [`round`] |
 //! | see how many threads wait on each kind | [`totals`]; [`Desk::total`], and [`total`] of a list of one's own |
+//! | say a refusal in a sentence, and read one back | [`reason`], [`Reason::sentence`], [`read_reason`]; [`phrase`], [`meaning`] for a number alone |
 //! | go on choice by choice | [`Desk`]; [`start`] and [`choose`] in a list of one's own |
 //!
 //! The examples below read files of the project's folder `examples`, and are run as
@@ -237,8 +238,9 @@
 //! # What is refused
 //!
 //! A [`Verdict`] has the refusal's number and place, and is an error for `?`. What
-//! the place counts is said there. What each number means, and who can mend it, is
-//! told by `pilzdamo explain N` of the project's command.
+//! the place counts is said there. A [`Reason`] is all of it in a sentence of fixed
+//! words; who can mend it, and how, is told by `pilzdamo explain N` of the project's
+//! command.
 //!
 //! ```
 //! use pilzdamo::{Desk, Verdict};
@@ -263,6 +265,26 @@
 //! # Ok::<(), Box<dyn std::error::Error>>(())
 //! ```
 //!
+//! # Reasons in words
+//!
+//! A refusal has a sentence for those who don't know the numbers, and the sentence can
+//! be read back. No two reasons share one.
+//!
+//! ```
+//! use pilzdamo::{read_reason, Counts};
+//!
+//! let file = std::fs::read("../../examples/refused/13-role.clinic")?;
+//! let verdict = pilzdamo::check(&file);
+//! assert_eq!(verdict.to_string(), "refused 13 4");
+//!
+//! // Node 4 is a send, which is tag 6.
+//! let reason = verdict.reason(Counts::Node, 6);
+//! let sentence = reason.sentence().unwrap();
+//! assert_eq!(sentence, "Refused 13: no active role permits the step at node 4, a send.");
+//! assert_eq!(read_reason(sentence.as_bytes()), reason);
+//! # Ok::<(), std::io::Error>(())
+//! ```
+//!
 //! # What is proved
 //!
 //! The engine's functions are: what they answer, every byte that they write, and
@@ -282,11 +304,12 @@ mod desk;
 mod raw;
 mod state;
 
-pub use answers::{Placed, Ready, Round, Totals, Verdict};
+pub use answers::{Counts, Placed, Ready, Reason, Round, Totals, Verdict, NO_TAG};
 pub use calls::{check, check_at, choose, measure, measure_at};
+pub use calls::{meaning, phrase, read_reason, reason};
 pub use calls::{place, place_at, placed, placed_at, read, ready, room, round, run, start};
 pub use calls::{total, totals};
 pub use calls::{BEFORE_ROUND, BESIDE, RECORDS, ROOM, ROOM_1, ROUND_WORDS, ROWS, RUN_ROOM};
-pub use calls::{TOTALS, WEEK};
+pub use calls::{SENTENCE, TOTALS, WEEK};
 pub use desk::Desk;
 pub use state::{Channel, State, Thread};

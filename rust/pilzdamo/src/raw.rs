@@ -5,7 +5,7 @@
 //! pointers and lengths name, writes only what is lent by a pointer to `mut`, and
 //! ends; it keeps no pointer.
 
-use crate::{Placed, Ready, Round, Thread, Totals, Verdict};
+use crate::{Placed, Ready, Reason, Round, Thread, Totals, Verdict};
 
 extern "C" {
     fn pilzdamo_read(file: *const u8, len: usize) -> Verdict;
@@ -54,6 +54,16 @@ extern "C" {
     fn pilzdamo_ready(file: *const u8, len: usize, choices: *const u16, words: usize) -> Ready;
     fn pilzdamo_totals(file: *const u8, len: usize, choices: *const u16, words: usize) -> Totals;
     fn pilzdamo_total(beside: *const u16, words: usize, kind: u16) -> u16;
+    fn pilzdamo_reason(
+        number: u16,
+        counts: u16,
+        place: u16,
+        tag: u16,
+        out: *mut u8,
+        out_len: usize,
+    ) -> u16;
+    fn pilzdamo_read_reason(sentence: *const u8, len: usize) -> Reason;
+    fn pilzdamo_phrase(number: u16, out: *mut u8, out_len: usize) -> u16;
     fn pilzdamo_start(
         file: *const u8,
         len: usize,
@@ -81,6 +91,7 @@ const _: () = {
     assert!(size_of::<Ready>() == 2 * 4);
     assert!(size_of::<Round>() == 2 * 131);
     assert!(size_of::<Totals>() == 2 * 34);
+    assert!(size_of::<Reason>() == 2 * 4);
     assert!(size_of::<Thread>() == 2 * 11);
 };
 
@@ -211,6 +222,34 @@ pub fn total(beside: &[u16], kind: u16) -> u16 {
     // SAFETY: the engine only reads the `words` words from `beside` on, during the
     // call; the slice vouches for them.
     unsafe { pilzdamo_total(beside.as_ptr(), beside.len(), kind) }
+}
+
+#[inline]
+pub fn reason(reason: Reason, out: &mut [u8]) -> u16 {
+    // SAFETY: the engine only reads and writes the `out_len` bytes from `out` on,
+    // during the call; the slice vouches for them.
+    unsafe {
+        pilzdamo_reason(
+            reason.number,
+            reason.counts,
+            reason.place,
+            reason.tag,
+            out.as_mut_ptr(),
+            out.len(),
+        )
+    }
+}
+
+#[inline]
+pub fn read_reason(sentence: &[u8]) -> Reason {
+    // SAFETY: as in `read`, of the bytes of the sentence.
+    unsafe { pilzdamo_read_reason(sentence.as_ptr(), sentence.len()) }
+}
+
+#[inline]
+pub fn phrase(number: u16, out: &mut [u8]) -> u16 {
+    // SAFETY: as in `reason`.
+    unsafe { pilzdamo_phrase(number, out.as_mut_ptr(), out.len()) }
 }
 
 #[inline]

@@ -1,8 +1,8 @@
 //! The header, tried by a C program: what it prints.
 
-use pilzdamo::{Placed, Ready, Round, Thread, Totals, Verdict};
+use pilzdamo::{Counts, Placed, Ready, Reason, Round, Thread, Totals, Verdict};
 use pilzdamo::{BEFORE_ROUND, BESIDE, RECORDS, ROOM, ROOM_1, ROUND_WORDS, ROWS, RUN_ROOM};
-use pilzdamo::{TOTALS, WEEK};
+use pilzdamo::{NO_TAG, SENTENCE, TOTALS, WEEK};
 use std::process::{Command, Output};
 
 const FOLDER: &str = env!("CARGO_MANIFEST_DIR");
@@ -96,6 +96,16 @@ choices done: 1, refusal: 19
 thread 1: user 1, node 1, mask 0, roles 0, first variable 0
 thread 2: user 1, node 3, mask 0, roles 0, first variable 0
 thread 3: user 1, node 4, mask 0, roles 0, first variable 0
+said: Refused 13: no active role permits the step at node 4, a send.
+read: 13 3 4 6
+said: Refused 3: a count is out of range; no place.
+read: 3 0 0 9
+said: Refused 23: the row names no such role, or no stretch of the week at row 64.
+read: 23 5 64 9
+said: 
+read: 0 0 0 0
+phrase: Refused 20: it would be the 65th thread or made channel
+in less: 0 0
 ";
 
 /// Runs a command that must succeed.
@@ -123,6 +133,7 @@ fn a_c_program_calls_the_engine() {
         size_of::<Ready>(),
         size_of::<Round>(),
         size_of::<Totals>(),
+        size_of::<Reason>(),
         size_of::<Thread>(),
     ];
     let line = |name: &str, numbers: &[usize]| {
@@ -134,9 +145,10 @@ fn a_c_program_calls_the_engine() {
     let hours = line("hours", &[WEEK.into(), ROWS]);
     let rounds = line("rounds", &[ROUND_WORDS, BEFORE_ROUND]);
     let totals = line("totals", &[TOTALS]);
+    let counts = Counts::ALL.map(|counts| usize::from(counts.number()));
+    let reasons = [&[SENTENCE, NO_TAG.into()][..], &counts].concat();
+    let reasons = line("reasons", &reasons);
     let printed = String::from_utf8_lossy(&output.stdout);
-    assert_eq!(
-        printed,
-        sizes + &rooms + &hours + &rounds + &totals + PRINTED
-    );
+    let lines = sizes + &rooms + &hours + &rounds + &totals + &reasons;
+    assert_eq!(printed, lines + PRINTED);
 }

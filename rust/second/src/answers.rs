@@ -143,3 +143,24 @@ impl Totals {
         }
     }
 }
+
+/// A refusal as a sentence says it: its number, what its place counts (0 nothing, 1
+/// words, 2 sessions, 3 nodes, 4 choices, 5 rows), the place, and the node's tag, 9
+/// where none belongs. All are 0 for bytes that are no sentence.
+#[derive(Clone, Copy, Debug, PartialEq, Eq, PartialOrd, Ord)]
+pub struct Reason {
+    pub number: u16,
+    pub counts: u16,
+    pub place: u16,
+    pub tag: u16,
+}
+
+impl Reason {
+    /// The answer to bytes that are no sentence.
+    pub const NONE: Reason = Reason {
+        number: 0,
+        counts: 0,
+        place: 0,
+        tag: 0,
+    };
+}

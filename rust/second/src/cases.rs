@@ -7,11 +7,13 @@ mod juniors;
 mod nothing;
 mod placing;
 mod reading;
+mod reasons;
 mod running;
 
 pub use hours::{CheckAtCase, PlaceAtCase};
 pub use nothing::NOTHING;
 pub use placing::{Due, PlaceCase};
+pub use reasons::{cases as reason_cases, ReasonCase, NO_SENTENCES};
 pub use running::{booking, choose_cases, placed_booking, round_cases, start_cases};
 pub use running::{totals_cases, ChooseCase, Lent, RoundCase, RunCase, StartCase, TotalsCase};
 

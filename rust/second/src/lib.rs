@@ -5,7 +5,8 @@
 //! are spoken of, 21 is among them. The timed functions, [`read`], [`read_names`],
 //! [`check`], [`check_at`], [`place`], [`place_at`], [`measure`], [`measure_at`],
 //! [`run`], [`round`], [`ready`], [`totals`], [`start`] and [`choose`], go over the
-//! file a few times, in place, and allocate nothing.
+//! file a few times, in place, and allocate nothing; nor do [`reason`], [`read_reason`]
+//! and [`phrase`].
 
 #![forbid(unsafe_code)]
 
@@ -17,15 +18,17 @@ mod file;
 mod hours;
 mod names;
 mod placing;
+mod reasons;
 mod roles;
 mod running;
 mod schema;
 mod tree;
 
-pub use answers::{Placed, Ready, Round, Totals, Verdict};
+pub use answers::{Placed, Ready, Reason, Round, Totals, Verdict};
 pub use cause::{is_of_file, is_of_reading, Cause, Refusal};
 pub use file::{Section, Version};
 pub use placing::{room_for, ROOM};
+pub use reasons::{Unsaid, SENTENCE};
 pub use running::{Halt, Run, Thread, Unfit};
 pub use running::{BEFORE_ROUND, BEFORE_TOTALS, BESIDE, MOST_CHOICES, RECORDS};
 pub use running::{ROUND_WORDS, RUN_ROOM, TOTALS};
@@ -203,6 +206,36 @@ pub fn choose(
     partner: u16,
 ) -> Verdict {
     Verdict::of(judge_choosing(file, threads, beside, [thread, partner]))
+}
+
+/// A refusal as a sentence in `out`, and its length: what `number` means, what its
+/// place counts (0 nothing, 1 words, 2 sessions, 3 nodes, 4 choices, 5 rows), the
+/// place, and, for 9 to 15 at a node, that node's tag; `tag` is 9 in all others. What
+/// is against this, or an output under [`SENTENCE`] bytes, gives 0.
+pub fn reason(number: u16, counts: u16, place: u16, tag: u16, out: &mut [u8]) -> u16 {
+    let reason = Reason {
+        number,
+        counts,
+        place,
+        tag,
+    };
+    reasons::write(reason, out)
+}
+
+/// The reason that a sentence says, all 0 for other bytes.
+pub fn read_reason(sentence: &[u8]) -> Reason {
+    reasons::read(sentence)
+}
+
+/// What a number means, in `out`, and its length; 0 for a number that no refusal has,
+/// or an output under [`SENTENCE`] bytes.
+pub fn phrase(number: u16, out: &mut [u8]) -> u16 {
+    reasons::write_phrase(number, out)
+}
+
+/// Why [`reason`] gives 0 where the output has this many bytes, if it does.
+pub fn cause_in_reason(reason: Reason, room: usize) -> Option<Unsaid> {
+    reasons::unsaid(reason, room)
 }
 
 /// A run that has yet to make its first choice, if 1 to 10 leave the file clean.

@@ -1,13 +1,14 @@
 use crate::cases::{booking, cases, choose_cases, place_cases, placed_booking, run_cases};
 use crate::cases::{check_at_cases, place_at_cases, round_cases, start_cases, totals_cases};
-use crate::cases::{Due, BOOKING};
+use crate::cases::{reason_cases, Due, BOOKING, NO_SENTENCES};
 use crate::draft::to_bytes;
 use crate::{begin, resume, total, totals};
 use crate::{cause, cause_in_choosing, cause_in_placing, cause_in_run, cause_in_starting};
 use crate::{cause_at, cause_in_placing_at, cause_in_round, check_at};
+use crate::{cause_in_reason, phrase, read_reason, reason};
 use crate::{check, choose, is_of_file, is_of_reading, measure, measure_at};
 use crate::{place, place_at, read, read_names, ready, round, run, start};
-use crate::{Cause, Placed, Run, Thread, Verdict, Version};
+use crate::{Cause, Placed, Reason, Run, Thread, Unsaid, Verdict, Version, SENTENCE};
 use crate::{BEFORE_ROUND, BEFORE_TOTALS, BESIDE, RECORDS, ROOM, RUN_ROOM};
 use std::collections::BTreeSet;
 
@@ -312,4 +313,75 @@ fn causes_are_listed_once_and_in_order() {
     assert!(of_choosing.ends_with(at_choices));
     assert!(at_choices.is_sorted_by_key(|cause| cause.number()));
     assert_eq!(at_choices.last().map(|cause| cause.number()), Some(20));
+}
+
+/// The writer by a reason.
+fn say(of: Reason, out: &mut [u8]) -> u16 {
+    reason(of.number, of.counts, of.place, of.tag, out)
+}
+
+#[test]
+fn named_cases_of_reasons() {
+    for case in reason_cases() {
+        case.demand("second", say);
+        case.demand_read("second", read_reason);
+        let unsaid = cause_in_reason(case.reason, SENTENCE);
+        assert_eq!(unsaid.is_none(), case.sentence.is_some());
+        assert_eq!(cause_in_reason(case.reason, 119), Some(Unsaid::Room));
+    }
+    for sentence in NO_SENTENCES {
+        let told = read_reason(sentence.as_bytes());
+        assert_eq!(told, Reason::NONE, "{sentence}");
+    }
+}
+
+/// Every reason with a place that is one of these: its sentence begins with its
+/// number's phrase, has at most 120 bytes, is read back, and no other has it.
+#[test]
+fn every_reason_has_its_own_sentence() {
+    let (mut sentences, mut count) = (BTreeSet::new(), 0);
+    for number in 0..=40 {
+        for counts in 0..=7 {
+            for tag in 0..=10 {
+                for place in [0, 1, 9, 10, 99, 100, 999, 1_000, 9_999, 10_000, 65_535] {
+                    let of = Reason {
+                        number,
+                        counts,
+                        place,
+                        tag,
+                    };
+                    let (mut out, mut meaning) = ([0; SENTENCE], [0; SENTENCE]);
+                    let length = usize::from(say(of, &mut out));
+                    assert_eq!(length == 0, cause_in_reason(of, SENTENCE).is_some());
+                    if length == 0 {
+                        continue;
+                    }
+                    assert_eq!(read_reason(&out[..length]), of);
+                    let start = usize::from(phrase(number, &mut meaning));
+                    assert!(start > 0 && out.starts_with(&meaning[..start]));
+                    assert!(sentences.insert(out[..length].to_vec()));
+                    count += 1;
+                }
+            }
+        }
+    }
+    // Ten of no place; of each place 12 without a tag, and seven numbers with nine tags.
+    assert_eq!((sentences.len(), count), (count, 10 + 10 * (12 + 7 * 9)));
+}
+
+#[test]
+fn phrases_of_numbers() {
+    for number in (0..=40).chain([256, 257, 65_535]) {
+        for room in [0, 119, 120, 121] {
+            let mut out = vec![0xa5; room];
+            let length = usize::from(phrase(number, &mut out));
+            let due = (1..=24).contains(&number) && room >= 120;
+            assert_eq!(length > 0, due, "{number} in {room} bytes");
+            assert!(out[length..].iter().all(|byte| *byte == 0xa5));
+        }
+    }
+    let mut out = [0; SENTENCE];
+    let length = usize::from(phrase(13, &mut out));
+    let due = "Refused 13: no active role permits the step";
+    assert_eq!(String::from_utf8_lossy(&out[..length]), due);
 }

@@ -81,7 +81,7 @@ fn damaged(dice: &mut Dice, files: &[Vec<u8>]) -> Vec<u8> {
 fn show(file: &[u8]) {
     let text = command::show::text(file);
     let verdict = pilzdamo::check(file);
-    let mark = format!("!! refused {} at ", verdict.number);
+    let mark = format!("!! Refused {}: ", verdict.number);
     let lines: Vec<&str> = text.lines().collect();
     let marks = lines.iter().filter(|line| line.starts_with("!! ")).count();
     if verdict.is_clean() {

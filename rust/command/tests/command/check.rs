@@ -19,7 +19,7 @@ fn standard_input() {
     assert_eq!(answer.status, 1);
     assert!(answer
         .err
-        .starts_with("pilzdamo: standard input: refused 1 at place 0"));
+        .starts_with("pilzdamo: standard input: Refused 1: the file has 1 to 25 bytes"));
 }
 
 #[test]
@@ -28,8 +28,8 @@ fn a_bare_routine_is_to_be_placed() {
     let answer = pilzdamo(&["check", &file]);
     assert_eq!((answer.status, answer.text()), (1, ""));
     let due = format!(
-        "pilzdamo: {file}: refused 13 at node 1: send user 2 on channel 1\n  \
-         no role that is held permits the send or receive\n  \
+        "pilzdamo: {file}: Refused 13: no active role permits the step at node 1, a send.\n  \
+         node 1: send user 2 on channel 1\n  \
          the routine's author can mend it; more: pilzdamo explain 13\n  \
          the routine has no on or off yet: pilzdamo place puts them in\n"
     );
@@ -47,5 +47,5 @@ fn a_path_with_spaces_and_a_long_file() {
     assert_eq!(answer.status, 1);
     assert!(answer
         .err
-        .contains("refused 5 at place 0 (the file as a whole)"));
+        .contains("Refused 5: the length is not the one that the counts give; no place.\n"));
 }

@@ -60,6 +60,16 @@ pub fn placed(name: &str) -> Vec<u8> {
     pilzdamo(&["place", &example(name)]).out
 }
 
+/// A refusal's sentence: the engine's phrase for its number, and the place with what it
+/// counts, such as `node 4, a send`; where that is empty, no place.
+pub fn sentence(number: u16, place: &str) -> String {
+    let meaning = pilzdamo::meaning(number).expect("a refusal");
+    match place {
+        "" => format!("{meaning}; no place."),
+        _ => format!("{meaning} at {place}."),
+    }
+}
+
 /// A folder of its own for a test, with a space in its name. It goes when the
 /// test ends.
 pub struct Folder(PathBuf);

@@ -1,6 +1,6 @@
 //! `dispatch FILE [ROUNDS]`.
 
-use crate::common::{example, pilzdamo, pilzdamo_fed, placed, Folder};
+use crate::common::{example, pilzdamo, pilzdamo_fed, placed, sentence, Folder};
 use crate::draft::{compare, Draft, END, REPEAT};
 
 const DESKS: [&str; 7] = [
@@ -105,19 +105,16 @@ fn no_round() {
 
 #[test]
 fn refusals() {
-    for (name, place) in [
-        ("01-odd", "1 at place 0 (the file as a whole)"),
-        ("06-record", "6 at word 27"),
-        (
-            "09-name",
-            "9 at node 2: send user 2 on channel 3 (out of count)",
-        ),
-        ("21-junior", "21 at word 24"),
+    for (name, number, place) in [
+        ("01-odd", 1, ""),
+        ("06-record", 6, "word 27"),
+        ("09-name", 9, "node 2, a send"),
+        ("21-junior", 21, "word 24"),
     ] {
         let file = example(&format!("refused/{name}.clinic"));
         let answer = pilzdamo(&["dispatch", &file]);
         assert_eq!((answer.status, answer.text()), (1, ""), "{name}");
-        let due = format!("pilzdamo: {file}: refused {place}\n");
+        let due = format!("pilzdamo: {file}: {}\n", sentence(number, place));
         assert!(answer.err.starts_with(&due), "{}", answer.err);
     }
 }

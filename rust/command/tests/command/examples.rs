@@ -107,13 +107,18 @@ fn the_readmes_commands() {
             printed += 1;
         }
     }
-    assert_eq!(printed, 5);
+    assert_eq!(printed, 6);
 }
 
-/// The refusal that a line begins with: `- 6 at word 27: ` or `- 3: `.
+/// The refusal that a line begins with, `- 6 at word 27: ` or `- 3: `: its sentence, up
+/// to the place.
 fn refusal(before: &str) -> Option<String> {
-    let (refusal, _) = before.strip_prefix("- ")?.split_once(':')?;
-    let (number, place) = refusal.split_once(" at ").unwrap_or((refusal, "place 0"));
+    let (refusal, _) = before.strip_prefix("- ")?.split_once([':', '('])?;
+    let (number, place) = match refusal.trim().split_once(" at ") {
+        Some((number, place)) => (number, format!(" at {place}")),
+        None => (refusal.trim(), "; no place".to_string()),
+    };
     let number: u16 = number.parse().ok()?;
-    Some(format!("refused {number} at {place}"))
+    let meaning = pilzdamo::meaning(number).expect("a refusal");
+    Some(format!("{meaning}{place}"))
 }

@@ -1,6 +1,6 @@
 //! `explain N`.
 
-use crate::common::pilzdamo;
+use crate::common::pilzdamo as call;
 
 #[test]
 fn every_refusal_is_explained() {
@@ -19,10 +19,13 @@ fn every_refusal_is_explained() {
         _ => "nothing",
     };
     for number in 1..=24 {
-        let answer = pilzdamo(&["explain", &number.to_string()]);
+        let answer = call(&["explain", &number.to_string()]);
         assert_eq!((answer.status, answer.err.as_str()), (0, ""));
         let text = answer.text();
-        assert!(text.starts_with(&format!("refusal {number}: ")), "{text}");
+        // The engine's phrase, over two lines where it is long.
+        let (phrase, _) = text.split_once("\n\n").expect("a line behind it");
+        let words: Vec<&str> = phrase.split_whitespace().collect();
+        assert_eq!(Some(words.join(" ")), pilzdamo::meaning(number));
         let place = format!("\nthe place counts: {}", counts(number));
         assert!(text.contains(&place), "{text}");
         let mends = format!("\nwho can mend it: {}\n", who(number));
@@ -36,7 +39,7 @@ fn every_refusal_is_explained() {
 #[test]
 fn no_other_number() {
     for word in ["0", "25", "-", "-1", "x", "13 ", "65536", "1.0"] {
-        let answer = pilzdamo(&["explain", word]);
+        let answer = call(&["explain", word]);
         assert_eq!((answer.status, answer.text()), (2, ""), "{word}");
         assert!(
             answer.err.contains("the refusals have the numbers 1 to 24"),

@@ -1,6 +1,7 @@
 //! `check` and `place` with `--at` and `--hours`.
 
-use crate::common::{example, example_bytes, pilzdamo, pilzdamo_fed, Answer, Folder};
+use crate::common::{example, example_bytes, pilzdamo, pilzdamo_fed, sentence};
+use crate::common::{Answer, Folder};
 use crate::files;
 
 const WEEK: &str = "hours/week.hours";
@@ -24,8 +25,8 @@ fn a_check_at_a_time() {
         let answer = asked("check", "hours/by-day.clinic", time, WEEK);
         assert_eq!((answer.status, answer.text()), (1, ""), "{time}");
         let due = format!(
-            "pilzdamo: {file}: refused 24 at node 1: on role 1\n  \
-             the role put on isn't open at this minute\n  \
+            "pilzdamo: {file}: Refused 24: the role put on is closed at that minute at node 1.\n  \
+             node 1: on role 1\n  \
              the routine's author can mend it; more: pilzdamo explain 24\n"
         );
         assert_eq!(answer.err, due, "{time}");
@@ -69,8 +70,9 @@ fn no_role_is_open() {
     };
     let answer = at("Mon 08:30");
     assert_eq!((answer.status, answer.text()), (1, ""));
-    let due = "refused 15 at node 1: send user 2 on channel 1\n";
-    assert!(answer.err.contains(due), "{}", answer.err);
+    let sentence = sentence(15, "node 1, a send");
+    let due = format!("{sentence}\n  node 1: send user 2 on channel 1\n");
+    assert!(answer.err.contains(&due), "{}", answer.err);
     assert!(!std::fs::exists(&out).unwrap());
     assert_eq!(at("Mon 08:00").status, 0);
     assert_eq!(
@@ -81,13 +83,10 @@ fn no_role_is_open() {
 
 #[test]
 fn refused_tables() {
-    for (hours, number, place) in [
-        (
-            "refused/22-rows.hours",
-            22,
-            "place 0 (the table as a whole)",
-        ),
-        ("refused/23-role.hours", 23, "row 6 (line 2)"),
+    let row = "  row 6 comes from line 2\n";
+    for (hours, number, place, line) in [
+        ("refused/22-rows.hours", 22, "", ""),
+        ("refused/23-role.hours", 23, "row 6", row),
     ] {
         for (verb, file) in [
             ("check", "hours/by-day.clinic"),
@@ -96,7 +95,8 @@ fn refused_tables() {
             let answer = asked(verb, file, "Mon 12:00", hours);
             assert_eq!((answer.status, answer.text()), (1, ""), "{verb} {hours}");
             let name = example(hours);
-            let due = format!("pilzdamo: {name}: refused {number} at {place}\n");
+            let sentence = sentence(number, place);
+            let due = format!("pilzdamo: {name}: {sentence}\n{line}");
             assert!(answer.err.starts_with(&due), "{}", answer.err);
             let mends = format!("\n  the caller can mend it; more: pilzdamo explain {number}\n");
             assert!(answer.err.ends_with(&mends), "{}", answer.err);
@@ -114,13 +114,14 @@ fn refused_files() {
         "refused/23-role.hours",
     );
     let file = example("refused/08-tree.clinic");
-    let due = format!("pilzdamo: {file}: refused 8 at node 1: fork");
+    let sentence = sentence(8, "node 1");
+    let due = format!("pilzdamo: {file}: {sentence}\n  node 1: fork");
     assert!(answer.err.starts_with(&due), "{}", answer.err);
     let answer = asked("check", "booking.clinic", "Mon 12:00", WEEK);
     assert_eq!(answer.status, 1);
     assert!(answer
         .err
-        .contains("refused 13 at node 1: send user 2 on channel 1"));
+        .contains("at node 1, a send.\n  node 1: send user 2 on channel 1\n"));
     assert!(answer
         .err
         .ends_with("has no on or off yet: pilzdamo place puts them in\n"));
@@ -134,8 +135,9 @@ fn hours_from_standard_input() {
     assert_eq!((answer.status, answer.err.as_str()), (0, ""));
     let answer = pilzdamo_fed(&words, b"role 9 Mon 07:00-08:00");
     assert_eq!(answer.status, 1);
-    let due = "pilzdamo: standard input: refused 23 at row 1 (line 1)\n";
-    assert!(answer.err.starts_with(due), "{}", answer.err);
+    let sentence = sentence(23, "row 1");
+    let due = format!("pilzdamo: standard input: {sentence}\n  row 1 comes from line 1\n");
+    assert!(answer.err.starts_with(&due), "{}", answer.err);
 }
 
 #[test]

@@ -12,6 +12,7 @@ mod hours;
 mod measure;
 mod nothing;
 mod place;
+mod reason;
 mod refused;
 mod round;
 mod run;

@@ -1,6 +1,6 @@
 //! `measure FILE`.
 
-use crate::common::{example, pilzdamo, pilzdamo_fed};
+use crate::common::{example, pilzdamo, pilzdamo_fed, sentence};
 use crate::files;
 
 /// What it says is what place says, and nothing is placed.
@@ -60,6 +60,7 @@ fn at_a_time() {
     let wrong = example("refused/23-role.hours");
     let answer = at(&wrong, "Mon 07:30");
     assert_eq!(answer.status, 1);
-    let due = format!("pilzdamo: {wrong}: refused 23 at row 6 (line 2)\n");
+    let sentence = sentence(23, "row 6");
+    let due = format!("pilzdamo: {wrong}: {sentence}\n  row 6 comes from line 2\n");
     assert!(answer.err.starts_with(&due), "{}", answer.err);
 }

@@ -1,7 +1,7 @@
 //! A clinic with nothing planned: files of 0, 1, 25 and 26 bytes, in every word that
 //! takes one, by name and on standard input.
 
-use crate::common::{example, pilzdamo, pilzdamo_fed, Answer, Folder};
+use crate::common::{example, pilzdamo, pilzdamo_fed, sentence, Answer, Folder};
 use crate::draft::Draft;
 
 /// The 26 bytes of a version 1 file with all counts 0.
@@ -113,13 +113,16 @@ fn lists() {
     let folder = Folder::new("nothing-lists");
     for bytes in [vec![], nothing()] {
         for (list, due) in [
-            ("1 0", "18 at choice 1: thread 1, partner 0"),
-            ("0 0", "18 at choice 1: thread 0, partner 0"),
-            ("1", "17 at place 0 (the list as a whole)"),
+            ("1 0", "at choice 1.\n  choice 1: thread 1, partner 0\n"),
+            ("0 0", "at choice 1.\n  choice 1: thread 0, partner 0\n"),
+            (
+                "1",
+                "; no place.\n  the list has 1 number: two for each choice",
+            ),
         ] {
             for (status, _, err) in &both_ways(&bytes, &folder, list)[6..9] {
                 assert_eq!(*status, 1);
-                assert!(err.contains(&format!("refused {due}\n")), "{err}");
+                assert!(err.contains(due), "{err}");
             }
         }
     }
@@ -131,8 +134,8 @@ fn one_byte_and_25() {
     for length in [1, 25] {
         for (status, out, err) in both_ways(&nothing()[..length], &folder, "") {
             assert_eq!((status, out), (1, vec![]));
-            let due = "pilzdamo: FILE: refused 1 at place 0 (the file as a whole)\n";
-            assert!(err.starts_with(due), "{err}");
+            let due = format!("pilzdamo: FILE: {}\n", sentence(1, ""));
+            assert!(err.starts_with(&due), "{err}");
         }
     }
 }
@@ -156,7 +159,7 @@ fn shown() {
     assert_eq!(shown(&nothing()), format!("{whole}{head}"));
     for (length, told) in [(1, "1 byte"), (25, "25 bytes")] {
         let text = shown(&nothing()[..length]);
-        let due = format!("check: refused 1, marked !!\nlength: {told}\n!! refused 1 at ");
+        let due = format!("check: refused 1, marked !!\nlength: {told}\n!! Refused 1: ");
         assert!(text.starts_with(&due), "{text}");
     }
 }

@@ -1,6 +1,6 @@
 //! `place FILE`.
 
-use crate::common::{example, example_bytes, pilzdamo, pilzdamo_fed, Folder};
+use crate::common::{example, example_bytes, pilzdamo, pilzdamo_fed, sentence, Folder};
 use crate::draft::{off, on};
 use crate::files;
 use std::fs;
@@ -62,7 +62,7 @@ fn a_refusal_writes_nothing() {
         assert_eq!((answer.status, answer.text()), (1, ""));
         assert!(answer
             .err
-            .contains("refused 15 at node 4: send user 1 on channel 1"));
+            .contains("at node 4, a send.\n  node 4: send user 1 on channel 1\n"));
     }
     assert_eq!(fs::read_to_string(kept).unwrap(), "as it was");
     assert!(!fs::exists(absent).unwrap());
@@ -114,7 +114,8 @@ fn what_is_placed_passes() {
         assert_eq!(pilzdamo_fed(&["check", "-"], &placed).status, 0, "{name}");
         let again = pilzdamo_fed(&["place", "-"], &placed);
         assert_eq!(again.status, 1, "{name}");
-        assert!(again.err.contains("refused 14 at node "), "{name}");
+        assert!(again.err.contains("Refused 14: "), "{name}");
+        assert!(again.err.contains(", an on.\n"), "{name}");
     }
 }
 
@@ -126,7 +127,7 @@ fn a_head_nurse() {
     assert_eq!((answer.status, answer.text()), (1, ""));
     assert!(answer
         .err
-        .contains("refused 15 at node 2: send user 4 on channel 2"));
+        .contains("at node 2, a send.\n  node 2: send user 4 on channel 2\n"));
     let file = example("head-nurse/juniors.clinic");
     let answer = pilzdamo(&["place", &file]);
     let mut draft = files::by_juniors();
@@ -157,7 +158,5 @@ fn a_starting_mask_has_no_place() {
     draft.sessions[0][1] = 1;
     let answer = pilzdamo_fed(&["place", "-"], &draft.bytes());
     assert_eq!(answer.status, 1);
-    assert!(answer
-        .err
-        .contains("refused 14 at place 0 (the file as a whole)"));
+    assert!(answer.err.contains(&sentence(14, "")), "{}", answer.err);
 }

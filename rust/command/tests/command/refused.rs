@@ -1,46 +1,69 @@
 //! One example for each refusal.
 
-use crate::common::{example, pilzdamo};
+use crate::common::{example, pilzdamo, sentence};
 
-/// The example, what is asked of it, the refusal, and its place in the message.
-const FILES: [(&str, &str, u16, &str); 17] = [
-    ("01-odd", "check", 1, "place 0 (the file as a whole)"),
-    ("02-version", "check", 2, "place 0 (the file as a whole)"),
-    ("03-count", "check", 3, "place 0 (the file as a whole)"),
-    ("04-offset", "check", 4, "place 0 (the file as a whole)"),
-    ("05-length", "check", 5, "place 0 (the file as a whole)"),
-    ("06-record", "check", 6, "word 27"),
-    ("07-session", "check", 7, "session 2"),
+/// The example, what is asked of it, the refusal, its place in the sentence, and what
+/// more is said of it.
+const FILES: [(&str, &str, u16, &str, &str); 17] = [
+    ("01-odd", "check", 1, "", ""),
+    ("02-version", "check", 2, "", ""),
+    ("03-count", "check", 3, "", ""),
+    ("04-offset", "check", 4, "", ""),
+    ("05-length", "check", 5, "", ""),
+    ("06-record", "check", 6, "word 27", ""),
+    ("07-session", "check", 7, "session 2", ""),
     (
         "08-tree",
         "check",
         8,
+        "node 1",
         "node 1: fork, second child 5 (4 is due)",
     ),
     (
         "09-name",
         "check",
         9,
+        "node 2, a send",
         "node 2: send user 2 on channel 3 (out of count)",
     ),
     (
         "10-kinds",
         "check",
         10,
+        "node 2, a receive",
         "node 2: receive variable 1 on channel 2",
     ),
-    ("11-on", "check", 11, "node 1: on role 1"),
-    ("12-off", "check", 12, "node 1: off role 1"),
-    ("13-role", "check", 13, "node 4: send user 2 on channel 1"),
-    ("14-placed", "place", 14, "node 1: on role 2"),
+    ("11-on", "check", 11, "node 1, an on", "node 1: on role 1"),
+    (
+        "12-off",
+        "check",
+        12,
+        "node 1, an off",
+        "node 1: off role 1",
+    ),
+    (
+        "13-role",
+        "check",
+        13,
+        "node 4, a send",
+        "node 4: send user 2 on channel 1",
+    ),
+    (
+        "14-placed",
+        "place",
+        14,
+        "node 1, an on",
+        "node 1: on role 2",
+    ),
     (
         "15-no-role",
         "place",
         15,
+        "node 4, a send",
         "node 4: send user 1 on channel 1",
     ),
-    ("16-too-long", "place", 16, "place 0 (the file as a whole)"),
-    ("21-junior", "check", 21, "word 24"),
+    ("16-too-long", "place", 16, "", ""),
+    ("21-junior", "check", 21, "word 24", ""),
 ];
 
 /// The line of a shown file behind which the refusal of a check is marked.
@@ -94,43 +117,74 @@ fn who(number: u16) -> &'static str {
     }
 }
 
+/// The lines that are due, behind the name of the file.
+fn message(number: u16, place: &str, more: &str) -> String {
+    let sentence = sentence(number, place);
+    let more = match more {
+        "" => String::new(),
+        more => format!("  {more}\n"),
+    };
+    let mends = format!(
+        "{} can mend it; more: pilzdamo explain {number}",
+        who(number)
+    );
+    format!("{sentence}\n{more}  {mends}\n")
+}
+
 #[test]
 fn files() {
-    for (name, verb, number, place) in FILES {
+    for (name, verb, number, place, more) in FILES {
         let file = example(&format!("refused/{name}.clinic"));
         let answer = pilzdamo(&[verb, &file]);
         assert_eq!((answer.status, answer.text()), (1, ""), "{name}");
-        let due = format!("pilzdamo: {file}: refused {number} at {place}\n");
-        assert!(answer.err.starts_with(&due), "{}", answer.err);
-        let mends = format!(
-            "  {} can mend it; more: pilzdamo explain {number}\n",
-            who(number)
-        );
-        assert!(answer.err.contains(&mends), "{}", answer.err);
+        let due = format!("pilzdamo: {file}: {}", message(number, place, more));
+        assert_eq!(answer.err, due);
+        assert_read_back(&answer.err, &file, number, place);
     }
 }
 
 #[test]
 fn lists() {
+    let most = "at most 65,535 choices (65,471 before a round)";
+    let odd = format!("the list has 3 numbers: two for each choice, {most}");
     let lists = [
-        ("17-odd", 17, "place 0 (the list as a whole)"),
-        ("18-thread", 18, "choice 1: thread 3, partner 0"),
-        ("19-unequal", 19, "choice 2: thread 1, partner 0"),
-        ("20-thread", 20, "choice 63: thread 2, partner 0"),
+        ("17-odd", 17, "", odd.as_str()),
+        ("18-thread", 18, "choice 1", "choice 1: thread 3, partner 0"),
+        (
+            "19-unequal",
+            19,
+            "choice 2",
+            "choice 2: thread 1, partner 0",
+        ),
+        (
+            "20-thread",
+            20,
+            "choice 63",
+            "choice 63: thread 2, partner 0",
+        ),
     ];
-    for (name, number, place) in lists {
+    for (name, number, place, more) in lists {
         let list = example(&format!("refused/{name}.choices"));
         let answer = pilzdamo(&["run", &example("refused/choices.clinic"), &list]);
         assert_eq!(answer.status, 1, "{name}");
-        let due = format!("{list}: refused {number} at {place}\n");
-        assert!(answer.err.contains(&due), "{}", answer.err);
-        let mends = format!(
-            "  {} can mend it; more: pilzdamo explain {number}\n",
-            who(number)
-        );
-        assert!(answer.err.contains(&mends), "{}", answer.err);
+        let due = format!("{list}: {}", message(number, place, more));
+        assert!(answer.err.ends_with(&due), "{}", answer.err);
+        assert_read_back(&answer.err, &list, number, place);
         assert_eq!(answer.text().is_empty(), number == 17);
     }
+}
+
+/// The first line of a message, behind the name, is a sentence that `reason` reads.
+fn assert_read_back(message: &str, name: &str, number: u16, place: &str) {
+    let line = message.lines().next().expect("a line");
+    let (_, sentence) = line.split_once(&format!("{name}: ")).expect("a name");
+    let answer = pilzdamo(&["reason", sentence]);
+    assert_eq!((answer.status, answer.err.as_str()), (0, ""), "{sentence}");
+    let due = format!("number: {number}\n");
+    assert!(answer.text().starts_with(&due), "{}", answer.text());
+    let place = place.split([' ', ',']).nth(1).unwrap_or("0");
+    let due = format!("\nplace: {place}\n");
+    assert!(answer.text().contains(&due), "{}", answer.text());
 }
 
 #[test]
@@ -140,7 +194,7 @@ fn shown_with_the_refusal_at_its_place() {
         let answer = pilzdamo(&["show", &example(&format!("refused/{name}.clinic"))]);
         assert_eq!((answer.status, answer.err.as_str()), (0, ""), "{name}");
         let text = answer.text();
-        let due = format!("\n{line}\n!! refused {number} at ");
+        let due = format!("\n{line}\n!! Refused {number}: ");
         assert!(text.contains(&due), "{text}");
         assert!(text.starts_with(&format!("check: refused {number}, marked !!")));
     }

@@ -1,6 +1,6 @@
 //! `round FILE CHOICES`.
 
-use crate::common::{example, example_bytes, pilzdamo, pilzdamo_fed, placed, Folder};
+use crate::common::{example, example_bytes, pilzdamo, pilzdamo_fed, placed, sentence, Folder};
 use crate::draft::{compare, Draft, END, REPEAT};
 
 /// The round behind the list of the example, and what the run then stands at.
@@ -85,7 +85,7 @@ fn a_refusal_before_the_choices_prints_nothing() {
         let file = example(&format!("refused/{name}.clinic"));
         let answer = pilzdamo(&["round", &file, &list]);
         assert_eq!((answer.status, answer.text()), (1, ""), "{name}");
-        let due = format!("pilzdamo: {file}: refused ");
+        let due = format!("pilzdamo: {file}: Refused ");
         assert!(answer.err.starts_with(&due), "{}", answer.err);
     }
 }
@@ -110,9 +110,10 @@ fn a_list_that_is_too_long_for_a_round() {
     let long = list(65_472);
     let answer = pilzdamo_fed(&["round", "-", &long], &file);
     assert_eq!((answer.status, answer.text()), (1, ""));
+    let sentence = sentence(17, "");
     let due = format!(
-        "pilzdamo: {long}: refused 17 at place 0 (the list as a whole)\n  \
-         the list is odd, or has over 65,535 choices (65,471 before a round)\n"
+        "pilzdamo: {long}: {sentence}\n  the list has 130944 numbers: two for each choice, \
+         at most 65,535 choices (65,471 before a round)\n"
     );
     assert!(answer.err.starts_with(&due), "{}", answer.err);
     assert_eq!(pilzdamo_fed(&["run", "-", &long], &file).status, 0);
@@ -127,5 +128,5 @@ fn a_list_that_is_no_list() {
     assert!(answer.err.starts_with(due), "{}", answer.err);
     let answer = pilzdamo_fed(&["round", &file, "-"], b"1");
     assert_eq!((answer.status, answer.text()), (1, ""));
-    assert!(answer.err.contains("standard input: refused 17 at place 0"));
+    assert!(answer.err.contains("standard input: Refused 17: "));
 }

@@ -1,6 +1,6 @@
 //! `run FILE CHOICES`.
 
-use crate::common::{example, example_bytes, pilzdamo, pilzdamo_fed, Folder};
+use crate::common::{example, example_bytes, pilzdamo, pilzdamo_fed, sentence, Folder};
 
 const TRANSFERRED: &str = "\
 choices done: 17
@@ -58,8 +58,9 @@ fn a_halted_run_prints_its_state() {
                  thread 3: user 1, node 4 (end), no role\nmade channels: 0\n";
     assert_eq!(answer.text(), state);
     let due = format!(
-        "pilzdamo: {file}, {list}: refused 19 at choice 2: thread 1, partner 0\n  \
-         the two values differ, or sender and receiver are on two channels\n  \
+        "pilzdamo: {file}, {list}: Refused 19: the values compared are not equal, or the two \
+         channels differ at choice 2.\n  \
+         choice 2: thread 1, partner 0\n  \
          the caller can mend it; more: pilzdamo explain 19\n"
     );
     assert_eq!(answer.err, due);
@@ -73,7 +74,8 @@ fn a_run_halted_for_a_role() {
         let file = example(&format!("refused/{name}.clinic"));
         let answer = pilzdamo_fed(&["run", &file, "-"], b"1 0");
         assert_eq!(answer.status, 1);
-        let due = format!("refused {number} at choice {choice}: thread 1, partner 0");
+        let sentence = sentence(number, &format!("choice {choice}"));
+        let due = format!("{sentence}\n  choice {choice}: thread 1, partner 0\n");
         assert!(answer.err.contains(&due), "{}", answer.err);
         assert!(answer
             .text()
@@ -82,9 +84,8 @@ fn a_run_halted_for_a_role() {
     let list = b"3 0 4 0 1 4";
     let answer = pilzdamo_fed(&["run", &example("transfer.clinic"), "-"], list);
     assert_eq!(answer.status, 1);
-    assert!(answer
-        .err
-        .contains("refused 18 at choice 2: thread 4, partner 0"));
+    let due = sentence(18, "choice 2") + "\n  choice 2: thread 4, partner 0\n";
+    assert!(answer.err.contains(&due), "{}", answer.err);
 }
 
 #[test]
@@ -92,9 +93,8 @@ fn a_bare_routine_halts_at_its_first_send() {
     let list = b"1 0  1 0  3 0  1 5";
     let answer = pilzdamo_fed(&["run", &example("transfer.clinic"), "-"], list);
     assert_eq!(answer.status, 1);
-    assert!(answer
-        .err
-        .contains("refused 13 at choice 4: thread 1, partner 5"));
+    let due = sentence(13, "choice 4") + "\n  choice 4: thread 1, partner 5\n";
+    assert!(answer.err.contains(&due), "{}", answer.err);
     assert!(answer
         .text()
         .starts_with("choices done: 3, the next refused with 13\n"));
@@ -109,7 +109,7 @@ fn a_refusal_before_the_choices_prints_no_state() {
         assert_eq!((answer.status, answer.text()), (1, ""), "{name}");
         assert!(answer
             .err
-            .starts_with(&format!("pilzdamo: {file}: refused ")));
+            .starts_with(&format!("pilzdamo: {file}: Refused ")));
     }
 }
 
@@ -120,8 +120,8 @@ fn a_list_that_is_refused_as_a_whole() {
     for list in ["1 0 1", long.as_str()] {
         let answer = pilzdamo_fed(&["run", &file, "-"], list.as_bytes());
         assert_eq!((answer.status, answer.text()), (1, ""));
-        let due = "pilzdamo: standard input: refused 17 at place 0 (the list as a whole)\n";
-        assert!(answer.err.starts_with(due), "{}", answer.err);
+        let due = format!("pilzdamo: standard input: {}\n", sentence(17, ""));
+        assert!(answer.err.starts_with(&due), "{}", answer.err);
     }
 }
 

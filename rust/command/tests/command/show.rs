@@ -1,6 +1,6 @@
 //! `show FILE`.
 
-use crate::common::{example, pilzdamo, pilzdamo_fed};
+use crate::common::{example, pilzdamo, pilzdamo_fed, sentence};
 use crate::draft::*;
 use crate::files;
 
@@ -27,7 +27,7 @@ channel 2: owner user 2, kind 2
 session 1: user 1, no role at the start, root 1
         node  held  step
            1  -     send user 2 on channel 1
-!! refused 13 at node 1: no role that is held permits the send or receive (the routine's author)
+!! Refused 13: no active role permits the step at node 1, a send. (the routine's author)
            2  -     send user 2 on channel 2
            3  -     end
 ";
@@ -86,6 +86,12 @@ session 3: user 3, no role at the start, root 21
           26  -        end
 ";
 
+/// Asserts that the refusal is marked behind these lines, with its place.
+fn assert_marked(text: &str, lines: &str, number: u16, place: &str) {
+    let due = format!("{lines}!! {} (", sentence(number, place));
+    assert!(text.contains(&due), "{text}");
+}
+
 #[test]
 fn a_bare_file() {
     let answer = pilzdamo(&["show", &example("booking.clinic")]);
@@ -112,34 +118,28 @@ fn juniors() {
     let text = shown_with(&[&[], &[1, 2, 3, 16]]);
     let due = "; receives on no kind; \
                juniors: roles 1, 2 (not lower), 3 (out of count), 16 (out of count)\n\
-               !! refused 21 at word 25: a junior's number isn't lower than its senior's \
+               !! Refused 21: a junior role's number is not lower than its senior's at word 25. \
                (the schema's keeper)\n";
     assert!(text.contains(due), "{text}");
     // A 6 further behind comes first.
     let mut draft = files::booking().juniors(&[&[1], &[]]);
     draft.channels[1] = [2, 3];
     let text = command::show::text(&draft.bytes());
-    assert!(
-        text.contains("kind 3 (out of count)\n!! refused 6 at word 30: "),
-        "{text}"
-    );
+    assert_marked(&text, "kind 3 (out of count)\n", 6, "word 30");
 }
 
 #[test]
 fn files_of_version_2_cut_short() {
     let whole = files::booking().juniors(&[&[], &[1]]).bytes();
     let text = command::show::text(&whole[..26]);
-    assert!(
-        text.contains("length: 26 bytes\n!! refused 1 at "),
-        "{text}"
-    );
+    assert!(text.contains("length: 26 bytes\n!! Refused 1: "), "{text}");
     assert!(
         text.contains("\nversion: 2\nhead: 2 2 2 2 2 1 3 14 16 24 26 28 32\n"),
         "{text}"
     );
     let text = command::show::text(&whole[..28]);
     assert!(
-        text.contains("length: 28 bytes (88 by the counts)\n!! refused 5 at "),
+        text.contains("length: 28 bytes (88 by the counts)\n!! Refused 5: "),
         "{text}"
     );
     let text = command::show::text(&whole[..50]);
@@ -151,7 +151,7 @@ fn files_of_version_2_cut_short() {
     wrong[18] += 1;
     let text = command::show::text(&wrong);
     let due = "roles 16, juniors 25 (24 is due), kinds 26, channels 28, sessions 32, nodes 35\n\
-               !! refused 4 at ";
+               !! Refused 4: ";
     assert!(text.contains(due), "{text}");
 }
 
@@ -214,15 +214,15 @@ fn a_ninth_variable() {
     let mut nodes = vec![new(1); 9];
     nodes.push(END);
     let text = shown(&nodes);
-    let due = "9  -     new channel of kind 1 as variable 9 (at most 8)\n!! refused 8 at node 9: ";
-    assert!(text.contains(due), "{text}");
+    let due = "9  -     new channel of kind 1 as variable 9 (at most 8)\n";
+    assert_marked(&text, due, 8, "node 9");
 }
 
 #[test]
 fn a_tree_past_the_last_node() {
     let text = shown(&[fork(3), END]);
-    let due = "2  -     |- end\n  (the tree runs past the last node)\n!! refused 8 at node 3: ";
-    assert!(text.contains(due), "{text}");
+    let due = "2  -     |- end\n  (the tree runs past the last node)\n";
+    assert_marked(&text, due, 8, "node 3");
 }
 
 #[test]
@@ -231,8 +231,8 @@ fn a_session_with_no_node() {
     draft.sessions.push([1, 0, 4]);
     let text = command::show::text(&draft.bytes());
     let due = "session 2: user 1, no role at the start, root 4\n  \
-               (no node is left for it)\n!! refused 8 at node 4: ";
-    assert!(text.contains(due), "{text}");
+               (no node is left for it)\n";
+    assert_marked(&text, due, 8, "node 4");
 }
 
 #[test]
@@ -241,8 +241,8 @@ fn a_wrong_root() {
     draft.sessions[0][2] = 2;
     let text = command::show::text(&draft.bytes());
     assert!(text.contains("root 2 (1 is due)\n"), "{text}");
-    let due = "1  -     send user 2 on channel 1\n!! refused 8 at node 1: ";
-    assert!(text.contains(due), "{text}");
+    let due = "1  -     send user 2 on channel 1\n";
+    assert_marked(&text, due, 8, "node 1");
 }
 
 #[test]
@@ -252,8 +252,8 @@ fn nodes_in_no_tree() {
 nodes in no tree that can be followed
         node  held  step
   +2       2  ?     on role 2
-!! refused 8 at node 2: ";
-    assert!(text.contains(due), "{text}");
+";
+    assert_marked(&text, due, 8, "node 2");
 }
 
 #[test]
@@ -262,8 +262,8 @@ fn a_tag_that_says_nothing() {
     draft.nodes = vec![[9, 1, 2], receive(channel(1)), END];
     draft.sessions.push([1, 0, 2]);
     let text = command::show::text(&draft.bytes());
-    let due = "           1  -     tag 9, f1 1, f2 2 (no such tag)\n!! refused 8 at node 1: ";
-    assert!(text.contains(due), "{text}");
+    let due = "           1  -     tag 9, f1 1, f2 2 (no such tag)\n";
+    assert_marked(&text, due, 8, "node 1");
     assert!(
         text.contains("  (the tree can't be followed from here)\n"),
         "{text}"
@@ -280,7 +280,7 @@ fn files_cut_short() {
     let whole = files::booking().bytes();
     let text = command::show::text(&whole[..70]);
     assert!(
-        text.contains("length: 70 bytes (82 by the counts)\n!! refused 5 at "),
+        text.contains("length: 70 bytes (82 by the counts)\n!! Refused 5: "),
         "{text}"
     );
     assert!(
@@ -297,10 +297,10 @@ fn files_cut_short() {
         "{text}"
     );
     let text = command::show::text(&whole[..7]);
-    assert!(text.contains("length: 7 bytes\n!! refused 1 at "), "{text}");
+    assert!(text.contains("length: 7 bytes\n!! Refused 1: "), "{text}");
     assert!(text.contains("\nhead: 1 2 2\n"), "{text}");
     let text = command::show::text(&whole[..1]);
-    assert!(text.contains("length: 1 byte\n!! refused 1 at "), "{text}");
+    assert!(text.contains("length: 1 byte\n!! Refused 1: "), "{text}");
 }
 
 /// A role held through a fork is held in each branch on its own.

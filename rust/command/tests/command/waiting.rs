@@ -1,6 +1,6 @@
 //! `waiting FILE CHOICES`.
 
-use crate::common::{example, pilzdamo, pilzdamo_fed, placed, Folder};
+use crate::common::{example, pilzdamo, pilzdamo_fed, placed, sentence, Folder};
 use crate::draft::{channel, fork, new, receive, variable, Draft, END, REPEAT};
 
 /// What is printed for the file of this path after a list in text.
@@ -72,8 +72,9 @@ fn a_list_that_stops() {
     assert_eq!((answer.status, answer.text()), (1, due));
     let run = pilzdamo_fed(&["run", &file, "-"], list);
     assert_eq!(answer.err, run.err);
-    let due = "standard input: refused 18 at choice 7: thread 9, partner 0\n";
-    assert!(answer.err.contains(due), "{}", answer.err);
+    let sentence = sentence(18, "choice 7");
+    let due = format!("standard input: {sentence}\n  choice 7: thread 9, partner 0\n");
+    assert!(answer.err.contains(&due), "{}", answer.err);
     let file = example("refused/choices.clinic");
     for name in ["18-thread", "19-unequal", "20-thread"] {
         let list = example(&format!("refused/{name}.choices"));
@@ -90,7 +91,7 @@ fn a_refusal_before_the_choices_prints_nothing() {
         let file = example(&format!("refused/{name}.clinic"));
         let answer = pilzdamo(&["waiting", &file, &list]);
         assert_eq!((answer.status, answer.text()), (1, ""), "{name}");
-        let due = format!("pilzdamo: {file}: refused ");
+        let due = format!("pilzdamo: {file}: Refused ");
         assert!(answer.err.starts_with(&due), "{}", answer.err);
     }
 }
@@ -104,5 +105,5 @@ fn a_list_that_is_no_list() {
     assert!(answer.err.starts_with(due), "{}", answer.err);
     let answer = pilzdamo_fed(&["waiting", &file, "-"], b"1");
     assert_eq!((answer.status, answer.text()), (1, ""));
-    assert!(answer.err.contains("standard input: refused 17 at place 0"));
+    assert!(answer.err.contains("standard input: Refused 17: "));
 }

@@ -14,6 +14,7 @@ fn help_and_version() {
     }
     let words = [
         "check", "place", "measure", "run", "waiting", "round", "dispatch", "show", "explain",
+        "reason",
     ];
     for word in words {
         assert!(help.contains(&format!("  pilzdamo {word} ")));
@@ -26,7 +27,7 @@ fn help_and_version() {
 
 #[test]
 fn words() {
-    let wrong: [(&[&str], &str); 51] = [
+    let wrong: [(&[&str], &str); 53] = [
         (&[], "what to do?"),
         (&[""], "there is no word ''"),
         (&["judge", "a"], "there is no word 'judge'"),
@@ -141,6 +142,8 @@ fn words() {
         (&["show", "a", "b"], "show: 'b' is too many"),
         (&["explain"], "explain: N is missing"),
         (&["explain", "1", "2"], "explain: '2' is too many"),
+        (&["reason"], "reason: SENTENCE is missing"),
+        (&["reason", "Refused", "3:"], "reason: '3:' is too many"),
     ];
     for (words, due) in wrong {
         let answer = pilzdamo(words);

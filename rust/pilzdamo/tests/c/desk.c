@@ -280,20 +280,45 @@ static void refusals(const char *folder) {
     print_state(out);
 }
 
+/* Refusals as sentences. */
+static void print_reason(uint16_t number, uint16_t counts, uint16_t place, uint16_t tag) {
+    uint8_t out[PILZDAMO_SENTENCE];
+    uint16_t length = pilzdamo_reason(number, counts, place, tag, out, sizeof out);
+    pilzdamo_said said = pilzdamo_read_reason(out, length);
+    printf("said: %.*s\n", (int)length, (const char *)out);
+    printf("read: %d %d %d %d\n", said.number, said.counts, said.place, said.tag);
+}
+
+static void reasons(void) {
+    uint8_t out[PILZDAMO_SENTENCE];
+    uint16_t length;
+    print_reason(13, PILZDAMO_COUNTS_NODES, 4, 6);
+    print_reason(3, PILZDAMO_COUNTS_NOTHING, 0, PILZDAMO_NO_TAG);
+    print_reason(23, PILZDAMO_COUNTS_ROWS, 64, PILZDAMO_NO_TAG);
+    print_reason(13, PILZDAMO_COUNTS_NODES, 4, PILZDAMO_NO_TAG);
+    length = pilzdamo_phrase(20, out, sizeof out);
+    printf("phrase: %.*s\n", (int)length, (const char *)out);
+    printf("in less: %d %d\n", pilzdamo_phrase(20, out, sizeof out - 1),
+           pilzdamo_reason(13, 4, 1, PILZDAMO_NO_TAG, out, sizeof out - 1));
+}
+
 int main(int argc, char **argv) {
     if (argc != 2) {
         fprintf(stderr, "the folder of the examples is wanted\n");
         return 2;
     }
-    printf("sizes: %d %d %d %d %d %d\n", (int)sizeof(pilzdamo_verdict),
+    printf("sizes: %d %d %d %d %d %d %d\n", (int)sizeof(pilzdamo_verdict),
            (int)sizeof(pilzdamo_placed), (int)sizeof(pilzdamo_ready_pair),
            (int)sizeof(pilzdamo_round_choices), (int)sizeof(pilzdamo_kind_totals),
-           (int)sizeof(pilzdamo_thread));
+           (int)sizeof(pilzdamo_said), (int)sizeof(pilzdamo_thread));
     printf("rooms: %d %d %d %d %d\n", PILZDAMO_ROOM, PILZDAMO_ROOM_1, PILZDAMO_RUN_ROOM,
            PILZDAMO_RECORDS, PILZDAMO_BESIDE);
     printf("hours: %d %d\n", PILZDAMO_WEEK, PILZDAMO_ROWS);
     printf("rounds: %d %d\n", PILZDAMO_ROUND_WORDS, PILZDAMO_BEFORE_ROUND);
     printf("totals: %d\n", PILZDAMO_TOTALS);
+    printf("reasons: %d %d %d %d %d %d %d %d\n", PILZDAMO_SENTENCE, PILZDAMO_NO_TAG,
+           PILZDAMO_COUNTS_NOTHING, PILZDAMO_COUNTS_WORDS, PILZDAMO_COUNTS_SESSIONS,
+           PILZDAMO_COUNTS_NODES, PILZDAMO_COUNTS_CHOICES, PILZDAMO_COUNTS_ROWS);
     booking(argv[1]);
     head_nurse(argv[1]);
     hours(argv[1]);
@@ -301,5 +326,6 @@ int main(int argc, char **argv) {
     waiting(argv[1]);
     dispatch(argv[1]);
     refusals(argv[1]);
+    reasons();
     return 0;
 }

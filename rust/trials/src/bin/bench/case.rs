@@ -1,7 +1,7 @@
 //! What is timed: a question to both, with its input.
 
 use crate::timing::{Samples, Times, ROUNDS};
-use second::{Ready, Verdict, BEFORE_TOTALS, ROOM, RUN_ROOM};
+use second::{Ready, Reason, Verdict, BEFORE_TOTALS, ROOM, RUN_ROOM, SENTENCE};
 use std::hint::black_box;
 use trials::{At, Dealt, Lent, Lists};
 
@@ -46,6 +46,13 @@ pub enum Input {
     Choose(Lent),
     /// A start in these lists.
     Start(Lent),
+    /// A reason that has this sentence.
+    Reason {
+        reason: Reason,
+        sentence: Vec<u8>,
+    },
+    /// A sentence that is read.
+    ReadReason(Vec<u8>),
 }
 
 /// A row of a table.
@@ -62,7 +69,8 @@ impl Case {
         Case { name, input, calls }
     }
 
-    pub fn file(&self) -> &[u8] {
+    /// The file, or the sentence.
+    pub fn bytes(&self) -> &[u8] {
         match &self.input {
             Input::Read(file) | Input::Check(file) | Input::Measure(file) => file,
             Input::Place { file, .. } | Input::Run { file, .. } => file,
@@ -70,6 +78,7 @@ impl Case {
             Input::Ready { file, .. } => file,
             Input::Choose(Lent { file, .. }) | Input::Start(Lent { file, .. }) => file,
             Input::CheckAt(At { file, .. }) | Input::PlaceAt(At { file, .. }) => file,
+            Input::Reason { sentence, .. } | Input::ReadReason(sentence) => sentence,
         }
     }
 
@@ -142,6 +151,15 @@ impl Case {
                 assert_eq!(verdict, Verdict::CLEAN, "{name}");
                 Vec::new()
             }
+            Input::Reason { reason, sentence } => {
+                let said = trials::agreed_reason(*reason, &[0; SENTENCE]);
+                assert_eq!(said, *sentence, "{name}");
+                said
+            }
+            Input::ReadReason(sentence) => {
+                assert_ne!(trials::agreed_read(sentence), Reason::NONE, "{name}");
+                Vec::new()
+            }
         }
     }
 
@@ -207,6 +225,19 @@ impl Case {
             ),
             Input::Choose(lent) => choose(lent, self.calls, samples),
             Input::Start(lent) => start(lent, self.calls, samples),
+            Input::Reason { reason, .. } => {
+                let (mut out, mut of_second) = ([0; SENTENCE], [0; SENTENCE]);
+                samples.take(
+                    self.calls,
+                    || trials::engine_reason(black_box(*reason), black_box(&mut out)),
+                    || trials::second_reason(black_box(*reason), black_box(&mut of_second)),
+                );
+            }
+            Input::ReadReason(sentence) => samples.take(
+                self.calls,
+                || pilzdamo::read_reason(black_box(sentence)),
+                || second::read_reason(black_box(sentence)),
+            ),
         }
     }
 }

@@ -134,6 +134,8 @@ impl Inputs {
             Case::new("totals typical", totals(&self.typical_run), 300),
             Case::new("start largest", start(&self.largest_lent), 50),
             Case::new("start typical", start(&self.typical_lent), 300),
+            Case::new("reason", said(), 1_000),
+            Case::new("read reason", Input::ReadReason(SENTENCE.to_vec()), 1_000),
         ]
     }
 
@@ -167,7 +169,8 @@ impl Inputs {
              in ready. Typical has {} choices, and then {}.\n\
              Totals: how many threads wait on each kind. Crowded is ready's input, typical that of\n\
              run. A run keeps the totals, and choose judges all 32. Start: the files of choose,\n\
-             into its lists.\n",
+             into its lists.\n\
+             Reason, and read reason: {:?}\n",
             run(&self.largest_run),
             run(&self.typical_run),
             run(&self.short_run),
@@ -175,7 +178,19 @@ impl Inputs {
             lent(&self.typical_lent),
             self.typical_round.1.len() / 2,
             sends_of(&round_of(&self.typical_round)),
+            String::from_utf8_lossy(SENTENCE),
         )
+    }
+}
+
+/// A typical sentence.
+const SENTENCE: &[u8] = b"Refused 13: no active role permits the step at node 4, a send.";
+
+/// What it is written from.
+fn said() -> Input {
+    Input::Reason {
+        reason: second::read_reason(SENTENCE),
+        sentence: SENTENCE.to_vec(),
     }
 }
 

@@ -136,7 +136,7 @@ fn growth_has_its_counts() {
         assert_eq!((row.nodes, row.roles), (1_024, ROLES[at % ROLES.len()]));
     }
     for row in by_nodes.iter().chain(&by_roles) {
-        let file = row.case.file();
+        let file = row.case.bytes();
         let out = row.case.agree();
         assert_eq!(roles(file), row.roles.into());
         let due = usize::from(row.nodes);
@@ -180,6 +180,6 @@ fn growth_ends_with_the_largest() {
             Input::Place { .. } => &inputs.largest_bare,
             _ => &inputs.largest,
         };
-        assert_eq!(row.case.file(), due);
+        assert_eq!(row.case.bytes(), due);
     }
 }

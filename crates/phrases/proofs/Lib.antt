@@ -1,0 +1,2 @@
+pub mod PhraseRule
+pub mod PhraseLaws

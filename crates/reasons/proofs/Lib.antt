@@ -1,0 +1,12 @@
+pub mod DigitLaws
+pub mod ReasonTests
+pub mod TableBounds
+pub mod ReadBack
+pub mod PartsWritten
+pub mod ReasonAnswers
+pub mod DigitsRead
+pub mod SentenceCompared
+pub mod GuessLaws
+pub mod ReasonLaws
+pub mod ReasonsShown
+pub mod NumbersSaid

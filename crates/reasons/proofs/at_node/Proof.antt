@@ -1,0 +1,13 @@
+use mathlib.Core.Path.{refl}
+use Rattle.reasons.specs.Reasons.{atNode}
+use Rattle.reasons.proofs.at_node.Statement.{statement}
+use Rattle.reasons.proofs.at_node.Tie as tie
+use Rattle.reasons.proofs.at_node.Reads as reads
+use Rattle.reasons.proofs.at_node.Lts as lts
+
+returns : tie.Need-returns
+unfolding atNode
+returns c = refl
+
+pub at-node-spec : {M : Type 1} → statement M
+at-node-spec = tie.close (tie.spec returns)

@@ -1,0 +1,13 @@
+use mathlib.Core.Path.{refl}
+use Rattle.reasons.specs.Reasons.{byChoice}
+use Rattle.reasons.proofs.by_choice.Statement.{statement}
+use Rattle.reasons.proofs.by_choice.Tie as tie
+use Rattle.reasons.proofs.by_choice.Reads as reads
+use Rattle.reasons.proofs.by_choice.Lts as lts
+
+returns : tie.Need-returns
+unfolding byChoice
+returns c = refl
+
+pub by-choice-spec : {M : Type 1} → statement M
+by-choice-spec = tie.close (tie.spec returns)

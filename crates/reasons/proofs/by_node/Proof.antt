@@ -1,0 +1,13 @@
+use mathlib.Core.Path.{refl}
+use Rattle.reasons.specs.Reasons.{byNode}
+use Rattle.reasons.proofs.by_node.Statement.{statement}
+use Rattle.reasons.proofs.by_node.Tie as tie
+use Rattle.reasons.proofs.by_node.Reads as reads
+use Rattle.reasons.proofs.by_node.Lts as lts
+
+returns : tie.Need-returns
+unfolding byNode
+returns c = refl
+
+pub by-node-spec : {M : Type 1} → statement M
+by-node-spec = tie.close (tie.spec returns)

@@ -1,0 +1,3 @@
+pub mod IsReason
+pub mod Reasons
+pub mod ReasonCases
