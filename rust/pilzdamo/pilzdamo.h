@@ -15,8 +15,8 @@
  * pointer, allocates, or has a memory of the last one, so that calls may be made
  * from several threads at once.
  *
- * A refusal is a number from 1 to 24 and a place, which goes by the number: 0 for 1
- * to 5, 16, 17 and 22; for 6 and 21 the first word of a record, from 0; for 7 a
+ * A refusal is a number from 1 to 25 and a place, which goes by the number: 0 for 1
+ * to 5, 16, 17, 22 and 25; for 6 and 21 the first word of a record, from 0; for 7 a
  * session, for 8 to 15 and 24 a node, from 1 (0 for a starting mask, with 14); for 18
  * to 20, and in a run for 11 to 13 too, a choice, from 1; for 23 a row, from 1. Where
  * nothing is refused both are 0.
@@ -40,7 +40,7 @@ extern "C" {
 
 /* The least bytes of the output of pilzdamo_place: those of the largest file of
  * version 2 where the file's first word is 2, else those of the largest of version 1.
- * PILZDAMO_ROOM will do for any file. */
+ * PILZDAMO_ROOM will do for any file. pilzdamo_merge wants PILZDAMO_ROOM_1. */
 #define PILZDAMO_ROOM 6908
 #define PILZDAMO_ROOM_1 6874
 /* The minutes of a week, and the most rows of a table of hours. */
@@ -119,6 +119,13 @@ typedef struct {
     uint16_t place;
     uint16_t tag; /* the node's, 0 to 8, or PILZDAMO_NO_TAG */
 } pilzdamo_said;
+
+/* A refusal, or 0 and 0 with the length in bytes of what is written. */
+typedef struct {
+    uint16_t number;
+    uint16_t place;
+    uint16_t length;
+} pilzdamo_written;
 
 /* A thread's record in a lent list. */
 typedef struct {
@@ -235,7 +242,7 @@ uint16_t pilzdamo_total(const uint16_t *beside, size_t words, uint16_t kind);
  * what its place counts, the place, and, for 9 to 15 at a node, that node's tag. Its
  * length in bytes is answered, 1 to PILZDAMO_SENTENCE, and nothing past it is written.
  *
- * What a number's place counts: nothing for 1 to 5, 16, 17 and 22; words for 6 and 21;
+ * What a number's place counts: nothing for 1 to 5, 16, 17, 22 and 25; words for 6 and 21;
  * sessions for 7; nodes for 8 to 10, 15 and 24; nodes or choices for 11 to 13; nodes or
  * nothing for 14; nothing or choices for 18; choices for 19 and 20; rows for 23. The
  * place is 0 exactly where nothing is counted. The tag is 0 to 8 for 9 to 15 at a
@@ -286,6 +293,22 @@ pilzdamo_verdict pilzdamo_choose(const uint8_t *file, size_t file_len,
                                  pilzdamo_thread *threads, size_t records,
                                  uint16_t *beside, size_t words,
                                  uint16_t thread, uint16_t partner);
+
+/*
+ * Makes one file of two, both of version 1: the first file's users, channels, sessions
+ * and nodes, and then the second's, with the numbers that these have behind the
+ * first's. Roles and kinds must be the same tables in both. out has PILZDAMO_ROOM_1
+ * bytes or more.
+ *
+ * Refusals 17; the first file's own by 1 to 10, then the second's, where another
+ * version than 1 is 2; 25 where the tables of roles or kinds differ; 3 for over 32
+ * users, 64 channels, 32 sessions or 1,024 nodes together. Where none is answered the
+ * merged file is written at the start of out, and nothing past its length; otherwise
+ * nothing is written.
+ */
+pilzdamo_written pilzdamo_merge(const uint8_t *first, size_t first_len,
+                                const uint8_t *second, size_t second_len,
+                                uint8_t *out, size_t out_len);
 
 #ifdef __cplusplus
 }

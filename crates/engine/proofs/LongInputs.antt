@@ -7,16 +7,16 @@ use native.Mathlib.Omega.{arith}
 use lib.Dec.{eqb, leb}
 use lib.ListN.{length, take, replicate}
 use borrow.Author.Tests.{ne-eqb}
-use Rattle.format.specs.Answers.{refused, orElse}
+use Rattle.format.specs.Answers.{fine, refused, orElse}
 use Rattle.format.specs.Contents.{contentsOf}
-use Rattle.format.specs.Header.{headOf}
+use Rattle.format.specs.Header.{headAt, headOf}
 use Rattle.format.specs.declared.Verdict.{Verdict}
 use Rattle.format.specs.declared.HeadAnswer.the-variants.{Refused}
-use Rattle.format.proofs.HeadLaws.{head-number}
+use Rattle.format.proofs.HeadLaws.{Headed, head-number}
 use Rattle.reading.specs.Long.{enough}
-use Rattle.reading.proofs.LongLaws.{StandsFor, start-stands, stands-judged}
+use Rattle.reading.proofs.LongLaws.{most-bytes, StandsFor, start-stands, stands-room, stands-judged}
 use Rattle.checking.specs.Check.{readingNames}
-use Rattle.checking.proofs.CheckLaws.{names-refused, stands-check}
+use Rattle.checking.proofs.CheckLaws.{names-refused, names-headed, stands-check}
 use Rattle.placing.proofs.PlaceLaws.{stands-measured, stands-placed, stands-over}
 use Rattle.placing.specs.declared.Placed.{Placed}
 use Rattle.steps.specs.declared.Thread.{Thread}
@@ -29,6 +29,9 @@ use Rattle.running.proofs.StandLaws.{stands-run, stands-over as stands-ran}
 use Rattle.dispatching.specs.Dispatch.{roundListed, roundUnready, noRound, rounding, roundOver}
 use Rattle.lending.specs.Lent.{lending, choosing, recordsOver, besideOver}
 use Rattle.lending.specs.Starting.{starting, recordsStarted, besideStarted}
+use Rattle.merging.specs.Merging.{ownAnswer}
+use Rattle.merging_exact.proofs.OwnAnswers.{own-fine}
+use Rattle.merging_exact.proofs.SameMerging.{MergedAlike, same-own, merged-alike}
 use Rattle.engine.specs.Alike.{Alike}
 use Rattle.engine.proofs.LongHours.{stands-check-at, stands-measured-at, stands-place-at, stands-over-at}
 
@@ -138,6 +141,10 @@ kept-alike f = record {
   measure-at = λ t m. stands-measured-at t m kept f stands;
   place-at = λ t m room. stands-place-at t m room kept f stands;
   placed-at = λ t m out. stands-over-at t m out kept f stands;
+  merge-first = both .first;
+  merge-second = both .second;
+  merged-first = both .first-over;
+  merged-second = both .second-over;
 }
   where
     kept : List ℕ
@@ -145,3 +152,12 @@ kept-alike f = record {
 
     stands : StandsFor kept f
     stands = start-stands f
+
+    -- a file that merging takes is kept whole
+    whole : ownAnswer f ≡ fine → contentsOf kept ≡ contentsOf f
+    whole own =
+        let d : Headed f = names-headed f (ap (λ (v : Verdict). v .number) (own-fine f own .1)) in
+        ap (λ (g : List ℕ). contentsOf g) (stands .all (omega (arith, most-bytes f (headAt f) (d .laid))))
+
+    both : MergedAlike kept f
+    both = merged-alike kept f (same-own kept f (judged (λ n. refused n 0) readingNames names-refused f) (stands-room kept f stands)) whole

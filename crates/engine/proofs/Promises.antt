@@ -1,7 +1,7 @@
 -- What the engine promises, each promise under a sentence of the paper (01), of the demands or of a request (K1 ..); nothing else stands here. Where "1 to 8" or "1 to 10" is written, 21 is among them.
 -- What a caller gets is in the contracts of the exported functions (src/lib.rt): of any bytes handed over `pilzdamo_read` answers `readingNames`, the refusals 1 to 10,
 -- `pilzdamo_check` `checking`, the refusals 1 to 13, `pilzdamo_place` `placing`, with `placedOver` in the output, for a minute of the week `pilzdamo_check_at` `checkingAt`
--- and `pilzdamo_place_at` `placingAt`, with `placedOverAt`, `pilzdamo_run`
+-- and `pilzdamo_place_at` `placingAt`, with `placedOverAt`, of two files `pilzdamo_merge` `merging`, with `mergedOver` in the output, `pilzdamo_run`
 -- `running`, with `runOver` in the output, `pilzdamo_ready` `ready`, `pilzdamo_round` `rounding`, with `roundOver` in the output, `pilzdamo_totals` `totalsAfter`, `pilzdamo_total` `totalIn`,
 -- `pilzdamo_start` `starting`, with `recordsStarted` in the lent list and
 -- `besideStarted` beside it, `pilzdamo_choose` `choosing`, with `recordsOver` and `besideOver`, and of a refusal's numbers `pilzdamo_reason` `reasonLength`, with `reasonOver` in the output,
@@ -139,6 +139,19 @@ use Rattle.reasons.proofs.ReadBack.{one-reason}
 use Rattle.reasons.proofs.ReasonLaws.{answered, answered-exactly, unanswered, past-sentence, read-written, understood-exactly, no-exactly, none-begins-another, in-decimal, meaning-exactly, meaning-most, past-meaning, meaning-first, in-parts, meant}
 use Rattle.reasons.proofs.NumbersSaid.{number-said}
 use Rattle.reasons.proofs.ReasonsShown.{reasons-shown}
+use Rattle.merging.specs.Merged.{shifted}
+use Rattle.merging.specs.Merging.{merging, mergedBytes, mergedOver}
+use Rattle.merging.specs.declared.Written.{Written as Merge·Written}
+use Rattle.merging_exact.specs.MergedFile.{mergedFile}
+use Rattle.merging_exact.specs.Operands.{Item, Names, Stands}
+use Rattle.merging_exact.specs.Sums.{SameTables, SumsFit}
+use Rattle.merging_exact.specs.MergeCauses.{OwnRefusal, Passes, Answers}
+use Rattle.merging_exact.specs.MergeCases.{MergeShown, mergeCases}
+use Rattle.checking_exact.specs.Typing.{HasKind}
+use Rattle.merging_exact.proofs.NamedItems.{names-kind}
+use Rattle.merging_exact.proofs.MergeAnswers.{merging-exactly, seventeen-merging, first-exactly, second-exactly, first-as-read, second-as-read, first-version, second-version, differ-exactly, beyond-exactly, merged-exactly}
+use Rattle.merging_exact.proofs.MergedOutput.{merged-as-data, merged-reads, first-names, second-names, passes-exactly, on-steps-add, placed-as-merged, length-answered, length-fits, merge-written, merge-kept}
+use Rattle.merging_exact.proofs.MergesShown.{merges-shown}
 use Rattle.engine.proofs.LongInputs.{kept-alike}
 use Rattle.engine.proofs.NothingPlanned.{nothing-alike, nothing-checked, nothing-measured, nothing-placed, nothing-short, nothing-over, nothing-run, nothing-chosen, short-one, short-second}
 use Rattle.reading_exact.proofs.Bytes.{length-bytesOf, word-back, small-bytes}
@@ -877,7 +890,7 @@ sentence-to-120 = sentence-length
 pub sentence-says-why : (r : Reason) → IsReason r → (rest : List ℕ) × (sentence r ≡ meaning (r .number) ++ rest)
 sentence-says-why = meaning-first
 
-pub meaning-says-its-number : (n : ℕ) → 1 ≤ n → n ≤ 24 → (rest : List ℕ) × (meaning n ≡ (spelled "Refused " ++ (digitsOf 5 n ++ spelled ": ")) ++ rest)
+pub meaning-says-its-number : (n : ℕ) → 1 ≤ n → n ≤ 25 → (rest : List ℕ) × (meaning n ≡ (spelled "Refused " ++ (digitsOf 5 n ++ spelled ": ")) ++ rest)
 meaning-says-its-number = number-said
 
 -- It has four parts: the meaning, what is counted, the place's digits, the tag's ending, each of the last by its row in the table (`reasons-in-words` has each of them in words) ..
@@ -912,12 +925,12 @@ reader-says-no = no-exactly
 pub one-sentence-each : (r q : Reason) → IsReason r → IsReason q → sentence r ≡ sentence q → r ≡ q
 one-sentence-each = one-reason
 
--- "The rule is shown over the whole table of phrases": none of the 40 stands at the start of another.
-pub no-phrase-begins-another : (length phrases ≡ 40) × ((i j : ℕ) → i < 40 → j < 40 → i ≢ j → (x : List ℕ) → phrase i ++ x ≢ phrase j)
+-- "The rule is shown over the whole table of phrases": none of the 41 stands at the start of another.
+pub no-phrase-begins-another : (length phrases ≡ 41) × ((i j : ℕ) → i < 41 → j < 41 → i ≢ j → (x : List ℕ) → phrase i ++ x ≢ phrase j)
 no-phrase-begins-another = (many, none-begins-another)
 
--- The meaning of a number alone is answered likewise, for the numbers 1 to 24.
-pub meaning-of-each : (n room : ℕ) → (meaningLength n room ≢ 0) ↔ ((120 ≤ room) × (1 ≤ n) × (n ≤ 24))
+-- The meaning of a number alone is answered likewise, for the numbers 1 to 25.
+pub meaning-of-each : (n room : ℕ) → (meaningLength n room ≢ 0) ↔ ((120 ≤ room) × (1 ≤ n) × (n ≤ 25))
 meaning-of-each = meaning-exactly
 
 pub meaning-written : (n : ℕ) (out : List ℕ) → 120 ≤ length out → (meaningLength n (length out) ≡ length (meaning n)) × (meaningOver n out ≡ meaning n ++ drop (length (meaning n)) out)
@@ -936,3 +949,117 @@ past-the-meaning = past-meaning
 -- In literal words: sentences written and read, bytes that are none, numbers that are no reason.
 pub reasons-in-words : All ReasonShown reasonCases
 reasons-in-words = reasons-shown
+
+-- Request K9, two clinics in one house. "Two version 1 files (another version gives 2) become one: the first file's users, channels, sessions and nodes, then the second's, all numbers shifted": what is written is the
+-- encoding of that file as data (its trees hold no numbers of nodes, so that forks and roots are numbered as in every file), well formed and with names and kinds by rules 1 to 4.
+pub merges-into-one : (f g : List ℕ) → All (λ b. b < 256) f → All (λ b. b < 256) g → (room : ℕ) → merging f g room .number ≡ 0 → (F G : File) → ReadsAs f F → ReadsAs g G
+    → (mergedBytes f g ≡ encode (mergedFile F G)) × WellFormed (mergedFile F G) × WellKinded (mergedFile F G)
+merges-into-one = merged-as-data
+
+-- .. nothing of 1 to 10 is wrong with it ..
+pub merged-reads-clean : (f g : List ℕ) → All (λ b. b < 256) f → All (λ b. b < 256) g → (room : ℕ) → merging f g room .number ≡ 0 → readingNames (mergedBytes f g) ≡ fine
+merged-reads-clean = merged-reads
+
+-- .. and each operand names in it the item that it named: in the first file's sessions the user, channel or variable of the same number, in the second's the user that comes as many later as the first file has users, the
+-- channel as many later as it has channels, or the variable itself. A user has its mask, a channel its kind and the owner that it named.
+pub first-operands-stay : (f g : List ℕ) → All (λ b. b < 256) f → All (λ b. b < 256) g → (room : ℕ) → merging f g room .number ≡ 0
+    → Stands (contentsOf f) (contentsOf (mergedBytes f g)) 0 0 (λ x. x)
+first-operands-stay = first-names
+
+pub second-operands-follow : (f g : List ℕ) → All (λ b. b < 256) f → All (λ b. b < 256) g → (room : ℕ) → merging f g room .number ≡ 0
+    → Stands (contentsOf g) (contentsOf (mergedBytes f g)) (length (contentsOf f .users)) (length (contentsOf f .channels)) (shifted (length (contentsOf f .users)) (length (contentsOf f .channels)))
+second-operands-follow = second-names
+
+-- An operand names an item exactly where rule 1 gives it a kind.
+pub names-by-kind : (C : Contents) (vs : List Bound) (x : ℕ) → ((i : Item) × Names C (length vs) x i) ↔ ((k : ℕ) × HasKind (schemaOf C) vs x k)
+names-by-kind = names-kind
+
+-- What is answered, each refusal in its turn, for all bytes: one answer and no other.
+pub merging-answers : (f g : List ℕ) (room : ℕ) → All (λ b. b < 256) f → All (λ b. b < 256) g → (a : Merge·Written) → (merging f g room ≡ a) ↔ Answers f g room a
+merging-answers = merging-exactly
+
+-- "An output under 6,874 bytes is 17 and comes first."
+pub merging-no-room : (f g : List ℕ) (room : ℕ) → All (λ b. b < 256) f → All (λ b. b < 256) g → (merging f g room .number ≡ 17) ↔ (room < 6874)
+merging-no-room = seventeen-merging
+
+-- "A file refused at 1 to 10 gives its own refusal, the first file's before the second's": the first of its own in the check's order, where another version than 1 is 2, at 2's turn.
+pub merging-first-refused : (f g : List ℕ) (room : ℕ) → All (λ b. b < 256) f → All (λ b. b < 256) g → (Passes f → ⊥) → (n p : ℕ) → n ≢ 17
+    → (merging f g room ≡ record { number = n; place = p; length = 0 }) ↔ ((6874 ≤ room) × OwnRefusal f n p)
+merging-first-refused = first-exactly
+
+pub merging-second-refused : (f g : List ℕ) (room : ℕ) → All (λ b. b < 256) f → All (λ b. b < 256) g → Passes f → (Passes g → ⊥) → (n p : ℕ) → n ≢ 17
+    → (merging f g room ≡ record { number = n; place = p; length = 0 }) ↔ ((6874 ≤ room) × OwnRefusal g n p)
+merging-second-refused = second-exactly
+
+-- .. of version 1 as it is read, and "another version gives 2", unless 1 is wrong with it ..
+pub merging-first-as-read : (f g : List ℕ) (room : ℕ) → 6874 ≤ room → versionAt f ≡ 1 → readingNames f .number ≢ 0
+    → merging f g room ≡ record { number = readingNames f .number; place = readingNames f .place; length = 0 }
+merging-first-as-read = first-as-read
+
+pub merging-second-as-read : (f g : List ℕ) (room : ℕ) → 6874 ≤ room → Passes f → versionAt g ≡ 1 → readingNames g .number ≢ 0
+    → merging f g room ≡ record { number = readingNames g .number; place = readingNames g .place; length = 0 }
+merging-second-as-read = second-as-read
+
+pub merging-first-version : (f g : List ℕ) (room : ℕ) → 6874 ≤ room → versionAt f ≢ 1 → ((p : ℕ) → Objection f 1 p → ⊥) → merging f g room ≡ record { number = 2; place = 0; length = 0 }
+merging-first-version = first-version
+
+pub merging-second-version : (f g : List ℕ) (room : ℕ) → 6874 ≤ room → Passes f → versionAt g ≢ 1 → ((p : ℕ) → Objection g 1 p → ⊥)
+    → merging f g room ≡ record { number = 2; place = 0; length = 0 }
+merging-second-version = second-version
+
+-- "25, tables of roles or kinds differ, place 0, after both files have passed 1 to 10 and before 3 for the sums."
+pub merging-tables-differ : (f g : List ℕ) (room : ℕ) → All (λ b. b < 256) f → All (λ b. b < 256) g
+    → (merging f g room .number ≡ 25) ↔ ((6874 ≤ room) × Passes f × Passes g × ((contentsOf f .roles ≡ contentsOf g .roles) × (contentsOf f .kinds ≡ contentsOf g .kinds) → ⊥))
+merging-tables-differ f g room F-bytes G-bytes =
+    let (to, from) = differ-exactly f g room F-bytes G-bytes in (
+      λ h. let (l, x, y, never) = to h in (l, x, y, λ (r, k). never (record { roles = r; kinds = k })),
+      λ (l, x, y, never). from (l, x, y, λ S. never (S .roles, S .kinds)),
+    )
+
+-- "Sums beyond a count's limit give 3 at place 0."
+pub merging-sums-beyond : (f g : List ℕ) (room : ℕ) → All (λ b. b < 256) f → All (λ b. b < 256) g → Passes f → Passes g
+    → (merging f g room ≡ record { number = 3; place = 0; length = 0 })
+    ↔ ((6874 ≤ room) × SameTables (contentsOf f) (contentsOf g) × ((length (contentsOf f .users) + length (contentsOf g .users) ≤ 32) × (length (contentsOf f .channels) + length (contentsOf g .channels) ≤ 64)
+    × (length (contentsOf f .sessions) + length (contentsOf g .sessions) ≤ 32) × (length (contentsOf f .nodes) + length (contentsOf g .nodes) ≤ 1024) → ⊥))
+merging-sums-beyond f g room F-bytes G-bytes x y =
+    let (to, from) = beyond-exactly f g room F-bytes G-bytes x y in (
+      λ h. let (l, S, never) = to h in (l, S, λ (u, c, s, n). never (record { users = u; channels = c; sessions = s; nodes = n })),
+      λ (l, S, never). from (l, S, λ L. never (L .users, L .channels, L .sessions, L .nodes)),
+    )
+
+-- Else nothing is refused.
+pub merging-merges : (f g : List ℕ) (room : ℕ) → All (λ b. b < 256) f → All (λ b. b < 256) g
+    → (merging f g room .number ≡ 0) ↔ ((6874 ≤ room) × Passes f × Passes g × SameTables (contentsOf f) (contentsOf g) × SumsFit (contentsOf f) (contentsOf g))
+merging-merges = merged-exactly
+
+-- "The merged file passes exactly when both do, ..
+pub merged-passes-exactly : (f g : List ℕ) → All (λ b. b < 256) f → All (λ b. b < 256) g → (room : ℕ) → merging f g room .number ≡ 0
+    → (checking (mergedBytes f g) ≡ fine) ↔ ((checking f ≡ fine) × (checking g ≡ fine))
+merged-passes-exactly = passes-exactly
+
+-- .. and placing it gives the on steps of both added together, if none of the three is refused": whatever the outputs are.
+pub merged-on-steps-add : (f g : List ℕ) → All (λ b. b < 256) f → All (λ b. b < 256) g → (room : ℕ) → merging f g room .number ≡ 0
+    → (x y z : ℕ) → placing f x .number ≡ 0 → placing g y .number ≡ 0 → placing (mergedBytes f g) z .number ≡ 0
+    → placing (mergedBytes f g) z .«on_steps» ≡ placing f x .«on_steps» + placing g y .«on_steps»
+merged-on-steps-add = on-steps-add
+
+-- What is placed of the merged file is the two placed files, merged.
+pub merged-then-placed : (f g : List ℕ) → All (λ b. b < 256) f → All (λ b. b < 256) g → (room : ℕ) → merging f g room .number ≡ 0
+    → (x y : ℕ) → placing f x .number ≡ 0 → placing g y .number ≡ 0 → placedBytes (mergedBytes f g) ≡ mergedBytes (placedBytes f) (placedBytes g)
+merged-then-placed = placed-as-merged
+
+-- "An output's length is answered and nothing past it is written": on a refusal nothing is.
+pub merged-length-answered : (f g : List ℕ) → All (λ b. b < 256) f → All (λ b. b < 256) g → (room : ℕ) → merging f g room .number ≡ 0
+    → (merging f g room .length ≡ length (mergedBytes f g)) × (length (mergedBytes f g) ≤ 6874)
+merged-length-answered f g F-bytes G-bytes room done = (length-answered f g F-bytes G-bytes room done, length-fits f g F-bytes G-bytes room done)
+
+pub merging-writes : (f g : List ℕ) → All (λ b. b < 256) f → All (λ b. b < 256) g → (out : List ℕ) → merging f g (length out) .number ≡ 0
+    → mergedOver f g out ≡ mergedBytes f g ++ drop (length (mergedBytes f g)) out
+merging-writes = merge-written
+
+pub merging-writes-nothing : (f g out : List ℕ) → merging f g (length out) .number ≢ 0 → mergedOver f g out ≡ out
+merging-writes-nothing = merge-kept
+
+-- In literal words: the booking beside a clinic with all sorts of operands, sums at their limits, and each refusal in its turn.
+pub merges-in-words : All MergeShown mergeCases
+merges-in-words = merges-shown

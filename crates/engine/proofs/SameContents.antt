@@ -34,6 +34,7 @@ use Rattle.reading_exact.specs.File.{File, WellFormed, asSecond, encode}
 use Rattle.reading_exact.proofs.FileContents.{contents-back}
 use Rattle.reading_exact.proofs.Exact.{complete}
 use Rattle.reading_exact.proofs.AsSecond.{as-second-held, as-second-read}
+use Rattle.merging_exact.proofs.SameMerging.{same-own, merged-alike}
 use Rattle.engine.specs.Alike.{AlikeBesideForm, Alike}
 
 module _ (f g : List ℕ) (r : reading f ≡ reading g) (c : contentsOf f ≡ contentsOf g) where
@@ -172,7 +173,21 @@ module _ (f g : List ℕ) (r : reading f ≡ reading g) (c : contentsOf f ≡ co
           ∙ sym (over-room (ltb (length out) (roomFor g)) (versionAt g) (contentsOf g) (turns (contentsOf g)) (judgingAt g t m) out)
 
     pub alike : Alike f g
-    alike = record { answers = alike-beside-form; measure = measures; place = places; placed = over; measure-at = measures-at; place-at = places-at; placed-at = over-at }
+    alike =
+        let both = merged-alike f g (same-own f g names w) (λ e. c) in
+        record {
+          answers = alike-beside-form;
+          measure = measures;
+          place = places;
+          placed = over;
+          measure-at = measures-at;
+          place-at = places-at;
+          placed-at = over-at;
+          merge-first = both .first;
+          merge-second = both .second;
+          merged-first = both .first-over;
+          merged-second = both .second-over;
+        }
 
 -- a file of version 1 in version 2
 pub second-alike : (F : File) → WellFormed F → (contentsOf (encode (asSecond F)) ≡ contentsOf (encode F)) × AlikeBesideForm (encode (asSecond F)) (encode F)

@@ -11,8 +11,9 @@ use Rattle.running.specs.Run.{running, runOver, ready, totalsAfter}
 use Rattle.dispatching.specs.Dispatch.{rounding, roundOver}
 use Rattle.lending.specs.Lent.{choosing, recordsOver, besideOver}
 use Rattle.lending.specs.Starting.{starting, recordsStarted, besideStarted}
+use Rattle.merging.specs.Merging.{merging, mergedOver}
 
--- in all but what goes by the form of a file: how much output is wanted, and the placed file's length and bytes
+-- in all but what goes by the form of a file: how much output is wanted, the placed file's length and bytes, and merging, which takes version 1 alone
 pub record AlikeBesideForm (f g : List ℕ) : Type 0 where
   pub read : readingNames f ≡ readingNames g
   pub check : checking f ≡ checking g
@@ -43,3 +44,8 @@ pub record Alike (f g : List ℕ) : Type 0 where
   pub measure-at : (t : List ℕ) (m : ℕ) → measuringAt f t m ≡ measuringAt g t m
   pub place-at : (t : List ℕ) (m room : ℕ) → placingAt f t m room ≡ placingAt g t m room
   pub placed-at : (t : List ℕ) (m : ℕ) (out : List ℕ) → placedOverAt f t m out ≡ placedOverAt g t m out
+  -- merged with any other file, as the first and as the second
+  pub merge-first : (h : List ℕ) (room : ℕ) → merging f h room ≡ merging g h room
+  pub merge-second : (h : List ℕ) (room : ℕ) → merging h f room ≡ merging h g room
+  pub merged-first : (h out : List ℕ) → mergedOver f h out ≡ mergedOver g h out
+  pub merged-second : (h out : List ℕ) → mergedOver h f out ≡ mergedOver h g out

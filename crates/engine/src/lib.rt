@@ -13,6 +13,7 @@ use lending::is_refused;
 use lending::starting::begin;
 use lending::starting::sessions_of;
 use lending::verdict_of;
+use merging::Written;
 use placing::Placed;
 use reasons::Reason;
 use running::Ready;
@@ -31,6 +32,7 @@ ghost use Rattle.dispatching.specs.Dispatch.{rounding, roundOver};
 ghost use Rattle.reasons.specs.Reasons.{reasonOf, understood, reasonLength, reasonOver, meaningLength, meaningOver};
 ghost use Rattle.lending.specs.Lent.{choosing, recordsOver, besideOver};
 ghost use Rattle.lending.specs.Starting.{starting, recordsStarted, besideStarted};
+ghost use Rattle.merging.specs.Merging.{merging, mergedOver};
 
 // Reads a clinic file, of any bytes and any length: the first of the refusals 1 to 10, or 0 and 0 where there is none.
 #[no_mangle]
@@ -95,6 +97,17 @@ pub extern "C" fn pilzdamo_measure_at(file: &[u8], hours: &[u16], minute: u16) -
     ensures { λ r. ⌜ r ≡ measuringAt (now (file .entry)) (now (hours .entry)) minute ⌝ }
 {
     placing_at::measure_at(file, hours, minute)
+}
+
+// Merges two clinic files of version 1: the first file's users, channels, sessions and nodes, then the second's, all numbers shifted. The first of 17, the first
+// file's own refusal of 1 to 10 (2 for another version), the second's, 25 where roles or kinds differ, 3 for sums beyond a limit; or the merged file at the
+// start of the output, and its length in bytes. Every other byte of the output stays.
+#[no_mangle]
+pub extern "C" fn pilzdamo_merge(first: &[u8], second: &[u8], out: &mut [u8]) -> Written
+    ensures { λ r. ⌜ (r ≡ merging (now (first .entry)) (now (second .entry)) (length (now (out .entry))))
+        × (now (out .exit) ≡ mergedOver (now (first .entry)) (now (second .entry)) (now (out .entry))) ⌝ }
+{
+    merging::merge(first, second, out)
 }
 
 // Runs a clinic file through a list of choices, two words each: thread, partner. The first of 17 and 1 to 10; or the refusal that halted the run, with

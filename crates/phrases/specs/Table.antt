@@ -45,20 +45,21 @@ inWords =
     "Refused 21: a junior role's number is not lower than its senior's" ∷
     "Refused 22: the minute is above 10,079, or the hours are not whole rows, at most 64" ∷
     "Refused 23: the row names no such role, or no stretch of the week" ∷
-    "Refused 24: the role put on is closed at that minute" ∷ []
+    "Refused 24: the role put on is closed at that minute" ∷
+    "Refused 25: the two files' tables of roles or kinds differ" ∷ []
 
 -- the last of what is counted, and the last number that has a meaning; how many rows these are, and how many bytes
 abbrev pub lastCount : ℕ
 lastCount = 5
 
 abbrev pub lastNumber : ℕ
-lastNumber = 24
+lastNumber = 25
 
 abbrev pub rowCount : ℕ
-rowCount = 40
+rowCount = 41
 
 abbrev pub byteCount : ℕ
-byteCount = 1688
+byteCount = 1746
 
 -- the row of a tag's ending (9: no tag), of what is counted (0: none), of a number's meaning
 abbrev pub endingRow : ℕ → ℕ

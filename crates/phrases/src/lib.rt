@@ -6,7 +6,7 @@ ghost use lib.Seq.{paste, slice};
 ghost use Rattle.phrases.specs.Table.{rowCount};
 ghost use Rattle.phrases.specs.Phrases.{phrases, phrase, prefix, allText, allStarts, leading, putInto};
 
-const TEXT: [u8; 1688] = *b"\
+const TEXT: [u8; 1746] = *b"\
     , an end.\
     , a fork.\
     , a repeat.\
@@ -46,9 +46,10 @@ const TEXT: [u8; 1688] = *b"\
     Refused 21: a junior role's number is not lower than its senior's\
     Refused 22: the minute is above 10,079, or the hours are not whole rows, at most 64\
     Refused 23: the row names no such role, or no stretch of the week\
-    Refused 24: the role put on is closed at that minute";
+    Refused 24: the role put on is closed at that minute\
+    Refused 25: the two files' tables of roles or kinds differ";
 
-const STARTS: [u16; 41] = [
+const STARTS: [u16; 42] = [
     0,
     9,
     18,
@@ -90,20 +91,21 @@ const STARTS: [u16; 41] = [
     1571,
     1636,
     1688,
+    1746,
 ];
 
 // How many phrases there are.
-const COUNT: usize = 40;
+const COUNT: usize = 41;
 
 // All phrases one after the other.
-pub fn phrase_text() -> [u8; 1688]
+pub fn phrase_text() -> [u8; 1746]
     ensures { λ r. ⌜ r ≡ allText ⌝ }
 {
     TEXT
 }
 
 // Where each starts, and where the last ends.
-pub fn phrase_starts() -> [u16; 41]
+pub fn phrase_starts() -> [u16; 42]
     ensures { λ r. ⌜ r ≡ allStarts ⌝ }
 {
     STARTS

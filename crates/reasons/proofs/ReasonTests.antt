@@ -7,7 +7,7 @@ use native.Mathlib.Omega.{arith}
 use lib.Dec.{eqb, leb, ltb}
 use borrow.Author.Tests.{eqb-true, eqb-false, leb-true, leb-false, ltb-true, eq-eqb, le-leb, lt-leb, lt-ltb, not-true}
 use Rattle.reasons.specs.declared.Reason.{Reason}
-use Rattle.reasons.specs.IsReason.{MayCount, of-file, of-record, of-start, of-tree, of-step, of-chosen, of-placing, of-placing-node, of-unserved, of-room, of-lent, of-thread, of-pair, of-junior, of-minute, of-row, of-closed, PlaceFits, AtNode, TagFits, some-tag, no-tag, IsReason}
+use Rattle.reasons.specs.IsReason.{MayCount, of-file, of-record, of-start, of-tree, of-step, of-chosen, of-placing, of-placing-node, of-unserved, of-room, of-lent, of-thread, of-pair, of-junior, of-minute, of-row, of-closed, of-joining, PlaceFits, AtNode, TagFits, some-tag, no-tag, IsReason}
 use Rattle.reasons.specs.Reasons.{byNone, byNode, byChoice, mayCount, placeFits, atNode, tagFits, isReason}
 
 either : {C : Type 0} (a b : Bool) → (a || b) ≡ true → (a ≡ true → C) → (b ≡ true → C) → C
@@ -30,13 +30,15 @@ or-right false b h = h
 none-given : (n c : ℕ) → c ≡ 0 → byNone n ≡ true → MayCount n c
 unfolding byNone
 none-given n c e h =
-    either (leb 1 n && leb n 5 || leb 16 n && leb n 18 || eqb n 14) (eqb n 22) h
+    either (leb 1 n && leb n 5 || leb 16 n && leb n 18 || eqb n 14 || eqb n 22) (eqb n 25) h
+    (λ h. either (leb 1 n && leb n 5 || leb 16 n && leb n 18 || eqb n 14) (eqb n 22) h
     (λ h. either (leb 1 n && leb n 5 || leb 16 n && leb n 18) (eqb n 14) h
     (λ h. either (leb 1 n && leb n 5) (leb 16 n && leb n 18) h
     (λ h. of-file (range 1 n 5 h .0) (range 1 n 5 h .1) e)
     (λ h. last (leb n 17) refl (range 16 n 18 h)))
     (λ h. of-placing (eqb-true n 14 h) e))
-    (λ h. of-minute (eqb-true n 22 h) e)
+    (λ h. of-minute (eqb-true n 22 h) e))
+    (λ h. of-joining (eqb-true n 25 h) e)
   where
     last : (b : Bool) → leb n 17 ≡ b → (16 ≤ n) × (n ≤ 18) → MayCount n c
     last true k x = of-room (x .0) (leb-true n 17 k) e
@@ -123,6 +125,7 @@ count-may n c (of-junior i e) = rw (i, e) refl
 count-may n c (of-minute i e) = rw (i, e) refl
 count-may n c (of-row i e) = rw (i, e) refl
 count-may n c (of-closed i e) = rw (i, e) refl
+count-may n c (of-joining i e) = rw (i, e) refl
 
 place-fits : (c p : ℕ) → placeFits c p ≡ true → p ≤ 65535 → PlaceFits c p
 unfolding placeFits

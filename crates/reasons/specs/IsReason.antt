@@ -32,6 +32,8 @@ pub data MayCount (n c : ℕ) : Type 0 where
   of-minute : n ≡ 22 → c ≡ 0 → MayCount n c
   of-row : n ≡ 23 → c ≡ 5 → MayCount n c
   of-closed : n ≡ 24 → c ≡ 3 → MayCount n c
+  -- K9
+  of-joining : n ≡ 25 → c ≡ 0 → MayCount n c
 
 -- "A place is 0 exactly with none, else up to 65,535."
 abbrev pub PlaceFits : ℕ → ℕ → Type 0

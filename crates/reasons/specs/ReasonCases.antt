@@ -49,6 +49,7 @@ reasonCases =
     ∷ says 14 3 100 8 "Refused 14: a routine to be placed has an on, an off or a starting role at node 100, an off."
     ∷ says 14 0 0 9 "Refused 14: a routine to be placed has an on, an off or a starting role; no place."
     ∷ says 24 3 1024 9 "Refused 24: the role put on is closed at that minute at node 1024."
+    ∷ says 25 0 0 9 "Refused 25: the two files' tables of roles or kinds differ; no place."
     -- any of the nine
     ∷ says 9 3 1 0 "Refused 9: an operand names nothing, or a role or kind is out of count at node 1, an end."
     ∷ says 10 3 99 3 "Refused 10: the step is against the rules of kinds and owners at node 99, a new channel."
@@ -76,12 +77,14 @@ reasonCases =
     ∷ unsaid 1 0 1 9
     ∷ unsaid 8 3 4 6
     ∷ unsaid 24 3 4 7
-    ∷ unsaid 25 0 0 9
+    ∷ unsaid 25 2 1 9
+    ∷ unsaid 26 0 0 9
     ∷ unsaid 0 0 0 0
     ∷ means 13 "Refused 13: no active role permits the step"
     ∷ means 24 "Refused 24: the role put on is closed at that minute"
     ∷ means 0 ""
-    ∷ means 25 ""
+    ∷ means 25 "Refused 25: the two files' tables of roles or kinds differ"
+    ∷ means 26 ""
     -- what each number counts, and means
     ∷ counts 0 []
     ∷ counts 1 (0 ∷ [])
@@ -108,7 +111,8 @@ reasonCases =
     ∷ counts 22 (0 ∷ [])
     ∷ counts 23 (5 ∷ [])
     ∷ counts 24 (3 ∷ [])
-    ∷ counts 25 []
+    ∷ counts 25 (0 ∷ [])
+    ∷ counts 26 []
     ∷ means 1 "Refused 1: the file has 1 to 25 bytes (to 27 in version 2), or an odd number of them"
     ∷ means 2 "Refused 2: the version is not one that can be read here"
     ∷ means 3 "Refused 3: a count is out of range"

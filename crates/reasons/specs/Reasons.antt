@@ -13,7 +13,7 @@ reasonOf n c p t = record { number = n; counts = c; place = p; tag = t }
 
 -- the numbers by what is counted
 unfoldable pub byNone : ℕ → Bool
-byNone n = leb 1 n && leb n 5 || leb 16 n && leb n 18 || eqb n 14 || eqb n 22
+byNone n = leb 1 n && leb n 5 || leb 16 n && leb n 18 || eqb n 14 || eqb n 22 || eqb n 25
 
 unfoldable pub byNode : ℕ → Bool
 byNode n = leb 8 n && leb n 15 || eqb n 24

@@ -31,12 +31,12 @@ const COUNTS: usize = 10;
 
 const MEANINGS: usize = 15;
 
-const LAST: u16 = 24;
+const LAST: u16 = 25;
 
 fn by_none(n: u16) -> bool
     ensures { λ r. ⌜ r ≡ byNone n ⌝ }
 {
-    (1 <= n) & (n <= 5) | (16 <= n) & (n <= 18) | (n == 14) | (n == 22)
+    (1 <= n) & (n <= 5) | (16 <= n) & (n <= 18) | (n == 14) | (n == 22) | (n == 25)
 }
 
 fn by_node(n: u16) -> bool

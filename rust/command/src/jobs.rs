@@ -7,9 +7,9 @@ use crate::output;
 use crate::source::Source;
 use crate::state::State;
 use crate::words::{At, Job};
-use crate::{explain, names, reasons, refusals, report, show};
+use crate::{explain, merging, names, reasons, refusals, report, show};
 use crate::{Outcome, WrongUse};
-use pilzdamo::{Counts, Placed, Totals, Verdict, BEFORE_ROUND, ROOM, RUN_ROOM};
+use pilzdamo::{Counts, Placed, Totals, Verdict, BEFORE_ROUND, ROOM, ROOM_1, RUN_ROOM};
 use std::path::Path;
 
 /// Does a job.
@@ -18,6 +18,7 @@ pub fn carry_out(job: Job) -> Result<Outcome, WrongUse> {
         Job::Check { file, at } => check(&file, at.as_ref()),
         Job::Place { file, at, out } => place(&file, at.as_ref(), out.as_deref()),
         Job::Measure { file, at } => measure(&file, at.as_ref()),
+        Job::Merge { first, second, out } => merge(&first, &second, out.as_deref()),
         Job::Run { file, choices } => run(&file, &choices),
         Job::Waiting { file, choices } => waiting(&file, &choices),
         Job::Round { file, choices } => round(&file, &choices),
@@ -86,7 +87,7 @@ fn check(file: &Source, at: Option<&At>) -> Result<Outcome, WrongUse> {
     };
     if verdict.is_clean() {
         let when = hours.map_or(String::new(), |hours| hours.when("at"));
-        let planned = planned(&bytes);
+        let planned = names::planned(&bytes);
         return answer(&format!("{}: passes{when}{planned}\n", file.name()));
     }
     let mut message = refused(file, &bytes, hours.as_ref(), verdict);
@@ -120,7 +121,7 @@ fn place(file: &Source, at: Option<&At>, out: Option<&Path>) -> Result<Outcome, 
     let (name, told) = (file.name(), size(placed));
     let when = hours.map_or(String::new(), |hours| hours.when("for"));
     let written = out.map_or(String::new(), |path| format!(" in {}", path.display()));
-    let planned = planned(&bytes);
+    let planned = names::planned(&bytes);
     output::say(&format!("{name}: placed{when}, {told}{written}{planned}"));
     Ok(Outcome::Answer)
 }
@@ -136,25 +137,35 @@ fn measure(file: &Source, at: Option<&At>) -> Result<Outcome, WrongUse> {
         return refusal(&refused(file, &bytes, hours.as_ref(), placed.verdict()));
     }
     let when = hours.map_or(String::new(), |hours| hours.when("for"));
-    let (told, planned) = (size(placed), planned(&bytes));
+    let (told, planned) = (size(placed), names::planned(&bytes));
     answer(&format!(
         "{}: can be placed{when}, {told}{planned}\n",
         file.name()
     ))
 }
 
-/// Said of zero bytes, so that an input that was lost on its way is seen.
-fn planned(bytes: &[u8]) -> &'static str {
-    match bytes {
-        [] => " (zero bytes: nothing is planned)",
-        _ => "",
-    }
-}
-
 /// The on steps and the length of a placed file.
 fn size(placed: Placed) -> String {
     let on_steps = names::several(usize::from(placed.on_steps), "on step");
     format!("{on_steps}, {} bytes", placed.length)
+}
+
+fn merge(first: &Source, second: &Source, out: Option<&Path>) -> Result<Outcome, WrongUse> {
+    output::spare(first, out)?;
+    output::spare(second, out)?;
+    let (one, other) = (first.read()?, second.read()?);
+    let files = [(first.name(), &one[..]), (second.name(), &other[..])];
+    let mut room = [0; ROOM_1];
+    let written = pilzdamo::merge(&one, &other, &mut room);
+    if !written.is_written() {
+        return refusal(&merging::refused(&files, written.verdict()));
+    }
+    let merged = &room[..usize::from(written.length).min(ROOM_1)];
+    output::deliver(merged, out)?;
+    let (names, told) = (merging::names(&files), merging::size(merged));
+    let into = out.map_or(String::new(), |path| format!(" in {}", path.display()));
+    output::say(&format!("{names}: merged, {told}{into}"));
+    Ok(Outcome::Answer)
 }
 
 fn run(file: &Source, list: &Source) -> Result<Outcome, WrongUse> {

@@ -8,6 +8,7 @@ mod clinic;
 mod explain;
 mod hours;
 mod jobs;
+mod merging;
 mod names;
 mod output;
 mod page;

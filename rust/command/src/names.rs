@@ -2,6 +2,14 @@
 
 use crate::clinic::{Clinic, CHANNELS, KINDS, ROLES, USERS};
 
+/// Said of zero bytes, so that an input that was lost on its way is seen.
+pub fn planned(bytes: &[u8]) -> &'static str {
+    match bytes {
+        [] => " (zero bytes: nothing is planned)",
+        _ => "",
+    }
+}
+
 /// The items of a mask, lowest first.
 pub fn items(mask: u32) -> impl Iterator<Item = u32> {
     (1..=32).filter(move |item| mask >> (item - 1) & 1 == 1)
@@ -31,6 +39,22 @@ pub fn juniors(mask: u16, senior: usize, roles: usize) -> String {
         .collect();
     let many = if texts.len() == 1 { "" } else { "s" };
     format!("; junior{many}: role{many} {}", texts.join(", "))
+}
+
+/// What a role may: `sends on kind 1; receives on no kind`.
+pub fn grants([low, high, low_in, high_in]: [u16; 4], kinds: usize) -> String {
+    let wide = |low, high| u32::from(high) << 16 | u32::from(low);
+    let sends = list("kind", wide(low, high), kinds);
+    let receives = list("kind", wide(low_in, high_in), kinds);
+    format!("sends on {sends}; receives on {receives}")
+}
+
+/// What a kind carries.
+pub fn carries([carried]: [u16; 1], kinds: usize) -> String {
+    match carried {
+        0 => "carries a plain value".to_string(),
+        kind => format!("carries a channel of {}", record("kind", kind, kinds)),
+    }
 }
 
 /// A number of things: `1 user`, `2 users`.

@@ -1,6 +1,6 @@
 //! Standard output and standard error.
 
-use crate::source::reason;
+use crate::source::{reason, Identity, Source};
 use crate::WrongUse;
 use std::fs;
 use std::io::{self, ErrorKind, IsTerminal, Write};
@@ -23,7 +23,25 @@ pub fn say(line: &str) {
     let _ = writeln!(io::stderr().lock(), "{line}");
 }
 
-/// Writes a placed file where it is wanted.
+/// Fails if what is written would go over an input, by whatever name or link.
+pub fn spare(input: &Source, out: Option<&Path>) -> Result<(), WrongUse> {
+    let (name, written) = match out {
+        Some(path) => (path.display().to_string(), Identity::of_path(path)),
+        None => (
+            "standard output".to_string(),
+            Identity::of_open(io::stdout()),
+        ),
+    };
+    if written.is_some() && written == input.identity() {
+        let input = input.name();
+        return Err(WrongUse(format!(
+            "{name} is the same file as {input}, and an input is not written over"
+        )));
+    }
+    Ok(())
+}
+
+/// Writes a clinic's file where it is wanted.
 pub fn deliver(bytes: &[u8], out: Option<&Path>) -> Result<(), WrongUse> {
     match out {
         Some(path) => fs::write(path, bytes).map_err(|error| {
@@ -31,7 +49,7 @@ pub fn deliver(bytes: &[u8], out: Option<&Path>) -> Result<(), WrongUse> {
             WrongUse(format!("{name}: can't be written: {why}"))
         }),
         None if io::stdout().is_terminal() => Err(WrongUse(
-            "a placed file is binary and is not written to a terminal; name a file with -o"
+            "a clinic's file is binary and is not written to a terminal; name a file with -o"
                 .to_string(),
         )),
         None => print(bytes),

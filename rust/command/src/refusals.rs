@@ -49,7 +49,7 @@ pub fn counts(number: u16, place: u16, in_run: bool) -> Counts {
 }
 
 /// The refusals from 1 on.
-pub const ALL: [Refusal; 24] = [
+pub const ALL: [Refusal; 25] = [
     Refusal {
         place: NOTHING,
         who: WRITER,
@@ -64,7 +64,7 @@ pub const ALL: [Refusal; 24] = [
         who: WRITER,
         wrong:
             "The first word of a file is the version of its format. This engine reads version 1, \
-            and version 2, in which roles have juniors.",
+            and version 2, in which roles have juniors. Two files are merged in version 1 alone.",
         mend:
             "Write the file in one of these. If that is what was meant, make sure that each word \
             is written low byte first, and that this is a clinic's file at all.",
@@ -73,9 +73,10 @@ pub const ALL: [Refusal; 24] = [
         place: NOTHING,
         who: WRITER,
         wrong: "The head counts the records: at most 32 users, 16 roles, 32 kinds, 64 channels, \
-            32 sessions and 1,024 nodes. One of the counts is higher.",
+            32 sessions and 1,024 nodes. One of the counts is higher; or two files to be merged \
+            have more together.",
         mend: "Correct the count, or share out the routines over two files. `pilzdamo show` marks \
-            the count.",
+            the count. Two files with too many records together stay two.",
     },
     Refusal {
         place: NOTHING,
@@ -269,5 +270,15 @@ pub const ALL: [Refusal; 24] = [
         mend:
             "Place the routine for this minute (`pilzdamo place` with the same --at and --hours), \
             put on a role that is open, or change the hours.",
+    },
+    Refusal {
+        place: NOTHING,
+        who: KEEPER,
+        wrong:
+            "Two files are made one only if they have the same roles and the same kinds: as many \
+            of each, with the same records in the same order. It is judged behind all that is \
+            wrong with either file by itself.",
+        mend: "Agree on one table of roles and one of kinds, and write both files with them. \
+            `pilzdamo merge` names the first record that differs.",
     },
 ];

@@ -39,6 +39,13 @@ pub fn of_hours(name: &str, lines: &[usize], verdict: Verdict) -> String {
     message(name, verdict, &sentence, line)
 }
 
+/// The message for two files that can't be one, though neither is refused by itself,
+/// with what there is to say of both.
+pub fn of_both(name: &str, verdict: Verdict, more: Option<String>) -> String {
+    let sentence = sentence(&Clinic::default(), verdict, Counts::Nothing);
+    message(name, verdict, &sentence, more)
+}
+
 /// The line that marks what a check refuses in a shown file.
 pub fn mark(clinic: &Clinic, verdict: Verdict) -> String {
     let counts = refusals::counts(verdict.number, verdict.place, false);

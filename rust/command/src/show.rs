@@ -2,7 +2,7 @@
 
 use crate::clinic::{Clinic, Section};
 use crate::clinic::{CHANNELS, COUNTED, JUNIORS, KINDS, ROLES, USERS};
-use crate::names::{juniors, list, record, several};
+use crate::names::{carries, grants, juniors, list, record, several};
 use crate::page::{Page, Spot};
 use crate::sessions;
 use pilzdamo::Verdict;
@@ -95,16 +95,9 @@ fn tables(page: &mut Page, clinic: &Clinic) {
         format!(": {}", list("role", u32::from(mask), roles))
     });
     role_table(page, clinic);
-    section(
-        page,
-        clinic,
-        KINDS,
-        &clinic.kinds,
-        |[carried]| match carried {
-            0 => " carries a plain value".to_string(),
-            kind => format!(" carries a channel of {}", record("kind", kind, kinds)),
-        },
-    );
+    section(page, clinic, KINDS, &clinic.kinds, |kind| {
+        format!(" {}", carries(kind, kinds))
+    });
     section(page, clinic, CHANNELS, &clinic.channels, |[owner, kind]| {
         let owner = record("user", owner, clinic.count(USERS));
         format!(": owner {owner}, {}", record("kind", kind, kinds))
@@ -117,17 +110,12 @@ fn role_table(page: &mut Page, clinic: &Clinic) {
     if clinic.count(ROLES) > 0 {
         page.line("");
     }
-    for (i, &[low, high, low_in, high_in]) in clinic.roles.iter().enumerate() {
-        let sends = list("kind", wide(low, high), kinds);
-        let receives = list("kind", wide(low_in, high_in), kinds);
+    for (i, &role) in clinic.roles.iter().enumerate() {
         let juniors = match clinic.juniors.get(i) {
             Some(&[mask]) if mask != 0 => juniors(mask, i + 1, clinic.count(ROLES)),
             _ => String::new(),
         };
-        let line = format!(
-            "role {}: sends on {sends}; receives on {receives}{juniors}",
-            i + 1
-        );
+        let line = format!("role {}: {}{juniors}", i + 1, grants(role, kinds));
         page.marked(&line, Spot::Word(clinic.start(ROLES) + ROLES.width * i));
         if clinic.has_juniors() {
             page.mark(Spot::Word(clinic.start(JUNIORS) + i));
@@ -137,10 +125,6 @@ fn role_table(page: &mut Page, clinic: &Clinic) {
     if clinic.has_juniors() {
         cut_off(page, clinic, JUNIORS, clinic.juniors.len());
     }
-}
-
-fn wide(low: u16, high: u16) -> u32 {
-    u32::from(high) << 16 | u32::from(low)
 }
 
 /// The records of a section, with what is to be said of each.

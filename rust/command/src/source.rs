@@ -2,9 +2,11 @@
 
 use crate::WrongUse;
 use std::ffi::OsString;
-use std::fs;
+use std::fs::{self, File, Metadata};
 use std::io::{self, ErrorKind, Read};
-use std::path::PathBuf;
+use std::os::fd::AsFd;
+use std::os::unix::fs::MetadataExt;
+use std::path::{Path, PathBuf};
 
 /// A file by its name, or standard input.
 pub enum Source {
@@ -30,6 +32,14 @@ impl Source {
         }
     }
 
+    /// Which file it is, if it is one.
+    pub fn identity(&self) -> Option<Identity> {
+        match self {
+            Source::StandardInput => Identity::of_open(io::stdin()),
+            Source::File(path) => Identity::of_path(path),
+        }
+    }
+
     /// All its bytes.
     pub fn read(&self) -> Result<Vec<u8>, WrongUse> {
         let read = match self {
@@ -39,6 +49,34 @@ impl Source {
         read.map_err(|error| {
             let why = reason(&error);
             WrongUse(format!("{}: can't be read: {why}", self.name()))
+        })
+    }
+}
+
+/// What a file has under all its names and links, and no other has. Pipes and devices
+/// have none.
+#[derive(PartialEq)]
+pub struct Identity {
+    device: u64,
+    number: u64,
+}
+
+impl Identity {
+    /// Of the file that a path leads to.
+    pub fn of_path(path: &Path) -> Option<Identity> {
+        Identity::of(fs::metadata(path).ok()?)
+    }
+
+    /// Of the file that a stream is connected to.
+    pub fn of_open(stream: impl AsFd) -> Option<Identity> {
+        let file = File::from(stream.as_fd().try_clone_to_owned().ok()?);
+        Identity::of(file.metadata().ok()?)
+    }
+
+    fn of(file: Metadata) -> Option<Identity> {
+        file.is_file().then(|| Identity {
+            device: file.dev(),
+            number: file.ino(),
         })
     }
 }

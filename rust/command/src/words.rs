@@ -22,6 +22,11 @@ pub enum Job {
         file: Source,
         at: Option<At>,
     },
+    Merge {
+        first: Source,
+        second: Source,
+        out: Option<PathBuf>,
+    },
     Run {
         file: Source,
         choices: Source,
@@ -69,8 +74,9 @@ struct Operands {
 }
 
 /// The words that name a job.
-const WORDS: [&str; 10] = [
-    "check", "place", "measure", "run", "waiting", "round", "dispatch", "show", "explain", "reason",
+const WORDS: [&str; 11] = [
+    "check", "place", "measure", "merge", "run", "waiting", "round", "dispatch", "show", "explain",
+    "reason",
 ];
 
 /// These words in a sentence.
@@ -107,8 +113,13 @@ fn named(verb: &str, operands: Operands) -> Result<Job, WrongUse> {
         hours,
         ..
     } = operands;
+    let out = out.filter(|out| out != "-").map(PathBuf::from);
     match verb {
         "show" => one(verb, "FILE", plain).map(|file| Job::Show { file }),
+        "merge" => {
+            let [first, second] = two(verb, ["A", "B"], plain)?;
+            Ok(Job::Merge { first, second, out })
+        }
         "run" => {
             let [file, choices] = file_and_choices(verb, plain)?;
             Ok(Job::Run { file, choices })
@@ -131,7 +142,6 @@ fn named(verb: &str, operands: Operands) -> Result<Job, WrongUse> {
         _ => {
             let file = one(verb, "FILE", plain)?;
             let at = minute_and_hours(verb, &file, at, hours)?;
-            let out = out.filter(|out| out != "-").map(PathBuf::from);
             Ok(match verb {
                 "check" => Job::Check { file, at },
                 "measure" => Job::Measure { file, at },
@@ -173,9 +183,10 @@ fn sorted(verb: &str, mut words: impl Iterator<Item = OsString>) -> Result<Opera
         let text = word.to_string_lossy();
         match text.as_ref() {
             "-h" | "--help" => operands.help = true,
-            "-o" if verb == "place" => {
-                let wants = "place: -o wants the name of a file behind it";
-                keep("place: -o", wants, &mut operands.out, words.next())?;
+            "-o" if matches!(verb, "place" | "merge") => {
+                let name = format!("{verb}: -o");
+                let wants = format!("{name} wants the name of a file behind it");
+                keep(&name, &wants, &mut operands.out, words.next())?;
             }
             "--at" if has_hours(verb) => {
                 let name = format!("{verb}: --at");
@@ -227,10 +238,15 @@ fn keep(
 }
 
 fn file_and_choices(verb: &str, plain: Vec<OsString>) -> Result<[Source; 2], WrongUse> {
-    let named = exactly(verb, ["FILE", "CHOICES"], plain)?;
-    match named.map(Source::named) {
+    two(verb, ["FILE", "CHOICES"], plain)
+}
+
+/// Two operands with these names, not both standard input.
+fn two(verb: &str, names: [&str; 2], plain: Vec<OsString>) -> Result<[Source; 2], WrongUse> {
+    match exactly(verb, names, plain)?.map(Source::named) {
         [Source::StandardInput, Source::StandardInput] => misused(&format!(
-            "{verb}: only one of FILE and CHOICES can be standard input"
+            "{verb}: only one of {} can be standard input",
+            names.join(" and ")
         )),
         both => Ok(both),
     }

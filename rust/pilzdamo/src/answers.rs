@@ -11,7 +11,7 @@ use std::fmt;
 ///
 /// | number | place |
 /// |---|---|
-/// | 1 to 5 | 0: the file as a whole |
+/// | 1 to 5 | 0: the file as a whole; 3 also for two files that have too many records together |
 /// | 6 | the first word of the record, from 0 at the start of the file |
 /// | 21 | the role's word of juniors, counted so |
 /// | 7 | the session, from 1 |
@@ -24,6 +24,7 @@ use std::fmt;
 /// | 22 | 0: a minute that no week has, or a table of hours that can't be one |
 /// | 23 | the row of the table of hours, from 1 |
 /// | 24 | the node |
+/// | 25 | 0: the tables of two files |
 /// | 18 to 20 | the choice; 18 at 0 for a lent list that is none of the file's, has wrong totals, or is of another length |
 ///
 /// In [`choose`](crate::choose) the choice has number 1. A [`Reason`] says all of it in
@@ -421,7 +422,7 @@ pub const NO_TAG: u16 = 9;
 ///
 /// | number | counts |
 /// |---|---|
-/// | 1 to 5, 16, 17, 22 | nothing |
+/// | 1 to 5, 16, 17, 22, 25 | nothing |
 /// | 6, 21 | words |
 /// | 7 | sessions |
 /// | 8, 9, 10, 15, 24 | nodes |
@@ -482,5 +483,58 @@ impl Reason {
     /// ```
     pub fn sentence(self) -> Option<String> {
         said(|out| reason(self, out))
+    }
+}
+
+/// What [`merge`](crate::merge) answers: a refusal's number and place, or the length of
+/// what is written. What doesn't apply is 0.
+#[repr(C)]
+#[must_use]
+#[derive(Clone, Copy, Debug, PartialEq, Eq, Hash)]
+pub struct Written {
+    /// The refusal's number, 0 if there is none.
+    pub number: u16,
+    /// Where it stands: a word, a session or a node of the file that is refused, as its
+    /// number says.
+    pub place: u16,
+    /// How many bytes of the output are written, 0 where there is a refusal.
+    pub length: u16,
+}
+
+impl Written {
+    /// Whether nothing is refused.
+    ///
+    /// ```
+    /// let written = pilzdamo::merge(&[1], &[1], &mut [0; pilzdamo::ROOM]);
+    /// assert!(!written.is_written());
+    /// ```
+    pub fn is_written(self) -> bool {
+        self.number == 0
+    }
+
+    /// The refusal's number and place alone.
+    ///
+    /// ```
+    /// let written = pilzdamo::merge(&[1], &[1], &mut [0; pilzdamo::ROOM]);
+    /// assert_eq!(written.verdict(), pilzdamo::read(&[1]));
+    /// ```
+    pub fn verdict(self) -> Verdict {
+        let Written { number, place, .. } = self;
+        Verdict { number, place }
+    }
+}
+
+/// `written in L bytes`, or `refused N P` with number and place.
+///
+/// ```
+/// let mut out = [0; pilzdamo::ROOM];
+/// assert_eq!(pilzdamo::merge(&[1], &[1], &mut out).to_string(), "refused 1 0");
+/// ```
+impl fmt::Display for Written {
+    fn fmt(&self, out: &mut fmt::Formatter<'_>) -> fmt::Result {
+        if !self.is_written() {
+            return self.verdict().fmt(out);
+        }
+        write!(out, "written in {} bytes", self.length)
     }
 }

@@ -1,14 +1,14 @@
 //! The engine's functions for Rust.
 
 use crate::raw;
-use crate::{Placed, Ready, Reason, Round, Thread, Totals, Verdict};
+use crate::{Placed, Ready, Reason, Round, Thread, Totals, Verdict, Written};
 
 /// As many bytes as [`place`] wants of its output for any file: those of the
 /// largest file of version 2. What it wants for a given file is [`room`].
 pub const ROOM: usize = 6_908;
 
-/// The bytes that [`place`] wants of its output for a file of version 1: those of
-/// the largest.
+/// The bytes that [`place`] wants of its output for a file of version 1, and [`merge`]
+/// for any: those of the largest.
 pub const ROOM_1: usize = 6_874;
 
 /// The minutes of a week. A minute is counted from Monday 00:00 on, so that it is
@@ -667,4 +667,83 @@ pub fn choose(
     partner: u16,
 ) -> Verdict {
     raw::choose(file, threads, beside, thread, partner)
+}
+
+/// Makes one file of two, both of version 1: the first file's users, channels, sessions
+/// and nodes, and then the second's, with the numbers that these have behind the
+/// first's. Roles and kinds must be the same tables in both.
+///
+/// The merged file passes the [`check`] exactly if both do. If all three can be placed,
+/// it has the on steps of both together.
+///
+/// Any bytes will do, of any length. Refusal 17 comes first: `out` must have [`ROOM_1`]
+/// bytes or more. Then comes the first file's own by 1 to 10, then the second's, where
+/// another version than 1 is 2; then 25 for tables that differ, and 3 at place 0 for
+/// over 32 users, 64 channels, 32 sessions or 1,024 nodes together. If none refuses
+/// them, the merged file stands at the start of `out`. Where the answer is a refusal
+/// nothing of `out` is written, and otherwise nothing past the answer's length.
+/// [`merged`] has an output of its own.
+///
+/// ```
+/// // User 1 sends on channel 1, which is user 2's.
+/// let words = [
+///     1, 2, 1, 1, 1, 1, 2, 13, 15, 19, 20, 22, 25, // version, counts, offsets
+///     1, 0, // users
+///     1, 0, 0, 0, // roles
+///     0, // kinds
+///     2, 1, // channels
+///     1, 0, 1, // session
+///     6, 257, 2, 0, 0, 0u16, // nodes
+/// ];
+/// let file: Vec<u8> = words.into_iter().flat_map(u16::to_le_bytes).collect();
+///
+/// // Twice in one file: user 3 sends on channel 2, which is user 4's.
+/// let due = [
+///     1, 4, 1, 1, 2, 2, 4, 13, 17, 21, 22, 26, 32, // version, counts, offsets
+///     1, 0, 1, 0, // users
+///     1, 0, 0, 0, // roles
+///     0, // kinds
+///     2, 1, 4, 1, // channels
+///     1, 0, 1, 3, 0, 3, // sessions
+///     6, 257, 2, 0, 0, 0, 6, 258, 4, 0, 0, 0u16, // nodes
+/// ];
+/// let mut out = [0; pilzdamo::ROOM_1];
+/// let written = pilzdamo::merge(&file, &file, &mut out);
+/// assert_eq!(written.to_string(), "written in 88 bytes");
+/// assert_eq!(out[..88], due.map(u16::to_le_bytes).concat());
+///
+/// // A role that may send and receive.
+/// let mut other = file.clone();
+/// other[34] = 1;
+/// assert_eq!(pilzdamo::merge(&file, &other, &mut out).to_string(), "refused 25 0");
+///
+/// // A byte less of output, and the files aren't looked at.
+/// let written = pilzdamo::merge(&file, &[1], &mut out[1..]);
+/// assert_eq!(written.to_string(), "refused 17 0");
+/// ```
+#[inline]
+pub fn merge(first: &[u8], second: &[u8], out: &mut [u8]) -> Written {
+    raw::merge(first, second, out)
+}
+
+/// [`merge`] with an output of its own: the merged file.
+///
+/// ```
+/// let north = std::fs::read("../../examples/house/north.clinic")?;
+/// let south = std::fs::read("../../examples/house/south.clinic")?;
+/// let house = pilzdamo::merged(&north, &south)?;
+/// assert!(pilzdamo::read(&house).is_clean());
+///
+/// // Too many nodes together.
+/// let long = std::fs::read("../../examples/refused/16-too-long.clinic")?;
+/// let refusal = pilzdamo::merged(&long, &long).unwrap_err();
+/// assert_eq!(refusal.to_string(), "refused 3 0");
+/// # Ok::<(), Box<dyn std::error::Error>>(())
+/// ```
+pub fn merged(first: &[u8], second: &[u8]) -> Result<Vec<u8>, Verdict> {
+    let mut out = vec![0; ROOM_1];
+    let written = merge(first, second, &mut out);
+    written.verdict().result()?;
+    out.truncate(written.length.into());
+    Ok(out)
 }

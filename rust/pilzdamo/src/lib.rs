@@ -22,6 +22,7 @@
 //! | see how many threads wait on each kind | [`totals`]; [`Desk::total`], and [`total`] of a list of one's own |
 //! | say a refusal in a sentence, and read one back | [`reason`], [`Reason::sentence`], [`read_reason`]; [`phrase`], [`meaning`] for a number alone |
 //! | go on choice by choice | [`Desk`]; [`start`] and [`choose`] in a list of one's own |
+//! | make one file of two | [`merge`], [`merged`] |
 //!
 //! The examples below read files of the project's folder `examples`, and are run as
 //! tests.
@@ -110,6 +111,27 @@
 //! // The file of a weekday doesn't do for Sunday.
 //! let verdict = pilzdamo::check_at(&by_day, &hours, sunday_noon);
 //! assert_eq!(verdict.to_string(), "refused 24 1");
+//! # Ok::<(), Box<dyn std::error::Error>>(())
+//! ```
+//!
+//! # Two clinics move into one house
+//!
+//! Two files with the same roles and kinds become one. The second's users, channels,
+//! sessions and nodes stand behind the first's, with the numbers that they have there.
+//!
+//! ```
+//! let north = std::fs::read("../../examples/house/north.clinic")?;
+//! let south = std::fs::read("../../examples/house/south.clinic")?;
+//! let house = pilzdamo::merged(&north, &south)?;
+//!
+//! // The on steps of both, added together.
+//! let on_steps = |file: &[u8]| pilzdamo::measure(file).on_steps;
+//! assert_eq!((on_steps(&north), on_steps(&south), on_steps(&house)), (2, 3, 5));
+//!
+//! // Another table of roles.
+//! let other = std::fs::read("../../examples/refused/25-tables.clinic")?;
+//! let refusal = pilzdamo::merged(&north, &other).unwrap_err();
+//! assert_eq!(refusal.to_string(), "refused 25 0");
 //! # Ok::<(), Box<dyn std::error::Error>>(())
 //! ```
 //!
@@ -304,8 +326,8 @@ mod desk;
 mod raw;
 mod state;
 
-pub use answers::{Counts, Placed, Ready, Reason, Round, Totals, Verdict, NO_TAG};
-pub use calls::{check, check_at, choose, measure, measure_at};
+pub use answers::{Counts, Placed, Ready, Reason, Round, Totals, Verdict, Written, NO_TAG};
+pub use calls::{check, check_at, choose, measure, measure_at, merge, merged};
 pub use calls::{meaning, phrase, read_reason, reason};
 pub use calls::{place, place_at, placed, placed_at, read, ready, room, round, run, start};
 pub use calls::{total, totals};

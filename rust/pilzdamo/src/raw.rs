@@ -5,7 +5,7 @@
 //! pointers and lengths name, writes only what is lent by a pointer to `mut`, and
 //! ends; it keeps no pointer.
 
-use crate::{Placed, Ready, Reason, Round, Thread, Totals, Verdict};
+use crate::{Placed, Ready, Reason, Round, Thread, Totals, Verdict, Written};
 
 extern "C" {
     fn pilzdamo_read(file: *const u8, len: usize) -> Verdict;
@@ -82,6 +82,14 @@ extern "C" {
         thread: u16,
         partner: u16,
     ) -> Verdict;
+    fn pilzdamo_merge(
+        first: *const u8,
+        first_len: usize,
+        second: *const u8,
+        second_len: usize,
+        out: *mut u8,
+        out_len: usize,
+    ) -> Written;
 }
 
 // Words and nothing between them: what is answered, and a record that is lent.
@@ -92,6 +100,7 @@ const _: () = {
     assert!(size_of::<Round>() == 2 * 131);
     assert!(size_of::<Totals>() == 2 * 34);
     assert!(size_of::<Reason>() == 2 * 4);
+    assert!(size_of::<Written>() == 2 * 3);
     assert!(size_of::<Thread>() == 2 * 11);
 };
 
@@ -290,6 +299,24 @@ pub fn choose(
             beside.len(),
             thread,
             partner,
+        )
+    }
+}
+
+#[inline]
+pub fn merge(first: &[u8], second: &[u8], out: &mut [u8]) -> Written {
+    // SAFETY: the engine only reads the `first_len` bytes from `first` on and the
+    // `second_len` bytes from `second` on, and only reads and writes the `out_len`
+    // bytes from `out` on, during the call. The slices vouch for them, and that
+    // nothing of `out` is in the other two.
+    unsafe {
+        pilzdamo_merge(
+            first.as_ptr(),
+            first.len(),
+            second.as_ptr(),
+            second.len(),
+            out.as_mut_ptr(),
+            out.len(),
         )
     }
 }

@@ -1,6 +1,6 @@
 //! The header, tried by a C program: what it prints.
 
-use pilzdamo::{Counts, Placed, Ready, Reason, Round, Thread, Totals, Verdict};
+use pilzdamo::{Counts, Placed, Ready, Reason, Round, Thread, Totals, Verdict, Written};
 use pilzdamo::{BEFORE_ROUND, BESIDE, RECORDS, ROOM, ROOM_1, ROUND_WORDS, ROWS, RUN_ROOM};
 use pilzdamo::{NO_TAG, SENTENCE, TOTALS, WEEK};
 use std::process::{Command, Output};
@@ -84,6 +84,16 @@ thread 2: user 1, node 7, mask 2, roles 1, first variable 0
 thread 3: user 2, node 14, mask 4, roles 1, first variable 2
 65471 choices: refusal 18 6, 80 bytes
 65472 choices: refusal 17 0, 0 bytes
+merge: refusal 0 0, 266 bytes
+its counts: 7 2 2 2 5 28
+behind it: ab
+read it: clean
+measure it: refusal 0 0, 344 bytes, on steps: 5
+other tables: refusal 25 0, 0 bytes
+too many nodes: refusal 3 0, 0 bytes
+the first's own: refusal 10 2, 0 bytes
+the second's own: refusal 2 0, 0 bytes
+in less: refusal 17 0, 0 bytes
 record: refused 6 27
 role: refused 13 4
 no bytes: clean
@@ -134,6 +144,7 @@ fn a_c_program_calls_the_engine() {
         size_of::<Round>(),
         size_of::<Totals>(),
         size_of::<Reason>(),
+        size_of::<Written>(),
         size_of::<Thread>(),
     ];
     let line = |name: &str, numbers: &[usize]| {

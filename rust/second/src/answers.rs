@@ -164,3 +164,32 @@ impl Reason {
         tag: 0,
     };
 }
+
+/// What merging answers. Refused, it has a length of 0; written, a number and place of
+/// 0.
+#[derive(Clone, Copy, Debug, PartialEq, Eq)]
+pub struct Written {
+    pub number: u16,
+    pub place: u16,
+    pub length: u16,
+}
+
+impl Written {
+    /// The answer where nothing is written.
+    pub const fn refused(number: u16, place: u16) -> Written {
+        Written {
+            number,
+            place,
+            length: 0,
+        }
+    }
+
+    /// The answer where this many bytes are written.
+    pub const fn bytes(length: u16) -> Written {
+        Written {
+            number: 0,
+            place: 0,
+            length,
+        }
+    }
+}

@@ -4,6 +4,7 @@
 mod checking;
 mod hours;
 mod juniors;
+mod merging;
 mod nothing;
 mod placing;
 mod reading;
@@ -11,6 +12,7 @@ mod reasons;
 mod running;
 
 pub use hours::{CheckAtCase, PlaceAtCase};
+pub use merging::{merge_cases, DueOfBoth, MergeCase};
 pub use nothing::NOTHING;
 pub use placing::{Due, PlaceCase};
 pub use reasons::{cases as reason_cases, ReasonCase, NO_SENTENCES};

@@ -104,6 +104,16 @@ pub enum Cause {
     TooManyChoices,
     Lent(Unfit),
     Choice(Halt),
+    /// A file of version 2 where files of version 1 alone are taken.
+    SecondVersion,
+    /// Two files with another number of roles, or of kinds.
+    RoleCounts,
+    KindCounts,
+    /// As many of them, but not the same.
+    RolesDiffer,
+    KindsDiffer,
+    /// Two files with too many records of a section together.
+    Sum(Section),
 }
 
 /// The fields that a tag leaves unused, tag by tag.
@@ -137,8 +147,8 @@ impl Cause {
         use Cause::*;
         match self {
             Short | Odd | ShortForSecond => 1,
-            Version => 2,
-            Count(_) => 3,
+            Version | SecondVersion => 2,
+            Count(_) | Sum(_) => 3,
             Offset(_) => 4,
             Shorter | Longer => 5,
             UserRoles | RoleSends | RoleReceives | KindCarries | OwnerZero | OwnerAbove
@@ -176,6 +186,7 @@ impl Cause {
             OutputTooShort | OddChoices | TooManyChoices => 17,
             Lent(_) => 18,
             Choice(halt) => halt.number(),
+            RoleCounts | KindCounts | RolesDiffer | KindsDiffer => 25,
         }
     }
 
@@ -227,6 +238,29 @@ impl Cause {
         let lent = Unfit::ALL.map(Cause::Lent).into_iter();
         lent.chain(Halt::all().into_iter().map(Cause::Choice))
             .collect()
+    }
+
+    /// The causes that two files have together when they are merged.
+    pub fn of_both() -> Vec<Cause> {
+        use Cause::*;
+        let mut all = vec![RoleCounts, KindCounts, RolesDiffer, KindsDiffer];
+        let filled = [
+            Section::Users,
+            Section::Channels,
+            Section::Sessions,
+            Section::Nodes,
+        ];
+        all.extend(filled.map(Sum));
+        all
+    }
+
+    /// The causes for which merging refuses one of two files.
+    pub fn to_be_merged() -> Vec<Cause> {
+        let mut all = Cause::all();
+        all.retain(|cause| is_of_file(cause.number()));
+        all.retain(|cause| cause.is_of(Version::One));
+        all.extend([Cause::ShortForSecond, Cause::SecondVersion]);
+        all
     }
 
     /// The causes that a table of hours and its minute bring to the check and to

@@ -4,9 +4,9 @@
 //! nothing with the engine, so that the two can be compared. Where 1 to 8 or 1 to 10
 //! are spoken of, 21 is among them. The timed functions, [`read`], [`read_names`],
 //! [`check`], [`check_at`], [`place`], [`place_at`], [`measure`], [`measure_at`],
-//! [`run`], [`round`], [`ready`], [`totals`], [`start`] and [`choose`], go over the
-//! file a few times, in place, and allocate nothing; nor do [`reason`], [`read_reason`]
-//! and [`phrase`].
+//! [`run`], [`round`], [`ready`], [`totals`], [`start`], [`choose`] and [`merge`], go
+//! over the file a few times, in place, and allocate nothing; nor do [`reason`],
+//! [`read_reason`] and [`phrase`].
 
 #![forbid(unsafe_code)]
 
@@ -16,6 +16,7 @@ mod cause;
 pub mod draft;
 mod file;
 mod hours;
+mod merging;
 mod names;
 mod placing;
 mod reasons;
@@ -24,9 +25,10 @@ mod running;
 mod schema;
 mod tree;
 
-pub use answers::{Placed, Ready, Reason, Round, Totals, Verdict};
+pub use answers::{Placed, Ready, Reason, Round, Totals, Verdict, Written};
 pub use cause::{is_of_file, is_of_reading, Cause, Refusal};
 pub use file::{Section, Version};
+pub use merging::MERGED_ROOM;
 pub use placing::{room_for, ROOM};
 pub use reasons::{Unsaid, SENTENCE};
 pub use running::{Halt, Run, Thread, Unfit};
@@ -238,6 +240,20 @@ pub fn cause_in_reason(reason: Reason, room: usize) -> Option<Unsaid> {
     reasons::unsaid(reason, room)
 }
 
+/// Refusal 17, the first file's own of 1 to 10, the second's, 25, and 3 for a sum that
+/// is too large; without one, the first file's users, channels, sessions and nodes,
+/// and then the second's, are written as one file at the start of `out`. Another
+/// version than 1 is 2.
+pub fn merge(first: &[u8], second: &[u8], out: &mut [u8]) -> Written {
+    match judge_merging(first, second, out.len()) {
+        Ok((first, second)) => Written::bytes(merging::write(&first, &second, out)),
+        Err(refusal) => {
+            let Verdict { number, place } = refusal.verdict();
+            Written::refused(number, place)
+        }
+    }
+}
+
 /// A run that has yet to make its first choice, if 1 to 10 leave the file clean.
 pub fn begin(file: &[u8]) -> Result<Run<'_>, Refusal> {
     judge_running(file, &[], MOST_CHOICES)
@@ -295,6 +311,16 @@ pub fn cause_in_placing(file: &[u8], room: usize) -> Option<Refusal> {
     judged
         .and_then(|()| judge_measuring(file, &mut Plan::new()))
         .err()
+}
+
+/// Why [`merge`] refuses two files where the output has this many bytes, if it does.
+pub fn cause_in_merging(first: &[u8], second: &[u8], room: usize) -> Option<Refusal> {
+    judge_merging(first, second, room).err()
+}
+
+/// Why [`merge`] refuses a file whatever the other is, if it does.
+pub fn cause_to_be_merged(file: &[u8]) -> Option<Refusal> {
+    judge_to_be_merged(file).err()
 }
 
 /// Why [`check_at`] refuses, if it does.
@@ -409,6 +435,25 @@ fn judge_choosing(
         cause: Cause::Choice(halt),
         place: 1,
     })
+}
+
+fn judge_to_be_merged(file: &[u8]) -> Result<File<'_>, Refusal> {
+    merging::judge_version(file)?;
+    let file = judge_reading(file)?;
+    names::judge(&file)?;
+    Ok(file)
+}
+
+fn judge_merging<'a>(
+    first: &'a [u8],
+    second: &'a [u8],
+    room: usize,
+) -> Result<(File<'a>, File<'a>), Refusal> {
+    merging::judge_room(room)?;
+    let first = judge_to_be_merged(first)?;
+    let second = judge_to_be_merged(second)?;
+    merging::judge(&first, &second)?;
+    Ok((first, second))
 }
 
 #[cfg(test)]

@@ -10,7 +10,7 @@ use crate::answers::Reason;
 pub const SENTENCE: usize = 120;
 
 /// What each number means, from 1 on.
-const MEANINGS: [&[u8]; 24] = [
+const MEANINGS: [&[u8]; 25] = [
     b"Refused 1: the file has 1 to 25 bytes (to 27 in version 2), or an odd number of them",
     b"Refused 2: the version is not one that can be read here",
     b"Refused 3: a count is out of range",
@@ -35,6 +35,7 @@ const MEANINGS: [&[u8]; 24] = [
     b"Refused 22: the minute is above 10,079, or the hours are not whole rows, at most 64",
     b"Refused 23: the row names no such role, or no stretch of the week",
     b"Refused 24: the role put on is closed at that minute",
+    b"Refused 25: the two files' tables of roles or kinds differ",
 ];
 
 /// The endings by tag; the last is that of a sentence without one.
@@ -123,7 +124,7 @@ impl Unsaid {
 /// What the places of a number count, none for a number that no refusal has.
 fn counts_of(number: u16) -> &'static [Counts] {
     match number {
-        1..=5 | 16 | 17 | 22 => &[Nothing],
+        1..=5 | 16 | 17 | 22 | 25 => &[Nothing],
         6 | 21 => &[Word],
         7 => &[Session],
         8..=10 | 15 | 24 => &[Node],

@@ -1,15 +1,15 @@
 use crate::cases::{booking, cases, choose_cases, place_cases, placed_booking, run_cases};
 use crate::cases::{check_at_cases, place_at_cases, round_cases, start_cases, totals_cases};
-use crate::cases::{reason_cases, Due, BOOKING, NO_SENTENCES};
+use crate::cases::{merge_cases, reason_cases, Due, DueOfBoth, BOOKING, NO_SENTENCES};
 use crate::draft::to_bytes;
-use crate::{begin, resume, total, totals};
+use crate::{begin, merge, resume, total, totals};
 use crate::{cause, cause_in_choosing, cause_in_placing, cause_in_run, cause_in_starting};
-use crate::{cause_at, cause_in_placing_at, cause_in_round, check_at};
+use crate::{cause_at, cause_in_merging, cause_in_placing_at, cause_in_round, check_at};
 use crate::{cause_in_reason, phrase, read_reason, reason};
 use crate::{check, choose, is_of_file, is_of_reading, measure, measure_at};
 use crate::{place, place_at, read, read_names, ready, round, run, start};
 use crate::{Cause, Placed, Reason, Run, Thread, Unsaid, Verdict, Version, SENTENCE};
-use crate::{BEFORE_ROUND, BEFORE_TOTALS, BESIDE, RECORDS, ROOM, RUN_ROOM};
+use crate::{BEFORE_ROUND, BEFORE_TOTALS, BESIDE, MERGED_ROOM, RECORDS, ROOM, RUN_ROOM};
 use std::collections::BTreeSet;
 
 fn verdict((number, place): (u16, u16)) -> Verdict {
@@ -365,8 +365,8 @@ fn every_reason_has_its_own_sentence() {
             }
         }
     }
-    // Ten of no place; of each place 12 without a tag, and seven numbers with nine tags.
-    assert_eq!((sentences.len(), count), (count, 10 + 10 * (12 + 7 * 9)));
+    // Eleven of no place; of each place 12 without a tag, and seven numbers with nine tags.
+    assert_eq!((sentences.len(), count), (count, 11 + 10 * (12 + 7 * 9)));
 }
 
 #[test]
@@ -375,7 +375,7 @@ fn phrases_of_numbers() {
         for room in [0, 119, 120, 121] {
             let mut out = vec![0xa5; room];
             let length = usize::from(phrase(number, &mut out));
-            let due = (1..=24).contains(&number) && room >= 120;
+            let due = (1..=25).contains(&number) && room >= 120;
             assert_eq!(length > 0, due, "{number} in {room} bytes");
             assert!(out[length..].iter().all(|byte| *byte == 0xa5));
         }
@@ -384,4 +384,62 @@ fn phrases_of_numbers() {
     let length = usize::from(phrase(13, &mut out));
     let due = "Refused 13: no active role permits the step";
     assert_eq!(String::from_utf8_lossy(&out[..length]), due);
+}
+
+#[test]
+fn named_cases_of_merging() {
+    let mut causes = BTreeSet::new();
+    for case in merge_cases() {
+        case.demand("second", merge);
+        let refusal = cause_in_merging(&case.first, &case.second, case.room);
+        let told = refusal.map(|refusal| refusal.verdict());
+        match case.due {
+            DueOfBoth::Refused(number, place) => assert_eq!(told, Some(Verdict { number, place })),
+            DueOfBoth::Merged(_) => assert_eq!(told, None, "{}", case.name),
+        }
+        causes.extend(refusal.map(|refusal| refusal.cause));
+    }
+    let due = [
+        vec![Cause::OutputTooShort, Cause::SecondVersion],
+        Cause::of_both(),
+    ];
+    for cause in due.concat() {
+        assert!(causes.contains(&cause), "no case of {cause:?}");
+    }
+}
+
+/// Two files that are merged pass the check exactly if both do, and are placed with
+/// the on steps of both: the cases of checking and of placing, each with itself and
+/// with the next of the same tables.
+#[test]
+fn merged_files_are_judged_as_both() {
+    let checked = cases().into_iter().map(|case| case.file);
+    let placed = place_cases().into_iter().map(|case| case.file);
+    let files: Vec<_> = checked.chain(placed).collect();
+    let (mut merged, mut passed, mut placed) = (0, 0, 0);
+    for (at, first) in files.iter().enumerate() {
+        for second in &files[at..files.len().min(at + 20)] {
+            let mut out = [0; MERGED_ROOM];
+            let written = merge(first, second, &mut out);
+            if written.number != 0 {
+                continue;
+            }
+            let both = &out[..written.length.into()];
+            merged += 1;
+            assert_eq!(read_names(both), Verdict::CLEAN);
+            let pass = |file: &[u8]| check(file) == Verdict::CLEAN;
+            assert_eq!(pass(both), pass(first) && pass(second));
+            passed += usize::from(pass(both));
+            let steps = [first, second, both].map(measure);
+            if steps.iter().all(|placed| placed.number == 0) {
+                let [one, other, all] = steps.map(|placed| placed.on_steps);
+                assert_eq!(one + other, all);
+                placed += usize::from(one > 0 && other > 0);
+            }
+        }
+    }
+    assert!(
+        merged > 500 && passed > 50 && placed > 100,
+        "{merged} {passed} {placed}"
+    );
 }

@@ -12,6 +12,7 @@ use crate::choosing::agreed_choice;
 use crate::hours::{agreed_check_at, agreed_placing_at};
 use crate::lists::Lists;
 use crate::measuring::{agreed_measure, agreed_measure_at};
+use crate::merging::{agreed_merge, Pair};
 use crate::placing::agreed_placing;
 use crate::rounds::agreed_round;
 use crate::running::{agreed_run, engine_ready};
@@ -19,7 +20,7 @@ use crate::starting::agreed_start;
 use crate::totals::agreed_totals;
 use second::cases::NOTHING;
 use second::draft::to_bytes;
-use second::{Placed, Ready, Round, Totals, Verdict};
+use second::{Placed, Ready, Round, Totals, Verdict, Written};
 use std::fmt::Display;
 
 /// What both answer to every call, and leave in what is lent to be written.
@@ -37,6 +38,8 @@ pub struct Answers {
     pub totals: Totals,
     pub start: (Verdict, Lists),
     pub choose: (Verdict, Lists),
+    /// Of the file with itself.
+    pub merge: (Written, Vec<u8>),
 }
 
 /// What both answer to every call. Panics where they differ, in a byte of an output
@@ -50,6 +53,11 @@ pub fn agreed_answers(asked: &Asked, origin: impl Display) -> Answers {
         choice,
     } = asked;
     let (file, choices) = (&at.file, &dealt.choices);
+    let twice = Pair {
+        first: file.clone(),
+        second: file.clone(),
+        before: before.clone(),
+    };
     Answers {
         check: agreed(file, &origin),
         check_at: agreed_check_at(at, &origin),
@@ -64,6 +72,7 @@ pub fn agreed_answers(asked: &Asked, origin: impl Display) -> Answers {
         totals: agreed_totals(file, choices, &origin),
         start: agreed_start(file, lists, &origin),
         choose: agreed_choice(file, lists, *choice, &origin),
+        merge: agreed_merge(&twice, &origin),
     }
 }
 

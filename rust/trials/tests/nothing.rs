@@ -3,7 +3,7 @@
 
 use second::cases::NOTHING;
 use second::draft::to_bytes;
-use second::{Placed, Verdict, BEFORE_TOTALS, BESIDE, ROOM, TOTALS};
+use second::{Placed, Verdict, Written, BEFORE_TOTALS, BESIDE, ROOM, TOTALS};
 use trials::{agreed_answers, compare_nothing, deal_asked, files, seed, Answers};
 
 #[test]
@@ -63,6 +63,9 @@ fn nothing_planned() {
         }
         let (verdict, _) = &told.choose;
         assert_eq!((verdict.number, verdict.place), (18, 1));
+        let (written, out) = &told.merge;
+        assert_eq!(*written, Written::bytes(26));
+        assert_eq!(*out, told.place.1);
     }
 }
 
@@ -84,6 +87,7 @@ fn one_to_25_bytes() {
             assert_eq!(verdicts, [one; 4]);
             let numbers = [told.ready.number, told.round.0.number, told.totals.number];
             assert_eq!(numbers, [1; 3]);
+            assert_eq!(told.merge.0, Written::refused(1, 0));
         }
     }
 }

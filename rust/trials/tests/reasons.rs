@@ -72,8 +72,8 @@ fn sentences() -> BTreeSet<Vec<u8>> {
 
 #[test]
 fn every_combination() {
-    // Ten of no place, and of each other place 75.
-    assert_eq!(sentences().len(), 10 + 6 * 75);
+    // Eleven of no place, and of each other place 75.
+    assert_eq!(sentences().len(), 11 + 6 * 75);
 }
 
 #[test]
@@ -81,7 +81,7 @@ fn phrases() {
     for number in numbers() {
         for room in [0, 1, 119, 120, 121, 1_000] {
             let phrase = agreed_phrase(number, &vec![0xa5; room]);
-            let due = room >= SENTENCE && (1..=24).contains(&number);
+            let due = room >= SENTENCE && (1..=25).contains(&number);
             assert_eq!(!phrase.is_empty(), due, "{number} in {room} bytes");
             // A phrase is no sentence.
             assert_eq!(agreed_read(&phrase), Reason::NONE);

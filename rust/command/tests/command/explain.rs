@@ -6,7 +6,7 @@ use crate::common::pilzdamo as call;
 fn every_refusal_is_explained() {
     let who = |number| match number {
         1..=5 => "the file's writer",
-        6 | 21 => "the schema's keeper",
+        6 | 21 | 25 => "the schema's keeper",
         7..=16 | 24 => "the routine's author",
         _ => "the caller",
     };
@@ -18,7 +18,7 @@ fn every_refusal_is_explained() {
         23 => "rows",
         _ => "nothing",
     };
-    for number in 1..=24 {
+    for number in 1..=25 {
         let answer = call(&["explain", &number.to_string()]);
         assert_eq!((answer.status, answer.err.as_str()), (0, ""));
         let text = answer.text();
@@ -38,11 +38,11 @@ fn every_refusal_is_explained() {
 
 #[test]
 fn no_other_number() {
-    for word in ["0", "25", "-", "-1", "x", "13 ", "65536", "1.0"] {
+    for word in ["0", "26", "-", "-1", "x", "13 ", "65536", "1.0"] {
         let answer = call(&["explain", word]);
         assert_eq!((answer.status, answer.text()), (2, ""), "{word}");
         assert!(
-            answer.err.contains("the refusals have the numbers 1 to 24"),
+            answer.err.contains("the refusals have the numbers 1 to 25"),
             "{word}"
         );
     }

@@ -15,6 +15,8 @@ pub fn all() -> Vec<(&'static str, Vec<u8>)> {
         ("desks.clinic", desks().bytes()),
         ("head-nurse/copied.clinic", copied_grants().bytes()),
         ("head-nurse/juniors.clinic", by_juniors().bytes()),
+        ("house/north.clinic", north().bytes()),
+        ("house/south.clinic", south().bytes()),
         ("hours/desk.clinic", hours_desk(&BOTH_SENDS).bytes()),
         ("hours/by-day.clinic", hours_desk_in(1).bytes()),
         ("spring/bare.clinic", spring(&READ_AND_WRITE, false).bytes()),
@@ -25,13 +27,15 @@ pub fn all() -> Vec<(&'static str, Vec<u8>)> {
 }
 
 /// Those that can be placed.
-pub const BARE: [&str; 8] = [
+pub const BARE: [&str; 10] = [
     "booking.clinic",
     "overlap.clinic",
     "theatre.clinic",
     "transfer.clinic",
     "desks.clinic",
     "head-nurse/juniors.clinic",
+    "house/north.clinic",
+    "house/south.clinic",
     "spring/bare.clinic",
     "hours/desk.clinic",
 ];
@@ -135,23 +139,89 @@ pub fn transfer() -> Draft {
         .kind(2)
         .kind(0)
         .channel(3, 1)
-        .session(1, &ask(1))
-        .session(2, &ask(8))
+        .session(1, &ask(1, 4))
+        .session(2, &ask(8, 4))
         .session(3, &[REPEAT, receive(channel(1)), send(variable(1), 4), END])
 }
 
-/// Makes a channel, sends it in one branch and receives on it in the other.
-/// The root is the node of this number.
-fn ask(root: u16) -> [[u16; 3]; 7] {
+/// Makes a channel, sends it in one branch and receives on it in the other, where it
+/// waits for this bed. The root is the node of this number.
+fn ask(root: u16, bed: u16) -> [[u16; 3]; 7] {
     [
         new(2),
         fork(root + 4),
         send(channel(1), variable(1)),
         END,
         receive(variable(1)),
-        compare(variable(2), 4),
+        compare(variable(2), bed),
         END,
     ]
+}
+
+/// A clinic's roles and kinds as the transfer has them: role 1 asks for a bed, role 2
+/// answers.
+fn asking() -> Draft {
+    Draft::default()
+        .role(&[1], &[2])
+        .role(&[2], &[1])
+        .kind(2)
+        .kind(0)
+}
+
+/// A ward (user 1) asks the desk (user 2). User 3 stands for the bed.
+pub fn north() -> Draft {
+    asking()
+        .user(&[1])
+        .user(&[2])
+        .user(&[])
+        .channel(2, 1)
+        .session(1, &ask(1, 3))
+        .session(2, &[receive(channel(1)), send(variable(1), 3), END])
+}
+
+/// The desk (user 1), which answers again and again, with the bed of user 2, and two
+/// wards (users 3 and 4) that ask it.
+pub fn south() -> Draft {
+    asking()
+        .user(&[2])
+        .user(&[])
+        .user(&[1])
+        .user(&[1])
+        .channel(1, 1)
+        .session(1, &[REPEAT, receive(channel(1)), send(variable(1), 2), END])
+        .session(3, &ask(5, 2))
+        .session(4, &ask(12, 2))
+}
+
+/// Both in one: the south's users are 4 to 7, its channel is 2, its nodes are 11 on.
+pub fn house() -> Draft {
+    let asks = |root, to, bed| {
+        let mut nodes = ask(root, bed);
+        nodes[2] = send(channel(to), variable(1));
+        nodes
+    };
+    asking()
+        .user(&[1])
+        .user(&[2])
+        .user(&[])
+        .user(&[2])
+        .user(&[])
+        .user(&[1])
+        .user(&[1])
+        .channel(2, 1)
+        .channel(4, 1)
+        .session(1, &asks(1, 1, 3))
+        .session(2, &[receive(channel(1)), send(variable(1), 3), END])
+        .session(4, &[REPEAT, receive(channel(2)), send(variable(1), 5), END])
+        .session(6, &asks(15, 2, 5))
+        .session(7, &asks(22, 2, 5))
+}
+
+/// The south, whose desk may also ask.
+pub fn other_south() -> Draft {
+    let mut draft = south();
+    draft.roles[1][0] = mask(&[1, 2]);
+    draft
 }
 
 /// Two sessions of user 1 that book as the booking does, and one of user 2, in role
@@ -329,6 +399,7 @@ fn refused() -> Vec<(&'static str, Vec<u8>)> {
             ("refused/15-no-role.clinic", no_role()),
             ("refused/16-too-long.clinic", too_long()),
             ("refused/21-junior.clinic", junior()),
+            ("refused/25-tables.clinic", other_south()),
             ("refused/choices.clinic", choices()),
         ]
         .map(|(name, draft)| (name, draft.bytes())),

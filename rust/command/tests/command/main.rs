@@ -10,6 +10,7 @@ mod explain;
 mod files;
 mod hours;
 mod measure;
+mod merge;
 mod nothing;
 mod place;
 mod reason;

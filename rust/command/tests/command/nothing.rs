@@ -16,16 +16,17 @@ const HOURS: &str = "--hours";
 const AT: [&str; 2] = ["--at", "Mon 07:30"];
 
 /// What every word comes to on a file and a list, in this order: check, place,
-/// measure, the three at a minute, run, waiting, round, dispatch.
+/// measure, the three at a minute, run, waiting, round, dispatch, merge with the 26 bytes.
 fn asked(file: &str, input: &[u8], folder: &Folder, list: &str) -> Vec<Answer> {
     let (list, hours) = (folder.file("list", list), folder.file("hours", ""));
+    let other = folder.file("other", nothing());
     let plain = ["check", "place", "measure"].map(|word| vec![word, file]);
     let at = plain
         .clone()
         .map(|words| [&words[..], &AT, &[HOURS, &hours]].concat());
     let listed = ["run", "waiting", "round"].map(|word| vec![word, file, &list]);
-    let dispatch = vec!["dispatch", file];
-    let all = plain.into_iter().chain(at).chain(listed).chain([dispatch]);
+    let last = [vec!["dispatch", file], vec!["merge", file, &other]];
+    let all = plain.into_iter().chain(at).chain(listed).chain(last);
     all.map(|words| pilzdamo_fed(&words, input)).collect()
 }
 
@@ -37,6 +38,7 @@ fn both_ways(bytes: &[u8], folder: &Folder, list: &str) -> Vec<(i32, Vec<u8>, St
         let cut = |text: &str| {
             text.replace(name, "FILE")
                 .replace(&folder.at("list"), "LIST")
+                .replace(&folder.at("other"), "OTHER")
         };
         let text = |out: Vec<u8>| match String::from_utf8(out) {
             Ok(text) => cut(&text).into_bytes(),
@@ -60,7 +62,7 @@ fn zero_bytes() {
     let answers = both_ways(&[], &folder, "");
     let said = "(zero bytes: nothing is planned)";
     let (bytes, size) = (nothing(), "0 on steps, 26 bytes");
-    let due: [(&[u8], String); 10] = [
+    let due: [(&[u8], String); 11] = [
         (b"", format!("FILE: passes {said}\n")),
         (&bytes, format!("FILE: placed, {size} {said}\n")),
         (b"", format!("FILE: can be placed, {size} {said}\n")),
@@ -80,11 +82,17 @@ fn zero_bytes() {
             b"",
             "FILE: 0 rounds, 0 choices; then no choice can be done, 0 threads left\n".to_string(),
         ),
+        (
+            &bytes,
+            format!(
+                "FILE {said}, OTHER: merged, 0 users, 0 channels, 0 sessions, 0 nodes, 26 bytes\n"
+            ),
+        ),
     ];
     for (at, ((status, out, err), (written, text))) in answers.into_iter().zip(due).enumerate() {
-        // Placing and dispatching say it on standard error.
+        // Placing, dispatching and merging say it on standard error.
         let (out_due, err_due) = match at {
-            1 | 4 | 9 => (written.to_vec(), text),
+            1 | 4 | 9 | 10 => (written.to_vec(), text),
             _ => (text.into_bytes(), String::new()),
         };
         assert_eq!((status, out, err), (0, out_due, err_due), "answer {at}");

@@ -13,8 +13,8 @@ fn help_and_version() {
         );
     }
     let words = [
-        "check", "place", "measure", "run", "waiting", "round", "dispatch", "show", "explain",
-        "reason",
+        "check", "place", "measure", "merge", "run", "waiting", "round", "dispatch", "show",
+        "explain", "reason",
     ];
     for word in words {
         assert!(help.contains(&format!("  pilzdamo {word} ")));
@@ -27,7 +27,7 @@ fn help_and_version() {
 
 #[test]
 fn words() {
-    let wrong: [(&[&str], &str); 53] = [
+    let wrong: [(&[&str], &str); 61] = [
         (&[], "what to do?"),
         (&[""], "there is no word ''"),
         (&["judge", "a"], "there is no word 'judge'"),
@@ -89,6 +89,26 @@ fn words() {
         (
             &["measure", "a", "--at", "Mon 07:30"],
             "measure: --at and --hours go together",
+        ),
+        (&["merge"], "merge: A is missing"),
+        (&["merge", "a"], "merge: B is missing"),
+        (&["merge", "a", "-o", "b"], "merge: B is missing"),
+        (&["merge", "a", "b", "c"], "merge: 'c' is too many"),
+        (
+            &["merge", "-", "-"],
+            "merge: only one of A and B can be standard input",
+        ),
+        (
+            &["merge", "a", "b", "-o"],
+            "merge: -o wants the name of a file",
+        ),
+        (
+            &["merge", "-o", "c", "a", "b", "-o", "c"],
+            "merge: -o stands there twice",
+        ),
+        (
+            &["merge", "a", "b", "--at", "Mon 07:30"],
+            "merge has no option '--at'",
         ),
         (&["run"], "run: FILE is missing"),
         (&["run", "a"], "run: CHOICES is missing"),
@@ -170,13 +190,15 @@ fn files_that_cannot_be_read() {
         (&here, "it is a folder"),
     ] {
         let due = format!("pilzdamo: {file}: can't be read: {why}\n");
-        let uses: [&[&str]; 13] = [
+        let uses: [&[&str]; 15] = [
             &["check", file],
             &["place", file],
             &["measure", file],
             &["check", &sound, "--at", "Mon 07:30", "--hours", file],
             &["place", &sound, "--at", "Mon 07:30", "--hours", file],
             &["show", file],
+            &["merge", file, &sound],
+            &["merge", &sound, file],
             &["run", file, &sound],
             &["run", &sound, file],
             &["waiting", file, &sound],

@@ -262,6 +262,45 @@ static void dispatch(const char *folder) {
     }
 }
 
+static void print_written(const char *call, pilzdamo_written written) {
+    printf("%s: refusal %d %d, %d bytes\n", call, written.number, written.place,
+           written.length);
+}
+
+/* Two clinics in one file, and such as can't be. The bytes past it stay. */
+static void house(const char *folder) {
+    clinic north = example(folder, "house/north.clinic");
+    clinic south = example(folder, "house/south.clinic");
+    clinic other = example(folder, "refused/25-tables.clinic");
+    clinic kinds = example(folder, "refused/10-kinds.clinic");
+    clinic second = example(folder, "head-nurse/juniors.clinic");
+    clinic longer = example(folder, "refused/16-too-long.clinic");
+    uint8_t out[PILZDAMO_ROOM_1];
+    pilzdamo_written written;
+    size_t at;
+    memset(out, 0xab, sizeof out);
+    written = pilzdamo_merge(north.bytes, north.len, south.bytes, south.len, out,
+                             sizeof out);
+    print_written("merge", written);
+    printf("its counts:");
+    for (at = 1; at <= 6; at++) {
+        printf(" %d", word_at(out, at));
+    }
+    printf("\nbehind it: %x\n", out[written.length]);
+    print("read it", pilzdamo_read(out, written.length));
+    print_placed("measure it", pilzdamo_measure(out, written.length));
+    print_written("other tables", pilzdamo_merge(north.bytes, north.len, other.bytes,
+                                                 other.len, out, sizeof out));
+    print_written("too many nodes", pilzdamo_merge(longer.bytes, longer.len, longer.bytes,
+                                                   longer.len, out, sizeof out));
+    print_written("the first's own", pilzdamo_merge(kinds.bytes, kinds.len, second.bytes,
+                                                    second.len, out, sizeof out));
+    print_written("the second's own", pilzdamo_merge(north.bytes, north.len, second.bytes,
+                                                     second.len, out, sizeof out));
+    print_written("in less", pilzdamo_merge(north.bytes, north.len, south.bytes, south.len,
+                                            out, sizeof out - 1));
+}
+
 /* Refusals with their places. */
 static void refusals(const char *folder) {
     static const uint16_t odd[] = {2, 0, 2}, unequal[] = {2, 0, 1, 0};
@@ -307,10 +346,11 @@ int main(int argc, char **argv) {
         fprintf(stderr, "the folder of the examples is wanted\n");
         return 2;
     }
-    printf("sizes: %d %d %d %d %d %d %d\n", (int)sizeof(pilzdamo_verdict),
+    printf("sizes: %d %d %d %d %d %d %d %d\n", (int)sizeof(pilzdamo_verdict),
            (int)sizeof(pilzdamo_placed), (int)sizeof(pilzdamo_ready_pair),
            (int)sizeof(pilzdamo_round_choices), (int)sizeof(pilzdamo_kind_totals),
-           (int)sizeof(pilzdamo_said), (int)sizeof(pilzdamo_thread));
+           (int)sizeof(pilzdamo_said), (int)sizeof(pilzdamo_written),
+           (int)sizeof(pilzdamo_thread));
     printf("rooms: %d %d %d %d %d\n", PILZDAMO_ROOM, PILZDAMO_ROOM_1, PILZDAMO_RUN_ROOM,
            PILZDAMO_RECORDS, PILZDAMO_BESIDE);
     printf("hours: %d %d\n", PILZDAMO_WEEK, PILZDAMO_ROWS);
@@ -325,6 +365,7 @@ int main(int argc, char **argv) {
     both_read(argv[1]);
     waiting(argv[1]);
     dispatch(argv[1]);
+    house(argv[1]);
     refusals(argv[1]);
     reasons();
     return 0;

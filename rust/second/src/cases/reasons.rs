@@ -55,7 +55,7 @@ pub fn cases() -> Vec<ReasonCase> {
 }
 
 /// Number, what is counted, place and tag, and the sentence.
-const SAID: [([u16; 4], &str); 42] = [
+const SAID: [([u16; 4], &str); 43] = [
     (
         [1, 0, 0, 9],
         "Refused 1: the file has 1 to 25 bytes (to 27 in version 2), or an odd number of them; no place.",
@@ -190,6 +190,10 @@ const SAID: [([u16; 4], &str); 42] = [
         "Refused 24: the role put on is closed at that minute at node 1.",
     ),
     (
+        [25, 0, 0, 9],
+        "Refused 25: the two files' tables of roles or kinds differ; no place.",
+    ),
+    (
         [9, 3, 65_535, 3],
         "Refused 9: an operand names nothing, or a role or kind is out of count at node 65535, a new channel.",
     ),
@@ -228,7 +232,6 @@ const UNSAID: [[u16; 4]; 30] = [
     // No such number.
     [0, 0, 0, 9],
     [0, 0, 0, 0],
-    [25, 0, 0, 9],
     [26, 2, 1, 9],
     [27, 6, 1, 9],
     [28, 0, 0, 9],
@@ -244,6 +247,7 @@ const UNSAID: [[u16; 4]; 30] = [
     [16, 3, 1, 9],
     [19, 0, 0, 9],
     [24, 4, 1, 9],
+    [25, 3, 1, 9],
     [13, 0, 0, 9],
     [23, 6, 1, 9],
     [23, 65_535, 1, 9],

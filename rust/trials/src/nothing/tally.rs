@@ -114,6 +114,7 @@ fn told(asked: &Asked) -> Vec<(&'static str, Option<Refusal>)> {
             "choose",
             second::cause_in_choosing(file, threads, beside, *thread, *partner),
         ),
+        ("merge", second::cause_in_merging(file, file, room)),
     ]
 }
 
@@ -171,6 +172,7 @@ fn with_nothing() -> Vec<Told> {
         clean_or("totals", &[list, choice]),
         clean_or("start", &[&OF_SIZES]),
         by("choose", &[&OF_SIZES, &OF_LENT, choice]),
+        clean_or("merge", &[short]),
     ]
     .concat()
 }
@@ -193,6 +195,7 @@ fn with_few_bytes() -> Vec<Told> {
         by("totals", &[short, list]),
         by("start", &[short]),
         by("choose", &[short]),
+        by("merge", &[short, room]),
     ]
     .concat()
 }

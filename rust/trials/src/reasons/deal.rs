@@ -34,7 +34,7 @@ const ENDINGS: [&str; 12] = [
 
 /// A reason that has a sentence: the number first, all as likely.
 pub fn given_reason(rng: &mut Rng) -> Reason {
-    let number = rng.from(1, 24);
+    let number = rng.from(1, 25);
     loop {
         let counts = rng.from(0, 5);
         let place = match counts {
@@ -69,7 +69,7 @@ pub fn deal_reason(seed: u64, index: u64) -> (Reason, Vec<u8>) {
     let mut reason = given_reason(rng);
     let any = rng.word();
     match rng.below(12) {
-        0 => reason.number = *rng.of(&[0, 25, 26, 27, 28, 29, 30, 256, any]),
+        0 => reason.number = *rng.of(&[0, 26, 27, 28, 29, 30, 256, any]),
         1 => reason.number = rng.from(0, 30),
         2 => reason.counts = *rng.of(&[6, 6, 7, 8, 256, any]),
         3 => reason.counts = rng.from(0, 7),
@@ -198,7 +198,7 @@ fn change_parts(rng: &mut Rng, change: Change, parts: &mut Parts) {
             let number = *rng.of(&[parts.number + 1, parts.number - 1, parts.number + 10]);
             parts.meaning = format!("Refused {number}:{words}");
         }
-        Change::OtherMeaning => parts.meaning = meaning(rng.from(1, 24)),
+        Change::OtherMeaning => parts.meaning = meaning(rng.from(1, 25)),
         Change::OtherCounts => {
             parts.counts = rng.of(&COUNTS).to_string();
             if rng.once_in(2) {

@@ -1,9 +1,10 @@
 //! What is timed: a question to both, with its input.
 
 use crate::timing::{Samples, Times, ROUNDS};
-use second::{Ready, Reason, Verdict, BEFORE_TOTALS, ROOM, RUN_ROOM, SENTENCE};
+use second::{Ready, Reason, Verdict, SENTENCE};
+use second::{BEFORE_TOTALS, MERGED_ROOM, ROOM, RUN_ROOM};
 use std::hint::black_box;
-use trials::{At, Dealt, Lent, Lists};
+use trials::{At, Dealt, Lent, Lists, Pair};
 
 /// A question and what it is asked of.
 #[derive(Clone)]
@@ -53,6 +54,8 @@ pub enum Input {
     },
     /// A sentence that is read.
     ReadReason(Vec<u8>),
+    /// Two files that are merged.
+    Merge([Vec<u8>; 2]),
 }
 
 /// A row of a table.
@@ -69,7 +72,7 @@ impl Case {
         Case { name, input, calls }
     }
 
-    /// The file, or the sentence.
+    /// The file, or the sentence; the first of two files.
     pub fn bytes(&self) -> &[u8] {
         match &self.input {
             Input::Read(file) | Input::Check(file) | Input::Measure(file) => file,
@@ -79,6 +82,15 @@ impl Case {
             Input::Choose(Lent { file, .. }) | Input::Start(Lent { file, .. }) => file,
             Input::CheckAt(At { file, .. }) | Input::PlaceAt(At { file, .. }) => file,
             Input::Reason { sentence, .. } | Input::ReadReason(sentence) => sentence,
+            Input::Merge([file, _]) => file,
+        }
+    }
+
+    /// How many bytes it has, or both files.
+    pub fn length(&self) -> usize {
+        match &self.input {
+            Input::Merge(files) => files.iter().map(Vec::len).sum(),
+            _ => self.bytes().len(),
         }
     }
 
@@ -141,6 +153,17 @@ impl Case {
                 let (verdict, _) = trials::agreed_start(file, lists, name);
                 assert_eq!(verdict, Verdict::CLEAN, "{name}");
                 Vec::new()
+            }
+            Input::Merge([first, second]) => {
+                let pair = Pair {
+                    first: first.clone(),
+                    second: second.clone(),
+                    before: vec![0; MERGED_ROOM],
+                };
+                let (written, mut out) = trials::agreed_merge(&pair, name);
+                assert_eq!(written.number, 0, "{name}");
+                out.truncate(written.length.into());
+                out
             }
             Input::Choose(Lent {
                 file,
@@ -238,6 +261,7 @@ impl Case {
                 || pilzdamo::read_reason(black_box(sentence)),
                 || second::read_reason(black_box(sentence)),
             ),
+            Input::Merge(files) => merge(files, self.calls, samples),
         }
     }
 }
@@ -282,6 +306,20 @@ fn place_at(at: &At, calls: u32, samples: &mut Samples) {
         second::place_at(file, hours, *minute, black_box(&mut of_second))
     };
     samples.take(calls, engine, second);
+}
+
+fn merge([first, second]: &[Vec<u8>; 2], calls: u32, samples: &mut Samples) {
+    let (mut out, mut of_second) = (vec![0; MERGED_ROOM], vec![0; MERGED_ROOM]);
+    let input = || (black_box(&first[..]), black_box(&second[..]));
+    let engine = || {
+        let (first, second) = input();
+        pilzdamo::merge(first, second, black_box(&mut out))
+    };
+    let of_second = || {
+        let (first, second) = input();
+        second::merge(first, second, black_box(&mut of_second))
+    };
+    samples.take(calls, engine, of_second);
 }
 
 /// A start writes the same each time.

@@ -35,6 +35,10 @@ pub struct Inputs {
     pub typical_round: Run,
     pub largest_lent: Lent,
     pub typical_lent: Lent,
+    /// Two to be merged, whose records together are as many as there can be; and two
+    /// of 40 nodes.
+    pub largest_pair: [Vec<u8>; 2],
+    pub typical_pair: [Vec<u8>; 2],
 }
 
 impl Inputs {
@@ -64,6 +68,8 @@ impl Inputs {
             typical_round: trials::typical_round(seed),
             largest_lent: trials::full_lent(seed),
             typical_lent: trials::typical_lent(seed),
+            largest_pair: trials::largest_pair(seed),
+            typical_pair: trials::typical_pair(seed),
         }
     }
 
@@ -97,6 +103,7 @@ impl Inputs {
         };
         let choose = |lent: &Lent| Input::Choose(lent.clone());
         let start = |lent: &Lent| Input::Start(lent.clone());
+        let merge = |pair: &[Vec<u8>; 2]| Input::Merge(pair.clone());
         vec![
             Case::new("read largest", read(&self.largest), 50),
             Case::new("read typical", read(&self.typical), 300),
@@ -136,6 +143,8 @@ impl Inputs {
             Case::new("start typical", start(&self.typical_lent), 300),
             Case::new("reason", said(), 1_000),
             Case::new("read reason", Input::ReadReason(SENTENCE.to_vec()), 1_000),
+            Case::new("merge largest", merge(&self.largest_pair), 50),
+            Case::new("merge typical", merge(&self.typical_pair), 300),
         ]
     }
 
@@ -170,7 +179,10 @@ impl Inputs {
              Totals: how many threads wait on each kind. Crowded is ready's input, typical that of\n\
              run. A run keeps the totals, and choose judges all 32. Start: the files of choose,\n\
              into its lists.\n\
-             Reason, and read reason: {:?}\n",
+             Reason, and read reason: {:?}\n\
+             Merge, two files in one; the bytes are those of both. Largest: 512 nodes each, and half\n\
+             of all other records but roles and kinds, so that the result has 6,874 bytes. Typical:\n\
+             40 nodes each.\n",
             run(&self.largest_run),
             run(&self.typical_run),
             run(&self.short_run),

@@ -81,7 +81,7 @@ fn print_table(cases: &[Case], times: &[Times]) {
         println!(
             "{:<15} {:>6} {:>12.0} {:>9.0} {:>12.0} {:>9.0} {:>11.2} {:>13.2}",
             case.name,
-            case.bytes().len(),
+            case.length(),
             engine.best,
             engine.median,
             second.best,

@@ -118,6 +118,20 @@ fn totals_are_of_threads_that_wait() {
     assert!(waiting(&inputs.typical_run) > 0);
 }
 
+#[test]
+fn what_is_merged_is_as_large_as_can_be() {
+    let inputs = Inputs::new(seed());
+    let merged = |pair: &[Vec<u8>; 2]| Case::new("merge", Input::Merge(pair.clone()), 1).agree();
+    let house = merged(&inputs.largest_pair);
+    assert_eq!(house.len(), Version::One.largest());
+    assert_eq!((nodes(&house), roles(&house)), (1_024, 16));
+    assert_eq!(
+        inputs.largest_pair.each_ref().map(|file| nodes(file)),
+        [512; 2]
+    );
+    assert_eq!(nodes(&merged(&inputs.typical_pair)), 80);
+}
+
 /// Each sender of the crowded round goes past all that receive before its own.
 #[test]
 fn the_crowded_round_meets_the_last_first() {

@@ -1,0 +1,13 @@
+use Rattle.merging.proofs.unless.Statement.{statement}
+use Rattle.merging.proofs.unless.Tie as tie
+use Rattle.merging.proofs.unless.Reads as reads
+use Rattle.merging.proofs.unless.Lts as lts
+
+returns : tie.Need-returns
+returns c = rw (c .if1 .taken)
+
+returns-2 : tie.Need-returns-2
+returns-2 c = rw (c .if1 .left)
+
+pub unless-spec : {M : Type 1} → statement M
+unless-spec = tie.close (tie.spec returns returns-2)
