@@ -1,6 +1,6 @@
 // Dispatching: a round asked for after a run's choices.
-mod marks;
-mod visits;
+pub mod marks;
+pub mod visits;
 
 use checking::enter;
 use choices::Progress;

@@ -56,7 +56,7 @@ fn is_free(
 }
 
 // The first of the threads present from the round's start that has not moved and that thread i can meet, 0 if there is none.
-fn receiver_for(
+pub fn receiver_for(
     file: &[u8],
     head: Head,
     sends: &[u16],
@@ -191,7 +191,7 @@ fn visit(
 }
 
 // The choice that a visit of thread i added to the round, after n others. How many there are then.
-fn put_choice(words: &mut [u16], n: usize, i: u16, seen: Visit) -> usize
+pub fn put_choice(words: &mut [u16], n: usize, i: u16, seen: Visit) -> usize
     requires { ⌜ 2 * n + 2 ≤ length (now words) ⌝ }
     ensures { λ r. ⌜ (r ≡ cond (seen .«is_done») (n + 1) n) × (now (words .exit) ≡ cond (seen .«is_done») (set (set (now (words .entry)) (2 * n) i) (2 * n + 1) (seen .partner)) (now (words .entry))) ⌝ }
 {

@@ -85,7 +85,15 @@ module _ (C : Clinic) where
       × (((zs : List ℕ) × (s′ : State) × (ys ≡ i ∷ 0 ∷ zs) × Steps C (g .state) i 0 s′) ⊎ (choice C (g .state) i 0 ≡ halts 20))
   lone-done s v s₁ st =
       let (xs, ys, g, i, e, f, p, h, m, t) = round-lively threadsOf (comesTo C) (Steps C) NoWait (lawful C) threadAt (λ s i. choice C s i 0 ≡ halts 20) (recorded C) s v s₁ st in
-      (xs, ys, g, i, e, f, path-chain xs s (g .state) p, h, m, t)
+      (xs, ys, g, i, e, f, path-chain xs s (g .state) p, h, m, never-waits ys g i t)
+    where
+      never-waits : (ys : List ℕ) (g : Midway State) (i : ℕ)
+          → ((zs : List ℕ) × (s′ : State) × (ys ≡ i ∷ 0 ∷ zs) × Steps C (g .state) i 0 s′)
+          ⊎ (((zs : List ℕ) × (s′ : State) × (ys ≡ i ∷ 0 ∷ zs) × NoWait (g .state) i s′) ⊎ (choice C (g .state) i 0 ≡ halts 20))
+          → ((zs : List ℕ) × (s′ : State) × (ys ≡ i ∷ 0 ∷ zs) × Steps C (g .state) i 0 s′) ⊎ (choice C (g .state) i 0 ≡ halts 20)
+      never-waits ys g i (inl x) = inl x
+      never-waits ys g i (inr (inl (zs, s′, e, w))) = absurd w
+      never-waits ys g i (inr (inr x)) = inr x
 
   -- 4. A round is empty exactly if no choice can be done.
   pub round-idle : (s : State) → (roundOf C s .words ≡ []) ↔ ((i p : ℕ) → (n : ℕ) × (choice C s i p ≡ halts n))

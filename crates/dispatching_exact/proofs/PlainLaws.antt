@@ -146,5 +146,9 @@ module _ (C : Clinic) where
         let L : LoneStep C s j s′ = lone-step C s j s′ st in
         lone-tag (L .node .tag) 5 (inl refl) (L .tag)
         (ap (λ (x : Node). x .tag) (sym (L .stands .2) ∙ ap (λ (t : Thread). C .node (t .node)) (sym e) ∙ M .there .2) ∙ M .five);
-    again = λ s s₁ j i s′ st l h e. again s s₁ j 0 i s′ refl st (l, h) e;
+    again = λ s s₁ j i s′ st l h e. nor-waits (again s s₁ j 0 i s′ refl st (l, h) e);
   }
+    where
+      nor-waits : {s : State} {i : ℕ} → Again s i → ((s″ : State) × Steps C s i 0 s″) ⊎ (((s″ : State) × NoWait s i s″) ⊎ Full s i)
+      nor-waits (inl x) = inl x
+      nor-waits (inr x) = inr (inr x)

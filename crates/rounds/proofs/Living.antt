@@ -104,9 +104,11 @@ module _ {S : Type 0} (count : S → ℕ) (choose : S → ℕ → ℕ → Taken 
         go (i, h, z, inl e) = e ∙ H i h
         go (i, h, z, inr (s′, l, d, st)) = absurd (T .no-receiver s₀ (g .state) j₀ (suc a) i s₁ s′ st₀ l st (H i h))
 
-    -- its lone choice comes next and is a step, or it is excused
+    -- its lone choice comes next and is a step or waits, or it is excused
     abbrev pub Then : List ℕ → Midway S → ℕ → Type 0
-    Then ys g i = ((zs : List ℕ) × (s′ : S) × (ys ≡ i ∷ 0 ∷ zs) × Step (g .state) i 0 s′) ⊎ Excused (g .state) i
+    Then ys g i =
+        ((zs : List ℕ) × (s′ : S) × (ys ≡ i ∷ 0 ∷ zs) × Step (g .state) i 0 s′)
+        ⊎ (((zs : List ℕ) × (s′ : S) × (ys ≡ i ∷ 0 ∷ zs) × Wait (g .state) i s′) ⊎ Excused (g .state) i)
 
     -- the list splits in two at its visit
     abbrev pub Splits : ℕ → ℕ → Midway S → ℕ → List ℕ → Type 0
@@ -131,13 +133,17 @@ module _ {S : Type 0} (count : S → ℕ) (choose : S → ℕ → ℕ → Taken 
           go f (T .again s₀ (g .state) j₀ (suc a) s₁ st₀ (omega arith) n (H (suc a) f)),
         )
       where
-        go : Here g v (suc a) → ((s″ : S) × Step (g .state) (suc a) 0 s″) ⊎ Excused (g .state) (suc a)
+        go : Here g v (suc a) → ((s″ : S) × Step (g .state) (suc a) 0 s″) ⊎ (((s″ : S) × Wait (g .state) (suc a) s″) ⊎ Excused (g .state) (suc a))
             → Then (visit count choose (g .state) a ms .words ++ ws) g (suc a)
         go f (inl (s″, st)) =
             let (e, _) = unrivalled count choose Step Wait W k a ms v g K few (visited count choose (g .state) a ms) (view count choose (g .state) a ms) (suc a ∷ 0 ∷ []) _
             (lone (suc a) s″ f st) in
             inl (ws, s″, ap (λ (x : List ℕ). x ++ ws) (sym e), st)
-        go f (inr x) = inr x
+        go f (inr (inl (s″, st))) =
+            let (e, _) = unrivalled count choose Step Wait W k a ms v g K few (visited count choose (g .state) a ms) (view count choose (g .state) a ms) (suc a ∷ 0 ∷ []) _
+            (wait (suc a) s″ f st) in
+            inr (inl (ws, s″, ap (λ (x : List ℕ). x ++ ws) (sym e), st))
+        go f (inr (inr x)) = inr (inr x)
 
     further : (d v : ℕ) (g g′ : Midway S) (w : ℕ) (xs ws : List ℕ) → Visits count Step Wait v g xs g′ → Splits d (suc v) g′ w ws → Splits (suc d) v g w (xs ++ ws)
     further d v g g′ w xs ws st (ys, zs, g″, i, e, f, h, m, t) =
@@ -163,11 +169,12 @@ module _ {S : Type 0} (count : S → ℕ) (choose : S → ℕ → ℕ → Taken 
         (subst (λ (y : S). Splits d (suc v) g′ w (roundFrom count choose k (x .place) (x .marks) y .words)) c f)
 
   -- Of each thread that has a lone step in the round's first state: after the visits of those before it, it holds what it held; then its lone choice comes and is a
-  -- step, or it is excused.
+  -- step or waits, or it is excused.
   pub round-lively : (s : S) (w : ℕ) (s₁ : S) → Step s w 0 s₁
       → (xs : List ℕ) × (ys : List ℕ) × (g : Midway S) × (i : ℕ) × (round count choose s .words ≡ xs ++ ys) × VisitsFrom count Step Wait 1 (w - 1) (begun count Step Wait s) xs g
       × Path count Step Wait s xs (g .state) × Here g w i × (at (g .state) i ≡ at s w)
-      × (((zs : List ℕ) × (s′ : S) × (ys ≡ i ∷ 0 ∷ zs) × Step (g .state) i 0 s′) ⊎ Excused (g .state) i)
+      × (((zs : List ℕ) × (s′ : S) × (ys ≡ i ∷ 0 ∷ zs) × Step (g .state) i 0 s′)
+      ⊎ (((zs : List ℕ) × (s′ : S) × (ys ≡ i ∷ 0 ∷ zs) × Wait (g .state) i s′) ⊎ Excused (g .state) i))
   unfolding round
   round-lively s w s₁ st =
       let (l, h, _) = W .counted s w 0 s₁ st in

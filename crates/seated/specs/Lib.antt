@@ -1,0 +1,4 @@
+pub mod SeatedTables
+pub mod SeatedLists
+pub mod SeatedEntry
+pub mod ReadWords

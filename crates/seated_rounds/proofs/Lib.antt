@@ -1,0 +1,2 @@
+pub mod SeatedVisitLaws
+pub mod SeatedRoundLaws

@@ -1,0 +1,88 @@
+use mathlib.Core.Path.{_≡_, refl, sym, ap, _∙_}
+use native.Mathlib.Omega.{arith}
+use Rattle.format.specs.Contents.{contentsAt}
+use Rattle.naming.specs.Scopes.{awaitedBy}
+use Rattle.seated_rounds.proofs.SeatedVisitLaws.{receiver-is, told-nothing, found-there, told-met}
+use borrow.Author.Needs.{needs}
+use Rattle.seated_rounds.proofs.visits.meet_seated.Statement.{statement}
+use Rattle.seated_rounds.proofs.visits.meet_seated.Tie as tie
+use Rattle.seated_rounds.proofs.visits.meet_seated.Reads as reads
+use Rattle.seated_rounds.proofs.visits.meet_seated.Lts as lts
+use Rattle.dispatching.proofs.marks.with_moved.Reads as with-moved-reads
+use Rattle.dispatching.proofs.visits.receiver_for.Reads as receiver-for-reads
+use Rattle.seated.proofs.choice.choose_seated.Reads as choose-seated-reads
+
+receiver-for-requires : tie.Need-receiver-for-requires
+receiver-for-requires c κs = let q = c .before .before .before .before .before .before .before .before .before .before .before .pre in (q .0, q .1, q .2, q .4 .sized, q .5, omega (arith, q .6, q .7), q .7)
+
+add-t20 : tie.Need-add-t20
+add-t20 c = omega (arith, c .before .before .before .before .before .before .before .before .before .before .before .before .before .pre .5, c .before .before .before .before .before .before .before .before .before .before .before .before .before .pre .6, c .before .before .before .before .before .before .before .before .before .before .before .before .before .pre .7, c .before .before .before .before .before .before .before .before .before .before .before .before .before .pre .4 .sized .threads)
+
+same-length : tie.Need-same-length
+same-length c = search needs
+
+same-length-2 : tie.Need-same-length-2
+same-length-2 c = search needs
+
+returns : tie.Need-returns
+returns c =
+    let a = c .before .before .before .before .before .before .before .before .before .before .before .before .before .args in
+    let q = c .before .before .before .before .before .before .before .before .before .before .before .before .before .pre in
+    let is = receiver-is (contentsAt (a .file .now) (a .head)) (a .seats .now) (a .threads .now) (a .beside .now) (a .owners .now) (a .lines .now) (q .4) (a .i) (a .there) (a .moved) (q .5) (q .6) (q .7) (c .before .receiver-for .result) (c .before .receiver-for .ensures) in
+    told-nothing (contentsAt (a .file .now) (a .head)) (a .seats .now) (a .threads .now) (a .beside .now) (a .owners .now) (a .lines .now) (q .4) (a .i) (a .there) (a .moved) (q .5) (q .6) (q .7) (c .before .receiver-for .result) is (c .if1 .taken)
+
+choose-seated-requires : tie.Need-choose-seated-requires
+choose-seated-requires c κs = let q = c .before .before .before .before .before .before .before .before .before .before .before .before .before .before .before .before .before .pre in (q .0, q .1, q .2, q .3, q .4)
+
+add-t30 : tie.Need-add-t30
+add-t30 c = omega (arith, c .before .before .before .before .before .before .before .before .before .before .before .before .before .before .before .before .before .before .before .before .before .before .before .before .before .before .pre .5, c .before .before .before .before .before .before .before .before .before .before .before .before .before .before .before .before .before .before .before .before .before .before .before .before .before .before .pre .6, c .before .before .before .before .before .before .before .before .before .before .before .before .before .before .before .before .before .before .before .before .before .before .before .before .before .before .pre .7, c .before .before .before .before .before .before .before .before .before .before .before .before .before .before .before .before .before .before .before .before .before .before .before .before .before .before .pre .4 .sized .threads)
+
+with-moved-requires : tie.Need-with-moved-requires
+with-moved-requires c κs =
+    let a = c .before .before .before .before .before .before .before .before .before .before .before .before .before .before .before .before .before .before .before .before .before .before .before .before .before .before .args in
+    let q = c .before .before .before .before .before .before .before .before .before .before .before .before .before .before .before .before .before .before .before .before .before .before .before .before .before .before .pre in
+    let is = receiver-is (contentsAt (a .file .now) (a .head)) (a .seats .now) (a .threads .now) (a .beside .now) (a .owners .now) (a .lines .now) (q .4) (a .i) (a .there) (a .moved) (q .5) (q .6) (q .7) (c .before .before .before .before .before .before .before .before .before .before .before .before .before .before .receiver-for .result) (c .before .before .before .before .before .before .before .before .before .before .before .before .before .before .receiver-for .ensures) in
+    let (l, h) = found-there (contentsAt (a .file .now) (a .head)) (a .seats .now) (a .threads .now) (a .beside .now) (a .owners .now) (a .lines .now) (q .4) (a .i) (a .there) (a .moved) (q .5) (q .6) (q .7) (c .before .before .before .before .before .before .before .before .before .before .before .before .before .before .receiver-for .result) is (c .before .before .before .before .before .before .before .before .before .before .before .before .before .if1 .left) in
+    (l, omega (arith, h, q .7, q .4 .sized .threads))
+
+with-moved-requires-2 : tie.Need-with-moved-requires-2
+with-moved-requires-2 c κs = let q = c .before .before .before .before .before .before .before .before .before .before .before .before .before .before .before .before .before .before .before .before .before .before .before .before .before .before .before .pre in (q .5, omega (arith, q .6, q .7, q .4 .sized .threads))
+
+same-length-3 : tie.Need-same-length-3
+same-length-3 c = search needs
+
+same-length-4 : tie.Need-same-length-4
+same-length-4 c = search needs
+
+same-length-5 : tie.Need-same-length-5
+same-length-5 c = search needs
+
+same-length-6 : tie.Need-same-length-6
+same-length-6 c = search needs
+
+returns-2 : tie.Need-returns-2
+returns-2 c =
+    let a = c .before .before .before .before .before .before .before .before .before .before .before .before .before .before .before .before .before .before .before .before .before .before .before .before .before .before .before .before .args in
+    let q = c .before .before .before .before .before .before .before .before .before .before .before .before .before .before .before .before .before .before .before .before .before .before .before .before .before .before .before .before .pre in
+    let g = c .before .before .before .before .before .before .before .before .before .before .choose-seated in
+    let is = receiver-is (contentsAt (a .file .now) (a .head)) (a .seats .now) (a .threads .now) (a .beside .now) (a .owners .now) (a .lines .now) (q .4) (a .i) (a .there) (a .moved) (q .5) (q .6) (q .7) (c .before .before .before .before .before .before .before .before .before .before .before .before .before .before .before .before .receiver-for .result) (c .before .before .before .before .before .before .before .before .before .before .before .before .before .before .before .before .receiver-for .ensures) in
+    told-met (contentsAt (a .file .now) (a .head)) (a .seats .now) (a .threads .now) (a .beside .now) (a .owners .now) (a .lines .now) (q .4) (a .i) (a .there) (a .moved) (q .5) (q .6) (q .7) (awaitedBy (a .table .now)) (g .result) _ _ _ _ (c .before .before .before .before .before .before .before .before .before .before .before .before .before .before .before .before .receiver-for .result) (g .ensures) (c .before .with-moved .result) (c .with-moved2 .result) is (c .before .before .before .before .before .before .before .before .before .before .before .before .before .before .before .if1 .left) (c .before .with-moved .ensures) (c .with-moved2 .ensures)
+
+pub meet-seated-spec : {M : Type 1} → statement M
+meet-seated-spec =
+    tie.close
+    (tie.spec
+    receiver-for-requires
+    add-t20
+    same-length
+    same-length-2
+    returns
+    choose-seated-requires
+    add-t30
+    with-moved-requires
+    with-moved-requires-2
+    same-length-3
+    same-length-4
+    same-length-5
+    same-length-6
+    returns-2)

@@ -1,0 +1,2 @@
+// Rounds with seats.
+pub mod visits;

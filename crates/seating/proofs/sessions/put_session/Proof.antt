@@ -1,0 +1,28 @@
+use mathlib.Core.Bool.{true, false}
+use Rattle.masks.specs.Mask.{has}
+use mathlib.Core.Path.{_≡_, sym, ap, _∙_}
+use native.Mathlib.Omega.{arith}
+use borrow.Author.Needs.{needs}
+use Rattle.seating.proofs.sessions.put_session.Statement.{statement}
+use Rattle.seating.proofs.sessions.put_session.Tie as tie
+
+has-role-requires : tie.Need-has-role-requires
+has-role-requires c κs = search needs
+
+with-session-requires : tie.Need-with-session-requires
+with-session-requires c κs = search needs
+
+returns : tie.Need-returns
+returns c =
+    let a = c .before .before .before .args in
+    let yes : has (a .active) (a .role .0) ≡ true = sym (c .before .before .has-role .ensures) ∙ c .before .if1 .taken in
+    c .with-session .ensures ∙ sym (rw yes)
+
+returns-2 : tie.Need-returns-2
+returns-2 c =
+    let a = c .before .before .args in
+    let no : has (a .active) (a .role .0) ≡ false = sym (c .before .has-role .ensures) ∙ c .if1 .left in
+    sym (rw no)
+
+pub put-session-spec : {M : Type 1} → statement M
+put-session-spec = tie.close (tie.spec has-role-requires with-session-requires returns returns-2)

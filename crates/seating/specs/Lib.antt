@@ -1,0 +1,4 @@
+pub mod SeatTables
+pub mod SeatedRunning
+pub mod SeatsRead
+pub mod SeatedRound

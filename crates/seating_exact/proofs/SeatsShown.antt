@@ -1,0 +1,79 @@
+-- The cases of seated runs, computed on the definitions.
+use mathlib.Core.Path.{refl}
+use Rattle.masks.specs.Mask.{has, with, without, held, namesOnly, within}
+use Rattle.format.specs.Words.{bytesOf}
+use Rattle.format.specs.Answers.{firstOf}
+use Rattle.format.specs.Header.{from1, from2, from3, from4, from5, headOf}
+use Rattle.format.specs.Contents.{tabled, item, contentsAt}
+use Rattle.tables.specs.Records.{recordFits, sectionAnswer, recordsAnswer}
+use Rattle.trees.specs.Ends.{following}
+use Rattle.trees.specs.Shape.{nodeFits, shapeFrom, roots, shapeAnswer}
+use Rattle.reading.specs.Reading.{reading}
+use Rattle.rules.specs.Juniors.{together, effective}
+use Rattle.rules.specs.Schema.{permits, permittingTo}
+use Rattle.rules.specs.Names.{named, kindOf, mine}
+use Rattle.rules.specs.Rules.{namesFit, kindsFit, able, wrong, childOf}
+use Rattle.rules.specs.Checking.{reached, openingsFrom, firstBy, namesAnswer, rightly}
+use Rattle.naming.specs.Scopes.{bindScope, scopeFrom, scopeOf, marked, nodeScope, scopesIn}
+use Rattle.checking.specs.Check.{readingNames}
+use Rattle.steps.specs.Threads.{value, firstFree}
+use Rattle.steps.specs.Choice.{kindHeld, meeting, sending, lone, aloneOnly, acting, done, outcome, choice}
+use Rattle.steps.specs.Beside.{madeWords, oneMore, oneLess, cleared, counted}
+use Rattle.choices.specs.Choices.{threadsFrom, run}
+use Rattle.choices.specs.Stored.{tried}
+use Rattle.running.specs.Ways.{standsIn}
+use Rattle.running.specs.Run.{threadWords, ranWords}
+use Rattle.reading_exact.specs.Lists.{All}
+use Rattle.rounds.specs.Round.{receiverFor, visited, visit, roundFrom, round}
+use Rattle.rounds.specs.Rounds.{numbers}
+use Rattle.seats.specs.Seats.{occupies, countTo, asksSeat, isNext, getsSeat, lineWith, ownersBy, seatedChoice, seatedRun, stepsOnly, waitsIn, lastIn, overfills, lowestTo}
+use Rattle.seating.specs.SeatedRunning.{smallSeats, seatTableAnswer, seatStartAnswer, seatedRunning, seatedOver, seatedLength}
+use Rattle.seating.specs.SeatsRead.{linesFrom, seatsAfter}
+use Rattle.seating.specs.SeatedRound.{seatedRounding, seatedRoundOver}
+use Rattle.seating_exact.specs.SeatCases.{SeatShown, seatCases}
+
+pub seats-shown : All SeatShown seatCases
+unfolding has with without held namesOnly within bytesOf firstOf from1 from2 from3 from4 from5 headOf tabled item contentsAt recordFits sectionAnswer recordsAnswer following nodeFits shapeFrom roots shapeAnswer reading together effective permits permittingTo named kindOf mine namesFit kindsFit able wrong childOf reached openingsFrom firstBy namesAnswer rightly bindScope scopeFrom scopeOf marked nodeScope scopesIn readingNames value firstFree kindHeld meeting sending lone aloneOnly acting done outcome choice madeWords oneMore oneLess cleared counted threadsFrom run tried standsIn threadWords ranWords receiverFor visited visit roundFrom round numbers occupies countTo asksSeat isNext getsSeat lineWith ownersBy seatedChoice seatedRun stepsOnly waitsIn lastIn overfills lowestTo smallSeats seatTableAnswer seatStartAnswer seatedRunning seatedOver seatedLength linesFrom seatsAfter seatedRounding seatedRoundOver
+seats-shown = (
+  (refl, refl, refl),
+  (
+    refl,
+    (
+      (refl, refl, refl),
+      (
+        refl,
+        (
+          (refl, refl, refl),
+          (
+            (refl, refl, refl),
+            (
+              refl,
+              (
+                (refl, refl, refl, refl),
+                (
+                  (refl, refl, refl),
+                  (
+                    (refl, refl, refl, refl),
+                    (
+                      (refl, refl, refl, refl),
+                      (
+                        (refl, refl, refl, refl),
+                        (
+                          (refl, refl, refl, refl),
+                          (
+                            (refl, refl, refl, refl),
+                            ((refl, refl), ((refl, refl), tt)),
+                          ),
+                        ),
+                      ),
+                    ),
+                  ),
+                ),
+              ),
+            ),
+          ),
+        ),
+      ),
+    ),
+  ),
+)

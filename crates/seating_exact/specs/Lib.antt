@@ -1,0 +1,4 @@
+pub mod SeatTable
+pub mod IsSeatedRound
+pub mod SeatsTold
+pub mod SeatCases

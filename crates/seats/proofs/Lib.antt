@@ -1,0 +1,14 @@
+pub mod LineLaws
+pub mod SittingLaws
+pub mod CountLaws
+pub mod StepOwners
+pub mod SeatedTold
+pub mod SeatedKept
+pub mod SeatedRuns
+pub mod SeatedPlain
+pub mod SeatedStart
+pub mod LineThreads
+pub mod OwnerTrees
+pub mod SessionCounts
+pub mod SeatedLast
+pub mod SeatedMoves
