@@ -15,9 +15,9 @@
  * pointer, allocates, or has a memory of the last one, so that calls may be made
  * from several threads at once.
  *
- * A refusal is a number from 1 to 25 and a place, which goes by the number: 0 for 1
- * to 5, 16, 17, 22 and 25; for 6 and 21 the first word of a record, from 0; for 7 a
- * session, for 8 to 15 and 24 a node, from 1 (0 for a starting mask, with 14); for 18
+ * A refusal is a number from 1 to 26 and a place, which goes by the number: 0 for 1
+ * to 5, 16, 17, 22 and 25; for 6 and 21 the first word of a record, from 0; for 7
+ * and 26 a session, for 8 to 15 and 24 a node, from 1 (0 for a starting mask, with 14); for 18
  * to 20, and in a run for 11 to 13 too, a choice, from 1; for 23 a row, from 1. Where
  * nothing is refused both are 0.
  *
@@ -46,8 +46,8 @@ extern "C" {
 /* The minutes of a week, and the most rows of a table of hours. */
 #define PILZDAMO_WEEK 10080
 #define PILZDAMO_ROWS 64
-/* The least bytes of the output of pilzdamo_run and pilzdamo_round: those of the
- * largest state. */
+/* The least bytes of the output of pilzdamo_run and pilzdamo_round, with seats too:
+ * those of the largest state. */
 #define PILZDAMO_RUN_ROOM 1800
 /* The words of a round's choices: two for each of at most 64. */
 #define PILZDAMO_ROUND_WORDS 128
@@ -60,6 +60,12 @@ extern "C" {
 #define PILZDAMO_BESIDE 162
 /* The most kinds of a file, each of which has a total. */
 #define PILZDAMO_TOTALS 32
+/* The most roles of a file, the most sessions, and so the most in a role's line; the
+ * words of all lines; the most seats of a role. */
+#define PILZDAMO_ROLES 16
+#define PILZDAMO_SESSIONS 32
+#define PILZDAMO_LINE_WORDS 512
+#define PILZDAMO_SEATS 32
 /* The least bytes of the output of pilzdamo_reason and pilzdamo_phrase; no sentence
  * has more. */
 #define PILZDAMO_SENTENCE 120
@@ -112,6 +118,18 @@ typedef struct {
     uint16_t totals[PILZDAMO_TOTALS];
 } pilzdamo_kind_totals;
 
+/* Who has a role and who waits for a seat in one; and what halted the run, or 0 and 0. */
+typedef struct {
+    uint16_t number;
+    uint16_t place;
+    uint16_t waited; /* how many choices were answered 26 */
+    uint16_t last;   /* what the last choice done was answered: 26, or 0 */
+    uint16_t taken[PILZDAMO_ROLES];     /* sessions that have each role, from 1 on */
+    uint16_t waiting[PILZDAMO_ROLES];   /* sessions in each role's line */
+    uint16_t line[PILZDAMO_LINE_WORDS]; /* PILZDAMO_SESSIONS words a role; 0 past the last */
+    uint16_t totals[PILZDAMO_TOTALS];   /* as in pilzdamo_kind_totals */
+} pilzdamo_role_seats;
+
 /* A refusal as a sentence says it; all 0 for bytes that are no sentence. */
 typedef struct {
     uint16_t number;
@@ -120,7 +138,7 @@ typedef struct {
     uint16_t tag; /* the node's, 0 to 8, or PILZDAMO_NO_TAG */
 } pilzdamo_said;
 
-/* A refusal, or 0 and 0 with the length in bytes of what is written. */
+/* A refusal, or 0 and 0; and the length in bytes of what is written, 0 for nothing. */
 typedef struct {
     uint16_t number;
     uint16_t place;
@@ -231,6 +249,38 @@ pilzdamo_kind_totals pilzdamo_totals(const uint8_t *file, size_t file_len,
                                      const uint16_t *choices, size_t words);
 
 /*
+ * pilzdamo_run and pilzdamo_round with seats: a table gives each role its seats, one
+ * word a role, 0 for no limit, else 1 to PILZDAMO_SEATS. A session has a seat in a role
+ * while any of its threads has the role active. An on by a session without one gets a
+ * seat exactly if one is free and nobody is in the role's line, or the session is the
+ * first there, which then leaves it. An on that gets none is answered 26: its session
+ * joins the line at the end, if it isn't in it, and nothing else changes. The choice
+ * counts as done, and is in a round's list.
+ *
+ * Behind 1 to 10 comes 17 for another number of words than roles and for a word above
+ * PILZDAMO_SEATS, and then 26 at the lowest session whose starting mask, taken in order,
+ * overfills a role; nothing is written then. All else is as without seats. The length
+ * that is answered is that of the state, also where a choice halts the run.
+ */
+pilzdamo_written pilzdamo_run_seated(const uint8_t *file, size_t file_len,
+                                     const uint16_t *choices, size_t words,
+                                     const uint16_t *seats, size_t seats_len,
+                                     uint8_t *out, size_t out_len);
+pilzdamo_round_choices pilzdamo_round_seated(const uint8_t *file, size_t file_len,
+                                             const uint16_t *choices, size_t words,
+                                             const uint16_t *seats, size_t seats_len,
+                                             uint8_t *out, size_t out_len);
+
+/*
+ * Who has a role and who waits for a seat, in the state to which a list of choices
+ * leads with a table of seats, or in which it stops. The refusals are those of
+ * pilzdamo_run_seated; for those before the first choice all else is 0.
+ */
+pilzdamo_role_seats pilzdamo_seats(const uint8_t *file, size_t file_len,
+                                   const uint16_t *choices, size_t words,
+                                   const uint16_t *seats, size_t seats_len);
+
+/*
  * The total of a kind from the words beside a lent list, which pilzdamo_start and
  * pilzdamo_choose keep; 0 for a kind outside 1 to PILZDAMO_TOTALS, and for another
  * number of words than PILZDAMO_BESIDE.
@@ -244,8 +294,8 @@ uint16_t pilzdamo_total(const uint16_t *beside, size_t words, uint16_t kind);
  *
  * What a number's place counts: nothing for 1 to 5, 16, 17, 22 and 25; words for 6 and 21;
  * sessions for 7; nodes for 8 to 10, 15 and 24; nodes or choices for 11 to 13; nodes or
- * nothing for 14; nothing or choices for 18; choices for 19 and 20; rows for 23. The
- * place is 0 exactly where nothing is counted. The tag is 0 to 8 for 9 to 15 at a
+ * nothing for 14; nothing or choices for 18; choices for 19 and 20; rows for 23;
+ * sessions or choices for 26. The place is 0 exactly where nothing is counted. The tag is 0 to 8 for 9 to 15 at a
  * node, and PILZDAMO_NO_TAG else. What is against this, and an out_len under
  * PILZDAMO_SENTENCE, is answered with 0, and nothing is written.
  */

@@ -50,7 +50,7 @@ unfolding threadsIn threadWords
 threads-words w p zero = refl
 threads-words w p (suc k) = omega (arith, threads-words w (p + 11) k)
 
-output-words : (count refusal : ℕ) (w b : List ℕ) → 8 + 4 * madeCount b + 24 * threadCount b ≡ 2 * length (ranWords (record { count = count; refusal = refusal; state = stateIn w b }))
+pub output-words : (count refusal : ℕ) (w b : List ℕ) → 8 + 4 * madeCount b + 24 * threadCount b ≡ 2 * length (ranWords (record { count = count; refusal = refusal; state = stateIn w b }))
 unfolding ranWords
 output-words count refusal w b =
     omega (

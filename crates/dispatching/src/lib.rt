@@ -56,14 +56,14 @@ pub struct Round {
 }
 
 // Not 17: an even number of words of choices, and at most 65,471 choices.
-fn is_listed_for_round(words: usize) -> bool
+pub fn is_listed_for_round(words: usize) -> bool
     ensures { λ r. ⌜ r ≡ roundListed words ⌝ }
 {
     (words % 2 == 0) & (words <= 130942)
 }
 
 // A refusal in place of a round.
-fn no_round(verdict: Verdict) -> Round
+pub fn no_round(verdict: Verdict) -> Round
     ensures { λ r. ⌜ r ≡ noRound verdict ⌝ }
 {
     Round {
@@ -75,7 +75,7 @@ fn no_round(verdict: Verdict) -> Round
 }
 
 // The bytes of an output: four words, two for each made channel, twelve for each thread.
-fn output_length(beside: &[u16]) -> u16
+pub fn output_length(beside: &[u16]) -> u16
     requires { ⌜ (threadCount (now beside) ≤ 64) × (madeCount (now beside) ≤ 64) ⌝ }
     ensures { λ r. ⌜ r ≡ 8 + 4 * madeCount (now (beside .entry)) + 24 * threadCount (now (beside .entry)) ⌝ }
 {

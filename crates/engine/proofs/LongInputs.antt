@@ -27,12 +27,16 @@ use Rattle.steps.specs.Beside.{totalsIn}
 use Rattle.running.specs.declared.Ready.{Ready}
 use Rattle.running.proofs.StandLaws.{stands-run, stands-over as stands-ran}
 use Rattle.dispatching.specs.Dispatch.{roundListed, roundUnready, noRound, rounding, roundOver}
+use Rattle.seating.specs.SeatedRunning.{seatedRunning, seatedLength, seatedOver}
+use Rattle.seating.specs.SeatsRead.{noSeats, seatsAfter}
+use Rattle.seating.specs.SeatedRound.{seatedRounding, seatedRoundOver}
 use Rattle.lending.specs.Lent.{lending, choosing, recordsOver, besideOver}
 use Rattle.lending.specs.Starting.{starting, recordsStarted, besideStarted}
 use Rattle.merging.specs.Merging.{ownAnswer}
 use Rattle.merging_exact.proofs.OwnAnswers.{own-fine}
 use Rattle.merging_exact.proofs.SameMerging.{MergedAlike, same-own, merged-alike}
 use Rattle.engine.specs.Alike.{Alike}
+use Rattle.engine.proofs.LongSeats as seats
 use Rattle.engine.proofs.LongHours.{stands-check-at, stands-measured-at, stands-place-at, stands-over-at}
 
 -- no pair, for a refusal
@@ -128,6 +132,12 @@ kept-alike f = record {
     round = λ ws room. judged (λ n. noRound (cond (roundListed (length ws) && leb 1800 room) (refused n 0) (refused 17 0))) (λ g. rounding g ws room) (λ g n e. round-refused g n e ws room) f;
     rounded = λ ws out. judged (λ n. out) (λ g. roundOver g ws out) (λ g n e. rounded-kept g n e ws out) f;
     totals = λ ws. judged (λ n. totalsOf (cond (listed (length ws)) (refused n 0) (refused 17 0)) (replicate 32 0)) (λ g. totalsAfter g ws) (λ g n e. totals-refused g n e ws) f;
+    run-seated = λ ws t room. judged (λ n. cond (listed (length ws) && leb 1800 room) (refused n 0) (refused 17 0)) (λ g. seatedRunning g ws t room) (λ g n e. seats.run-refused g n e ws t room) f;
+    length-seated = λ ws t room. judged (λ n. 0) (λ g. seatedLength g ws t room) (λ g n e. seats.length-none g n e ws t room) f;
+    ran-seated = λ ws t out. judged (λ n. out) (λ g. seatedOver g ws t out) (λ g n e. seats.run-kept g n e ws t out) f;
+    round-seated = λ ws t room. judged (λ n. noRound (cond (roundListed (length ws) && leb 1800 room) (refused n 0) (refused 17 0))) (λ g. seatedRounding g ws t room) (λ g n e. seats.round-refused g n e ws t room) f;
+    rounded-seated = λ ws t out. judged (λ n. out) (λ g. seatedRoundOver g ws t out) (λ g n e. seats.round-kept g n e ws t out) f;
+    seats = λ ws t. judged (λ n. noSeats (cond (listed (length ws)) (refused n 0) (refused 17 0))) (λ g. seatsAfter g ws t) (λ g n e. seats.seats-refused g n e ws t) f;
     choose = λ l b i p. judged (λ n. refused n 0) (λ g. choosing g l b i p) (λ g n e. choose-refused g n e l b i p) f;
     records = λ l b i p. judged (λ n. l) (λ g. recordsOver g l b i p) (λ g n e. records-kept g n e l b i p) f;
     beside = λ l b i p. judged (λ n. b) (λ g. besideOver g l b i p) (λ g n e. beside-kept g n e l b i p) f;

@@ -2,11 +2,12 @@
 -- What a caller gets is in the contracts of the exported functions (src/lib.rt): of any bytes handed over `pilzdamo_read` answers `readingNames`, the refusals 1 to 10,
 -- `pilzdamo_check` `checking`, the refusals 1 to 13, `pilzdamo_place` `placing`, with `placedOver` in the output, for a minute of the week `pilzdamo_check_at` `checkingAt`
 -- and `pilzdamo_place_at` `placingAt`, with `placedOverAt`, of two files `pilzdamo_merge` `merging`, with `mergedOver` in the output, `pilzdamo_run`
--- `running`, with `runOver` in the output, `pilzdamo_ready` `ready`, `pilzdamo_round` `rounding`, with `roundOver` in the output, `pilzdamo_totals` `totalsAfter`, `pilzdamo_total` `totalIn`,
+-- `running`, with `runOver` in the output, `pilzdamo_ready` `ready`, `pilzdamo_round` `rounding`, with `roundOver` in the output, with a table of seats
+-- `pilzdamo_run_seated` `seatedRunning` and the length `seatedLength`, with `seatedOver` in the output, `pilzdamo_round_seated` `seatedRounding`, with `seatedRoundOver`, and `pilzdamo_seats` `seatsAfter`, `pilzdamo_totals` `totalsAfter`, `pilzdamo_total` `totalIn`,
 -- `pilzdamo_start` `starting`, with `recordsStarted` in the lent list and
 -- `besideStarted` beside it, `pilzdamo_choose` `choosing`, with `recordsOver` and `besideOver`, and of a refusal's numbers `pilzdamo_reason` `reasonLength`, with `reasonOver` in the output,
 -- `pilzdamo_phrase` `meaningLength`, with `meaningOver`, and of a sentence `pilzdamo_read_reason` `understood`.
-use Prim.Native.Nat.{ℕ, _+_, _*_, _-_, _/_, _%_, _^_, _≤_, _<_}
+use Prim.Native.Nat.{ℕ, suc, _+_, _*_, _-_, _/_, _%_, _^_, _≤_, _<_}
 use mathlib.Core.Path.{_≡_, refl, sym, _∙_}
 use mathlib.Core.Logic.{_↔_, _≢_, _⊎_}
 use mathlib.Core.Bool.{true, false, cond}
@@ -18,6 +19,7 @@ use Rattle.masks.specs.Mask.{has, with, without}
 use Rattle.format.specs.Words.{wordAt, bytesOf}
 use Rattle.format.specs.Contents.{Contents, item, noSession, contentsOf}
 use Rattle.format.specs.Answers.{fine, refused}
+use Rattle.format.specs.declared.Verdict.{Verdict}
 use Rattle.format.specs.Header.{Counted, versionAt, roomFor}
 use Rattle.format.specs.declared.Six.{Six}
 use Rattle.reading.specs.Reading.{reading}
@@ -152,6 +154,31 @@ use Rattle.merging_exact.proofs.NamedItems.{names-kind}
 use Rattle.merging_exact.proofs.MergeAnswers.{merging-exactly, seventeen-merging, first-exactly, second-exactly, first-as-read, second-as-read, first-version, second-version, differ-exactly, beyond-exactly, merged-exactly}
 use Rattle.merging_exact.proofs.MergedOutput.{merged-as-data, merged-reads, first-names, second-names, passes-exactly, on-steps-add, placed-as-merged, length-answered, length-fits, merge-written, merge-kept}
 use Rattle.merging_exact.proofs.MergesShown.{merges-shown}
+use Rattle.running_exact.specs.Output.{stateBytes}
+use Rattle.rounds.specs.Round.{Taken, refuses, waits, steps}
+use Rattle.seats.specs.Seats.{Limited, limitedOf, seatsIn, SeatedState, sits, seatsTaken, threadNode, ownerOf, inLine, seatedChoice, oneDone, seatedRun, plainly, waitsIn, seatedStart, seatedRanOf}
+use Rattle.seats.specs.SeatOrder.{AsksSeat, GetsSeat, SeatedStep, Distinct, ahead, LineStep, HasRole, StandsAtOn, InTreeOf, Always, Between, NoMoreBefore}
+use Rattle.seats.proofs.SeatedTold.{seated-agrees, goes-iff, waits-iff, waits-only-line, halts-iff}
+use Rattle.seats.proofs.SeatedMoves.{waits-joins, steps-lines, owners-follow}
+use Rattle.seats.proofs.SeatedPlain.{SameRun, run-alike}
+use Rattle.seats.proofs.SeatedStart.{start-sits}
+use Rattle.seats.proofs.OwnerTrees.{owners-descend}
+use Rattle.seating.specs.SeatedRunning.{seatedRunning, seatedLength, seatedOver}
+use Rattle.seating.specs.SeatsRead.{seatedStepsOf, seatsAfter}
+use Rattle.seating.specs.SeatedRound.{seatedRounding, seatedRoundOver}
+use Rattle.seating_exact.specs.SeatTable.{SeatTableFits, SeatTableMisfits, OverfullAt, StartFits, SeatsBar}
+use Rattle.seating_exact.specs.SeatsTold.{SeatsTold, ReadsPlainly, noSeatsAt}
+use Rattle.seating_exact.specs.IsSeatedRound.{GoesOn, GetsNone, IsSeatedRound, SeatedVisits, SeatedRoundTold, SeatedRoundStopped}
+use Rattle.seating_exact.specs.SeatCases.{SeatShown, seatCases}
+use Rattle.seating_exact.proofs.SeatedFiles.{table-word, wait-is-done, not-its-word, file-never-over, file-lines, file-stands, file-before, file-moves, file-alone, file-has, file-moves-up}
+use Rattle.seating_exact.proofs.SeatedAnswers.{seated-seventeen, seated-names, seated-start, seated-through, seated-halted, seated-unwritten, seated-written}
+use Rattle.seating_exact.proofs.SeatedZeros.{zeros-answer, zeros-output, zeros-length}
+use Rattle.seating_exact.proofs.ZeroRounds.{zeros-round, zeros-round-output, zeros-read}
+use Rattle.seating_exact.proofs.SeatedRounds.{SeatedPath, some-seated-round, one-seated-round, seated-path, seated-lone-of, seated-idle-of}
+use Rattle.seating_exact.proofs.SeatedRoundAnswers.{seated-round-seventeen, seated-round-names, seated-round-start, seated-round-none, seated-round-unwritten, seated-round-stopped, seated-round-answered}
+use Rattle.seating_exact.proofs.SeatsAnswers.{seats-seventeen, seats-names, seats-start, seats-none, seats-verdict, seats-told, taken-within}
+use Rattle.seating_exact.proofs.SeatedSafe.{placed-file-safe}
+use Rattle.seating_exact.proofs.SeatsShown.{seats-shown}
 use Rattle.engine.proofs.LongInputs.{kept-alike}
 use Rattle.engine.proofs.NothingPlanned.{nothing-alike, nothing-checked, nothing-measured, nothing-placed, nothing-short, nothing-over, nothing-run, nothing-chosen, short-one, short-second}
 use Rattle.reading_exact.proofs.Bytes.{length-bytesOf, word-back, small-bytes}
@@ -890,7 +917,7 @@ sentence-to-120 = sentence-length
 pub sentence-says-why : (r : Reason) → IsReason r → (rest : List ℕ) × (sentence r ≡ meaning (r .number) ++ rest)
 sentence-says-why = meaning-first
 
-pub meaning-says-its-number : (n : ℕ) → 1 ≤ n → n ≤ 25 → (rest : List ℕ) × (meaning n ≡ (spelled "Refused " ++ (digitsOf 5 n ++ spelled ": ")) ++ rest)
+pub meaning-says-its-number : (n : ℕ) → 1 ≤ n → n ≤ 26 → (rest : List ℕ) × (meaning n ≡ (spelled "Refused " ++ (digitsOf 5 n ++ spelled ": ")) ++ rest)
 meaning-says-its-number = number-said
 
 -- It has four parts: the meaning, what is counted, the place's digits, the tag's ending, each of the last by its row in the table (`reasons-in-words` has each of them in words) ..
@@ -925,12 +952,12 @@ reader-says-no = no-exactly
 pub one-sentence-each : (r q : Reason) → IsReason r → IsReason q → sentence r ≡ sentence q → r ≡ q
 one-sentence-each = one-reason
 
--- "The rule is shown over the whole table of phrases": none of the 41 stands at the start of another.
-pub no-phrase-begins-another : (length phrases ≡ 41) × ((i j : ℕ) → i < 41 → j < 41 → i ≢ j → (x : List ℕ) → phrase i ++ x ≢ phrase j)
+-- "The rule is shown over the whole table of phrases": none of the 42 stands at the start of another.
+pub no-phrase-begins-another : (length phrases ≡ 42) × ((i j : ℕ) → i < 42 → j < 42 → i ≢ j → (x : List ℕ) → phrase i ++ x ≢ phrase j)
 no-phrase-begins-another = (many, none-begins-another)
 
--- The meaning of a number alone is answered likewise, for the numbers 1 to 25.
-pub meaning-of-each : (n room : ℕ) → (meaningLength n room ≢ 0) ↔ ((120 ≤ room) × (1 ≤ n) × (n ≤ 25))
+-- The meaning of a number alone is answered likewise, for the numbers 1 to 26.
+pub meaning-of-each : (n room : ℕ) → (meaningLength n room ≢ 0) ↔ ((120 ≤ room) × (1 ≤ n) × (n ≤ 26))
 meaning-of-each = meaning-exactly
 
 pub meaning-written : (n : ℕ) (out : List ℕ) → 120 ≤ length out → (meaningLength n (length out) ≡ length (meaning n)) × (meaningOver n out ≡ meaning n ++ drop (length (meaning n)) out)
@@ -1063,3 +1090,239 @@ merging-writes-nothing = merge-kept
 -- In literal words: the booking beside a clinic with all sorts of operands, sums at their limits, and each refusal in its turn.
 pub merges-in-words : All MergeShown mergeCases
 merges-in-words = merges-shown
+
+-- Request K10, seats per role. "A lent table gives each role its seats, one word a role: 0 for no limit, else 1 to 32."
+pub seats-by-words : (table : List ℕ) (r : ℕ) → InCount (length table) r → seatsIn table r ≡ getD table (r - 1) 0
+seats-by-words = table-word
+
+-- "With all words 0 a run is that of document 01": every answer and byte; a round is that of K5, and what is read has the run's answer and K6's totals, and nobody waits. "a choice in the desk's own list reads no seats":
+-- `choosing` has no table.
+pub zeros-run : (f table : List ℕ) → All (λ w. w ≡ 0) table → length table ≡ length (contentsOf f .roles)
+    → ((ws : List ℕ) (room : ℕ) → seatedRunning f ws table room ≡ running f ws room) × ((ws out : List ℕ) → seatedOver f ws table out ≡ runOver f ws out)
+    × ((ws out : List ℕ) → Fit ws (length out) → readingNames f ≡ fine → seatedLength f ws table (length out) ≡ stateBytes (length (ranOf f ws .state .made)) (length (ranOf f ws .state .threads)))
+zeros-run f table zeros fits = (zeros-answer f table zeros fits, zeros-output f table zeros fits, zeros-length f table zeros fits)
+
+pub zeros-round-alike : (f table : List ℕ) → All (λ w. w ≡ 0) table → length table ≡ length (contentsOf f .roles) → (ws : List ℕ)
+    → ((room : ℕ) → seatedRounding f ws table room ≡ rounding f ws room) × ((out : List ℕ) → seatedRoundOver f ws table out ≡ roundOver f ws out)
+zeros-round-alike f table zeros fits ws = (zeros-round f table zeros fits ws, zeros-round-output f table zeros fits ws)
+
+pub zeros-read-alike : (f table : List ℕ) → All (λ w. w ≡ 0) table → length table ≡ length (contentsOf f .roles) → (ws : List ℕ) → ReadsPlainly (seatsAfter f ws table) (totalsAfter f ws)
+zeros-read-alike = zeros-read
+
+-- "A session occupies a seat while any of its threads has the role active": in every state of a run. A thread's session is by descent: at the start thread k is session k's, a new thread has its maker's session, an end
+-- takes its own away; its node lies in that session's tree.
+pub occupies-a-seat : (f table : List ℕ) → StartFits (contentsOf f) table → (ws : List ℕ) (k r : ℕ) → (sits (seatedRanOf f table ws .seating) k r ≡ true) ↔ HasRole (seatedRanOf f table ws .seating) k r
+occupies-a-seat = file-has
+
+pub sessions-by-descent : (L : Limited) (S : SeatedState) (i p : ℕ) (S′ : SeatedState) → seatedChoice L S i p ≡ steps S′
+    → ((length (S′ .state .threads) ≡ length (S .state .threads)) × (S′ .owners ≡ S .owners))
+    ⊎ (((length (S′ .state .threads) ≡ suc (length (S .state .threads))) × (S′ .owners ≡ S .owners ++ (ownerOf S i ∷ [])))
+    ⊎ ((suc (length (S′ .state .threads)) ≡ length (S .state .threads)) × (S′ .owners ≡ take (i - 1) (S .owners) ++ drop i (S .owners))))
+sessions-by-descent = owners-follow
+
+pub threads-in-their-trees : (f : List ℕ) → readingNames f ≡ fine → (table ws : List ℕ)
+    → Always (λ T. (i : ℕ) → InCount (length (T .state .threads)) i → InTreeOf (contentsOf f) (ownerOf T i) (threadAt (T .state) i .node)) (limitedOf (contentsOf f) table) (seatedStart (contentsOf f)) ws
+threads-in-their-trees = owners-descend
+
+-- "An on by a session without a seat in the role gets one exactly when one is free and there is no line or the session is its head, which leaves the line as it takes it. An on that gets no seat is answered 26, and its
+-- session joins that role's line once, at the end": the four ways of a choice are `SeatedStep`'s, and no other; it goes on exactly as a step of the paper where it asks for no seat or gets one; it is answered 26 exactly where
+-- it asks and gets none; it is refused exactly as without seats. 18 and 11 come before 26: who asks is a thread in the list, alone, at an on of a role assigned to its user.
+pub seated-choice-exactly : (L : Limited) (S : SeatedState) (i p : ℕ) (a : Taken SeatedState) → (seatedChoice L S i p ≡ a) ↔ SeatedStep L S i p a
+seated-choice-exactly = seated-agrees
+
+pub goes-on-exactly : (L : Limited) (S : SeatedState) (i p : ℕ) (s : State)
+    → ((S′ : SeatedState) × (seatedChoice L S i p ≡ steps S′) × (S′ .state ≡ s)) ↔ (Steps (L .clinic) (S .state) i p s × (AsksSeat L S i p → GetsSeat L S i))
+goes-on-exactly = goes-iff
+
+pub waits-exactly : (L : Limited) (S : SeatedState) (i p : ℕ) → ((S′ : SeatedState) × (seatedChoice L S i p ≡ waits S′)) ↔ (AsksSeat L S i p × (GetsSeat L S i → ⊥))
+waits-exactly = waits-iff
+
+pub refused-as-without : (L : Limited) (S : SeatedState) (i p n : ℕ) → (seatedChoice L S i p ≡ refuses n) ↔ (choice (L .clinic) (S .state) i p ≡ halts n)
+refused-as-without = halts-iff
+
+pub head-leaves : (L : Limited) (S : SeatedState) (i p : ℕ) (S′ : SeatedState) → seatedChoice L S i p ≡ steps S′
+    → (AsksSeat L S i p × (((S .lines (threadNode L S i .f1) ≡ []) × (S′ .lines (threadNode L S i .f1) ≡ [])) ⊎ (S .lines (threadNode L S i .f1) ≡ ownerOf S i ∷ S′ .lines (threadNode L S i .f1)))
+    × ((r : ℕ) → r ≢ threadNode L S i .f1 → S′ .lines r ≡ S .lines r)) ⊎ ((AsksSeat L S i p → ⊥) × ((r : ℕ) → S′ .lines r ≡ S .lines r))
+head-leaves = steps-lines
+
+pub joins-once-at-the-end : (L : Limited) (S : SeatedState) (i p : ℕ) (S′ : SeatedState) → seatedChoice L S i p ≡ waits S′
+    → ((inLine (ownerOf S i) (S .lines (threadNode L S i .f1)) ≡ true) × (S′ .lines (threadNode L S i .f1) ≡ S .lines (threadNode L S i .f1)))
+    ⊎ ((inLine (ownerOf S i) (S .lines (threadNode L S i .f1)) ≡ false) × (S′ .lines (threadNode L S i .f1) ≡ S .lines (threadNode L S i .f1) ++ (ownerOf S i ∷ [])))
+joins-once-at-the-end = waits-joins
+
+-- "This answer does not stop the run and is not its refusal word: the choice counts as done, is no step of demand 2, and only the line changes": the state, the threads' sessions and every other line stay.
+pub only-the-line-changes : (L : Limited) (S : SeatedState) (i p : ℕ) (S′ : SeatedState) → seatedChoice L S i p ≡ waits S′
+    → (S′ .state ≡ S .state) × (S′ .owners ≡ S .owners) × ((r : ℕ) → r ≢ threadNode L S i .f1 → S′ .lines r ≡ S .lines r)
+only-the-line-changes = waits-only-line
+
+pub waiting-counts-as-done : (L : Limited) (S : SeatedState) (i p : ℕ) (S′ : SeatedState) → seatedChoice L S i p ≡ waits S′ → (ws : List ℕ) → seatedRun L S (i ∷ p ∷ ws) ≡ oneDone (seatedRun L S′ ws)
+waiting-counts-as-done = wait-is-done
+
+pub never-its-refusal-word : (f table ws : List ℕ) → seatedRanOf f table ws .refusal ≢ 26
+never-its-refusal-word = not-its-word
+
+-- .. so that with the choices answered 26 left out the run of the paper gives the same state and halts alike, with so many choices less done.
+pub alike-without-the-waits : (f table ws : List ℕ)
+    → SameRun (ranOf f (seatedStepsOf f table ws)) (seatedRanOf f table ws) (waitsIn (limitedOf (contentsOf f) table) (seatedStart (contentsOf f)) ws)
+alike-without-the-waits f table ws = run-alike (limitedOf (contentsOf f) table) ws (seatedStart (contentsOf f))
+
+-- "Seats taken, those of a role without limit too, and the line of each role are read separately": each is a field of `SeatsTold`, with how many were answered 26, what the last one done was answered, and K6's totals; number
+-- and place are the run's.
+pub seats-read : (f table ws : List ℕ) → Listed ws → readingNames f ≡ fine → SeatTableFits (contentsOf f) table → StartFits (contentsOf f) table → SeatsTold f table ws (seatsAfter f ws table)
+seats-read = seats-told
+
+pub seats-read-answer : (f table ws : List ℕ) → Listed ws → readingNames f ≡ fine → SeatTableFits (contentsOf f) table → StartFits (contentsOf f) table
+    → _≡_ {A = Verdict} (record { number = seatsAfter f ws table .number; place = seatsAfter f ws table .place }) (stopped (plainly (seatedRanOf f table ws)))
+seats-read-answer = seats-verdict
+
+-- "While it waits, a session never gets more sessions before it": of one that waits before and after a choice the sessions before it are the same, or the same less the head; so through any further choices in all of which it
+-- waits, they are the same less some of the first.
+pub never-more-before : (f table : List ℕ) → StartFits (contentsOf f) table → (ws : List ℕ) → Between NoMoreBefore (limitedOf (contentsOf f) table) (seatedStart (contentsOf f)) ws
+never-more-before = file-before
+
+pub only-fewer-before : (f table : List ℕ) → StartFits (contentsOf f) table → (ws vs : List ℕ) (r k : ℕ)
+    → Always (λ T. inLine k (T .lines r) ≡ true) (limitedOf (contentsOf f) table) (seatedRanOf f table ws .seating) vs
+    → (j : ℕ) × (ahead k (seatedRun (limitedOf (contentsOf f) table) (seatedRanOf f table ws .seating) vs .seating .lines r) ≡ drop j (ahead k (seatedRanOf f table ws .seating .lines r)))
+only-fewer-before = file-moves-up
+
+-- "and at no moment are more sessions in a role with a limit than it has seats": in every state that comes up, and as it is read.
+pub never-over-its-seats : (f table : List ℕ) → StartFits (contentsOf f) table → (ws : List ℕ)
+    → Always (λ T. (r : ℕ) → 1 ≤ seatsIn table r → seatsTaken (limitedOf (contentsOf f) table) T r ≤ seatsIn table r) (limitedOf (contentsOf f) table) (seatedStart (contentsOf f)) ws
+never-over-its-seats = file-never-over
+
+pub never-over-as-read : (f table ws : List ℕ) → Listed ws → readingNames f ≡ fine → SeatTableFits (contentsOf f) table → StartFits (contentsOf f) table
+    → (r : ℕ) → InCount 16 r → 1 ≤ seatsIn table r → getD (seatsAfter f ws table .taken) (r - 1) 0 ≤ seatsIn table r
+never-over-as-read = taken-within
+
+-- With one seat for a role: while a session has it, no other has it, at every choice of that stretch.
+pub one-seat-one-session : (f table : List ℕ) → StartFits (contentsOf f) table → (ws vs : List ℕ) (r k : ℕ) → seatsIn table r ≡ 1
+    → Always (λ T. sits T k r ≡ true) (limitedOf (contentsOf f) table) (seatedRanOf f table ws .seating) vs
+    → Always (λ T. (m : ℕ) → m ≢ k → sits T m r ≡ false) (limitedOf (contentsOf f) table) (seatedRanOf f table ws .seating) vs
+one-seat-one-session = file-alone
+
+-- Lines at every moment: no session twice in one, none that has the role, none for a role without limit; each session in one has a thread that stands at an on of the role; a line stays, has one more at its end, or loses its
+-- head, which takes a seat.
+pub lines-in-order : (f table : List ℕ) → StartFits (contentsOf f) table → (ws : List ℕ)
+    → Always (λ T. (r : ℕ) → Distinct (T .lines r) × ((k : ℕ) → inLine k (T .lines r) ≡ true → sits T k r ≡ false) × (seatsIn table r ≡ 0 → T .lines r ≡ [])) (limitedOf (contentsOf f) table)
+    (seatedStart (contentsOf f)) ws
+lines-in-order = file-lines
+
+pub who-waits-stands-at-an-on : (f table : List ℕ) → StartFits (contentsOf f) table → (ws : List ℕ)
+    → Always (λ T. (r k : ℕ) → inLine k (T .lines r) ≡ true → (i : ℕ) × StandsAtOn (limitedOf (contentsOf f) table) T k r i) (limitedOf (contentsOf f) table) (seatedStart (contentsOf f)) ws
+who-waits-stands-at-an-on = file-stands
+
+pub lines-move-so : (f table : List ℕ) → StartFits (contentsOf f) table → (ws : List ℕ)
+    → Between (λ T T′. (i : ℕ) × ((r : ℕ) → LineStep (limitedOf (contentsOf f) table) T T′ i r)) (limitedOf (contentsOf f) table) (seatedStart (contentsOf f)) ws
+lines-move-so = file-moves
+
+-- "A placed file may now wait for a seat; it still never halts for 11, 12 or 13": with any table and any list, whichever function is asked.
+pub placed-file-still-safe : (f : List ℕ) → All (λ b. b < 256) f → (room : ℕ) → placing f room .number ≡ 0 → (table ws : List ℕ) (room′ : ℕ)
+    → ((seatedRunning (placedBytes f) ws table room′ .number ≢ 11) × (seatedRunning (placedBytes f) ws table room′ .number ≢ 12) × (seatedRunning (placedBytes f) ws table room′ .number ≢ 13))
+    × ((seatedRounding (placedBytes f) ws table room′ .number ≢ 11) × (seatedRounding (placedBytes f) ws table room′ .number ≢ 12) × (seatedRounding (placedBytes f) ws table room′ .number ≢ 13))
+    × ((seatsAfter (placedBytes f) ws table .number ≢ 11) × (seatsAfter (placedBytes f) ws table .number ≢ 12) × (seatsAfter (placedBytes f) ws table .number ≢ 13))
+placed-file-still-safe = placed-file-safe
+
+-- "A dispatcher visit that gets no seat is in the round's list and excuses its thread from doing its step": `IsSeatedRound` is K5's round with that case, and every state has one and no other. Its choices go on or get no seat,
+-- one after the other.
+pub some-seated-round-exists : (L : Limited) (S : SeatedState) → (rs : List ℕ) × (S′ : SeatedState) × IsSeatedRound L S rs S′
+some-seated-round-exists = some-seated-round
+
+pub only-one-seated-round : (L : Limited) (S : SeatedState) (rs xs : List ℕ) (S′ S″ : SeatedState) → IsSeatedRound L S rs S′ → IsSeatedRound L S xs S″ → (rs ≡ xs) × (S′ ≡ S″)
+only-one-seated-round = one-seated-round
+
+pub seated-round-goes-on : (L : Limited) (S : SeatedState) (rs : List ℕ) (S′ : SeatedState) → IsSeatedRound L S rs S′ → SeatedPath L S rs S′
+seated-round-goes-on = seated-path
+
+-- .. of each thread that could do a lone step at the round's start: the visits before its own leave it as it was; then its lone choice comes and goes on, or comes and gets no seat, or is refused with 20.
+pub seated-lone-step-done : (L : Limited) (S : SeatedState) (v : ℕ) (S₁ : SeatedState) → GoesOn L S v 0 S₁ → (rs : List ℕ) (S′ : SeatedState) → IsSeatedRound L S rs S′
+    → (xs ys : List ℕ) × (g : Midway SeatedState) × (i : ℕ) × (rs ≡ xs ++ ys)
+    × SeatedVisits L S (v - 1) xs g × SeatedPath L S xs (g .state) × Here g v i × (threadAt (g .state .state) i ≡ threadAt (S .state) v)
+    × (((zs : List ℕ) × (S″ : SeatedState) × (ys ≡ i ∷ 0 ∷ zs) × GoesOn L (g .state) i 0 S″)
+    ⊎ (((zs : List ℕ) × (S″ : SeatedState) × (ys ≡ i ∷ 0 ∷ zs) × GetsNone L (g .state) i S″) ⊎ (choice (L .clinic) (g .state .state) i 0 ≡ halts 20)))
+seated-lone-step-done = seated-lone-of
+
+-- A round is empty exactly if no choice can be done.
+pub seated-empty-exactly : (L : Limited) (S : SeatedState) (rs : List ℕ) (S′ : SeatedState) → IsSeatedRound L S rs S′ → (rs ≡ []) ↔ ((i p : ℕ) → (n : ℕ) × (seatedChoice L S i p ≡ refuses n))
+seated-empty-exactly = seated-idle-of
+
+-- After a list that nothing stopped: the round's choices in 128 words, 0 past the last, and the output of the run through both lists. A list that stops has no round.
+pub seated-round-of-a-run : (f table ws : List ℕ) → readingNames f ≡ fine → SeatTableFits (contentsOf f) table → StartFits (contentsOf f) table → (room : ℕ) → RoundFit ws room
+    → seatedRanOf f table ws .refusal ≡ 0 → (rs : List ℕ) (S′ : SeatedState) → IsSeatedRound (limitedOf (contentsOf f) table) (seatedRanOf f table ws .seating) rs S′ → SeatedRoundTold f ws table rs room
+seated-round-of-a-run = seated-round-answered
+
+pub seated-stopped-list-has-none : (f table ws : List ℕ) → readingNames f ≡ fine → SeatTableFits (contentsOf f) table → StartFits (contentsOf f) table → (room : ℕ) → RoundFit ws room
+    → seatedRanOf f table ws .refusal ≢ 0 → SeatedRoundStopped f ws table room (seatedRanOf f table ws .refusal) (seatedRanOf f table ws .count + 1)
+seated-stopped-list-has-none = seated-round-stopped
+
+-- "A seat word above 32, or another number of words than roles, is 17, judged once the file has passed 1 to 10": 17 exactly there and where the list or the output doesn't fit, which comes before any look at the file ..
+pub seated-seventeen-exactly : (f table ws : List ℕ) (room : ℕ) → (seatedRunning f ws table room .number ≡ 17) ↔ (Unfit ws room ⊎ ((readingNames f ≡ fine) × SeatTableMisfits (contentsOf f) table))
+seated-seventeen-exactly = seated-seventeen
+
+pub seated-round-seventeen-exactly : (f table ws : List ℕ) (room : ℕ)
+    → (seatedRounding f ws table room .number ≡ 17) ↔ (RoundUnfit ws room ⊎ ((readingNames f ≡ fine) × SeatTableMisfits (contentsOf f) table))
+seated-round-seventeen-exactly = seated-round-seventeen
+
+pub seats-seventeen-exactly : (f table ws : List ℕ) → (seatsAfter f ws table .number ≡ 17) ↔ (Unlisted ws ⊎ ((readingNames f ≡ fine) × SeatTableMisfits (contentsOf f) table))
+seats-seventeen-exactly = seats-seventeen
+
+-- .. 1 to 10 exactly as the file is read, whatever the table ..
+pub seated-names-exactly : (f table ws : List ℕ) (room n p : ℕ) → OfFile n → (seatedRunning f ws table room ≡ refused n p) ↔ (Fit ws room × (readingNames f ≡ refused n p))
+seated-names-exactly = seated-names
+
+pub seated-round-names-exactly : (f table ws : List ℕ) (room n p : ℕ) → OfFile n
+    → (_≡_ {A = Verdict} (record { number = seatedRounding f ws table room .number; place = seatedRounding f ws table room .place }) (refused n p)) ↔ (RoundFit ws room × (readingNames f ≡ refused n p))
+seated-round-names-exactly = seated-round-names
+
+pub seats-names-exactly : (f table ws : List ℕ) (n p : ℕ) → OfFile n
+    → (_≡_ {A = Verdict} (record { number = seatsAfter f ws table .number; place = seatsAfter f ws table .place }) (refused n p)) ↔ (Listed ws × (readingNames f ≡ refused n p))
+seats-names-exactly = seats-names
+
+-- .. and "26 .. before the first choice .. is a refusal that writes nothing, its place the lowest session whose starting mask, taken in order, overfills a role": session k has a role at the start exactly if its starting mask has
+-- it (`Overfull` counts the sessions 1 to k that have it).
+pub seated-start-exactly : (f table ws : List ℕ) (room k : ℕ) → (seatedRunning f ws table room ≡ refused 26 k) ↔ (Fit ws room × (readingNames f ≡ fine) × SeatTableFits (contentsOf f) table × OverfullAt (contentsOf f) table k)
+seated-start-exactly = seated-start
+
+pub seated-round-start-exactly : (f table ws : List ℕ) (room k : ℕ)
+    → (_≡_ {A = Verdict} (record { number = seatedRounding f ws table room .number; place = seatedRounding f ws table room .place }) (refused 26 k))
+    ↔ (RoundFit ws room × (readingNames f ≡ fine) × SeatTableFits (contentsOf f) table × OverfullAt (contentsOf f) table k)
+seated-round-start-exactly = seated-round-start
+
+pub seats-start-exactly : (f table ws : List ℕ) (k : ℕ)
+    → (_≡_ {A = Verdict} (record { number = seatsAfter f ws table .number; place = seatsAfter f ws table .place }) (refused 26 k))
+    ↔ (Listed ws × (readingNames f ≡ fine) × SeatTableFits (contentsOf f) table × OverfullAt (contentsOf f) table k)
+seats-start-exactly = seats-start
+
+pub has-by-starting-mask : (C : Contents) (k r : ℕ) → (sits (seatedStart C) k r ≡ true) ↔ (InCount (length (C .sessions)) k × (has (item noSession (C .sessions) k .mask) r ≡ true))
+has-by-starting-mask = start-sits
+
+-- Whatever refuses before the first choice: length 0 and nothing written; a round's words, and all else that is read, are 0.
+pub seated-writes-nothing : (f table ws out : List ℕ) → SeatsBar (Unfit ws (length out)) f table → (seatedOver f ws table out ≡ out) × (seatedLength f ws table (length out) ≡ 0)
+seated-writes-nothing = seated-unwritten
+
+pub seated-round-has-nothing : (f table ws : List ℕ) (room : ℕ) → SeatsBar (RoundUnfit ws room) f table
+    → seatedRounding f ws table room ≡ noRoundAt (seatedRounding f ws table room .number) (seatedRounding f ws table room .place)
+seated-round-has-nothing = seated-round-none
+
+pub seated-round-writes-nothing : (f table ws out : List ℕ) → SeatsBar (RoundUnfit ws (length out)) f table → seatedRoundOver f ws table out ≡ out
+seated-round-writes-nothing = seated-round-unwritten
+
+pub seats-read-nothing : (f table ws : List ℕ) → SeatsBar (Unlisted ws) f table → seatsAfter f ws table ≡ noSeatsAt (seatsAfter f ws table .number) (seatsAfter f ws table .place)
+seats-read-nothing = seats-none
+
+-- Then what the run came to: 0 at 0, or the number that halted it at the choice after those done, those answered 26 among them; its state is written, also of a halted run, and the length is its bytes.
+pub seated-run-through : (f table ws : List ℕ) (room : ℕ) → Fit ws room → readingNames f ≡ fine → SeatTableFits (contentsOf f) table → StartFits (contentsOf f) table → seatedRanOf f table ws .refusal ≡ 0
+    → seatedRunning f ws table room ≡ fine
+seated-run-through = seated-through
+
+pub seated-run-halted : (f table ws : List ℕ) (room : ℕ) → Fit ws room → readingNames f ≡ fine → SeatTableFits (contentsOf f) table → StartFits (contentsOf f) table → seatedRanOf f table ws .refusal ≢ 0
+    → seatedRunning f ws table room ≡ refused (seatedRanOf f table ws .refusal) (seatedRanOf f table ws .count + 1)
+seated-run-halted = seated-halted
+
+pub seated-run-written : (f table ws out : List ℕ) → Fit ws (length out) → readingNames f ≡ fine → SeatTableFits (contentsOf f) table → StartFits (contentsOf f) table
+    → Written (plainly (seatedRanOf f table ws)) out (seatedOver f ws table out)
+    × (seatedLength f ws table (length out) ≡ stateBytes (length (seatedRanOf f table ws .seating .state .made)) (length (seatedRanOf f table ws .seating .state .threads)))
+seated-run-written = seated-written
+
+-- In literal words: a line of two, a free seat that goes to the head alone, a refused choice after one answered 26, the start, each wrong table, and rounds.
+pub seats-in-words : All SeatShown seatCases
+seats-in-words = seats-shown

@@ -28,6 +28,9 @@ use Rattle.placing.specs.Placing.{turnsFor, placeable, judging, noPlace, placed
 use Rattle.placing_at.specs.PlaceAt.{openContents, turnsAt, judgingAt, measuringAt, placingAt, placedBytesAt, placedOverAt}
 use Rattle.running.specs.Run.{running, runOver, ready, totalsAfter}
 use Rattle.dispatching.specs.Dispatch.{rounding, roundOver}
+use Rattle.seating.specs.SeatedRunning.{seatedRunning, seatedLength, seatedOver}
+use Rattle.seating.specs.SeatsRead.{seatsAfter}
+use Rattle.seating.specs.SeatedRound.{seatedRounding, seatedRoundOver}
 use Rattle.lending.specs.Lent.{lending, choosing, recordsOver, besideOver}
 use Rattle.lending.specs.Starting.{starting, recordsStarted, besideStarted}
 use Rattle.reading_exact.specs.File.{File, WellFormed, asSecond, encode}
@@ -62,7 +65,7 @@ module _ (f g : List ℕ) (r : reading f ≡ reading g) (c : contentsOf f ≡ co
       go false = (refl, refl, refl)
 
   pub alike-beside-form : AlikeBesideForm f g
-  unfolding readingNames checking readingAt readingNamesAt checkingAt measuring measuringAt running runOver ready totalsAfter rounding roundOver lending choosing recordsOver besideOver starting recordsStarted besideStarted
+  unfolding readingNames checking readingAt readingNamesAt checkingAt measuring measuringAt running runOver ready totalsAfter rounding roundOver seatedRunning seatedLength seatedOver seatsAfter seatedRounding seatedRoundOver lending choosing recordsOver besideOver starting recordsStarted besideStarted
   alike-beside-form = record {
     read = names;
     check = rw (r, c);
@@ -75,6 +78,12 @@ module _ (f g : List ℕ) (r : reading f ≡ reading g) (c : contentsOf f ≡ co
     round = λ ws room. rw (r, c);
     rounded = λ ws out. rw (r, c);
     totals = λ ws. rw (r, c);
+    run-seated = λ ws table room. rw (r, c);
+    length-seated = λ ws table room. rw (r, c);
+    ran-seated = λ ws table out. rw (r, c);
+    round-seated = λ ws table room. rw (r, c);
+    rounded-seated = λ ws table out. rw (r, c);
+    seats = λ ws table. rw (r, c);
     choose = λ l b i p. rw (r, c);
     records = λ l b i p. rw (r, c);
     beside = λ l b i p. rw (r, c);

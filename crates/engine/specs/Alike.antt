@@ -9,6 +9,9 @@ use Rattle.placing_at.specs.PlaceAt.{measuringAt, placingAt, placedOverAt}
 use Rattle.steps.specs.declared.Thread.{Thread}
 use Rattle.running.specs.Run.{running, runOver, ready, totalsAfter}
 use Rattle.dispatching.specs.Dispatch.{rounding, roundOver}
+use Rattle.seating.specs.SeatedRunning.{seatedRunning, seatedLength, seatedOver}
+use Rattle.seating.specs.SeatsRead.{seatsAfter}
+use Rattle.seating.specs.SeatedRound.{seatedRounding, seatedRoundOver}
 use Rattle.lending.specs.Lent.{choosing, recordsOver, besideOver}
 use Rattle.lending.specs.Starting.{starting, recordsStarted, besideStarted}
 use Rattle.merging.specs.Merging.{merging, mergedOver}
@@ -28,6 +31,13 @@ pub record AlikeBesideForm (f g : List ℕ) : Type 0 where
   pub round : (ws : List ℕ) (room : ℕ) → rounding f ws room ≡ rounding g ws room
   pub rounded : (ws out : List ℕ) → roundOver f ws out ≡ roundOver g ws out
   pub totals : (ws : List ℕ) → totalsAfter f ws ≡ totalsAfter g ws
+  -- with any table of seats: a run, the bytes that it writes, a round, and what is read
+  pub run-seated : (ws table : List ℕ) (room : ℕ) → seatedRunning f ws table room ≡ seatedRunning g ws table room
+  pub length-seated : (ws table : List ℕ) (room : ℕ) → seatedLength f ws table room ≡ seatedLength g ws table room
+  pub ran-seated : (ws table out : List ℕ) → seatedOver f ws table out ≡ seatedOver g ws table out
+  pub round-seated : (ws table : List ℕ) (room : ℕ) → seatedRounding f ws table room ≡ seatedRounding g ws table room
+  pub rounded-seated : (ws table out : List ℕ) → seatedRoundOver f ws table out ≡ seatedRoundOver g ws table out
+  pub seats : (ws table : List ℕ) → seatsAfter f ws table ≡ seatsAfter g ws table
   pub choose : (l : List Thread) (b : List ℕ) (i p : ℕ) → choosing f l b i p ≡ choosing g l b i p
   pub records : (l : List Thread) (b : List ℕ) (i p : ℕ) → recordsOver f l b i p ≡ recordsOver g l b i p
   pub beside : (l : List Thread) (b : List ℕ) (i p : ℕ) → besideOver f l b i p ≡ besideOver g l b i p

@@ -18,6 +18,7 @@ use placing::Placed;
 use reasons::Reason;
 use running::Ready;
 use running::Totals;
+use seating::Seats;
 use starting::start_records;
 use steps::Thread;
 ghost use mathlib.Core.Path.{_≡_};
@@ -29,6 +30,10 @@ ghost use Rattle.placing_at.specs.PlaceAt.{measuringAt, placingAt, placedOverAt
 ghost use Rattle.steps.specs.Beside.{totalIn};
 ghost use Rattle.running.specs.Run.{running, runOver, ready, totalsAfter};
 ghost use Rattle.dispatching.specs.Dispatch.{rounding, roundOver};
+ghost use Rattle.seating.specs.SeatedRunning.{seatedOver};
+ghost use Rattle.seating.specs.SeatsRead.{seatsAfter};
+ghost use Rattle.seating.specs.SeatedRound.{seatedRounding, seatedRoundOver};
+ghost use Rattle.seated.specs.SeatedEntry.{seatedWritten};
 ghost use Rattle.reasons.specs.Reasons.{reasonOf, understood, reasonLength, reasonOver, meaningLength, meaningOver};
 ghost use Rattle.lending.specs.Lent.{choosing, recordsOver, besideOver};
 ghost use Rattle.lending.specs.Starting.{starting, recordsStarted, besideStarted};
@@ -154,6 +159,48 @@ pub extern "C" fn pilzdamo_total(beside: &[u16], kind: u16) -> u16
     ensures { λ r. ⌜ r ≡ totalIn (now (beside .entry)) kind ⌝ }
 {
     steps::beside::total(beside, kind)
+}
+
+// Runs a clinic file through a list of choices with a table of seats, one word a role: 0 for no limit, else 1 to 32. The first of 17 for the list and the output, 1
+// to 10, 17 for the table, 26 at the lowest session whose starting mask, taken in order, overfills a role, and then length 0 and nothing is written; or the
+// refusal that halted the run, with the choice's number as place, or 0 and 0, and then the last state at the start of the output, in as many bytes as the
+// length says. A choice that gets no seat is done, and its session waits. Every other byte of the output stays.
+#[no_mangle]
+pub extern "C" fn pilzdamo_run_seated(
+    file: &[u8],
+    choices: &[u16],
+    seats: &[u16],
+    out: &mut [u8],
+) -> Written
+    ensures { λ r. ⌜ (r ≡ seatedWritten (now (file .entry)) (now (choices .entry)) (now (seats .entry)) (length (now (out .entry))))
+        × (now (out .exit) ≡ seatedOver (now (file .entry)) (now (choices .entry)) (now (seats .entry)) (now (out .entry))) ⌝ }
+{
+    seated::run_seated(file, choices, seats, out)
+}
+
+// The round after the list of choices with a table of seats, as without one; a visit that gets no seat is among its choices. Refused as the run with seats is, and
+// 17 also for over 65,471 choices: then length and words are 0 and nothing is written.
+#[no_mangle]
+pub extern "C" fn pilzdamo_round_seated(
+    file: &[u8],
+    choices: &[u16],
+    seats: &[u16],
+    out: &mut [u8],
+) -> Round
+    ensures { λ r. ⌜ (r ≡ seatedRounding (now (file .entry)) (now (choices .entry)) (now (seats .entry)) (length (now (out .entry))))
+        × (now (out .exit) ≡ seatedRoundOver (now (file .entry)) (now (choices .entry)) (now (seats .entry)) (now (out .entry))) ⌝ }
+{
+    seated_rounds::round_seated(file, choices, seats, out)
+}
+
+// What is read of the state in which the run with seats stands, halted or not: how many choices were answered 26, what the last one done was answered (26 or 0),
+// for each of the roles 1 to 16 the seats taken, how many sessions wait, and its line from 32 * (role - 1) on, 0 past the last, and the 32 totals. The number and
+// place are those of the run; where it is refused before the first choice the rest is 0.
+#[no_mangle]
+pub extern "C" fn pilzdamo_seats(file: &[u8], choices: &[u16], seats: &[u16]) -> Seats
+    ensures { λ r. ⌜ r ≡ seatsAfter (now (file .entry)) (now (choices .entry)) (now (seats .entry)) ⌝ }
+{
+    seated::seats_after(file, choices, seats)
 }
 
 // Carries out one choice in the list that the live desk lends: 64 records of threads, and beside them 162 words: the thread count, the number of made

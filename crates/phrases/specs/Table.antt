@@ -38,7 +38,7 @@ inWords =
     "Refused 14: a routine to be placed has an on, an off or a starting role" ∷
     "Refused 15: no role that the user may put on permits the step" ∷
     "Refused 16: the placed file would have over 1,024 nodes" ∷
-    "Refused 17: the output is too short, or the list of choices is odd or too long" ∷
+    "Refused 17: the output is too short, or the list of choices or of seats does not fit" ∷
     "Refused 18: the list lent, the thread or its partner is not one for this step" ∷
     "Refused 19: the values compared are not equal, or the two channels differ" ∷
     "Refused 20: it would be the 65th thread or made channel" ∷
@@ -46,20 +46,21 @@ inWords =
     "Refused 22: the minute is above 10,079, or the hours are not whole rows, at most 64" ∷
     "Refused 23: the row names no such role, or no stretch of the week" ∷
     "Refused 24: the role put on is closed at that minute" ∷
-    "Refused 25: the two files' tables of roles or kinds differ" ∷ []
+    "Refused 25: the two files' tables of roles or kinds differ" ∷
+    "Refused 26: the role has no free seat, or other sessions are before this one in line" ∷ []
 
 -- the last of what is counted, and the last number that has a meaning; how many rows these are, and how many bytes
 abbrev pub lastCount : ℕ
 lastCount = 5
 
 abbrev pub lastNumber : ℕ
-lastNumber = 25
+lastNumber = 26
 
 abbrev pub rowCount : ℕ
-rowCount = 41
+rowCount = 42
 
 abbrev pub byteCount : ℕ
-byteCount = 1746
+byteCount = 1836
 
 -- the row of a tag's ending (9: no tag), of what is counted (0: none), of a number's meaning
 abbrev pub endingRow : ℕ → ℕ

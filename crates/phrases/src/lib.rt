@@ -6,7 +6,7 @@ ghost use lib.Seq.{paste, slice};
 ghost use Rattle.phrases.specs.Table.{rowCount};
 ghost use Rattle.phrases.specs.Phrases.{phrases, phrase, prefix, allText, allStarts, leading, putInto};
 
-const TEXT: [u8; 1746] = *b"\
+const TEXT: [u8; 1836] = *b"\
     , an end.\
     , a fork.\
     , a repeat.\
@@ -39,7 +39,7 @@ const TEXT: [u8; 1746] = *b"\
     Refused 14: a routine to be placed has an on, an off or a starting role\
     Refused 15: no role that the user may put on permits the step\
     Refused 16: the placed file would have over 1,024 nodes\
-    Refused 17: the output is too short, or the list of choices is odd or too long\
+    Refused 17: the output is too short, or the list of choices or of seats does not fit\
     Refused 18: the list lent, the thread or its partner is not one for this step\
     Refused 19: the values compared are not equal, or the two channels differ\
     Refused 20: it would be the 65th thread or made channel\
@@ -47,9 +47,10 @@ const TEXT: [u8; 1746] = *b"\
     Refused 22: the minute is above 10,079, or the hours are not whole rows, at most 64\
     Refused 23: the row names no such role, or no stretch of the week\
     Refused 24: the role put on is closed at that minute\
-    Refused 25: the two files' tables of roles or kinds differ";
+    Refused 25: the two files' tables of roles or kinds differ\
+    Refused 26: the role has no free seat, or other sessions are before this one in line";
 
-const STARTS: [u16; 42] = [
+const STARTS: [u16; 43] = [
     0,
     9,
     18,
@@ -83,29 +84,30 @@ const STARTS: [u16; 42] = [
     1024,
     1085,
     1140,
-    1218,
-    1295,
-    1368,
-    1423,
-    1488,
-    1571,
-    1636,
-    1688,
-    1746,
+    1224,
+    1301,
+    1374,
+    1429,
+    1494,
+    1577,
+    1642,
+    1694,
+    1752,
+    1836,
 ];
 
 // How many phrases there are.
-const COUNT: usize = 41;
+const COUNT: usize = 42;
 
 // All phrases one after the other.
-pub fn phrase_text() -> [u8; 1746]
+pub fn phrase_text() -> [u8; 1836]
     ensures { λ r. ⌜ r ≡ allText ⌝ }
 {
     TEXT
 }
 
 // Where each starts, and where the last ends.
-pub fn phrase_starts() -> [u16; 42]
+pub fn phrase_starts() -> [u16; 43]
     ensures { λ r. ⌜ r ≡ allStarts ⌝ }
 {
     STARTS

@@ -7,7 +7,7 @@ use native.Mathlib.Omega.{arith}
 use lib.Dec.{eqb, leb, ltb}
 use borrow.Author.Tests.{eqb-true, eqb-false, leb-true, leb-false, ltb-true, eq-eqb, le-leb, lt-leb, lt-ltb, not-true}
 use Rattle.reasons.specs.declared.Reason.{Reason}
-use Rattle.reasons.specs.IsReason.{MayCount, of-file, of-record, of-start, of-tree, of-step, of-chosen, of-placing, of-placing-node, of-unserved, of-room, of-lent, of-thread, of-pair, of-junior, of-minute, of-row, of-closed, of-joining, PlaceFits, AtNode, TagFits, some-tag, no-tag, IsReason}
+use Rattle.reasons.specs.IsReason.{MayCount, of-file, of-record, of-start, of-tree, of-step, of-chosen, of-placing, of-placing-node, of-unserved, of-room, of-lent, of-thread, of-pair, of-junior, of-minute, of-row, of-closed, of-joining, of-overfull, of-seat, PlaceFits, AtNode, TagFits, some-tag, no-tag, IsReason}
 use Rattle.reasons.specs.Reasons.{byNone, byNode, byChoice, mayCount, placeFits, atNode, tagFits, isReason}
 
 either : {C : Type 0} (a b : Bool) → (a || b) ≡ true → (a ≡ true → C) → (b ≡ true → C) → C
@@ -60,9 +60,11 @@ node-given n c e h =
 choice-given : (n c : ℕ) → c ≡ 4 → byChoice n ≡ true → MayCount n c
 unfolding byChoice
 choice-given n c e h =
-    either (leb 11 n && leb n 13) (leb 18 n && leb n 20) h
+    either (leb 11 n && leb n 13 || leb 18 n && leb n 20) (eqb n 26) h
+    (λ h. either (leb 11 n && leb n 13) (leb 18 n && leb n 20) h
     (λ h. of-chosen (range 11 n 13 h .0) (range 11 n 13 h .1) e)
-    (λ h. first (leb n 18) refl (range 18 n 20 h))
+    (λ h. first (leb n 18) refl (range 18 n 20 h)))
+    (λ h. of-seat (eqb-true n 26 h) e)
   where
     first : (b : Bool) → leb n 18 ≡ b → (18 ≤ n) × (n ≤ 20) → MayCount n c
     first true k x = of-thread (omega (arith, leb-true n 18 k, x .0)) e
@@ -73,7 +75,7 @@ unfolding mayCount
 may-count n c h =
     let t0 : Bool = eqb c 0 && byNone n in
     let t1 : Bool = eqb c 1 && (eqb n 6 || eqb n 21) in
-    let t2 : Bool = eqb c 2 && eqb n 7 in
+    let t2 : Bool = eqb c 2 && (eqb n 7 || eqb n 26) in
     let t3 : Bool = eqb c 3 && byNode n in
     let t4 : Bool = eqb c 4 && byChoice n in
     let t5 : Bool = eqb c 5 && eqb n 23 in
@@ -85,7 +87,8 @@ may-count n c h =
     (λ h. let x = both (eqb c 0) (byNone n) h in none-given n c (eqb-true c 0 (x .0)) (x .1))
     (λ h. let x = both (eqb c 1) (eqb n 6 || eqb n 21) h in
     either (eqb n 6) (eqb n 21) (x .1) (λ k. of-record (eqb-true n 6 k) (eqb-true c 1 (x .0))) (λ k. of-junior (eqb-true n 21 k) (eqb-true c 1 (x .0)))))
-    (λ h. let x = both (eqb c 2) (eqb n 7) h in of-start (eqb-true n 7 (x .1)) (eqb-true c 2 (x .0))))
+    (λ h. let x = both (eqb c 2) (eqb n 7 || eqb n 26) h in
+    either (eqb n 7) (eqb n 26) (x .1) (λ k. of-start (eqb-true n 7 k) (eqb-true c 2 (x .0))) (λ k. of-overfull (eqb-true n 26 k) (eqb-true c 2 (x .0)))))
     (λ h. let x = both (eqb c 3) (byNode n) h in node-given n c (eqb-true c 3 (x .0)) (x .1)))
     (λ h. let x = both (eqb c 4) (byChoice n) h in choice-given n c (eqb-true c 4 (x .0)) (x .1)))
     (λ h. let x = both (eqb c 5) (eqb n 23) h in of-row (eqb-true n 23 (x .1)) (eqb-true c 5 (x .0)))
@@ -126,6 +129,8 @@ count-may n c (of-minute i e) = rw (i, e) refl
 count-may n c (of-row i e) = rw (i, e) refl
 count-may n c (of-closed i e) = rw (i, e) refl
 count-may n c (of-joining i e) = rw (i, e) refl
+count-may n c (of-overfull i e) = rw (i, e) refl
+count-may n c (of-seat i e) = rw (i, e) refl
 
 place-fits : (c p : ℕ) → placeFits c p ≡ true → p ≤ 65535 → PlaceFits c p
 unfolding placeFits

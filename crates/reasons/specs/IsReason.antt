@@ -34,6 +34,9 @@ pub data MayCount (n c : ℕ) : Type 0 where
   of-closed : n ≡ 24 → c ≡ 3 → MayCount n c
   -- K9
   of-joining : n ≡ 25 → c ≡ 0 → MayCount n c
+  -- K10: at the start, or in a choice
+  of-overfull : n ≡ 26 → c ≡ 2 → MayCount n c
+  of-seat : n ≡ 26 → c ≡ 4 → MayCount n c
 
 -- "A place is 0 exactly with none, else up to 65,535."
 abbrev pub PlaceFits : ℕ → ℕ → Type 0

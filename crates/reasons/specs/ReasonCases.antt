@@ -50,6 +50,8 @@ reasonCases =
     ∷ says 14 0 0 9 "Refused 14: a routine to be placed has an on, an off or a starting role; no place."
     ∷ says 24 3 1024 9 "Refused 24: the role put on is closed at that minute at node 1024."
     ∷ says 25 0 0 9 "Refused 25: the two files' tables of roles or kinds differ; no place."
+    ∷ says 26 2 3 9 "Refused 26: the role has no free seat, or other sessions are before this one in line at session 3."
+    ∷ says 26 4 65535 9 "Refused 26: the role has no free seat, or other sessions are before this one in line at choice 65535."
     -- any of the nine
     ∷ says 9 3 1 0 "Refused 9: an operand names nothing, or a role or kind is out of count at node 1, an end."
     ∷ says 10 3 99 3 "Refused 10: the step is against the rules of kinds and owners at node 99, a new channel."
@@ -79,12 +81,15 @@ reasonCases =
     ∷ unsaid 24 3 4 7
     ∷ unsaid 25 2 1 9
     ∷ unsaid 26 0 0 9
+    ∷ unsaid 26 3 1 9
+    ∷ unsaid 27 0 0 9
     ∷ unsaid 0 0 0 0
     ∷ means 13 "Refused 13: no active role permits the step"
     ∷ means 24 "Refused 24: the role put on is closed at that minute"
     ∷ means 0 ""
     ∷ means 25 "Refused 25: the two files' tables of roles or kinds differ"
-    ∷ means 26 ""
+    ∷ means 26 "Refused 26: the role has no free seat, or other sessions are before this one in line"
+    ∷ means 27 ""
     -- what each number counts, and means
     ∷ counts 0 []
     ∷ counts 1 (0 ∷ [])
@@ -112,7 +117,8 @@ reasonCases =
     ∷ counts 23 (5 ∷ [])
     ∷ counts 24 (3 ∷ [])
     ∷ counts 25 (0 ∷ [])
-    ∷ counts 26 []
+    ∷ counts 26 (2 ∷ 4 ∷ [])
+    ∷ counts 27 []
     ∷ means 1 "Refused 1: the file has 1 to 25 bytes (to 27 in version 2), or an odd number of them"
     ∷ means 2 "Refused 2: the version is not one that can be read here"
     ∷ means 3 "Refused 3: a count is out of range"
@@ -128,7 +134,7 @@ reasonCases =
     ∷ means 14 "Refused 14: a routine to be placed has an on, an off or a starting role"
     ∷ means 15 "Refused 15: no role that the user may put on permits the step"
     ∷ means 16 "Refused 16: the placed file would have over 1,024 nodes"
-    ∷ means 17 "Refused 17: the output is too short, or the list of choices is odd or too long"
+    ∷ means 17 "Refused 17: the output is too short, or the list of choices or of seats does not fit"
     ∷ means 18 "Refused 18: the list lent, the thread or its partner is not one for this step"
     ∷ means 19 "Refused 19: the values compared are not equal, or the two channels differ"
     ∷ means 20 "Refused 20: it would be the 65th thread or made channel"

@@ -19,11 +19,11 @@ unfoldable pub byNode : ℕ → Bool
 byNode n = leb 8 n && leb n 15 || eqb n 24
 
 unfoldable pub byChoice : ℕ → Bool
-byChoice n = leb 11 n && leb n 13 || leb 18 n && leb n 20
+byChoice n = leb 11 n && leb n 13 || leb 18 n && leb n 20 || eqb n 26
 
 unfoldable pub mayCount : ℕ → ℕ → Bool
 mayCount n c =
-    eqb c 0 && byNone n || eqb c 1 && (eqb n 6 || eqb n 21) || eqb c 2 && eqb n 7 || eqb c 3 && byNode n || eqb c 4 && byChoice n || eqb c 5 && eqb n 23
+    eqb c 0 && byNone n || eqb c 1 && (eqb n 6 || eqb n 21) || eqb c 2 && (eqb n 7 || eqb n 26) || eqb c 3 && byNode n || eqb c 4 && byChoice n || eqb c 5 && eqb n 23
 
 unfoldable pub placeFits : ℕ → ℕ → Bool
 placeFits c p = eqb c 0 && eqb p 0 || ltb 0 c && ltb 0 p

@@ -31,7 +31,7 @@ const COUNTS: usize = 10;
 
 const MEANINGS: usize = 15;
 
-const LAST: u16 = 25;
+const LAST: u16 = 26;
 
 fn by_none(n: u16) -> bool
     ensures { λ r. ⌜ r ≡ byNone n ⌝ }
@@ -48,7 +48,7 @@ fn by_node(n: u16) -> bool
 fn by_choice(n: u16) -> bool
     ensures { λ r. ⌜ r ≡ byChoice n ⌝ }
 {
-    (11 <= n) & (n <= 13) | (18 <= n) & (n <= 20)
+    (11 <= n) & (n <= 13) | (18 <= n) & (n <= 20) | (n == 26)
 }
 
 // Whether a number may have what is counted.
@@ -57,7 +57,7 @@ fn may_count(n: u16, c: u16) -> bool
 {
     (c == 0) & by_none(n)
         | (c == 1) & ((n == 6) | (n == 21))
-        | (c == 2) & (n == 7)
+        | (c == 2) & ((n == 7) | (n == 26))
         | (c == 3) & by_node(n)
         | (c == 4) & by_choice(n)
         | (c == 5) & (n == 23)

@@ -5,7 +5,7 @@ use mathlib.Core.Bool.{Bool, true, false, cond, not, _&&_, and-eq-true-iff}
 use mathlib.Core.List.{List, [], _∷_}
 use native.Mathlib.Omega.{arith}
 use lib.Dec.{eqb, leb}
-use lib.ListN.{length, getD, drop, replicate, length-append, length-drop}
+use lib.ListN.{length, getD, drop, replicate, length-drop}
 use lib.Seq.{sets, drop-cons}
 use borrow.Author.Tests.{eq-eqb, ne-eqb, eqb-true, eqb-false, leb-true, le-leb, lt-leb}
 use Rattle.format.specs.Contents.{Contents, contentsAt}
@@ -17,19 +17,17 @@ use Rattle.reading.specs.declared.Opened.the-variants.{Fine, Refused}
 use Rattle.checking.specs.Check.{readingNames, entered}
 use Rattle.checking.proofs.CheckLaws.{entered-fine, entered-refused}
 use Rattle.steps.specs.Choice.{State}
-use Rattle.steps.specs.Records.{threadsIn}
-use Rattle.steps.specs.Beside.{threadCount, madeCount, madeIn, madeWords}
+use Rattle.steps.specs.Beside.{threadCount, madeCount}
 use Rattle.steps.specs.Kept.{stateIn, Sized}
-use Rattle.steps.proofs.ActLaws.{length-made}
 use Rattle.choices.specs.declared.Progress.{Progress}
 use Rattle.choices.specs.Choices.{Ran}
-use Rattle.running.specs.Run.{threadWords, ranWords, listed, stopped}
+use Rattle.running.specs.Run.{ranWords, listed, stopped}
 use Rattle.running.proofs.EntryLaws.{progressOf, stopped-by, put-by}
-use Rattle.running.proofs.PutLaws.{made-words-length}
+use Rattle.dispatching.proofs.EntryLaws.{output-words}
 use Rattle.rounds.specs.Round.{Taken, refuses, waits, steps}
 use Rattle.seats.specs.Seats.{Limited, limitedOf, SeatedState, seatedChoice, SeatedRan, followSeated, seatedRun, plainly, seatedStart, overfilledAt}
 use Rattle.seating.specs.SeatedRunning.{smallSeats, seatTableAnswer, seatStartAnswer, seatedRunning, seatedOver, seatedLength}
-use Rattle.seated.specs.declared.Written.{Written}
+use Rattle.merging.specs.declared.Written.{Written}
 use Rattle.seated.specs.declared.SeatedWent.{SeatedWent}
 use Rattle.seated.specs.SeatedTables.{seatedIn}
 use Rattle.seated.specs.SeatedLists.{SeatedThrough}
@@ -91,23 +89,6 @@ module _ (C : Contents) (table : List ℕ) where
       go false e y f = let no : ⊥ = omega (arith, ap (λ (v : Verdict). v .number) (bar-table e) ∙ h) in absurd no
       go true e true f = (eqb-true (length table) (length (C .roles)) (and-eq-true-iff (eqb (length table) (length (C .roles))) (smallSeats table) .0 e .0), eqb-true over 0 f)
       go true e false f = let no : ⊥ = omega (arith, ap (λ (v : Verdict). v .number) (bar-start e over refl (eqb-false over 0 f)) ∙ h) in absurd no
-
--- the bytes of an output
-threads-words : (w : List ℕ) (p k : ℕ) → length (threadWords (threadsIn w p k)) ≡ 12 * k
-unfolding threadsIn threadWords
-threads-words w p zero = refl
-threads-words w p (suc k) = omega (arith, threads-words w (p + 11) k)
-
-output-words : (count refusal : ℕ) (w b : List ℕ) → 8 + 4 * madeCount b + 24 * threadCount b ≡ 2 * length (ranWords (record { count = count; refusal = refusal; state = stateIn w b }))
-unfolding ranWords
-output-words count refusal w b =
-    omega (
-      arith,
-      length-append (madeWords (madeIn b 2 (madeCount b))) (threadWords (threadsIn w 0 (threadCount b))),
-      made-words-length (madeIn b 2 (madeCount b)),
-      length-made b 2 (madeCount b),
-      threads-words w 0 (threadCount b),
-    )
 
 -- a file that 1 to 10 leave clean
 module _ (C : Contents) (table ws out : List ℕ) (bar : Verdict) (is : bar ≡ seatsBar C table) where

@@ -4,13 +4,15 @@ pub mod list;
 mod read;
 pub mod runs;
 pub mod start;
-mod table;
+pub mod table;
 
 use checking::enter;
 use checking::enter_scoped;
 use choices::Progress;
+use dispatching::output_length;
 use format::Head;
 use format::Verdict;
+use merging::Written;
 use read::line_words;
 use read::taken_words;
 use read::waiting_words;
@@ -20,19 +22,16 @@ use running::stopped_at;
 use runs::run_seated_by;
 use seating::Seats;
 use steps::beside::BESIDE;
-use steps::beside::made_count;
-use steps::beside::thread_count;
 use steps::beside::totals_of;
 use steps::records::TABLE;
 use table::seats_bar;
 ghost use mathlib.Core.Path.{_≡_};
 ghost use mathlib.Core.Bool.{cond};
-ghost use Prim.Native.Nat.{_+_, _*_, _≤_};
+ghost use Prim.Native.Nat.{_≤_};
 ghost use lib.ListN.{length, replicate};
 ghost use Rattle.format.specs.Header.{Laid};
 ghost use Rattle.format.specs.Contents.{contentsAt};
 ghost use Rattle.naming.specs.Scopes.{awaitedBy};
-ghost use Rattle.steps.specs.Beside.{threadCount, madeCount};
 ghost use Rattle.running.specs.Run.{listed};
 ghost use Rattle.seating.specs.SeatedRunning.{seatedOver};
 ghost use Rattle.seating.specs.SeatsRead.{noSeats, seatsAfter};
@@ -54,27 +53,11 @@ pub struct SeatedWent {
     pub last: u16,
 }
 
-// A refusal's number and place or 0 and 0, and the bytes written.
-#[repr(C)]
-pub struct Written {
-    pub number: u16,
-    pub place: u16,
-    pub length: u16,
-}
-
 // Not 17: an even number of words of choices, and at most 65,535 choices.
 fn is_listed(words: usize) -> bool
     ensures { λ r. ⌜ r ≡ listed words ⌝ }
 {
     (words % 2 == 0) & (words <= 131070)
-}
-
-// The bytes of an output: four words, two for each made channel, twelve for each thread.
-fn output_length(beside: &[u16]) -> u16
-    requires { ⌜ (threadCount (now beside) ≤ 64) × (madeCount (now beside) ≤ 64) ⌝ }
-    ensures { λ r. ⌜ r ≡ 8 + 4 * madeCount (now (beside .entry)) + 24 * threadCount (now (beside .entry)) ⌝ }
-{
-    8 + 4 * made_count(beside) + 24 * thread_count(beside)
 }
 
 fn not_written(verdict: Verdict) -> Written

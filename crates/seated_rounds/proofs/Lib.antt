@@ -1,2 +1,3 @@
 pub mod SeatedVisitLaws
 pub mod SeatedRoundLaws
+pub mod EntryLaws

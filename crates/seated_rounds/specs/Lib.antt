@@ -1,1 +1,2 @@
 pub mod SeatedVisits
+pub mod RoundEntry

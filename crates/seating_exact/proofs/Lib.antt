@@ -6,3 +6,6 @@ pub mod SeatedRounds
 pub mod SeatedRoundAnswers
 pub mod SeatsAnswers
 pub mod SeatsShown
+pub mod RoundsMapped
+pub mod ZeroRounds
+pub mod SeatedSafe

@@ -33,7 +33,7 @@ use Rattle.seats.specs.Seats.{limitedOf, seatedStart, SeatedRan, plainly, seate
 use Rattle.seats.proofs.SeatedPlain.{run-alike}
 use Rattle.seating.specs.SeatedRunning.{seatedUnreadyIn, seatedRunning, seatedOver, seatedLength}
 use Rattle.seating.specs.SeatsRead.{seatedStepsOf}
-use Rattle.seating_exact.specs.SeatTable.{SeatTableFits, SeatTableMisfits, OverfullAt, StartFits}
+use Rattle.seating_exact.specs.SeatTable.{SeatTableFits, SeatTableMisfits, OverfullAt, StartFits, SeatsBar}
 use Rattle.seating_exact.proofs.SeatedCases.{Readied, unlisted, misread, misfits, overfull, readied, readied-by, never-fits, halted-number}
 
 -- what can be answered before the first choice, or what the run came to
@@ -221,25 +221,22 @@ module _ (f table ws : List ℕ) where
 
   -- Its output.
 
-  -- what refuses before the first choice
-  abbrev pub Barred : ℕ → Type 0
-  Barred room = Unfit ws room ⊎ ((readingNames f ≢ fine) ⊎ (SeatTableMisfits C table ⊎ ((k : ℕ) × OverfullAt C table k)))
+  -- what is refused before the first choice is loud
+  pub barred-loud : {Yes No : Type 0} → (Yes → No → ⊥) → {v : Verdict} → Readied Yes No f table v → SeatsBar No f table → v .number ≢ 0
+  barred-loud apart (unlisted m e) w z = omega (arith, number-of e, z)
+  barred-loud apart (misread y o e) w z = omega (arith, number-of e, z, some-of-file (readingNames f .number) o)
+  barred-loud apart (misfits y c m e) w z = omega (arith, number-of e, z)
+  barred-loud apart (overfull y c t k o e) w z = omega (arith, number-of e, z)
+  barred-loud apart (readied y c t s e) (inl u) z = apart y u
+  barred-loud apart (readied y c t s e) (inr (inl q)) z = q c
+  barred-loud apart (readied y c t s e) (inr (inr (inl m))) z = never-fits C table t m
+  barred-loud apart (readied y c t s e) (inr (inr (inr (k, o)))) z = s k o
 
   ready-number : (room : ℕ) → Fit ws room → readingNames f ≡ fine → SeatTableFits C table → StartFits C table → eqb (seatedUnreadyIn f ws table room .number) 0 ≡ true
   ready-number room y c t s = eq-eqb _ 0 (ready-quiet (never-fit ws room) (run-ready room) y c t s)
 
-  barred-number : (room : ℕ) → Barred room → eqb (seatedUnreadyIn f ws table room .number) 0 ≡ false
-  barred-number room w = ne-eqb _ 0 (go (run-ready room) w)
-    where
-      go : {v : Verdict} → Readied (Fit ws room) (Unfit ws room) f table v → Barred room → v .number ≢ 0
-      go (unlisted m e) w z = omega (arith, number-of e, z)
-      go (misread y o e) w z = omega (arith, number-of e, z, some-of-file (readingNames f .number) o)
-      go (misfits y c m e) w z = omega (arith, number-of e, z)
-      go (overfull y c t k o e) w z = omega (arith, number-of e, z)
-      go (readied y c t s e) (inl u) z = never-fit ws room y u
-      go (readied y c t s e) (inr (inl q)) z = q c
-      go (readied y c t s e) (inr (inr (inl m))) z = never-fits C table t m
-      go (readied y c t s e) (inr (inr (inr (k, o)))) z = s k o
+  barred-number : (room : ℕ) → SeatsBar (Unfit ws room) f table → eqb (seatedUnreadyIn f ws table room .number) 0 ≡ false
+  barred-number room w = ne-eqb _ 0 (barred-loud (never-fit ws room) (run-ready room) w)
 
   pub over-ready : (out : List ℕ) → Fit ws (length out) → readingNames f ≡ fine → SeatTableFits C table → StartFits C table
       → seatedOver f ws table out ≡ sets out 0 (bytesOf (ranWords (plainly r)))
@@ -247,7 +244,7 @@ module _ (f table ws : List ℕ) where
   over-ready out y c t s = rw (ready-number (length out) y c t s)
 
   -- nothing is written where the run is refused before the first choice, and the length is 0
-  pub seated-unwritten : (out : List ℕ) → Barred (length out) → (seatedOver f ws table out ≡ out) × (seatedLength f ws table (length out) ≡ 0)
+  pub seated-unwritten : (out : List ℕ) → SeatsBar (Unfit ws (length out)) f table → (seatedOver f ws table out ≡ out) × (seatedLength f ws table (length out) ≡ 0)
   unfolding seatedOver seatedLength
   seated-unwritten out w = (rw (barred-number (length out) w), rw (barred-number (length out) w))
 

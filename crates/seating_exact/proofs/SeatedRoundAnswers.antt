@@ -33,10 +33,10 @@ use Rattle.seats.proofs.SeatedPlain.{run-alike}
 use Rattle.seating.specs.SeatedRunning.{seatedUnready, seatedOver}
 use Rattle.seating.specs.SeatsRead.{seatedStepsOf}
 use Rattle.seating.specs.SeatedRound.{seatedRoundOf, afterSeatedList, seatedBothBy, seatedRoundUnready, seatedRounding, seatedRoundOver}
-use Rattle.seating_exact.specs.SeatTable.{SeatTableFits, SeatTableMisfits, OverfullAt, StartFits}
+use Rattle.seating_exact.specs.SeatTable.{SeatTableFits, SeatTableMisfits, OverfullAt, StartFits, SeatsBar}
 use Rattle.seating_exact.specs.IsSeatedRound.{IsSeatedRound, SeatedRoundTold, SeatedRoundStopped}
 use Rattle.seating_exact.proofs.SeatedCases.{Readied, readied-by}
-use Rattle.seating_exact.proofs.SeatedAnswers.{SeatedEnd, ends-by, end-seventeen, end-names, end-start, seated-through, seated-halted, ready-quiet, over-ready}
+use Rattle.seating_exact.proofs.SeatedAnswers.{SeatedEnd, ends-by, end-seventeen, end-names, end-start, seated-through, seated-halted, ready-quiet, barred-loud, over-ready}
 use Rattle.seating_exact.proofs.SeatedRounds.{the-seated-round, seated-round-few, seated-round-after, seated-whole}
 
 never-fit : (ws : List ℕ) (room : ℕ) → RoundFit ws room → RoundUnfit ws room → ⊥
@@ -78,24 +78,34 @@ module _ (f table ws : List ℕ) where
         go true true p q = rw (p, q)
         go true false p q = let z : r .count + 0 / 2 ≡ r .count = omega arith in rw (p, q, z)
 
-    ends : SeatedEnd (RoundFit ws room) (RoundUnfit ws room) f table ws (verdictOf (seatedRounding f ws table room))
-    ends =
+    pub seated-round-ends : SeatedEnd (RoundFit ws room) (RoundUnfit ws room) f table ws (verdictOf (seatedRounding f ws table room))
+    seated-round-ends =
         subst (SeatedEnd (RoundFit ws room) (RoundUnfit ws room) f table ws) (sym told)
         (ends-by f table ws (RoundFit ws room) (RoundUnfit ws room) (seatedRoundUnready f ws table room) ready)
 
     -- 17 exactly where the list or the output doesn't fit, or, of a file that 1 to 10 leave clean, the table
     pub seated-round-seventeen : (seatedRounding f ws table room .number ≡ 17) ↔ (RoundUnfit ws room ⊎ ((readingNames f ≡ fine) × SeatTableMisfits C table))
-    seated-round-seventeen = end-seventeen f table ws (never-fit ws room) ends
+    seated-round-seventeen = end-seventeen f table ws (never-fit ws room) seated-round-ends
 
     -- then 1 to 10, as they are read
     pub seated-round-names : (n p : ℕ) → OfFile n
         → (verdictOf (seatedRounding f ws table room) ≡ refused n p) ↔ (RoundFit ws room × (readingNames f ≡ refused n p))
-    seated-round-names n p o = end-names f table ws (never-fit ws room) n p o ends
+    seated-round-names n p o = end-names f table ws (never-fit ws room) n p o seated-round-ends
 
     -- then 26 at the lowest session that overfills a role
     pub seated-round-start : (k : ℕ)
         → (verdictOf (seatedRounding f ws table room) ≡ refused 26 k) ↔ (RoundFit ws room × (readingNames f ≡ fine) × SeatTableFits C table × OverfullAt C table k)
-    seated-round-start k = end-start f table ws (never-fit ws room) k ends
+    seated-round-start k = end-start f table ws (never-fit ws room) k seated-round-ends
+
+    -- where anything refuses before the first choice: length 0, words 0
+    pub seated-round-none : SeatsBar (RoundUnfit ws room) f table → seatedRounding f ws table room ≡ noRoundAt (seatedRounding f ws table room .number) (seatedRounding f ws table room .place)
+    unfolding seatedRounding
+    seated-round-none w = rw (ne-eqb (seatedRoundUnready f ws table room .number) 0 (barred-loud f table ws (never-fit ws room) ready w))
+
+  -- and nothing is written
+  pub seated-round-unwritten : (out : List ℕ) → SeatsBar (RoundUnfit ws (length out)) f table → seatedRoundOver f ws table out ≡ out
+  unfolding seatedRoundOver
+  seated-round-unwritten out w = rw (ne-eqb (seatedRoundUnready f ws table (length out) .number) 0 (barred-loud f table ws (never-fit ws (length out)) (ready (length out)) w))
 
   module _ (clean : readingNames f ≡ fine) (fits : SeatTableFits C table) (starts : StartFits C table) where
     tested : (room : ℕ) → RoundFit ws room → eqb (seatedRoundUnready f ws table room .number) 0 ≡ true

@@ -218,3 +218,23 @@ module _ (L : Limited) where
 
           apart′ : {a : Taken SeatedState} {S′ : SeatedState} → (n : ℕ) × (a ≡ refuses n) → a ≡ waits S′ → ⊥
           apart′ (n, e) d = let z : _≡_ {A = ℕ} 0 1 = ap Sort (sym e ∙ d) in omega (arith, z)
+
+  -- 5. The same of whatever list is a round.
+  pub seated-path : (S : SeatedState) (ws : List ℕ) (S′ : SeatedState) → IsSeatedRound L S ws S′ → SeatedPath S ws S′
+  seated-path S ws S′ h =
+      let (e, d) = the-seated-round S ws S′ .0 h in
+      subst (λ (x : List ℕ). SeatedPath S x S′) (sym e) (subst (λ (T : SeatedState). SeatedPath S (seatedRoundOf L S .words) T) (sym d) (seated-round-path S))
+
+  pub seated-lone-of : (S : SeatedState) (v : ℕ) (S₁ : SeatedState) → GoesOn L S v 0 S₁ → (ws : List ℕ) (S′ : SeatedState) → IsSeatedRound L S ws S′
+      → (xs : List ℕ) × (ys : List ℕ) × (g : Midway SeatedState) × (i : ℕ) × (ws ≡ xs ++ ys)
+      × SeatedVisits L S (v - 1) xs g × SeatedPath S xs (g .state) × Here g v i × (threadAt (g .state .state) i ≡ threadAt (S .state) v)
+      × (((zs : List ℕ) × (S″ : SeatedState) × (ys ≡ i ∷ 0 ∷ zs) × GoesOn L (g .state) i 0 S″)
+      ⊎ (((zs : List ℕ) × (S″ : SeatedState) × (ys ≡ i ∷ 0 ∷ zs) × GetsNone L (g .state) i S″) ⊎ (choice (L .clinic) (g .state .state) i 0 ≡ halts 20)))
+  seated-lone-of S v S₁ st ws S′ h =
+      let (xs, ys, g, i, e, seen, path, here, same, then) = seated-lone-done S v S₁ st in
+      (xs, ys, g, i, the-seated-round S ws S′ .0 h .0 ∙ e, seen, path, here, same, then)
+
+  pub seated-idle-of : (S : SeatedState) (ws : List ℕ) (S′ : SeatedState) → IsSeatedRound L S ws S′ → (ws ≡ []) ↔ ((i p : ℕ) → (n : ℕ) × (seatedChoice L S i p ≡ refuses n))
+  seated-idle-of S ws S′ h =
+      let e : ws ≡ seatedRoundOf L S .words = the-seated-round S ws S′ .0 h .0 in
+      (λ z. seated-round-idle S .0 (sym e ∙ z), λ f. e ∙ seated-round-idle S .1 f)

@@ -19,23 +19,24 @@ use Rattle.reading_exact.specs.Lists.{All}
 use Rattle.reading_exact.specs.File.{InCount}
 use Rattle.reading_exact.proofs.FirstLaws.{number-of}
 use Rattle.reading_exact.proofs.Turns.{some-of-file}
-use Rattle.running_exact.specs.Runs.{Fit, Unfit}
+use Rattle.running_exact.specs.Runs.{Fit}
+use Rattle.running_exact.specs.Output.{stateBytes}
 use Rattle.running_exact.proofs.RunSafe.{NoRole, passes-names}
 use Rattle.seats.specs.Seats.{limitedOf, seatsIn, seatedStart, plainly, seatedRanOf}
 use Rattle.seats.proofs.SeatedPlain.{zeros-same, free-table, seated-safe}
 use Rattle.seating.specs.SeatedRunning.{seatTableAnswer, seatStartAnswer, seatedUnready, seatedRunning, seatedOver, seatedLength}
 use Rattle.seating_exact.specs.SeatTable.{SeatTableFits, StartFits}
 use Rattle.seating_exact.proofs.SeatedCases.{seat-table-fine, seat-start-fine, Readied, unlisted, misread, misfits, overfull, readied}
-use Rattle.seating_exact.proofs.SeatedAnswers.{SeatedEnd, before, whole, stops, seated-run-ends}
+use Rattle.seating_exact.proofs.SeatedAnswers.{SeatedEnd, before, whole, stops, seated-run-ends, seated-written}
 
 module _ (f table : List ℕ) (zeros : All (λ w. w ≡ 0) table) (fits : length table ≡ length (contentsOf f .roles)) where
-  zero-table : SeatTableFits (contentsOf f) table
+  pub zero-table : SeatTableFits (contentsOf f) table
   zero-table = (fits, λ r c. omega (arith, free-table table zeros r))
 
-  zero-start : StartFits (contentsOf f) table
+  pub zero-start : StartFits (contentsOf f) table
   zero-start k (c, (r, (l, m)), least) = omega (arith, l, free-table table zeros r)
 
-  unready-same : (b : Bool) → seatedUnready b f table ≡ orElse (unready b f) fine
+  pub unready-same : (b : Bool) → seatedUnready b f table ≡ orElse (unready b f) fine
   unready-same b =
       ap (orElse (unready b f)) (ap (λ (v : Verdict). orElse v (seatStartAnswer (contentsOf f) table)) (seat-table-fine f table zero-table) ∙ seat-start-fine f table zero-start)
 
@@ -46,7 +47,7 @@ module _ (f table : List ℕ) (zeros : All (λ w. w ≡ 0) table) (fits : length
       go true e = refl
       go false e = rw e
 
-  or-number : (v : Verdict) → eqb (orElse v fine .number) 0 ≡ eqb (v .number) 0
+  pub or-number : (v : Verdict) → eqb (orElse v fine .number) 0 ≡ eqb (v .number) 0
   or-number v = go (eqb (v .number) 0) refl
     where
       go : (b : Bool) → eqb (v .number) 0 ≡ b → eqb (cond b fine v .number) 0 ≡ b
@@ -71,14 +72,21 @@ module _ (f table : List ℕ) (zeros : All (λ w. w ≡ 0) table) (fits : length
       ∙ ap (λ (c : Bool). cond c (sets out 0 (bytesOf (ranWords (plainly (seatedRanOf f table ws))))) out) (or-number (unready b f))
       ∙ ap (λ (r : Ran). cond (eqb (unready b f .number) 0) (sets out 0 (bytesOf (ranWords r))) out) (zeros-same f table zeros ws)
 
+  -- And the length is that of the state without seats.
+  pub zeros-length : (ws out : List ℕ) → Fit ws (length out) → readingNames f ≡ fine
+      → seatedLength f ws table (length out) ≡ stateBytes (length (ranOf f ws .state .made)) (length (ranOf f ws .state .threads))
+  zeros-length ws out fit clean =
+      seated-written f table ws out fit clean zero-table zero-start .1
+      ∙ ap (λ (r : Ran). stateBytes (length (r .state .made)) (length (r .state .threads))) (zeros-same f table zeros ws)
+
 -- A file that passes the check is never answered 11, 12 or 13, with any table and any list.
-module _ (f : List ℕ) (passes : checking f ≡ fine) (table ws : List ℕ) (room : ℕ) where
+module _ (f : List ℕ) (passes : checking f ≡ fine) (table ws : List ℕ) where
   few : (n : ℕ) → (n ≡ 0) ⊎ ((n ≡ 17) ⊎ (n ≡ 26)) → NoRole n
   few n (inl e) = (λ z. omega (arith, e, z), λ z. omega (arith, e, z), λ z. omega (arith, e, z))
   few n (inr (inl e)) = (λ z. omega (arith, e, z), λ z. omega (arith, e, z), λ z. omega (arith, e, z))
   few n (inr (inr e)) = (λ z. omega (arith, e, z), λ z. omega (arith, e, z), λ z. omega (arith, e, z))
 
-  safe-by : {v : Verdict} → SeatedEnd (Fit ws room) (Unfit ws room) f table ws v → NoRole (v .number)
+  pub safe-by : {Yes No : Type 0} {v : Verdict} → SeatedEnd Yes No f table ws v → NoRole (v .number)
   safe-by (before (unlisted m e) z) = few _ (inr (inl (number-of e)))
   safe-by (before (misread y o e) z) =
       let never : ⊥ = omega (arith, number-of (passes-names f passes), some-of-file (readingNames f .number) o) in absurd never
@@ -88,5 +96,5 @@ module _ (f : List ℕ) (passes : checking f ≡ fine) (table ws : List ℕ) (ro
   safe-by (whole y c t s h e) = few _ (inl (number-of e))
   safe-by (stops y c t s h e) = subst NoRole (sym (number-of e)) (seated-safe f passes table ws)
 
-  pub answer-safe : (seatedRunning f ws table room .number ≢ 11) × (seatedRunning f ws table room .number ≢ 12) × (seatedRunning f ws table room .number ≢ 13)
-  answer-safe = safe-by (seated-run-ends f table ws room)
+  pub answer-safe : (room : ℕ) → (seatedRunning f ws table room .number ≢ 11) × (seatedRunning f ws table room .number ≢ 12) × (seatedRunning f ws table room .number ≢ 13)
+  answer-safe room = safe-by (seated-run-ends f table ws room)

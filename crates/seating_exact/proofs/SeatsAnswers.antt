@@ -25,7 +25,7 @@ use Rattle.running_exact.proofs.FileNodes.{laid}
 use Rattle.format.specs.Header.{headAt}
 use Rattle.lending_exact.specs.Waiting.{waitingIn}
 use Rattle.lending_exact.proofs.RunTotals.{kept-totals}
-use Rattle.seats.specs.Seats.{Limited, limitedOf, SeatedState, seatsTaken, SeatedRan, plainly, waitsIn, lastIn, seatedStart, seatedRanOf}
+use Rattle.seats.specs.Seats.{Limited, limitedOf, seatsIn, SeatedState, seatsTaken, SeatedRan, plainly, waitsIn, lastIn, seatedStart, seatedRanOf}
 use Rattle.seats.specs.SeatOrder.{SessionsIn, LastAnswer, Ordered}
 use Rattle.seats.proofs.SeatedPlain.{run-alike}
 use Rattle.seats.proofs.SeatedRuns.{line-fits}
@@ -34,10 +34,10 @@ use Rattle.seats.proofs.SeatedLast.{last-answer}
 use Rattle.seating.specs.declared.Seats.{Seats}
 use Rattle.seating.specs.SeatedRunning.{seatedUnready}
 use Rattle.seating.specs.SeatsRead.{lineWords, linesFrom, seatedStepsOf, seatsAfter}
-use Rattle.seating_exact.specs.SeatTable.{SeatTableFits, SeatTableMisfits, OverfullAt, StartFits}
+use Rattle.seating_exact.specs.SeatTable.{SeatTableFits, SeatTableMisfits, OverfullAt, StartFits, SeatsBar}
 use Rattle.seating_exact.specs.SeatsTold.{SeatsTold, noSeatsAt}
 use Rattle.seating_exact.proofs.SeatedCases.{Readied, readied-by}
-use Rattle.seating_exact.proofs.SeatedAnswers.{SeatedEnd, ends-by, end-seventeen, end-names, end-start, ready-quiet}
+use Rattle.seating_exact.proofs.SeatedAnswers.{SeatedEnd, ends-by, end-seventeen, end-names, end-start, ready-quiet, barred-loud}
 use Rattle.seating_exact.proofs.SeatedFiles.{file-ordered}
 
 get-tabled : (g : ℕ → ℕ) (k r : ℕ) → InCount k r → getD (tabled g 1 k) (r - 1) 0 ≡ g r
@@ -114,26 +114,25 @@ module _ (f table ws : List ℕ) where
       go true e = rw e
       go false e = rw e
 
-  ends : SeatedEnd (Listed ws) (Unlisted ws) f table ws (verdictOf (seatsAfter f ws table))
-  ends =
+  pub seats-ends : SeatedEnd (Listed ws) (Unlisted ws) f table ws (verdictOf (seatsAfter f ws table))
+  seats-ends =
       subst (SeatedEnd (Listed ws) (Unlisted ws) f table ws) (sym told)
       (ends-by f table ws (Listed ws) (Unlisted ws) (seatedUnready (listed (length ws)) f table) ready)
 
   -- 17 exactly where the list doesn't fit, or, of a file that 1 to 10 leave clean, the table; there is no output
   pub seats-seventeen : (seatsAfter f ws table .number ≡ 17) ↔ (Unlisted ws ⊎ ((readingNames f ≡ fine) × SeatTableMisfits C table))
-  seats-seventeen = end-seventeen f table ws (never-listed ws) ends
+  seats-seventeen = end-seventeen f table ws (never-listed ws) seats-ends
 
   pub seats-names : (n p : ℕ) → OfFile n → (verdictOf (seatsAfter f ws table) ≡ refused n p) ↔ (Listed ws × (readingNames f ≡ refused n p))
-  seats-names n p o = end-names f table ws (never-listed ws) n p o ends
+  seats-names n p o = end-names f table ws (never-listed ws) n p o seats-ends
 
   pub seats-start : (k : ℕ) → (verdictOf (seatsAfter f ws table) ≡ refused 26 k) ↔ (Listed ws × (readingNames f ≡ fine) × SeatTableFits C table × OverfullAt C table k)
-  seats-start k = end-start f table ws (never-listed ws) k ends
+  seats-start k = end-start f table ws (never-listed ws) k seats-ends
 
   -- where anything refuses before the first choice, all but number and place is 0
-  pub seats-none : seatedUnready (listed (length ws)) f table .number ≢ 0
-      → seatsAfter f ws table ≡ noSeatsAt (seatsAfter f ws table .number) (seatsAfter f ws table .place)
+  pub seats-none : SeatsBar (Unlisted ws) f table → seatsAfter f ws table ≡ noSeatsAt (seatsAfter f ws table .number) (seatsAfter f ws table .place)
   unfolding seatsAfter
-  seats-none z = rw (ne-eqb (seatedUnready (listed (length ws)) f table .number) 0 z)
+  seats-none w = rw (ne-eqb (seatedUnready (listed (length ws)) f table .number) 0 (barred-loud f table ws (never-listed ws) ready w))
 
   module _ (list : Listed ws) (clean : readingNames f ≡ fine) (fits : SeatTableFits C table) (starts : StartFits C table) where
     abbrev T : SeatedState
@@ -166,6 +165,11 @@ module _ (f table ws : List ℕ) where
         (getD-take 32 (drop 130 (besideOfRun f vs)) (k - 1) 0 (omega (arith, c .0, c .1)) ∙ getD-drop 130 (besideOfRun f vs) (k - 1) 0
         ∙ ap (λ (x : ℕ). getD (besideOfRun f vs) x 0) there ∙ kept-totals f clean vs k c
         ∙ ap (λ (s : State). waitingIn (clinicOf C) s k) (run-alike L ws (seatedStart C) .state))
+
+    -- As read, never more sessions in a role with a limit than it has seats.
+    pub taken-within : (q : ℕ) → InCount 16 q → 1 ≤ seatsIn table q → getD (seatsAfter f ws table .taken) (q - 1) 0 ≤ seatsIn table q
+    unfolding seatsAfter
+    taken-within q c h = rw quiet (subst (λ (x : ℕ). x ≤ seatsIn table q) (sym (get-tabled (seatsTaken L T) 16 q c)) (ordered .seats q h))
 
     -- What is read of the seats is the state's.
     pub seats-told : SeatsTold f table ws (seatsAfter f ws table)

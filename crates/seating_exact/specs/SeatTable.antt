@@ -4,7 +4,9 @@ use mathlib.Core.Path.{_≡_}
 use mathlib.Core.Logic.{_⊎_, _≢_}
 use mathlib.Core.List.{List}
 use lib.ListN.{length}
-use Rattle.format.specs.Contents.{Contents}
+use Rattle.format.specs.Answers.{fine}
+use Rattle.format.specs.Contents.{Contents, contentsOf}
+use Rattle.checking.specs.Check.{readingNames}
 use Rattle.reading_exact.specs.File.{InCount}
 use Rattle.seats.specs.Seats.{limitedOf, seatsIn, seatedStart}
 use Rattle.seats.specs.SeatOrder.{FirstOver}
@@ -23,3 +25,7 @@ OverfullAt C table k = FirstOver (limitedOf C table) (seatedStart C) k
 
 abbrev pub StartFits : Contents → List ℕ → Type 0
 StartFits C table = (k : ℕ) → OverfullAt C table k → ⊥
+
+-- what refuses before the first choice: a list or an output that doesn't fit, the file, the table, or the start
+abbrev pub SeatsBar : Type 0 → List ℕ → List ℕ → Type 0
+SeatsBar Unfits f table = Unfits ⊎ ((readingNames f ≢ fine) ⊎ (SeatTableMisfits (contentsOf f) table ⊎ ((k : ℕ) × OverfullAt (contentsOf f) table k)))

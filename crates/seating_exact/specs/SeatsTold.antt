@@ -9,6 +9,7 @@ use Rattle.format.specs.Contents.{Contents, contentsOf}
 use Rattle.format.specs.declared.Verdict.{Verdict}
 use Rattle.checking.specs.Check.{readingNames}
 use Rattle.steps.specs.Choice.{clinicOf}
+use Rattle.running.specs.declared.Totals.{Totals}
 use Rattle.reading_exact.specs.File.{InCount}
 use Rattle.lending_exact.specs.Waiting.{waitingIn}
 use Rattle.seats.specs.Seats.{Limited, limitedOf, SeatedState, waitsIn, seatedStart, seatedRanOf}
@@ -43,3 +44,13 @@ noSeatsAt n p = record {
   line = replicate 512 0;
   totals = replicate 32 0;
 }
+
+-- as without seats: number, place and totals are those of the run, and nobody waits
+pub record ReadsPlainly (x : Seats) (t : Totals) : Type 0 where
+  pub number : x .number ≡ t .number
+  pub place : x .place ≡ t .place
+  pub totals : x .totals ≡ t .totals
+  pub waited : x .waited ≡ 0
+  pub last : x .last ≡ 0
+  pub waiting : x .waiting ≡ replicate 16 0
+  pub line : x .line ≡ replicate 512 0

@@ -2,12 +2,12 @@
 
 use crate::choices::{self, Flaw};
 use crate::clinic::{Clinic, KINDS};
-use crate::hours::{self, Table};
+use crate::hours;
 use crate::output;
 use crate::source::Source;
 use crate::state::State;
 use crate::words::{At, Job};
-use crate::{explain, merging, names, reasons, refusals, report, show};
+use crate::{explain, merging, names, reasons, refusals, report, seats, show};
 use crate::{Outcome, WrongUse};
 use pilzdamo::{Counts, Placed, Totals, Verdict, BEFORE_ROUND, ROOM, ROOM_1, RUN_ROOM};
 use std::path::Path;
@@ -19,9 +19,22 @@ pub fn carry_out(job: Job) -> Result<Outcome, WrongUse> {
         Job::Place { file, at, out } => place(&file, at.as_ref(), out.as_deref()),
         Job::Measure { file, at } => measure(&file, at.as_ref()),
         Job::Merge { first, second, out } => merge(&first, &second, out.as_deref()),
-        Job::Run { file, choices } => run(&file, &choices),
+        Job::Run {
+            file,
+            choices,
+            seats,
+        } => run(&file, &choices, seats.as_ref()),
         Job::Waiting { file, choices } => waiting(&file, &choices),
-        Job::Round { file, choices } => round(&file, &choices),
+        Job::Seats {
+            file,
+            choices,
+            seats,
+        } => seats_after(&file, &choices, &seats),
+        Job::Round {
+            file,
+            choices,
+            seats,
+        } => round(&file, &choices, seats.as_ref()),
         Job::Dispatch { file, rounds } => dispatch(&file, rounds),
         Job::Show { file } => answer(&show::text(&file.read()?)),
         Job::Explain { number } => explain(number),
@@ -44,14 +57,14 @@ fn refusal(message: &str) -> Result<Outcome, WrongUse> {
 /// A table of hours with its source, and the minute that is asked for.
 struct Hours {
     name: String,
-    table: Table,
+    table: hours::Table,
     minute: u16,
 }
 
 impl Hours {
     fn read(at: &At) -> Result<Hours, WrongUse> {
         let name = at.hours.name();
-        let table = Table::of(&at.hours.read()?).map_err(|flaw| {
+        let table = hours::Table::of(&at.hours.read()?).map_err(|flaw| {
             let hours::Flaw { line, what } = flaw;
             let form =
                 "opening hours are text, a line for each stretch: role 2 Mon-Fri 07:00-15:00";
@@ -168,16 +181,53 @@ fn merge(first: &Source, second: &Source, out: Option<&Path>) -> Result<Outcome,
     Ok(Outcome::Answer)
 }
 
-fn run(file: &Source, list: &Source) -> Result<Outcome, WrongUse> {
+fn run(file: &Source, list: &Source, table: Option<&Source>) -> Result<Outcome, WrongUse> {
     let bytes = file.read()?;
     let choices = read_choices(list)?;
+    let table = table.map(Table::read).transpose()?;
     let mut room = [0; RUN_ROOM];
-    let verdict = pilzdamo::run(&bytes, &choices, &mut room);
-    let state = || State::of(&room).text(&Clinic::of(&bytes));
+    let verdict = match &table {
+        None => pilzdamo::run(&bytes, &choices, &mut room),
+        Some(table) => pilzdamo::run_seated(&bytes, &choices, &table.words, &mut room).verdict(),
+    };
+    let state = || State::of(&room).text(&Clinic::of(&bytes)) + &seated(&table, &bytes, &choices);
     if verdict.is_clean() {
         return answer(&state());
     }
-    stopped((file, &bytes), (list, &choices), verdict, state)
+    stopped(
+        (file, &bytes),
+        (list, &choices),
+        table.as_ref(),
+        verdict,
+        state,
+    )
+}
+
+/// What there is to say of the seats, if there are any.
+fn seated(table: &Option<Table>, bytes: &[u8], choices: &[u16]) -> String {
+    table.as_ref().map_or(String::new(), |table| {
+        let told = pilzdamo::seats(bytes, choices, &table.words);
+        seats::text(&table.words, &told)
+    })
+}
+
+fn seats_after(file: &Source, list: &Source, table: &Source) -> Result<Outcome, WrongUse> {
+    let bytes = file.read()?;
+    let choices = read_choices(list)?;
+    let table = Table::read(table)?;
+    let told = pilzdamo::seats(&bytes, &choices, &table.words);
+    let lines = || seats::text(&table.words, &told);
+    if told.verdict().is_clean() {
+        return answer(&lines());
+    }
+    let verdict = told.verdict();
+    stopped(
+        (file, &bytes),
+        (list, &choices),
+        Some(&table),
+        verdict,
+        lines,
+    )
 }
 
 fn waiting(file: &Source, list: &Source) -> Result<Outcome, WrongUse> {
@@ -188,7 +238,13 @@ fn waiting(file: &Source, list: &Source) -> Result<Outcome, WrongUse> {
     if totals.verdict().is_clean() {
         return answer(&lines());
     }
-    stopped((file, &bytes), (list, &choices), totals.verdict(), lines)
+    stopped(
+        (file, &bytes),
+        (list, &choices),
+        None,
+        totals.verdict(),
+        lines,
+    )
 }
 
 /// A line for each kind of a file.
@@ -198,14 +254,26 @@ fn by_kind(clinic: &Clinic, totals: &Totals) -> String {
     kinds.map(line).collect()
 }
 
-fn round(file: &Source, list: &Source) -> Result<Outcome, WrongUse> {
+fn round(file: &Source, list: &Source, table: Option<&Source>) -> Result<Outcome, WrongUse> {
     let bytes = file.read()?;
     let choices = read_choices(list)?;
+    let table = table.map(Table::read).transpose()?;
     let mut room = [0; RUN_ROOM];
-    let round = pilzdamo::round(&bytes, &choices, &mut room);
-    let state = || State::of(&room).text(&Clinic::of(&bytes));
-    if !round.verdict().is_clean() {
-        return stopped((file, &bytes), (list, &choices), round.verdict(), state);
+    let round = match &table {
+        None => pilzdamo::round(&bytes, &choices, &mut room),
+        Some(table) => pilzdamo::round_seated(&bytes, &choices, &table.words, &mut room),
+    };
+    let both = [&choices, round.choices()].concat();
+    let state = || State::of(&room).text(&Clinic::of(&bytes)) + &seated(&table, &bytes, &both);
+    let verdict = round.verdict();
+    if !verdict.is_clean() {
+        return stopped(
+            (file, &bytes),
+            (list, &choices),
+            table.as_ref(),
+            verdict,
+            state,
+        );
     }
     let told = match round.choices() {
         [] => "no choice can be done".to_string(),
@@ -214,13 +282,20 @@ fn round(file: &Source, list: &Source) -> Result<Outcome, WrongUse> {
     answer(&format!("round: {told}\n{}", state()))
 }
 
-/// The refusal of a file or a list, behind what there is to say of a run that halted.
+/// The refusal of a file, a list or a table of seats, behind what there is to say of a run
+/// that halted.
 fn stopped(
     (file, bytes): (&Source, &[u8]),
     (list, choices): (&Source, &[u16]),
+    table: Option<&Table>,
     verdict: Verdict,
     state: impl FnOnce() -> String,
 ) -> Result<Outcome, WrongUse> {
+    let clinic = Clinic::of(bytes);
+    if let Some(table) = table.filter(|table| table.is_refused(&clinic, verdict)) {
+        let more = seats::length(&clinic, &table.words);
+        return refusal(&report::of_both(&table.name, verdict, Some(more)));
+    }
     let name = match verdict.number {
         17 => list.name(),
         _ if is_halt(verdict) => {
@@ -267,13 +342,39 @@ fn is_halt(verdict: Verdict) -> bool {
 }
 
 fn read_choices(list: &Source) -> Result<Vec<u16>, WrongUse> {
-    choices::numbers(&list.read()?).map_err(|Flaw { line, word }| {
-        let name = list.name();
-        let form = "a list of choices is text, two numbers for each choice: thread, partner";
+    let form = "a list of choices is text, two numbers for each choice: thread, partner";
+    read_numbers(list, form)
+}
+
+/// The numbers of a text, which has this form.
+fn read_numbers(text: &Source, form: &str) -> Result<Vec<u16>, WrongUse> {
+    choices::numbers(&text.read()?).map_err(|Flaw { line, word }| {
+        let name = text.name();
         WrongUse(format!(
             "{name}: line {line}: '{word}' is no number from 0 to 65535\n  {form}"
         ))
     })
+}
+
+/// A table of seats with the name of its source.
+struct Table {
+    name: String,
+    words: Vec<u16>,
+}
+
+impl Table {
+    fn read(seats: &Source) -> Result<Table, WrongUse> {
+        let form = "seats are text, a number for each role: 0 for no limit, else 1 to 32";
+        Ok(Table {
+            name: seats.name(),
+            words: read_numbers(seats, form)?,
+        })
+    }
+
+    /// Whether it is this table that is refused, and not the list.
+    fn is_refused(&self, clinic: &Clinic, verdict: Verdict) -> bool {
+        verdict.number == 17 && !seats::fits(clinic, &self.words)
+    }
 }
 
 fn explain(number: u16) -> Result<Outcome, WrongUse> {

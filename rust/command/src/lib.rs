@@ -15,6 +15,7 @@ mod page;
 mod reasons;
 mod refusals;
 mod report;
+mod seats;
 mod sessions;
 pub mod show;
 mod source;

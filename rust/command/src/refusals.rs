@@ -38,7 +38,7 @@ pub fn of(number: u16) -> Option<&'static Refusal> {
 pub fn counts(number: u16, place: u16, in_run: bool) -> Counts {
     match number {
         6 | 21 => Counts::Word,
-        7 => Counts::Session,
+        7 | 26 => Counts::Session,
         11..=13 if in_run => Counts::Choice,
         14 if place == 0 => Counts::Nothing,
         8..=15 | 24 => Counts::Node,
@@ -49,7 +49,7 @@ pub fn counts(number: u16, place: u16, in_run: bool) -> Counts {
 }
 
 /// The refusals from 1 on.
-pub const ALL: [Refusal; 25] = [
+pub const ALL: [Refusal; 26] = [
     Refusal {
         place: NOTHING,
         who: WRITER,
@@ -201,9 +201,10 @@ pub const ALL: [Refusal; 25] = [
         who: CALLER,
         wrong: "A choice is two numbers, thread and partner, and the list has half a choice too \
             many; or it is longer than a list may be, which before a round is 64 choices less. \
-            (A program that calls the engine itself gets this number for an output that is too \
+            Or a table of seats has not one number for each role, or one above 32. (A program that calls the engine itself gets this number for an output that is too \
             small as well.)",
-        mend: "Give each choice its partner, 0 where the thread steps alone.",
+        mend: "Give each choice its partner, 0 where the thread steps alone, and each role its \
+            seats, 0 where it has no limit.",
     },
     Refusal {
         place: CHOICE,
@@ -280,5 +281,19 @@ pub const ALL: [Refusal; 25] = [
             wrong with either file by itself.",
         mend: "Agree on one table of roles and one of kinds, and write both files with them. \
             `pilzdamo merge` names the first record that differs.",
+    },
+    Refusal {
+        place: "sessions, from 1, where the starting masks find no seat; choices, from 1, in a \
+            sentence about a choice",
+        who: CALLER,
+        wrong:
+            "A role has a number of seats, and a session has one while any of its threads has the \
+            role on. With the starting masks of the sessions taken in order, this session is one \
+            too many in a role. In a run 26 stops nothing: an on that gets no seat waits, its \
+            session stands in the role's line, and the choice counts as done.",
+        mend:
+            "Give the role more seats, or let fewer sessions start with it. In a run make the \
+            choice again once a seat is free and the session is the first in line: `pilzdamo \
+            seats` says who has a seat and who waits.",
     },
 ];

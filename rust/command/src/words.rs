@@ -30,14 +30,22 @@ pub enum Job {
     Run {
         file: Source,
         choices: Source,
+        /// Where the table of seats is, if there is one.
+        seats: Option<Source>,
     },
     Waiting {
         file: Source,
         choices: Source,
     },
+    Seats {
+        file: Source,
+        choices: Source,
+        seats: Source,
+    },
     Round {
         file: Source,
         choices: Source,
+        seats: Option<Source>,
     },
     Dispatch {
         file: Source,
@@ -70,13 +78,14 @@ struct Operands {
     out: Option<OsString>,
     at: Option<OsString>,
     hours: Option<OsString>,
+    seats: Option<OsString>,
     help: bool,
 }
 
 /// The words that name a job.
-const WORDS: [&str; 11] = [
-    "check", "place", "measure", "merge", "run", "waiting", "round", "dispatch", "show", "explain",
-    "reason",
+const WORDS: [&str; 12] = [
+    "check", "place", "measure", "merge", "run", "waiting", "seats", "round", "dispatch", "show",
+    "explain", "reason",
 ];
 
 /// These words in a sentence.
@@ -111,6 +120,7 @@ fn named(verb: &str, operands: Operands) -> Result<Job, WrongUse> {
         out,
         at,
         hours,
+        seats,
         ..
     } = operands;
     let out = out.filter(|out| out != "-").map(PathBuf::from);
@@ -121,16 +131,32 @@ fn named(verb: &str, operands: Operands) -> Result<Job, WrongUse> {
             Ok(Job::Merge { first, second, out })
         }
         "run" => {
-            let [file, choices] = file_and_choices(verb, plain)?;
-            Ok(Job::Run { file, choices })
+            let ([file, choices], seats) = with_seats(verb, plain, seats)?;
+            Ok(Job::Run {
+                file,
+                choices,
+                seats,
+            })
         }
         "waiting" => {
             let [file, choices] = file_and_choices(verb, plain)?;
             Ok(Job::Waiting { file, choices })
         }
+        "seats" => {
+            let [file, choices, seats] = three(verb, plain)?;
+            Ok(Job::Seats {
+                file,
+                choices,
+                seats,
+            })
+        }
         "round" => {
-            let [file, choices] = file_and_choices(verb, plain)?;
-            Ok(Job::Round { file, choices })
+            let ([file, choices], seats) = with_seats(verb, plain, seats)?;
+            Ok(Job::Round {
+                file,
+                choices,
+                seats,
+            })
         }
         "dispatch" => file_and_rounds(plain),
         "explain" => number(plain).map(|number| Job::Explain { number }),
@@ -198,6 +224,11 @@ fn sorted(verb: &str, mut words: impl Iterator<Item = OsString>) -> Result<Opera
                 let wants = format!("{name} wants the name of a file behind it");
                 keep(&name, &wants, &mut operands.hours, words.next())?;
             }
+            "--seats" if matches!(verb, "run" | "round") => {
+                let name = format!("{verb}: --seats");
+                let wants = format!("{name} wants the name of a file behind it");
+                keep(&name, &wants, &mut operands.seats, words.next())?;
+            }
             option if is_option(option) && has_options(verb) => {
                 return misused(&format!("{verb} has no option '{option}'"));
             }
@@ -239,6 +270,32 @@ fn keep(
 
 fn file_and_choices(verb: &str, plain: Vec<OsString>) -> Result<[Source; 2], WrongUse> {
     two(verb, ["FILE", "CHOICES"], plain)
+}
+
+/// FILE and CHOICES, and SEATS behind `--seats`, if it stands there.
+fn with_seats(
+    verb: &str,
+    plain: Vec<OsString>,
+    seats: Option<OsString>,
+) -> Result<([Source; 2], Option<Source>), WrongUse> {
+    let Some(seats) = seats else {
+        return Ok((file_and_choices(verb, plain)?, None));
+    };
+    let [file, choices] = exactly(verb, ["FILE", "CHOICES"], plain)?;
+    let [file, choices, seats] = three(verb, vec![file, choices, seats])?;
+    Ok(([file, choices], Some(seats)))
+}
+
+/// FILE, CHOICES and SEATS, of which at most one is standard input.
+fn three(verb: &str, plain: Vec<OsString>) -> Result<[Source; 3], WrongUse> {
+    let all = exactly(verb, ["FILE", "CHOICES", "SEATS"], plain)?.map(Source::named);
+    let fed = all.iter().filter(|it| matches!(it, Source::StandardInput));
+    if fed.count() > 1 {
+        return misused(&format!(
+            "{verb}: only one of FILE, CHOICES and SEATS can be standard input"
+        ));
+    }
+    Ok(all)
 }
 
 /// Two operands with these names, not both standard input.

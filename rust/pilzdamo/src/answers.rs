@@ -1,7 +1,7 @@
 //! What the engine answers.
 
 use crate::calls::said;
-use crate::{reason, ROUND_WORDS, TOTALS};
+use crate::{reason, LINE_WORDS, ROLES, ROUND_WORDS, SESSIONS, TOTALS};
 use std::error::Error;
 use std::fmt;
 
@@ -20,11 +20,12 @@ use std::fmt;
 /// | 14 | the node, or 0 for a starting mask |
 /// | 15 | the node |
 /// | 16 | 0: the placed file would have over 1,024 nodes |
-/// | 17 | 0: an output that is too short, or a list of choices that can't be one |
+/// | 17 | 0: an output that is too short, or a list of choices or a table of seats that can't be one |
 /// | 22 | 0: a minute that no week has, or a table of hours that can't be one |
 /// | 23 | the row of the table of hours, from 1 |
 /// | 24 | the node |
 /// | 25 | 0: the tables of two files |
+/// | 26 | the session, from 1, whose starting mask finds no seat |
 /// | 18 to 20 | the choice; 18 at 0 for a lent list that is none of the file's, has wrong totals, or is of another length |
 ///
 /// In [`choose`](crate::choose) the choice has number 1. A [`Reason`] says all of it in
@@ -372,6 +373,118 @@ impl fmt::Display for Totals {
     }
 }
 
+/// What [`seats`](crate::seats) answers: who has a role and who waits for a seat in one,
+/// in the state in which a run with seats stands, and the number and place of what
+/// halted it, if something did. Where something is refused before the first choice all
+/// else is 0.
+#[repr(C)]
+#[must_use]
+#[derive(Clone, Copy, Debug, PartialEq, Eq, Hash)]
+pub struct Seats {
+    /// The refusal's number, 0 if there is none.
+    pub number: u16,
+    /// Where it stands: a word, a session, a node or a choice, as its number
+    /// says.
+    pub place: u16,
+    /// How many choices got no seat, and were answered 26.
+    pub waited: u16,
+    /// What the last choice that was done was answered: 26, or 0.
+    pub last: u16,
+    /// For each role, from 1 on, how many sessions have a thread with it active, also
+    /// where it has no limit.
+    pub taken: [u16; ROLES],
+    /// For each role, from 1 on, how many sessions wait for a seat.
+    pub waiting: [u16; ROLES],
+    /// For each role, from 1 on, [`SESSIONS`] words: the sessions in its line, the first
+    /// in front, and 0 past the last.
+    pub line: [u16; LINE_WORDS],
+    /// For each kind, from 1 on, how many threads stand at a receive whose channel
+    /// has that kind, as [`Totals`] has it.
+    pub totals: [u16; TOTALS],
+}
+
+impl Seats {
+    /// How many sessions have a role, 0 for one outside 1 to 16.
+    ///
+    /// ```
+    /// // Four sessions of the desk put role 3 on, which has no limit.
+    /// let file = std::fs::read("../../examples/spring/cut.clinic")?;
+    /// let seats = pilzdamo::seats(&file, &[3, 0, 4, 0, 5, 0, 6, 0], &[0, 1, 0]);
+    /// assert_eq!((seats.in_role(3), seats.in_role(2), seats.in_role(17)), (4, 0, 0));
+    /// # Ok::<(), std::io::Error>(())
+    /// ```
+    pub fn in_role(&self, role: u16) -> u16 {
+        let at = usize::from(role).checked_sub(1);
+        at.and_then(|at| self.taken.get(at)).copied().unwrap_or(0)
+    }
+
+    /// The sessions that wait for a seat in a role, the first in front; none for a role
+    /// outside 1 to 16.
+    ///
+    /// ```
+    /// // Both schedulers want role 1, which has one seat.
+    /// let file = std::fs::read("../../examples/spring/cut.clinic")?;
+    /// let seats = pilzdamo::seats(&file, &[1, 0, 2, 0], &[1, 0, 0]);
+    /// assert_eq!((seats.in_role(1), seats.line_of(1)), (1, &[2][..]));
+    /// assert_eq!((seats.waited, seats.last), (1, 26));
+    /// # Ok::<(), std::io::Error>(())
+    /// ```
+    pub fn line_of(&self, role: u16) -> &[u16] {
+        let lines = self.line.as_chunks::<SESSIONS>().0;
+        let at = usize::from(role).checked_sub(1);
+        match at.and_then(|at| lines.get(at).zip(self.waiting.get(at))) {
+            Some((line, &waiting)) => &line[..usize::from(waiting).min(SESSIONS)],
+            None => &[],
+        }
+    }
+
+    /// The refusal's number and place alone.
+    ///
+    /// ```
+    /// assert_eq!(pilzdamo::seats(&[1], &[], &[]).verdict(), pilzdamo::read(&[1]));
+    /// ```
+    pub fn verdict(&self) -> Verdict {
+        let &Seats { number, place, .. } = self;
+        Verdict { number, place }
+    }
+}
+
+/// `taken: 1 in role 2; in line for role 2: 3 1`, or `no role is taken`; behind
+/// `refused N P` where the run halted, and that alone where no role is then taken.
+///
+/// ```
+/// let file = std::fs::read("../../examples/spring/cut.clinic")?;
+/// let told = |choices: &[u16]| pilzdamo::seats(&file, choices, &[1, 0, 0]).to_string();
+/// assert_eq!(told(&[]), "no role is taken");
+/// assert_eq!(told(&[1, 0, 2, 0]), "taken: 1 in role 1; in line for role 1: 2");
+/// assert_eq!(pilzdamo::seats(&[1], &[], &[]).to_string(), "refused 1 0");
+/// # Ok::<(), std::io::Error>(())
+/// ```
+impl fmt::Display for Seats {
+    fn fmt(&self, out: &mut fmt::Formatter<'_>) -> fmt::Result {
+        let mut parts = Vec::new();
+        if !self.verdict().is_clean() {
+            parts.push(self.verdict().to_string());
+        }
+        let taken: Vec<String> = (1..)
+            .zip(&self.taken)
+            .filter(|(_, taken)| **taken != 0)
+            .map(|(role, taken)| format!("{taken} in role {role}"))
+            .collect();
+        if !taken.is_empty() {
+            parts.push(format!("taken: {}", taken.join(", ")));
+        }
+        for role in (1..=ROLES as u16).filter(|role| !self.line_of(*role).is_empty()) {
+            let sessions: Vec<String> = self.line_of(role).iter().map(u16::to_string).collect();
+            parts.push(format!("in line for role {role}: {}", sessions.join(" ")));
+        }
+        if parts.is_empty() {
+            return out.write_str("no role is taken");
+        }
+        out.write_str(&parts.join("; "))
+    }
+}
+
 /// What a place counts.
 #[derive(Clone, Copy, Debug, PartialEq, Eq, Hash)]
 #[repr(u16)]
@@ -431,6 +544,7 @@ pub const NO_TAG: u16 = 9;
 /// | 18 | nothing, or choices |
 /// | 19, 20 | choices |
 /// | 23 | rows |
+/// | 26 | sessions, or choices |
 #[repr(C)]
 #[must_use]
 #[derive(Clone, Copy, Debug, PartialEq, Eq, Hash)]
@@ -487,17 +601,19 @@ impl Reason {
 }
 
 /// What [`merge`](crate::merge) answers: a refusal's number and place, or the length of
-/// what is written. What doesn't apply is 0.
+/// what is written. What doesn't apply is 0. Also what
+/// [`run_seated`](crate::run_seated) answers, which writes a state, and has its length,
+/// where it halts at a choice too.
 #[repr(C)]
 #[must_use]
 #[derive(Clone, Copy, Debug, PartialEq, Eq, Hash)]
 pub struct Written {
     /// The refusal's number, 0 if there is none.
     pub number: u16,
-    /// Where it stands: a word, a session or a node of the file that is refused, as its
-    /// number says.
+    /// Where it stands: a word, a session or a node of the file that is refused, or a
+    /// choice, as its number says.
     pub place: u16,
-    /// How many bytes of the output are written, 0 where there is a refusal.
+    /// How many bytes of the output are written, 0 where nothing is.
     pub length: u16,
 }
 

@@ -1,7 +1,7 @@
 //! The engine's functions for Rust.
 
 use crate::raw;
-use crate::{Placed, Ready, Reason, Round, Thread, Totals, Verdict, Written};
+use crate::{Placed, Ready, Reason, Round, Seats, Thread, Totals, Verdict, Written};
 
 /// As many bytes as [`place`] wants of its output for any file: those of the
 /// largest file of version 2. What it wants for a given file is [`room`].
@@ -18,8 +18,8 @@ pub const WEEK: u16 = 10_080;
 /// The most rows of a table of hours.
 pub const ROWS: usize = 64;
 
-/// The bytes that [`run`] and [`round`] want of their output: those of the largest
-/// state.
+/// The bytes that [`run`] and [`round`] want of their output, with seats too: those of
+/// the largest state.
 pub const RUN_ROOM: usize = 1_800;
 
 /// The words of a round's choices: two for each of at most 64.
@@ -28,6 +28,18 @@ pub const ROUND_WORDS: usize = 128;
 /// The most choices that a [`round`] can follow: a list has at most 65,535, the
 /// round's among them.
 pub const BEFORE_ROUND: usize = 65_471;
+
+/// The most roles of a file.
+pub const ROLES: usize = 16;
+
+/// The most sessions of a file, and so the most in a role's line.
+pub const SESSIONS: usize = 32;
+
+/// The words of all lines in [`Seats`]: [`SESSIONS`] for each of [`ROLES`].
+pub const LINE_WORDS: usize = ROLES * SESSIONS;
+
+/// The most seats of a role.
+pub const SEATS: u16 = 32;
 
 /// The records of the list that is lent to [`start`] and [`choose`].
 pub const RECORDS: usize = 64;
@@ -437,6 +449,102 @@ pub fn ready(file: &[u8], choices: &[u16]) -> Ready {
 #[inline]
 pub fn totals(file: &[u8], choices: &[u16]) -> Totals {
     raw::totals(file, choices)
+}
+
+/// A [`run`] with seats: a table gives each role of the file its seats, one word a role,
+/// 0 for no limit, else 1 to [`SEATS`].
+///
+/// A session has a seat in a role while any of its threads has the role active. An on by
+/// a session without one gets a seat exactly if one is free and nobody is in the role's
+/// line, or the session is the first there, and then leaves it. An on that gets none is
+/// answered 26: its session joins the line at the end, if it isn't in it, and nothing
+/// else changes. That halts nothing: the choice counts as done, and is to be made again
+/// when a seat may be free. [`seats`] says who has a seat and who waits.
+///
+/// Refusals and output are those of [`run`], and between 1 to 10 and the choices come 17
+/// for another number of words than roles or a word above [`SEATS`], and 26 for the
+/// lowest session whose starting mask, taken in order, overfills a role. The answer has
+/// the length of what is written, also where a choice halts the run.
+///
+/// ```
+/// use pilzdamo::{run, run_seated, State, RUN_ROOM};
+///
+/// // Two schedulers that put role 1 on and, later, role 2. Role 1 has one seat.
+/// let file = std::fs::read("../../examples/spring/cut.clinic")?;
+/// let (seats, mut out) = ([1, 0, 0], [0; RUN_ROOM]);
+/// let written = run_seated(&file, &[1, 0, 2, 0], &seats, &mut out);
+/// written.verdict().result()?;
+/// let state = State::of(&out[..written.length.into()]).unwrap();
+///
+/// // The second is still at its on, and waits. Both choices are done.
+/// assert_eq!(state.done, 2);
+/// assert_eq!((state.threads[0].mask, state.threads[1].mask), (1, 0));
+///
+/// // Without limits it is a run.
+/// let mut due = [0; RUN_ROOM];
+/// run(&file, &[1, 0, 2, 0], &mut due).result()?;
+/// let written = run_seated(&file, &[1, 0, 2, 0], &[0, 0, 0], &mut out);
+/// assert_eq!(State::of(&out[..written.length.into()]), State::of(&due));
+///
+/// // The file has three roles.
+/// let written = run_seated(&file, &[], &[1, 0], &mut out);
+/// assert_eq!(written.to_string(), "refused 17 0");
+/// # Ok::<(), Box<dyn std::error::Error>>(())
+/// ```
+#[inline]
+pub fn run_seated(file: &[u8], choices: &[u16], seats: &[u16], out: &mut [u8]) -> Written {
+    raw::run_seated(file, choices, seats, out)
+}
+
+/// A dispatcher's [`round`] with seats, as [`run_seated`] has them. A thread that gets no
+/// seat at its visit is in the round's list all the same, and its session in the line.
+///
+/// Refusals and output are those of [`round`], with 17 and 26 for the seats as in
+/// [`run_seated`].
+///
+/// ```
+/// use pilzdamo::{round_seated, RUN_ROOM};
+///
+/// // Both schedulers, and four of the desk; role 1 has one seat.
+/// let file = std::fs::read("../../examples/spring/cut.clinic")?;
+/// let mut out = [0; RUN_ROOM];
+/// let round = round_seated(&file, &[], &[1, 0, 0], &mut out);
+/// assert_eq!(round.to_string(), "choices 1 0, 2 0, 3 0, 4 0, 5 0, 6 0");
+///
+/// // The second of these choices got no seat.
+/// let seats = pilzdamo::seats(&file, round.choices(), &[1, 0, 0]);
+/// assert_eq!((seats.waited, seats.line_of(1)), (1, &[2][..]));
+/// # Ok::<(), std::io::Error>(())
+/// ```
+#[inline]
+pub fn round_seated(file: &[u8], choices: &[u16], seats: &[u16], out: &mut [u8]) -> Round {
+    raw::round_seated(file, choices, seats, out)
+}
+
+/// Who has a role, and who waits for a seat, after a list of choices with a table of
+/// seats as [`run_seated`] has it.
+///
+/// Any bytes and any words will do, of any length. The refusals are those of
+/// [`run_seated`]; as there is no output, 17 comes for the list and the table alone.
+/// Where the list stops, what is read is of the state before the choice that is refused.
+/// Nothing is written and nothing is kept.
+///
+/// ```
+/// // One seat in role 1, for which both schedulers ask.
+/// let file = std::fs::read("../../examples/spring/cut.clinic")?;
+/// let seats = |choices: &[u16]| pilzdamo::seats(&file, choices, &[1, 0, 0]);
+/// let asked = seats(&[1, 0, 2, 0]);
+/// assert_eq!((asked.in_role(1), asked.line_of(1)), (1, &[2][..]));
+/// assert_eq!((asked.waited, asked.last), (1, 26));
+///
+/// // The one that has it can't put it off before it has read; the other asks again.
+/// let again = seats(&[1, 0, 2, 0, 2, 0]);
+/// assert_eq!((again.line_of(1), again.waited), (&[2][..], 2));
+/// # Ok::<(), std::io::Error>(())
+/// ```
+#[inline]
+pub fn seats(file: &[u8], choices: &[u16], seats: &[u16]) -> Seats {
+    raw::seats(file, choices, seats)
 }
 
 /// How many threads wait on a kind, from the words beside a list of threads, such as

@@ -20,6 +20,7 @@
 //! | find the two threads that can meet | [`ready`] |
 //! | let a dispatcher choose, round by round | [`round`] |
 //! | see how many threads wait on each kind | [`totals`]; [`Desk::total`], and [`total`] of a list of one's own |
+//! | give roles a number of seats, with a line for those who wait | [`run_seated`], [`round_seated`], [`seats`] |
 //! | say a refusal in a sentence, and read one back | [`reason`], [`Reason::sentence`], [`read_reason`]; [`phrase`], [`meaning`] for a number alone |
 //! | go on choice by choice | [`Desk`]; [`start`] and [`choose`] in a list of one's own |
 //! | make one file of two | [`merge`], [`merged`] |
@@ -217,6 +218,32 @@
 //! # Ok::<(), Box<dyn std::error::Error>>(())
 //! ```
 //!
+//! # Seats per role
+//!
+//! A table may give each role a number of seats. A session that puts such a role on when
+//! no seat is free, or others are before it, waits in the role's line; nothing stops.
+//!
+//! ```
+//! use pilzdamo::{run_seated, seats, State, RUN_ROOM};
+//!
+//! // Two schedulers and the desk; role 2, the bed holder, has one seat.
+//! let file = std::fs::read("../../examples/seats/asked.clinic")?;
+//! let (file, _) = pilzdamo::placed(&file)?;
+//! let table = [0, 1, 0];
+//!
+//! // Each makes a channel and asks for the role. The second gets no seat.
+//! let choices = [1, 0, 2, 0, 1, 0, 2, 0];
+//! let mut out = [0; RUN_ROOM];
+//! let written = run_seated(&file, &choices, &table, &mut out);
+//! written.verdict().result()?;
+//! let state = State::of(&out[..written.length.into()]).unwrap();
+//! assert_eq!((state.threads[0].mask, state.threads[1].mask), (2, 0));
+//! let told = seats(&file, &choices, &table);
+//! assert_eq!(told.to_string(), "taken: 1 in role 2; in line for role 2: 2");
+//! assert_eq!((told.waited, told.last), (1, 26));
+//! # Ok::<(), Box<dyn std::error::Error>>(())
+//! ```
+//!
 //! # A run is driven choice by choice
 //!
 //! A [`Desk`] has the threads and goes on by one choice at a time. Whatever is
@@ -326,12 +353,13 @@ mod desk;
 mod raw;
 mod state;
 
-pub use answers::{Counts, Placed, Ready, Reason, Round, Totals, Verdict, Written, NO_TAG};
+pub use answers::NO_TAG;
+pub use answers::{Counts, Placed, Ready, Reason, Round, Seats, Totals, Verdict, Written};
 pub use calls::{check, check_at, choose, measure, measure_at, merge, merged};
 pub use calls::{meaning, phrase, read_reason, reason};
 pub use calls::{place, place_at, placed, placed_at, read, ready, room, round, run, start};
-pub use calls::{total, totals};
+pub use calls::{round_seated, run_seated, seats, total, totals};
 pub use calls::{BEFORE_ROUND, BESIDE, RECORDS, ROOM, ROOM_1, ROUND_WORDS, ROWS, RUN_ROOM};
-pub use calls::{SENTENCE, TOTALS, WEEK};
+pub use calls::{LINE_WORDS, ROLES, SEATS, SENTENCE, SESSIONS, TOTALS, WEEK};
 pub use desk::Desk;
 pub use state::{Channel, State, Thread};

@@ -5,7 +5,7 @@
 //! pointers and lengths name, writes only what is lent by a pointer to `mut`, and
 //! ends; it keeps no pointer.
 
-use crate::{Placed, Ready, Reason, Round, Thread, Totals, Verdict, Written};
+use crate::{Placed, Ready, Reason, Round, Seats, Thread, Totals, Verdict, Written};
 
 extern "C" {
     fn pilzdamo_read(file: *const u8, len: usize) -> Verdict;
@@ -53,6 +53,34 @@ extern "C" {
     ) -> Round;
     fn pilzdamo_ready(file: *const u8, len: usize, choices: *const u16, words: usize) -> Ready;
     fn pilzdamo_totals(file: *const u8, len: usize, choices: *const u16, words: usize) -> Totals;
+    fn pilzdamo_run_seated(
+        file: *const u8,
+        len: usize,
+        choices: *const u16,
+        words: usize,
+        seats: *const u16,
+        seats_len: usize,
+        out: *mut u8,
+        out_len: usize,
+    ) -> Written;
+    fn pilzdamo_round_seated(
+        file: *const u8,
+        len: usize,
+        choices: *const u16,
+        words: usize,
+        seats: *const u16,
+        seats_len: usize,
+        out: *mut u8,
+        out_len: usize,
+    ) -> Round;
+    fn pilzdamo_seats(
+        file: *const u8,
+        len: usize,
+        choices: *const u16,
+        words: usize,
+        seats: *const u16,
+        seats_len: usize,
+    ) -> Seats;
     fn pilzdamo_total(beside: *const u16, words: usize, kind: u16) -> u16;
     fn pilzdamo_reason(
         number: u16,
@@ -101,6 +129,7 @@ const _: () = {
     assert!(size_of::<Totals>() == 2 * 34);
     assert!(size_of::<Reason>() == 2 * 4);
     assert!(size_of::<Written>() == 2 * 3);
+    assert!(size_of::<Seats>() == 2 * 580);
     assert!(size_of::<Thread>() == 2 * 11);
 };
 
@@ -224,6 +253,60 @@ pub fn ready(file: &[u8], choices: &[u16]) -> Ready {
 pub fn totals(file: &[u8], choices: &[u16]) -> Totals {
     // SAFETY: as in `ready`.
     unsafe { pilzdamo_totals(file.as_ptr(), file.len(), choices.as_ptr(), choices.len()) }
+}
+
+#[inline]
+pub fn run_seated(file: &[u8], choices: &[u16], seats: &[u16], out: &mut [u8]) -> Written {
+    // SAFETY: the engine only reads the `len` bytes from `file` on, the `words` words
+    // from `choices` on and the `seats_len` words from `seats` on, and only reads and
+    // writes the `out_len` bytes from `out` on, during the call. The slices vouch for
+    // them, and that nothing of `out` is in the other three.
+    unsafe {
+        pilzdamo_run_seated(
+            file.as_ptr(),
+            file.len(),
+            choices.as_ptr(),
+            choices.len(),
+            seats.as_ptr(),
+            seats.len(),
+            out.as_mut_ptr(),
+            out.len(),
+        )
+    }
+}
+
+#[inline]
+pub fn round_seated(file: &[u8], choices: &[u16], seats: &[u16], out: &mut [u8]) -> Round {
+    // SAFETY: as in `run_seated`.
+    unsafe {
+        pilzdamo_round_seated(
+            file.as_ptr(),
+            file.len(),
+            choices.as_ptr(),
+            choices.len(),
+            seats.as_ptr(),
+            seats.len(),
+            out.as_mut_ptr(),
+            out.len(),
+        )
+    }
+}
+
+#[inline]
+pub fn seats(file: &[u8], choices: &[u16], seats: &[u16]) -> Seats {
+    // SAFETY: the engine only reads the `len` bytes from `file` on, the `words` words
+    // from `choices` on and the `seats_len` words from `seats` on, during the call; the
+    // slices vouch for them.
+    unsafe {
+        pilzdamo_seats(
+            file.as_ptr(),
+            file.len(),
+            choices.as_ptr(),
+            choices.len(),
+            seats.as_ptr(),
+            seats.len(),
+        )
+    }
 }
 
 #[inline]

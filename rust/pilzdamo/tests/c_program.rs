@@ -1,8 +1,8 @@
 //! The header, tried by a C program: what it prints.
 
-use pilzdamo::{Counts, Placed, Ready, Reason, Round, Thread, Totals, Verdict, Written};
+use pilzdamo::{Counts, Placed, Ready, Reason, Round, Seats, Thread, Totals, Verdict, Written};
 use pilzdamo::{BEFORE_ROUND, BESIDE, RECORDS, ROOM, ROOM_1, ROUND_WORDS, ROWS, RUN_ROOM};
-use pilzdamo::{NO_TAG, SENTENCE, TOTALS, WEEK};
+use pilzdamo::{LINE_WORDS, NO_TAG, ROLES, SEATS, SENTENCE, SESSIONS, TOTALS, WEEK};
 use std::process::{Command, Output};
 
 const FOLDER: &str = env!("CARGO_MANIFEST_DIR");
@@ -84,6 +84,27 @@ thread 2: user 1, node 7, mask 2, roles 1, first variable 0
 thread 3: user 2, node 14, mask 4, roles 1, first variable 2
 65471 choices: refusal 18 6, 80 bytes
 65472 choices: refusal 17 0, 0 bytes
+with seats: refusal 0 0, 152 bytes
+choices done: 4, refusal: 0
+thread 1: user 1, node 2, mask 1, roles 1, first variable 0
+thread 2: user 2, node 8, mask 0, roles 0, first variable 0
+thread 3: user 3, node 16, mask 4, roles 1, first variable 0
+thread 4: user 3, node 19, mask 0, roles 0, first variable 0
+thread 5: user 3, node 25, mask 0, roles 0, first variable 0
+thread 6: user 3, node 31, mask 0, roles 0, first variable 0
+behind it: ab
+seats: refusal 0 0, waited 2, last 26
+role 1: taken 1, line 2
+role 3: taken 1, line
+waiting on kind 1: 1
+where it stops: refusal 18 5, waited 2, last 26
+role 1: taken 1, line 2
+role 3: taken 1, line
+waiting on kind 1: 1
+a list that stops: refusal 18 5, 152 bytes
+too many seats: refusal 17 0, 0 bytes
+two start: refusal 26 2, 0 bytes
+round: refusal 0 0, 152 bytes, choices 1,0 2,0
 merge: refusal 0 0, 266 bytes
 its counts: 7 2 2 2 5 28
 behind it: ab
@@ -145,6 +166,7 @@ fn a_c_program_calls_the_engine() {
         size_of::<Totals>(),
         size_of::<Reason>(),
         size_of::<Written>(),
+        size_of::<Seats>(),
         size_of::<Thread>(),
     ];
     let line = |name: &str, numbers: &[usize]| {
@@ -156,10 +178,11 @@ fn a_c_program_calls_the_engine() {
     let hours = line("hours", &[WEEK.into(), ROWS]);
     let rounds = line("rounds", &[ROUND_WORDS, BEFORE_ROUND]);
     let totals = line("totals", &[TOTALS]);
+    let seats = line("seats", &[ROLES, SESSIONS, LINE_WORDS, SEATS.into()]);
     let counts = Counts::ALL.map(|counts| usize::from(counts.number()));
     let reasons = [&[SENTENCE, NO_TAG.into()][..], &counts].concat();
     let reasons = line("reasons", &reasons);
     let printed = String::from_utf8_lossy(&output.stdout);
-    let lines = sizes + &rooms + &hours + &rounds + &totals + &reasons;
+    let lines = sizes + &rooms + &hours + &rounds + &totals + &seats + &reasons;
     assert_eq!(printed, lines + PRINTED);
 }

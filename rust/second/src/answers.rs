@@ -1,7 +1,7 @@
 //! What is answered.
 
 use crate::cause::Refusal;
-use crate::running::{ROUND_WORDS, TOTALS};
+use crate::running::{LINE_WORDS, ROLES, ROUND_WORDS, TOTALS};
 
 /// A refusal's number and place; 0 and 0 where nothing is refused.
 #[derive(Clone, Copy, Debug, PartialEq, Eq)]
@@ -166,7 +166,7 @@ impl Reason {
 }
 
 /// What merging answers. Refused, it has a length of 0; written, a number and place of
-/// 0.
+/// 0. It is also what a run with seats answers, which has a length where it halts too.
 #[derive(Clone, Copy, Debug, PartialEq, Eq)]
 pub struct Written {
     pub number: u16,
@@ -190,6 +190,39 @@ impl Written {
             number: 0,
             place: 0,
             length,
+        }
+    }
+}
+
+/// What is read of the seats after a list of choices, also where the list stops: how
+/// many choices were answered 26, what the last one done was answered (26 or 0), for
+/// each role from 1 on how many sessions have it active and how many wait for it, the
+/// line of role r from word 32 × (r − 1) on, 0 past those who wait, and how many threads
+/// wait on each kind. Refused before the first choice, all but number and place are 0.
+#[derive(Clone, Copy, Debug, PartialEq, Eq)]
+pub struct Seats {
+    pub number: u16,
+    pub place: u16,
+    pub waited: u16,
+    pub last: u16,
+    pub taken: [u16; ROLES],
+    pub waiting: [u16; ROLES],
+    pub line: [u16; LINE_WORDS],
+    pub totals: [u16; TOTALS],
+}
+
+impl Seats {
+    /// The answer where there is no state.
+    pub const fn refused(number: u16, place: u16) -> Seats {
+        Seats {
+            number,
+            place,
+            waited: 0,
+            last: 0,
+            taken: [0; ROLES],
+            waiting: [0; ROLES],
+            line: [0; LINE_WORDS],
+            totals: [0; TOTALS],
         }
     }
 }

@@ -17,6 +17,7 @@ pub use nothing::NOTHING;
 pub use placing::{Due, PlaceCase};
 pub use reasons::{cases as reason_cases, ReasonCase, NO_SENTENCES};
 pub use running::{booking, choose_cases, placed_booking, round_cases, start_cases};
+pub use running::{seat_cases, seated_round_cases, SeatCase, SeatedRoundCase};
 pub use running::{totals_cases, ChooseCase, Lent, RoundCase, RunCase, StartCase, TotalsCase};
 
 use crate::draft::Draft;

@@ -114,6 +114,13 @@ pub enum Cause {
     KindsDiffer,
     /// Two files with too many records of a section together.
     Sum(Section),
+    /// A table of seats with fewer words than there are roles, or with more.
+    SeatsShort,
+    SeatsLong,
+    /// A role with over 32 seats.
+    SeatsAbove,
+    /// A starting mask that overfills a role.
+    StartOverfills,
 }
 
 /// The fields that a tag leaves unused, tag by tag.
@@ -184,6 +191,8 @@ impl Cause {
             NoRoleSends { .. } | NoRoleReceives { .. } => 15,
             ResultTooLarge => 16,
             OutputTooShort | OddChoices | TooManyChoices => 17,
+            SeatsShort | SeatsLong | SeatsAbove => 17,
+            StartOverfills => 26,
             Lent(_) => 18,
             Choice(halt) => halt.number(),
             RoleCounts | KindCounts | RolesDiffer | KindsDiffer => 25,
@@ -225,6 +234,12 @@ impl Cause {
         let mut all = vec![OutputTooShort, OddChoices, TooManyChoices];
         all.extend(Halt::all().into_iter().map(Choice));
         all
+    }
+
+    /// The causes that a table of seats brings to a run.
+    pub fn of_seats() -> Vec<Cause> {
+        use Cause::*;
+        vec![SeatsShort, SeatsLong, SeatsAbove, StartOverfills]
     }
 
     /// The causes that a start in a lent list has besides those of the file.

@@ -4,9 +4,9 @@
 //! nothing with the engine, so that the two can be compared. Where 1 to 8 or 1 to 10
 //! are spoken of, 21 is among them. The timed functions, [`read`], [`read_names`],
 //! [`check`], [`check_at`], [`place`], [`place_at`], [`measure`], [`measure_at`],
-//! [`run`], [`round`], [`ready`], [`totals`], [`start`], [`choose`] and [`merge`], go
-//! over the file a few times, in place, and allocate nothing; nor do [`reason`],
-//! [`read_reason`] and [`phrase`].
+//! [`run`], [`round`], [`ready`], [`totals`], [`run_seated`], [`round_seated`],
+//! [`seats`], [`start`], [`choose`] and [`merge`], go over the file a few times, in
+//! place, and allocate nothing; nor do [`reason`], [`read_reason`] and [`phrase`].
 
 #![forbid(unsafe_code)]
 
@@ -25,15 +25,15 @@ mod running;
 mod schema;
 mod tree;
 
-pub use answers::{Placed, Ready, Reason, Round, Totals, Verdict, Written};
+pub use answers::{Placed, Ready, Reason, Round, Seats, Totals, Verdict, Written};
 pub use cause::{is_of_file, is_of_reading, Cause, Refusal};
 pub use file::{Section, Version};
 pub use merging::MERGED_ROOM;
 pub use placing::{room_for, ROOM};
 pub use reasons::{Unsaid, SENTENCE};
-pub use running::{Halt, Run, Thread, Unfit};
+pub use running::{Answer, Halt, Run, SeatedRun, Thread, Unfit};
 pub use running::{BEFORE_ROUND, BEFORE_TOTALS, BESIDE, MOST_CHOICES, RECORDS};
-pub use running::{ROUND_WORDS, RUN_ROOM, TOTALS};
+pub use running::{LINE_WORDS, ROLES, ROUND_WORDS, RUN_ROOM, TOTALS};
 
 use file::File;
 use hours::{Hours, ALWAYS};
@@ -177,6 +177,74 @@ pub fn totals(file: &[u8], choices: &[u16]) -> Totals {
     Totals::of(verdict, *run.totals())
 }
 
+/// A [`run`] with a table of seats, one word a role: 0 for no limit, else 1 to 32. An on
+/// of a role by a session that has no thread with it active gets a seat exactly where
+/// one is free and there is no line or the session is its head, which then leaves it.
+/// An on that gets none is answered 26: its session joins the role's line at the end,
+/// once, nothing else changes, and the choice counts as done. Another number of words
+/// than roles, or a word above 32, is 17 behind 1 to 10, and then comes 26 for the
+/// lowest session whose starting mask overfills a role.
+pub fn run_seated(file: &[u8], choices: &[u16], seats: &[u16], out: &mut [u8]) -> Written {
+    let judged = running::judge_room(out.len());
+    let judged = judged.and_then(|()| judge_seated(file, choices, seats, MOST_CHOICES));
+    let mut run = match judged {
+        Ok(run) => run,
+        Err(refusal) => {
+            let Verdict { number, place } = refusal.verdict();
+            return Written::refused(number, place);
+        }
+    };
+    let Verdict { number, place } = Verdict::of(run.go_through(choices));
+    let done = match number {
+        0 => (choices.len() / 2) as u16,
+        _ => place - 1,
+    };
+    Written {
+        number,
+        place,
+        length: run.write(done, number, out),
+    }
+}
+
+/// A [`round`] with a table of seats, as in [`run_seated`]. A visit that gets no seat
+/// is in the round's list.
+pub fn round_seated(file: &[u8], choices: &[u16], seats: &[u16], out: &mut [u8]) -> Round {
+    let judged = running::judge_room(out.len());
+    let judged = judged.and_then(|()| judge_seated(file, choices, seats, BEFORE_ROUND));
+    let mut run = match judged {
+        Ok(run) => run,
+        Err(refusal) => {
+            let Verdict { number, place } = refusal.verdict();
+            return Round::refused(number, place, 0);
+        }
+    };
+    if let Err(refusal) = run.go_through(choices) {
+        let Verdict { number, place } = refusal.verdict();
+        let length = run.write(place - 1, number, out);
+        return Round::refused(number, place, length);
+    }
+    let Choices { words, count } = run.go_round();
+    let done = choices.len() / 2 + count;
+    let length = run.write(done as u16, 0, out);
+    Round::done(length, words)
+}
+
+/// What is read of the seats, in the state in which [`run_seated`] stands after the
+/// choices, or where they stop. It has no output, so that 17 is for the list and the
+/// table alone.
+pub fn seats(file: &[u8], choices: &[u16], seats: &[u16]) -> Seats {
+    match judge_seated(file, choices, seats, MOST_CHOICES) {
+        Ok(mut run) => {
+            let verdict = Verdict::of(run.go_through(choices));
+            run.read(verdict)
+        }
+        Err(refusal) => {
+            let Verdict { number, place } = refusal.verdict();
+            Seats::refused(number, place)
+        }
+    }
+}
+
 /// The total of a kind from the words beside a list of threads: 0 for a kind outside
 /// 1 to 32, and for another number of words than [`BESIDE`].
 pub fn total(beside: &[u16], kind: u16) -> u16 {
@@ -259,6 +327,12 @@ pub fn begin(file: &[u8]) -> Result<Run<'_>, Refusal> {
     judge_running(file, &[], MOST_CHOICES)
 }
 
+/// A run with a table of seats that has yet to make its first choice, if nothing is
+/// refused before that.
+pub fn begin_seated<'a>(file: &'a [u8], seats: &[u16]) -> Result<SeatedRun<'a>, Refusal> {
+    judge_seated(file, &[], seats, MOST_CHOICES)
+}
+
 /// The run that goes on from what is lent, if 1 to 10 leave the file clean and
 /// nothing lent is refused.
 pub fn resume<'a>(file: &'a [u8], threads: &[Thread], beside: &[u16]) -> Result<Run<'a>, Refusal> {
@@ -284,6 +358,19 @@ fn cause_before(file: &[u8], choices: &[u16], room: usize, most: usize) -> Optio
     let judged = running::judge_room(room);
     let judged = judged.and_then(|()| judge_choices(file, choices, most));
     judged.err()
+}
+
+/// Why [`run_seated`] refuses or halts where the output has this many bytes, if it
+/// does.
+pub fn cause_in_seated_run(
+    file: &[u8],
+    choices: &[u16],
+    seats: &[u16],
+    room: usize,
+) -> Option<Refusal> {
+    let judged = running::judge_room(room);
+    let judged = judged.and_then(|()| judge_seated(file, choices, seats, MOST_CHOICES));
+    judged.and_then(|mut run| run.go_through(choices)).err()
 }
 
 /// Why [`start`] refuses the file or what is lent, if it does.
@@ -386,6 +473,19 @@ fn judge_running<'a>(file: &'a [u8], choices: &[u16], most: usize) -> Result<Run
     let file = judge_reading(file)?;
     names::judge(&file)?;
     Ok(Run::start(file))
+}
+
+fn judge_seated<'a>(
+    file: &'a [u8],
+    choices: &[u16],
+    seats: &[u16],
+    most: usize,
+) -> Result<SeatedRun<'a>, Refusal> {
+    running::judge_list(choices.len(), most)?;
+    let file = judge_reading(file)?;
+    names::judge(&file)?;
+    running::judge_table(&file, seats)?;
+    SeatedRun::start(file, seats)
 }
 
 fn judge_choices<'a>(file: &'a [u8], choices: &[u16], most: usize) -> Result<Run<'a>, Refusal> {

@@ -10,7 +10,7 @@ use crate::answers::Reason;
 pub const SENTENCE: usize = 120;
 
 /// What each number means, from 1 on.
-const MEANINGS: [&[u8]; 25] = [
+const MEANINGS: [&[u8]; 26] = [
     b"Refused 1: the file has 1 to 25 bytes (to 27 in version 2), or an odd number of them",
     b"Refused 2: the version is not one that can be read here",
     b"Refused 3: a count is out of range",
@@ -27,7 +27,7 @@ const MEANINGS: [&[u8]; 25] = [
     b"Refused 14: a routine to be placed has an on, an off or a starting role",
     b"Refused 15: no role that the user may put on permits the step",
     b"Refused 16: the placed file would have over 1,024 nodes",
-    b"Refused 17: the output is too short, or the list of choices is odd or too long",
+    b"Refused 17: the output is too short, or the list of choices or of seats does not fit",
     b"Refused 18: the list lent, the thread or its partner is not one for this step",
     b"Refused 19: the values compared are not equal, or the two channels differ",
     b"Refused 20: it would be the 65th thread or made channel",
@@ -36,6 +36,7 @@ const MEANINGS: [&[u8]; 25] = [
     b"Refused 23: the row names no such role, or no stretch of the week",
     b"Refused 24: the role put on is closed at that minute",
     b"Refused 25: the two files' tables of roles or kinds differ",
+    b"Refused 26: the role has no free seat, or other sessions are before this one in line",
 ];
 
 /// The endings by tag; the last is that of a sentence without one.
@@ -133,6 +134,7 @@ fn counts_of(number: u16) -> &'static [Counts] {
         18 => &[Nothing, Choice],
         19 | 20 => &[Choice],
         23 => &[Row],
+        26 => &[Session, Choice],
         _ => &[],
     }
 }

@@ -1,8 +1,9 @@
-//! Running: refusals 17 to 20, and 11 to 13 at a choice.
+//! Running: refusals 17 to 20 and 26, and 11 to 13 at a choice.
 
 mod halt;
 mod lent;
 mod round;
+mod seated;
 mod state;
 mod thread;
 mod unfit;
@@ -10,6 +11,7 @@ mod unfit;
 pub use halt::Halt;
 pub use lent::{Lent, Scopes};
 pub use round::{Choices, ROUND_WORDS};
+pub use seated::{judge_table, Answer, SeatedRun, LINE_WORDS, ROLES};
 pub use state::{State, BEFORE_TOTALS, BESIDE, RECORDS, TOTALS};
 pub use thread::Thread;
 pub use unfit::Unfit;
@@ -127,7 +129,7 @@ impl<'a> Run<'a> {
 
     /// Carries out a round.
     pub(crate) fn go_round(&mut self) -> Choices {
-        self.state().go_round()
+        round::go_round(&mut self.state())
     }
 
     fn state(&mut self) -> State<'_, Permitted> {

@@ -1,11 +1,13 @@
 use crate::cases::{booking, cases, choose_cases, place_cases, placed_booking, run_cases};
 use crate::cases::{check_at_cases, place_at_cases, round_cases, start_cases, totals_cases};
 use crate::cases::{merge_cases, reason_cases, Due, DueOfBoth, BOOKING, NO_SENTENCES};
+use crate::cases::{seat_cases, seated_round_cases};
 use crate::draft::to_bytes;
 use crate::{begin, merge, resume, total, totals};
 use crate::{cause, cause_in_choosing, cause_in_placing, cause_in_run, cause_in_starting};
 use crate::{cause_at, cause_in_merging, cause_in_placing_at, cause_in_round, check_at};
 use crate::{cause_in_reason, phrase, read_reason, reason};
+use crate::{cause_in_seated_run, round_seated, run_seated, seats};
 use crate::{check, choose, is_of_file, is_of_reading, measure, measure_at};
 use crate::{place, place_at, read, read_names, ready, round, run, start};
 use crate::{Cause, Placed, Reason, Run, Thread, Unsaid, Verdict, Version, SENTENCE};
@@ -141,6 +143,53 @@ fn named_cases_of_rounds() {
         assert!(causes.contains(&cause), "no case of {cause:?}");
     }
     assert_eq!(BEFORE_ROUND, 65_471);
+}
+
+#[test]
+fn named_cases_of_seats() {
+    let mut causes = BTreeSet::new();
+    for case in seat_cases() {
+        case.demand("second", run_seated);
+        case.demand_seats("second", seats);
+        let refusal = cause_in_seated_run(&case.file, &case.choices, &case.seats, case.room);
+        let told = refusal.map_or(Verdict::CLEAN, |refusal| refusal.verdict());
+        assert_eq!((told.number, told.place), case.answer, "{}", case.name);
+        causes.extend(refusal.map(|refusal| refusal.cause));
+    }
+    for cause in Cause::of_seats() {
+        assert!(causes.contains(&cause), "no case of {cause:?}");
+    }
+    for case in seated_round_cases() {
+        case.demand("second", round_seated);
+    }
+}
+
+/// With all words 0 runs, rounds and totals are those without seats.
+#[test]
+fn without_limits_nothing_changes() {
+    let seats_of = |file: &[u8]| vec![0; file.get(4).copied().unwrap_or(0).into()];
+    for case in run_cases() {
+        if is_of_file(case.answer.0) {
+            continue;
+        }
+        let table = seats_of(&case.file);
+        case.demand("second", |file, choices, out| {
+            let told = run_seated(file, choices, &table, out);
+            verdict((told.number, told.place))
+        });
+        let read = seats(&case.file, &case.choices, &table);
+        assert_eq!(read.totals, totals(&case.file, &case.choices).totals);
+        assert_eq!((read.waited, read.last), (0, 0), "{}", case.name);
+    }
+    for case in round_cases() {
+        if is_of_file(case.answer.0) {
+            continue;
+        }
+        let table = seats_of(&case.file);
+        case.demand("second", |file, choices, out| {
+            round_seated(file, choices, &table, out)
+        });
+    }
 }
 
 /// What is written is what a run through the list and then the round's choices
@@ -365,8 +414,8 @@ fn every_reason_has_its_own_sentence() {
             }
         }
     }
-    // Eleven of no place; of each place 12 without a tag, and seven numbers with nine tags.
-    assert_eq!((sentences.len(), count), (count, 11 + 10 * (12 + 7 * 9)));
+    // Eleven of no place; of each place 14 without a tag, and seven numbers with nine tags.
+    assert_eq!((sentences.len(), count), (count, 11 + 10 * (14 + 7 * 9)));
 }
 
 #[test]
@@ -375,7 +424,7 @@ fn phrases_of_numbers() {
         for room in [0, 119, 120, 121] {
             let mut out = vec![0xa5; room];
             let length = usize::from(phrase(number, &mut out));
-            let due = (1..=25).contains(&number) && room >= 120;
+            let due = (1..=26).contains(&number) && room >= 120;
             assert_eq!(length > 0, due, "{number} in {room} bytes");
             assert!(out[length..].iter().all(|byte| *byte == 0xa5));
         }

@@ -13,7 +13,7 @@ use Rattle.seated.proofs.run_into.Lts as lts
 use Rattle.running.proofs.out.put_state.Reads as put-state-reads
 use Rattle.running.proofs.stopped_at.Reads as stopped-at-reads
 use Rattle.seated.proofs.not_written.Reads as not-written-reads
-use Rattle.seated.proofs.output_length.Reads as output-length-reads
+use Rattle.dispatching.proofs.output_length.Reads as output-length-reads
 use Rattle.seated.proofs.runs.run_seated_by.Reads as run-seated-by-reads
 use Rattle.seated.proofs.table.seats_bar.Reads as seats-bar-reads
 

@@ -71,7 +71,15 @@ fn typed(line: &str) -> Option<Typed> {
 #[test]
 fn the_readme_names_every_example() {
     let commands: String = commands().into_iter().map(|typed| typed.command).collect();
-    for folder in ["", "head-nurse/", "hours/", "house/", "spring/", "refused/"] {
+    for folder in [
+        "",
+        "head-nurse/",
+        "hours/",
+        "house/",
+        "spring/",
+        "seats/",
+        "refused/",
+    ] {
         for entry in fs::read_dir(example(folder)).expect("a folder") {
             let entry = entry.expect("an entry");
             let name = entry.file_name().display().to_string();
@@ -107,7 +115,7 @@ fn the_readmes_commands() {
             printed += 1;
         }
     }
-    assert_eq!(printed, 7);
+    assert_eq!(printed, 9);
 }
 
 /// The refusal that a line begins with, `- 6 at word 27: ` or `- 3: `: its sentence, up

@@ -12,13 +12,13 @@ fn every_refusal_is_explained() {
     };
     let counts = |number| match number {
         6 | 21 => "words",
-        7 => "sessions",
+        7 | 26 => "sessions",
         8..=15 | 24 => "nodes",
         18..=20 => "choices",
         23 => "rows",
         _ => "nothing",
     };
-    for number in 1..=25 {
+    for number in 1..=26 {
         let answer = call(&["explain", &number.to_string()]);
         assert_eq!((answer.status, answer.err.as_str()), (0, ""));
         let text = answer.text();
@@ -38,11 +38,11 @@ fn every_refusal_is_explained() {
 
 #[test]
 fn no_other_number() {
-    for word in ["0", "26", "-", "-1", "x", "13 ", "65536", "1.0"] {
+    for word in ["0", "27", "-", "-1", "x", "13 ", "65536", "1.0"] {
         let answer = call(&["explain", word]);
         assert_eq!((answer.status, answer.text()), (2, ""), "{word}");
         assert!(
-            answer.err.contains("the refusals have the numbers 1 to 25"),
+            answer.err.contains("the refusals have the numbers 1 to 26"),
             "{word}"
         );
     }

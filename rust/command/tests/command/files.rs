@@ -21,13 +21,14 @@ pub fn all() -> Vec<(&'static str, Vec<u8>)> {
         ("hours/by-day.clinic", hours_desk_in(1).bytes()),
         ("spring/bare.clinic", spring(&READ_AND_WRITE, false).bytes()),
         ("spring/cut.clinic", spring(&READ_CUT_WRITE, true).bytes()),
+        ("seats/asked.clinic", asked().bytes()),
     ];
     all.extend(refused());
     all
 }
 
 /// Those that can be placed.
-pub const BARE: [&str; 10] = [
+pub const BARE: [&str; 11] = [
     "booking.clinic",
     "overlap.clinic",
     "theatre.clinic",
@@ -37,6 +38,7 @@ pub const BARE: [&str; 10] = [
     "house/north.clinic",
     "house/south.clinic",
     "spring/bare.clinic",
+    "seats/asked.clinic",
     "hours/desk.clinic",
 ];
 
@@ -369,6 +371,69 @@ fn desk(draft: Draft, with_roles: bool) -> Draft {
     draft.session(3, &held(&books))
 }
 
+/// Two schedulers (users 1 and 2) and the desk (user 3). Users 4 to 6 stand for three
+/// beds. Role 1 reads free beds; role 2, the bed holder, asks, reads and books; role 3
+/// is the desk's. A scheduler makes a channel, asks with it, reads a bed from it, books
+/// the bed, and reads from it again what the desk confirms.
+fn asked() -> Draft {
+    let scheduler = [
+        new(1),
+        send(ASK, variable(1)),
+        receive(variable(1)),
+        send(BOOK, variable(2)),
+        receive(variable(1)),
+        END,
+    ];
+    let draft = Draft::default()
+        .user(&[1, 2])
+        .user(&[1, 2])
+        .user(&[3])
+        .user(&[])
+        .user(&[])
+        .user(&[])
+        .role(&[], &[1])
+        .role(&[2, 3], &[1])
+        .role(&[1, 4], &[2, 3, 4])
+        .kind(0)
+        .kind(1)
+        .kind(0)
+        .kind(0)
+        .channel(3, 2)
+        .channel(3, 3)
+        .channel(3, 4)
+        .channel(3, 4)
+        .session(1, &scheduler)
+        .session(2, &scheduler)
+        .session(3, &[send(NOTE, 4), END])
+        .session(3, &[send(NEXT, 5), send(NEXT, 6), END]);
+    asked_desk(asked_desk(draft))
+}
+
+const ASK: u16 = channel(1);
+const BOOK: u16 = channel(2);
+const NOTE: u16 = channel(3);
+const NEXT: u16 = channel(4);
+
+/// A session of the desk: when asked it takes the note and tells the bed on it, and passes
+/// the note on. Once it has a booking it takes the note back, confirms the next free bed,
+/// and has the note with that.
+fn asked_desk(draft: Draft) -> Draft {
+    let root = draft.nodes.len() as u16 + 1;
+    let tells = [receive(ASK), receive(NOTE), send(variable(1), variable(2))];
+    let passes = [send(NOTE, variable(2)), END];
+    let books = [
+        receive(BOOK),
+        receive(NOTE),
+        receive(NEXT),
+        send(variable(1), variable(5)),
+        send(NOTE, variable(5)),
+        END,
+    ];
+    let second = root + (tells.len() + 1 + passes.len()) as u16;
+    let nodes = [&tells[..], &[fork(second)], &passes, &books].concat();
+    draft.session(3, &nodes)
+}
+
 /// A tree with a role on from its root to before each end.
 fn holding(role: u16, nodes: &[[u16; 3]]) -> Vec<[u16; 3]> {
     let mut held = vec![on(role)];
@@ -400,6 +465,7 @@ fn refused() -> Vec<(&'static str, Vec<u8>)> {
             ("refused/16-too-long.clinic", too_long()),
             ("refused/21-junior.clinic", junior()),
             ("refused/25-tables.clinic", other_south()),
+            ("refused/26-start.clinic", two_start()),
             ("refused/choices.clinic", choices()),
         ]
         .map(|(name, draft)| (name, draft.bytes())),
@@ -437,6 +503,15 @@ fn junior() -> Draft {
     let mut draft = booking().juniors(&[&[2], &[]]);
     draft.users[0] = [mask(&[2])];
     draft
+}
+
+/// Both sessions start with role 1.
+fn two_start() -> Draft {
+    Draft::default()
+        .user(&[1])
+        .role(&[], &[])
+        .session_with(1, &[1], &[END])
+        .session_with(1, &[1], &[END])
 }
 
 /// The second session belongs to user 2, who has no role, and starts with role 1.

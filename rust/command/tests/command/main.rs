@@ -18,6 +18,7 @@ mod refused;
 mod round;
 mod run;
 mod script;
+mod seats;
 mod show;
 mod spring;
 mod streams;

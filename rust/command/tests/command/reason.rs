@@ -35,6 +35,8 @@ fn sentences() {
         (6, "word 27", "words"),
         (7, "session 2", "sessions"),
         (23, "row 6", "rows"),
+        (26, "session 2", "sessions"),
+        (26, "choice 7", "choices"),
     ];
     for (number, place, counts) in others {
         let text = read(&sentence(number, place));

@@ -174,6 +174,39 @@ fn lists() {
     }
 }
 
+#[test]
+fn seats() {
+    let file = example("spring/bare.clinic");
+    let few = example("refused/17-short.seats");
+    let due =
+        "the table has 2 numbers, the file 3 roles: one for each, 0 for no limit, else 1 to 32";
+    for verb in ["run", "round"] {
+        let answer = pilzdamo(&[verb, &file, "-", "--seats", &few]);
+        assert_eq!((answer.status, answer.text()), (1, ""));
+        assert_eq!(
+            answer.err,
+            format!("pilzdamo: {few}: {}", message(17, "", due))
+        );
+        assert_read_back(&answer.err, &few, 17, "");
+    }
+    let (file, one) = (
+        example("refused/26-start.clinic"),
+        example("refused/26-start.seats"),
+    );
+    let uses: [&[&str]; 3] = [
+        &["seats", &file, "-", &one],
+        &["run", &file, "-", "--seats", &one],
+        &["round", &file, "-", "--seats", &one],
+    ];
+    for words in uses {
+        let answer = pilzdamo(words);
+        assert_eq!((answer.status, answer.text()), (1, ""), "{words:?}");
+        let due = format!("pilzdamo: {file}: {}", message(26, "session 2", ""));
+        assert_eq!(answer.err, due);
+        assert_read_back(&answer.err, &file, 26, "session 2");
+    }
+}
+
 /// The first line of a message, behind the name, is a sentence that `reason` reads.
 fn assert_read_back(message: &str, name: &str, number: u16, place: &str) {
     let line = message.lines().next().expect("a line");

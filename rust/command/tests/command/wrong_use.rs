@@ -13,8 +13,8 @@ fn help_and_version() {
         );
     }
     let words = [
-        "check", "place", "measure", "merge", "run", "waiting", "round", "dispatch", "show",
-        "explain", "reason",
+        "check", "place", "measure", "merge", "run", "waiting", "seats", "round", "dispatch",
+        "show", "explain", "reason",
     ];
     for word in words {
         assert!(help.contains(&format!("  pilzdamo {word} ")));
@@ -27,7 +27,7 @@ fn help_and_version() {
 
 #[test]
 fn words() {
-    let wrong: [(&[&str], &str); 61] = [
+    let wrong: [(&[&str], &str); 73] = [
         (&[], "what to do?"),
         (&[""], "there is no word ''"),
         (&["judge", "a"], "there is no word 'judge'"),
@@ -128,6 +128,39 @@ fn words() {
             &["waiting", "a", "b", "--at", "Mon 07:30"],
             "waiting has no option '--at'",
         ),
+        (&["seats"], "seats: FILE is missing"),
+        (&["seats", "a"], "seats: CHOICES is missing"),
+        (&["seats", "a", "b"], "seats: SEATS is missing"),
+        (&["seats", "a", "b", "c", "d"], "seats: 'd' is too many"),
+        (
+            &["seats", "-", "b", "-"],
+            "seats: only one of FILE, CHOICES and SEATS can be standard input",
+        ),
+        (
+            &["seats", "a", "b", "--seats", "c"],
+            "seats has no option '--seats'",
+        ),
+        (
+            &["run", "a", "b", "--seats"],
+            "run: --seats wants the name of a file behind it",
+        ),
+        (
+            &["run", "--seats", "c", "a", "b", "--seats", "c"],
+            "run: --seats stands there twice",
+        ),
+        (&["run", "a", "--seats", "c"], "run: CHOICES is missing"),
+        (
+            &["run", "a", "-", "--seats", "-"],
+            "run: only one of FILE, CHOICES and SEATS can be standard input",
+        ),
+        (
+            &["round", "-", "b", "--seats", "-"],
+            "round: only one of FILE, CHOICES and SEATS can be standard input",
+        ),
+        (
+            &["waiting", "a", "b", "--seats", "c"],
+            "waiting has no option '--seats'",
+        ),
         (&["round"], "round: FILE is missing"),
         (&["round", "a"], "round: CHOICES is missing"),
         (&["round", "a", "b", "c"], "round: 'c' is too many"),
@@ -185,12 +218,13 @@ fn files_that_cannot_be_read() {
     let absent = folder.at("no such file");
     let here = folder.path().display().to_string();
     let sound = example("booking.clinic");
+    let list = example("desks.choices");
     for (file, why) in [
         (&absent, "there is no such file or folder"),
         (&here, "it is a folder"),
     ] {
         let due = format!("pilzdamo: {file}: can't be read: {why}\n");
-        let uses: [&[&str]; 15] = [
+        let uses: [&[&str]; 20] = [
             &["check", file],
             &["place", file],
             &["measure", file],
@@ -203,6 +237,11 @@ fn files_that_cannot_be_read() {
             &["run", &sound, file],
             &["waiting", file, &sound],
             &["waiting", &sound, file],
+            &["seats", file, &sound, &sound],
+            &["seats", &example("desks.clinic"), file, &sound],
+            &["seats", &sound, &list, file],
+            &["run", &sound, &list, "--seats", file],
+            &["round", &sound, &list, "--seats", file],
             &["round", file, &sound],
             &["round", &sound, file],
             &["dispatch", file],

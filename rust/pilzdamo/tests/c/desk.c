@@ -267,6 +267,50 @@ static void print_written(const char *call, pilzdamo_written written) {
            written.length);
 }
 
+static void print_seats(const char *call, pilzdamo_role_seats told) {
+    int role, at;
+    printf("%s: refusal %d %d, waited %d, last %d\n", call, told.number, told.place,
+           told.waited, told.last);
+    for (role = 1; role <= PILZDAMO_ROLES; role++) {
+        if (told.taken[role - 1] == 0 && told.waiting[role - 1] == 0) {
+            continue;
+        }
+        printf("role %d: taken %d, line", role, told.taken[role - 1]);
+        for (at = 0; at < told.waiting[role - 1]; at++) {
+            printf(" %d", told.line[PILZDAMO_SESSIONS * (role - 1) + at]);
+        }
+        printf("\n");
+    }
+    printf("waiting on kind 1: %d\n", told.totals[0]);
+}
+
+/* One seat in role 1, for which both schedulers ask. The bytes past the state stay. */
+static void seats(const char *folder) {
+    static const uint16_t table[] = {1, 0, 0, 0};
+    static const uint16_t choices[] = {3, 0, 1, 0, 2, 0, 2, 0, 9, 0};
+    uint8_t out[PILZDAMO_RUN_ROOM];
+    clinic cut = example(folder, "spring/cut.clinic");
+    clinic start = example(folder, "refused/26-start.clinic");
+    pilzdamo_written written;
+    pilzdamo_round_choices round;
+    memset(out, 0xab, sizeof out);
+    written = pilzdamo_run_seated(cut.bytes, cut.len, choices, 8, table, 3, out, sizeof out);
+    print_written("with seats", written);
+    print_state(out);
+    printf("behind it: %x\n", out[written.length]);
+    print_seats("seats", pilzdamo_seats(cut.bytes, cut.len, choices, 8, table, 3));
+    print_seats("where it stops", pilzdamo_seats(cut.bytes, cut.len, choices, 10, table, 3));
+    print_written("a list that stops", pilzdamo_run_seated(cut.bytes, cut.len, choices, 10,
+                                                           table, 3, out, sizeof out));
+    print_written("too many seats", pilzdamo_run_seated(cut.bytes, cut.len, choices, 8, table,
+                                                        4, out, sizeof out));
+    print_written("two start", pilzdamo_run_seated(start.bytes, start.len, choices, 0, table,
+                                                   1, out, sizeof out));
+    round = pilzdamo_round_seated(cut.bytes, cut.len, choices, 2, table, 3, out, sizeof out);
+    printf("round: refusal %d %d, %d bytes, choices %d,%d %d,%d\n", round.number, round.place,
+           round.length, round.words[0], round.words[1], round.words[2], round.words[3]);
+}
+
 /* Two clinics in one file, and such as can't be. The bytes past it stay. */
 static void house(const char *folder) {
     clinic north = example(folder, "house/north.clinic");
@@ -346,16 +390,18 @@ int main(int argc, char **argv) {
         fprintf(stderr, "the folder of the examples is wanted\n");
         return 2;
     }
-    printf("sizes: %d %d %d %d %d %d %d %d\n", (int)sizeof(pilzdamo_verdict),
+    printf("sizes: %d %d %d %d %d %d %d %d %d\n", (int)sizeof(pilzdamo_verdict),
            (int)sizeof(pilzdamo_placed), (int)sizeof(pilzdamo_ready_pair),
            (int)sizeof(pilzdamo_round_choices), (int)sizeof(pilzdamo_kind_totals),
            (int)sizeof(pilzdamo_said), (int)sizeof(pilzdamo_written),
-           (int)sizeof(pilzdamo_thread));
+           (int)sizeof(pilzdamo_role_seats), (int)sizeof(pilzdamo_thread));
     printf("rooms: %d %d %d %d %d\n", PILZDAMO_ROOM, PILZDAMO_ROOM_1, PILZDAMO_RUN_ROOM,
            PILZDAMO_RECORDS, PILZDAMO_BESIDE);
     printf("hours: %d %d\n", PILZDAMO_WEEK, PILZDAMO_ROWS);
     printf("rounds: %d %d\n", PILZDAMO_ROUND_WORDS, PILZDAMO_BEFORE_ROUND);
     printf("totals: %d\n", PILZDAMO_TOTALS);
+    printf("seats: %d %d %d %d\n", PILZDAMO_ROLES, PILZDAMO_SESSIONS, PILZDAMO_LINE_WORDS,
+           PILZDAMO_SEATS);
     printf("reasons: %d %d %d %d %d %d %d %d\n", PILZDAMO_SENTENCE, PILZDAMO_NO_TAG,
            PILZDAMO_COUNTS_NOTHING, PILZDAMO_COUNTS_WORDS, PILZDAMO_COUNTS_SESSIONS,
            PILZDAMO_COUNTS_NODES, PILZDAMO_COUNTS_CHOICES, PILZDAMO_COUNTS_ROWS);
@@ -365,6 +411,7 @@ int main(int argc, char **argv) {
     both_read(argv[1]);
     waiting(argv[1]);
     dispatch(argv[1]);
+    seats(argv[1]);
     house(argv[1]);
     refusals(argv[1]);
     reasons();

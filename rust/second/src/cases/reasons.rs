@@ -55,7 +55,7 @@ pub fn cases() -> Vec<ReasonCase> {
 }
 
 /// Number, what is counted, place and tag, and the sentence.
-const SAID: [([u16; 4], &str); 43] = [
+const SAID: [([u16; 4], &str); 45] = [
     (
         [1, 0, 0, 9],
         "Refused 1: the file has 1 to 25 bytes (to 27 in version 2), or an odd number of them; no place.",
@@ -155,7 +155,7 @@ const SAID: [([u16; 4], &str); 43] = [
     ),
     (
         [17, 0, 0, 9],
-        "Refused 17: the output is too short, or the list of choices is odd or too long; no place.",
+        "Refused 17: the output is too short, or the list of choices or of seats does not fit; no place.",
     ),
     (
         [18, 0, 0, 9],
@@ -194,6 +194,14 @@ const SAID: [([u16; 4], &str); 43] = [
         "Refused 25: the two files' tables of roles or kinds differ; no place.",
     ),
     (
+        [26, 2, 2, 9],
+        "Refused 26: the role has no free seat, or other sessions are before this one in line at session 2.",
+    ),
+    (
+        [26, 4, 65_535, 9],
+        "Refused 26: the role has no free seat, or other sessions are before this one in line at choice 65535.",
+    ),
+    (
         [9, 3, 65_535, 3],
         "Refused 9: an operand names nothing, or a role or kind is out of count at node 65535, a new channel.",
     ),
@@ -228,11 +236,10 @@ const SAID: [([u16; 4], &str); 43] = [
 ];
 
 /// Against what the paper and the requests give a number.
-const UNSAID: [[u16; 4]; 30] = [
+const UNSAID: [[u16; 4]; 32] = [
     // No such number.
     [0, 0, 0, 9],
     [0, 0, 0, 0],
-    [26, 2, 1, 9],
     [27, 6, 1, 9],
     [28, 0, 0, 9],
     [65_535, 0, 0, 9],
@@ -248,6 +255,8 @@ const UNSAID: [[u16; 4]; 30] = [
     [19, 0, 0, 9],
     [24, 4, 1, 9],
     [25, 3, 1, 9],
+    [26, 0, 0, 9],
+    [26, 3, 1, 9],
     [13, 0, 0, 9],
     [23, 6, 1, 9],
     [23, 65_535, 1, 9],
@@ -256,6 +265,7 @@ const UNSAID: [[u16; 4]; 30] = [
     [14, 0, 1, 9],
     [14, 3, 0, 7],
     [18, 4, 0, 9],
+    [26, 2, 0, 9],
     // A tag against it.
     [13, 3, 4, 9],
     [13, 3, 4, 10],

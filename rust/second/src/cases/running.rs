@@ -8,12 +8,15 @@ mod nothing;
 mod ready;
 mod refusals;
 mod rounds;
+mod seats;
 mod steps;
 mod totals;
 
 pub use booking::{booking, placed_booking};
 pub use lent::{cases as choose_cases, start_cases, ChooseCase, Lent, StartCase};
 pub use rounds::{cases as round_cases, RoundCase};
+pub use seats::{cases as seat_cases, round_cases as seated_round_cases};
+pub use seats::{SeatCase, SeatedRoundCase};
 pub use totals::{cases as totals_cases, TotalsCase};
 
 use crate::draft::{set_word, Draft};

@@ -21,52 +21,74 @@ impl Choices {
     }
 }
 
-impl<R: Rights> State<'_, R> {
-    /// Carries out a round. The threads of its start that are still there are
-    /// the first of the list, as those made meanwhile come last.
-    pub fn go_round(&mut self) -> Choices {
-        let mut choices = Choices {
-            words: [0; ROUND_WORDS],
-            count: 0,
-        };
-        let mut present = self.count();
-        let mut moved = [false; RECORDS];
-        let mut at = 0;
-        while at < present {
-            let before = self.count();
-            let Some(partner) = self.visit(at, &moved[..present]) else {
-                at += 1;
-                continue;
-            };
-            choices.push(at as u16 + 1, partner);
-            if self.count() < before {
-                // It has ended, and the next thread has its place.
-                moved.copy_within(at + 1..present, at);
-                present -= 1;
-                continue;
-            }
-            moved[at] = true;
-            if partner != 0 {
-                moved[usize::from(partner) - 1] = true;
-            }
+/// What a round goes through: threads, and choices of them.
+pub trait Visited {
+    /// How many threads there are.
+    fn count(&self) -> usize;
+
+    /// The partner of what the thread at `at` may do now, 0 for a lone step; none if
+    /// there is nothing. Those that have moved can't be met.
+    fn partner(&self, at: usize, moved: &[bool]) -> Option<u16>;
+
+    /// Carries out a choice, unless it is refused.
+    fn goes(&mut self, thread: u16, partner: u16) -> bool;
+}
+
+/// Carries out a round. The threads of its start that are still there are the first
+/// of the list, as those made meanwhile come last.
+pub fn go_round(visited: &mut impl Visited) -> Choices {
+    let mut choices = Choices {
+        words: [0; ROUND_WORDS],
+        count: 0,
+    };
+    let mut present = visited.count();
+    let mut moved = [false; RECORDS];
+    let mut at = 0;
+    while at < present {
+        let before = visited.count();
+        let thread = at as u16 + 1;
+        let partner = visited.partner(at, &moved[..present]);
+        let partner = partner.filter(|&partner| visited.goes(thread, partner));
+        let Some(partner) = partner else {
             at += 1;
+            continue;
+        };
+        choices.push(thread, partner);
+        if visited.count() < before {
+            // It has ended, and the next thread has its place.
+            moved.copy_within(at + 1..present, at);
+            present -= 1;
+            continue;
         }
-        choices
+        moved[at] = true;
+        if partner != 0 {
+            moved[usize::from(partner) - 1] = true;
+        }
+        at += 1;
+    }
+    choices
+}
+
+impl<R: Rights> Visited for State<'_, R> {
+    fn count(&self) -> usize {
+        State::count(self)
     }
 
-    /// Carries out what the thread at `at` can do, and gives its partner, 0 for
-    /// a lone step; none if there is nothing that it can do.
-    fn visit(&mut self, at: usize, moved: &[bool]) -> Option<u16> {
-        let thread = at as u16 + 1;
+    fn partner(&self, at: usize, moved: &[bool]) -> Option<u16> {
         let [tag, _, _] = node_of(self.file, &self.threads[at]);
-        let partner = match tag {
+        match tag {
             RECEIVE => None,
             SEND => self.receiver(at, moved),
             _ => Some(0),
-        }?;
-        self.choose(thread, partner).is_ok().then_some(partner)
+        }
     }
 
+    fn goes(&mut self, thread: u16, partner: u16) -> bool {
+        self.choose(thread, partner).is_ok()
+    }
+}
+
+impl<R: Rights> State<'_, R> {
     /// The first that can receive from the sender at `at` and has not moved.
     fn receiver(&self, at: usize, moved: &[bool]) -> Option<u16> {
         let sender = &self.threads[at];

@@ -4,7 +4,7 @@ use crate::timing::{Samples, Times, ROUNDS};
 use second::{Ready, Reason, Verdict, SENTENCE};
 use second::{BEFORE_TOTALS, MERGED_ROOM, ROOM, RUN_ROOM};
 use std::hint::black_box;
-use trials::{At, Dealt, Lent, Lists, Pair};
+use trials::{At, Dealt, Lent, Lists, Pair, Seated};
 
 /// A question and what it is asked of.
 #[derive(Clone)]
@@ -33,6 +33,11 @@ pub enum Input {
         choices: Vec<u16>,
         count: usize,
     },
+    /// A run to the end of its list, a round behind that, and what is read of the seats,
+    /// with a table of seats.
+    RunSeated(Seated),
+    RoundSeated(Seated),
+    Seats(Seated),
     /// A ready pair that isn't there.
     Ready {
         file: Vec<u8>,
@@ -83,6 +88,8 @@ impl Case {
             Input::CheckAt(At { file, .. }) | Input::PlaceAt(At { file, .. }) => file,
             Input::Reason { sentence, .. } | Input::ReadReason(sentence) => sentence,
             Input::Merge([file, _]) => file,
+            Input::RunSeated(seated) | Input::RoundSeated(seated) => &seated.dealt.file,
+            Input::Seats(seated) => &seated.dealt.file,
         }
     }
 
@@ -137,6 +144,11 @@ impl Case {
                 assert_eq!(round.number, 0, "{name}");
                 assert_eq!(trials::choices_of(&round).len(), *count, "{name}");
                 out
+            }
+            Input::RunSeated(seated) | Input::RoundSeated(seated) | Input::Seats(seated) => {
+                let told = trials::agreed_seated(seated, name);
+                assert_eq!(told.run.number, 0, "{name}");
+                told.out
             }
             Input::Ready { file, choices } => {
                 let none = Ready::pair(0, 0);
@@ -236,6 +248,27 @@ impl Case {
                 samples.take(self.calls, engine, second);
             }
             Input::Round { file, choices, .. } => round(file, choices, self.calls, samples),
+            Input::RunSeated(seated) => seated_call(
+                seated,
+                self.calls,
+                samples,
+                pilzdamo::run_seated,
+                second::run_seated,
+            ),
+            Input::RoundSeated(seated) => seated_call(
+                seated,
+                self.calls,
+                samples,
+                pilzdamo::round_seated,
+                second::round_seated,
+            ),
+            Input::Seats(seated) => seated_call(
+                seated,
+                self.calls,
+                samples,
+                |file, choices, seats, _| pilzdamo::seats(file, choices, seats),
+                |file, choices, seats, _| second::seats(file, choices, seats),
+            ),
             Input::Ready { file, choices } => samples.take(
                 self.calls,
                 || pilzdamo::ready(black_box(file), black_box(choices)),
@@ -267,7 +300,7 @@ impl Case {
 }
 
 /// A run's input, with an output of zeros.
-fn dealt(file: &[u8], choices: &[u16]) -> Dealt {
+pub fn dealt(file: &[u8], choices: &[u16]) -> Dealt {
     Dealt {
         file: file.to_vec(),
         choices: choices.to_vec(),
@@ -285,6 +318,28 @@ fn round(file: &[u8], choices: &[u16], calls: u32, samples: &mut Samples) {
     let second = || {
         let (file, choices) = input();
         second::round(file, choices, black_box(&mut of_second))
+    };
+    samples.take(calls, engine, second);
+}
+
+/// A call with a table of seats, of both.
+fn seated_call<V, W>(
+    seated: &Seated,
+    calls: u32,
+    samples: &mut Samples,
+    engine: impl Fn(&[u8], &[u16], &[u16], &mut [u8]) -> V,
+    second: impl Fn(&[u8], &[u16], &[u16], &mut [u8]) -> W,
+) {
+    let (Dealt { file, choices, .. }, seats) = (&seated.dealt, &seated.seats);
+    let input = || (black_box(&file[..]), black_box(&choices[..]));
+    let (mut out, mut of_second) = (vec![0; RUN_ROOM], vec![0; RUN_ROOM]);
+    let engine = || {
+        let (file, choices) = input();
+        engine(file, choices, black_box(seats), black_box(&mut out))
+    };
+    let second = || {
+        let (file, choices) = input();
+        second(file, choices, black_box(seats), black_box(&mut of_second))
     };
     samples.take(calls, engine, second);
 }

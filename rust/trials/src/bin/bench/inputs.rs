@@ -1,9 +1,10 @@
 //! The inputs of the main table.
 
-use crate::case::{Case, Input};
+use crate::case::{dealt, Case, Input};
 use second::cases::run_cases;
+use second::draft::Draft;
 use second::{Version, RUN_ROOM};
-use trials::{juniors, At, Lent};
+use trials::{juniors, At, Lent, Seated};
 
 /// A file, and a list of choices.
 pub type Run = (Vec<u8>, Vec<u16>);
@@ -35,6 +36,11 @@ pub struct Inputs {
     pub typical_round: Run,
     pub largest_lent: Lent,
     pub typical_lent: Lent,
+    /// With seats: the list of the largest run, for all of whose choices there are seats;
+    /// and lists in which sessions wait.
+    pub free_seated: Seated,
+    pub largest_seated: Seated,
+    pub typical_seated: Seated,
     /// Two to be merged, whose records together are as many as there can be; and two
     /// of 40 nodes.
     pub largest_pair: [Vec<u8>; 2],
@@ -68,6 +74,9 @@ impl Inputs {
             typical_round: trials::typical_round(seed),
             largest_lent: trials::full_lent(seed),
             typical_lent: trials::typical_lent(seed),
+            free_seated: free_seated(trials::largest_run(seed)),
+            largest_seated: seated(trials::largest_seated(seed)),
+            typical_seated: seated(trials::typical_seated(seed)),
             largest_pair: trials::largest_pair(seed),
             typical_pair: trials::typical_pair(seed),
         }
@@ -104,6 +113,9 @@ impl Inputs {
         let choose = |lent: &Lent| Input::Choose(lent.clone());
         let start = |lent: &Lent| Input::Start(lent.clone());
         let merge = |pair: &[Vec<u8>; 2]| Input::Merge(pair.clone());
+        let run_seated = |seated: &Seated| Input::RunSeated(seated.clone());
+        let round_seated = |seated: &Seated| Input::RoundSeated(seated.clone());
+        let seats = |seated: &Seated| Input::Seats(seated.clone());
         vec![
             Case::new("read largest", read(&self.largest), 50),
             Case::new("read typical", read(&self.typical), 300),
@@ -145,6 +157,11 @@ impl Inputs {
             Case::new("read reason", Input::ReadReason(SENTENCE.to_vec()), 1_000),
             Case::new("merge largest", merge(&self.largest_pair), 50),
             Case::new("merge typical", merge(&self.typical_pair), 300),
+            Case::new("seated free", run_seated(&self.free_seated), 1),
+            Case::new("seated largest", run_seated(&self.largest_seated), 1),
+            Case::new("seated typical", run_seated(&self.typical_seated), 300),
+            Case::new("seated round", round_seated(&self.typical_seated), 300),
+            Case::new("seats typical", seats(&self.typical_seated), 300),
         ]
     }
 
@@ -182,7 +199,10 @@ impl Inputs {
              Reason, and read reason: {:?}\n\
              Merge, two files in one; the bytes are those of both. Largest: 512 nodes each, and half\n\
              of all other records but roles and kinds, so that the result has 6,874 bytes. Typical:\n\
-             40 nodes each.\n",
+             40 nodes each.\n\
+             Seated, a run with seats: free has run largest's list and 32 seats in each role, so\n\
+             that every on of a session without a seat gets one; largest has {};\n\
+             typical has {}. Its round, and what is read of its seats.\n",
             run(&self.largest_run),
             run(&self.typical_run),
             run(&self.short_run),
@@ -191,6 +211,8 @@ impl Inputs {
             self.typical_round.1.len() / 2,
             sends_of(&round_of(&self.typical_round)),
             String::from_utf8_lossy(SENTENCE),
+            waited(&self.largest_seated),
+            waited(&self.typical_seated),
         )
     }
 }
@@ -237,6 +259,29 @@ fn with_hours(file: &[u8]) -> At {
         hours: stretches.into_iter().flat_map(row).collect(),
         minute,
     }
+}
+
+/// With as many seats in each role as there can be.
+fn free_seated((file, choices): Run) -> Seated {
+    let roles = Draft::of(&file).roles.len();
+    seated((file, choices, vec![32; roles]))
+}
+
+fn seated((file, choices, seats): (Vec<u8>, Vec<u16>, Vec<u16>)) -> Seated {
+    let dealt = dealt(&file, &choices);
+    Seated { dealt, seats }
+}
+
+/// How many choices a list has, and how many of them get no seat.
+fn waited(seated: &Seated) -> String {
+    let (dealt, seats) = (&seated.dealt, &seated.seats);
+    let told = second::seats(&dealt.file, &dealt.choices, seats);
+    let sum: u16 = told.waiting.iter().sum();
+    format!(
+        "{} choices, {} of them answered 26, and {sum} in line",
+        dealt.choices.len() / 2,
+        told.waited
+    )
 }
 
 /// How many variables of the threads that count are bound.

@@ -5,7 +5,7 @@ use crate::growth::{by_nodes, by_roles, NODES, ROLES};
 use crate::inputs::{round_of, Inputs, Run};
 use second::draft::{word_at, Draft};
 use second::{Verdict, Version, RUN_ROOM};
-use trials::{seed, sends_in, Lent, MOST_CHOICES};
+use trials::{seed, sends_in, Lent, Seated, MOST_CHOICES};
 
 fn nodes(file: &[u8]) -> usize {
     Draft::of(file).nodes.len()
@@ -116,6 +116,27 @@ fn totals_are_of_threads_that_wait() {
     };
     assert_eq!(waiting(&inputs.crowded), 32);
     assert!(waiting(&inputs.typical_run) > 0);
+}
+
+/// Where runs with seats are timed some choices wait, but for the one with seats for all;
+/// the long ones are as long as can be, and most of their choices are steps.
+#[test]
+fn seated_runs_wait() {
+    let inputs = Inputs::new(seed());
+    let told = |seated: &Seated| {
+        let Seated { dealt, seats } = seated;
+        let told = second::seats(&dealt.file, &dealt.choices, seats);
+        (dealt.choices.len() / 2, usize::from(told.waited))
+    };
+    assert_eq!(told(&inputs.free_seated), (MOST_CHOICES, 0));
+    let (choices, waited) = told(&inputs.largest_seated);
+    assert_eq!(choices, MOST_CHOICES);
+    assert!((1_000..MOST_CHOICES / 2).contains(&waited), "{waited}");
+    let largest = &inputs.largest_seated.dealt;
+    assert_eq!((nodes(&largest.file), roles(&largest.file)), (1_024, 16));
+    let (choices, waited) = told(&inputs.typical_seated);
+    assert!(choices == 40 && (2..20).contains(&waited), "{waited}");
+    assert_eq!(nodes(&inputs.typical_seated.dealt.file), 40);
 }
 
 #[test]
