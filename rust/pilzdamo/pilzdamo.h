@@ -21,8 +21,9 @@
  * to 20, and in a run for 11 to 13 too, a choice, from 1; for 23 a row, from 1. Where
  * nothing is refused both are 0.
  *
- * Files have version 1, or version 2, in which a role has a word of junior roles. A
- * file of no bytes (its pointer isn't null either) is that of a clinic with nothing
+ * Files have version 1; version 2, in which a role has a word of junior roles; or
+ * version 3, which is version 2 with the nodes by column: all tags, then all f1, then
+ * all f2. A file of no bytes (its pointer isn't null either) is that of a clinic with nothing
  * planned: it is read as the version 1 file with all counts 0, and placed as its 26
  * bytes.
  * Wherever refusals 1 to 10 are spoken of, 21 is among them, for a junior whose
@@ -39,8 +40,9 @@ extern "C" {
 #endif
 
 /* The least bytes of the output of pilzdamo_place: those of the largest file of
- * version 2 where the file's first word is 2, else those of the largest of version 1.
- * PILZDAMO_ROOM will do for any file. pilzdamo_merge wants PILZDAMO_ROOM_1. */
+ * versions 2 and 3 where the file's first word is 2 or 3, else those of the largest of
+ * version 1. PILZDAMO_ROOM will do for any file. pilzdamo_merge wants PILZDAMO_ROOM_1,
+ * pilzdamo_to_columns and pilzdamo_to_rows want PILZDAMO_ROOM. */
 #define PILZDAMO_ROOM 6908
 #define PILZDAMO_ROOM_1 6874
 /* The minutes of a week, and the most rows of a table of hours. */
@@ -163,7 +165,7 @@ pilzdamo_verdict pilzdamo_check(const uint8_t *file, size_t file_len);
  * Places the roles of a clinic file: refusals 17, 1 to 10, 14 to 16. Where none is
  * answered the placed file is written at the start of out, and nothing past its
  * length; otherwise nothing is written. out has PILZDAMO_ROOM bytes or more; where
- * the file's first word isn't 2, or it has none, PILZDAMO_ROOM_1 will do.
+ * the file's first word is neither 2 nor 3, or it has none, PILZDAMO_ROOM_1 will do.
  */
 pilzdamo_placed pilzdamo_place(const uint8_t *file, size_t file_len,
                                uint8_t *out, size_t out_len);
@@ -359,6 +361,20 @@ pilzdamo_verdict pilzdamo_choose(const uint8_t *file, size_t file_len,
 pilzdamo_written pilzdamo_merge(const uint8_t *first, size_t first_len,
                                 const uint8_t *second, size_t second_len,
                                 uint8_t *out, size_t out_len);
+
+/*
+ * Writes a file of version 2 in version 3, with its nodes by column, and one of version
+ * 3 in version 2, with its nodes by row. All else stays, and so does the length; one
+ * undoes the other, byte by byte. out has PILZDAMO_ROOM bytes or more.
+ *
+ * Refusals 17, and 1 to 5, where another version than the one that is turned is 2; the
+ * records aren't judged. Where none is answered the file is written at the start of
+ * out, and nothing past its length; otherwise nothing is written.
+ */
+pilzdamo_written pilzdamo_to_columns(const uint8_t *file, size_t file_len, uint8_t *out,
+                                     size_t out_len);
+pilzdamo_written pilzdamo_to_rows(const uint8_t *file, size_t file_len, uint8_t *out,
+                                  size_t out_len);
 
 #ifdef __cplusplus
 }

@@ -2,19 +2,21 @@
 use Prim.Native.Nat.{ℕ, zero, suc, _+_, _*_, _-_, _/_, _%_, _^_, _≤_, _<_}
 use mathlib.Core.Path.{_≡_, refl, sym, ap, _∙_}
 use mathlib.Core.Logic.{_↔_}
-use mathlib.Core.Bool.{Bool, true, false, cond}
+use mathlib.Core.Bool.{Bool, true, false, cond, true≢false}
 use mathlib.Core.List.{List}
 use native.Mathlib.Omega.{arith}
-use lib.Dec.{eqb, ltb}
+use lib.Dec.{ltb}
 use lib.ListN.{length}
 use lib.Pow.{shr-shr, field, mod-mod-pow}
-use borrow.Author.Tests.{eqb-true, eqb-false, ltb-true, ltb-false}
+use borrow.Author.Tests.{ltb-true, ltb-false}
 use Rattle.masks.specs.Mask.{has}
+use Rattle.format.specs.Header.{hasJuniors}
 use Rattle.format.specs.Words.{wordAt}
 use Rattle.format.specs.Contents.{Contents, contentsOf}
 use Rattle.format.specs.declared.Role.{Role}
 use Rattle.format.specs.declared.Channel.{Channel}
 use Rattle.format.proofs.BoolLaws.{eq-iff}
+use Rattle.format.proofs.HeadLaws.{juniors-iff}
 use Rattle.rules.specs.declared.Way.{Way}
 use Rattle.rules.specs.declared.Way.the-variants.{Sends, Receives}
 use Rattle.rules.specs.Juniors.{Granted, Lower}
@@ -101,11 +103,11 @@ module _ (f : List ℕ) where
   own-words Receives r pos le = ap (λ (x : Role). x .receives) (by-words f .role r (pos, within r le))
 
   junior-words : (r : ℕ) → 1 ≤ r → r ≤ length (C .roles) → juniorsIn C r ≡ juniorMask f r
-  junior-words r pos le = go (eqb (wordAt f 0) 2) refl
+  junior-words r pos le = go (hasJuniors (wordAt f 0)) refl
     where
-      go : (b : Bool) → eqb (wordAt f 0) 2 ≡ b → juniorsIn C r ≡ cond b (recordWord f 9 1 r 0) 0
-      go true e = by-words f .juniors r (pos, within r le) (eqb-true (wordAt f 0) 2 e)
-      go false e = by-words f .no-juniors r (pos, within r le) (eqb-false (wordAt f 0) 2 e)
+      go : (b : Bool) → hasJuniors (wordAt f 0) ≡ b → juniorsIn C r ≡ cond b (recordWord f 9 1 r 0) 0
+      go true e = by-words f .juniors r (pos, within r le) (juniors-iff (wordAt f 0) .0 e)
+      go false e = by-words f .no-juniors r (pos, within r le) (λ j. true≢false (sym (juniors-iff (wordAt f 0) .1 j) ∙ e))
 
   -- where 21 objects to nothing, juniors have lower numbers
   ranked : ((p : ℕ) → Refusable f 21 p → ⊥) → Lower (juniorsIn C) (length (C .roles))

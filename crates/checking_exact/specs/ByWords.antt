@@ -4,7 +4,7 @@ use mathlib.Core.Path.{_≡_}
 use mathlib.Core.Logic.{_↔_}
 use mathlib.Core.Bool.{true, cond}
 use mathlib.Core.List.{List}
-use lib.Dec.{eqb}
+use Rattle.format.specs.Header.{hasJuniors}
 use Rattle.format.specs.Words.{wordAt}
 use Rattle.format.specs.Contents.{contentsOf}
 use Rattle.rules.specs.declared.Way.{Way}
@@ -32,13 +32,13 @@ Bit w i = w / 2 ^ i % 2 ≡ 1
 abbrev pub May : List ℕ → Way → ℕ → ℕ → Type 0
 May f w r k = permits (schemaOf (contentsOf f)) w (record { 0 = r }) (record { 0 = k }) ≡ true
 
--- the kinds in role r's own record, and its juniors: version 2 adds one word per role, version 1 reads as if it were 0
+-- the kinds in role r's own record, and its juniors: versions 2 and 3 have one word per role more, version 1 reads as if it were 0
 abbrev pub ownMask : List ℕ → Way → ℕ → ℕ
 ownMask f Sends r = recordWord f 8 4 r 0 + 65536 * recordWord f 8 4 r 1
 ownMask f Receives r = recordWord f 8 4 r 2 + 65536 * recordWord f 8 4 r 3
 
 abbrev pub juniorMask : List ℕ → ℕ → ℕ
-juniorMask f r = cond (eqb (wordAt f 0) 2) (recordWord f 9 1 r 0) 0
+juniorMask f r = cond (hasJuniors (wordAt f 0)) (recordWord f 9 1 r 0) 0
 
 -- of a role without juniors: words 0 and 1 of its record are of the kinds it may send on, 1 to 16 and 17 to 32; words 2 and 3 of those it may receive on
 pub record GrantedByWords (f : List ℕ) (r : ℕ) : Type 0 where

@@ -1,4 +1,5 @@
 pub mod SameContents
+pub mod Columns
 pub mod LongHours
 pub mod LongSeats
 pub mod LongInputs

@@ -116,45 +116,47 @@ judged refusal judge by-head f = stands-judged refusal judge by-head (take (enou
 
 pub kept-alike : (f : List ℕ) → Alike (take (enough (length f)) f) f
 kept-alike f = record {
-  answers = record {
-    read = judged (λ n. refused n 0) readingNames names-refused f;
-    check = stands-check kept f stands;
-    measured =
-        let same = stands-measured kept f stands in
-        (ap (λ (a : Placed). a .number) same, ap (λ (a : Placed). a .place) same, ap (λ (a : Placed). a .«on_steps») same);
-    measured-at = λ t m.
-        let same = stands-measured-at t m kept f stands in
-        (ap (λ (a : Placed). a .number) same, ap (λ (a : Placed). a .place) same, ap (λ (a : Placed). a .«on_steps») same);
-    check-at = λ t m. stands-check-at t m kept f stands;
-    run = λ ws room. stands-run ws room kept f stands;
-    ran = λ ws out. stands-ran ws out kept f stands;
-    pair = λ ws. judged (λ n. noPair (cond (listed (length ws)) (refused n 0) (refused 17 0))) (λ g. ready g ws) (λ g n e. pair-refused g n e ws) f;
-    round = λ ws room. judged (λ n. noRound (cond (roundListed (length ws) && leb 1800 room) (refused n 0) (refused 17 0))) (λ g. rounding g ws room) (λ g n e. round-refused g n e ws room) f;
-    rounded = λ ws out. judged (λ n. out) (λ g. roundOver g ws out) (λ g n e. rounded-kept g n e ws out) f;
-    totals = λ ws. judged (λ n. totalsOf (cond (listed (length ws)) (refused n 0) (refused 17 0)) (replicate 32 0)) (λ g. totalsAfter g ws) (λ g n e. totals-refused g n e ws) f;
-    run-seated = λ ws t room. judged (λ n. cond (listed (length ws) && leb 1800 room) (refused n 0) (refused 17 0)) (λ g. seatedRunning g ws t room) (λ g n e. seats.run-refused g n e ws t room) f;
-    length-seated = λ ws t room. judged (λ n. 0) (λ g. seatedLength g ws t room) (λ g n e. seats.length-none g n e ws t room) f;
-    ran-seated = λ ws t out. judged (λ n. out) (λ g. seatedOver g ws t out) (λ g n e. seats.run-kept g n e ws t out) f;
-    round-seated = λ ws t room. judged (λ n. noRound (cond (roundListed (length ws) && leb 1800 room) (refused n 0) (refused 17 0))) (λ g. seatedRounding g ws t room) (λ g n e. seats.round-refused g n e ws t room) f;
-    rounded-seated = λ ws t out. judged (λ n. out) (λ g. seatedRoundOver g ws t out) (λ g n e. seats.round-kept g n e ws t out) f;
-    seats = λ ws t. judged (λ n. noSeats (cond (listed (length ws)) (refused n 0) (refused 17 0))) (λ g. seatsAfter g ws t) (λ g n e. seats.seats-refused g n e ws t) f;
-    choose = λ l b i p. judged (λ n. refused n 0) (λ g. choosing g l b i p) (λ g n e. choose-refused g n e l b i p) f;
-    records = λ l b i p. judged (λ n. l) (λ g. recordsOver g l b i p) (λ g n e. records-kept g n e l b i p) f;
-    beside = λ l b i p. judged (λ n. b) (λ g. besideOver g l b i p) (λ g n e. beside-kept g n e l b i p) f;
-    start = λ records words. judged (λ n. refused n 0) (λ g. starting g records words) (λ g n e. start-refused g n e records words) f;
-    started = λ l b. judged (λ n. l) (λ g. recordsStarted g l b) (λ g n e. started-kept g n e l b) f;
-    counts = λ l b. judged (λ n. b) (λ g. besideStarted g l b) (λ g n e. counts-kept g n e l b) f;
+  beside = record {
+    answers = record {
+      read = judged (λ n. refused n 0) readingNames names-refused f;
+      check = stands-check kept f stands;
+      measured =
+          let same = stands-measured kept f stands in
+          (ap (λ (a : Placed). a .number) same, ap (λ (a : Placed). a .place) same, ap (λ (a : Placed). a .«on_steps») same);
+      measured-at = λ t m.
+          let same = stands-measured-at t m kept f stands in
+          (ap (λ (a : Placed). a .number) same, ap (λ (a : Placed). a .place) same, ap (λ (a : Placed). a .«on_steps») same);
+      check-at = λ t m. stands-check-at t m kept f stands;
+      run = λ ws room. stands-run ws room kept f stands;
+      ran = λ ws out. stands-ran ws out kept f stands;
+      pair = λ ws. judged (λ n. noPair (cond (listed (length ws)) (refused n 0) (refused 17 0))) (λ g. ready g ws) (λ g n e. pair-refused g n e ws) f;
+      round = λ ws room. judged (λ n. noRound (cond (roundListed (length ws) && leb 1800 room) (refused n 0) (refused 17 0))) (λ g. rounding g ws room) (λ g n e. round-refused g n e ws room) f;
+      rounded = λ ws out. judged (λ n. out) (λ g. roundOver g ws out) (λ g n e. rounded-kept g n e ws out) f;
+      totals = λ ws. judged (λ n. totalsOf (cond (listed (length ws)) (refused n 0) (refused 17 0)) (replicate 32 0)) (λ g. totalsAfter g ws) (λ g n e. totals-refused g n e ws) f;
+      run-seated = λ ws t room. judged (λ n. cond (listed (length ws) && leb 1800 room) (refused n 0) (refused 17 0)) (λ g. seatedRunning g ws t room) (λ g n e. seats.run-refused g n e ws t room) f;
+      length-seated = λ ws t room. judged (λ n. 0) (λ g. seatedLength g ws t room) (λ g n e. seats.length-none g n e ws t room) f;
+      ran-seated = λ ws t out. judged (λ n. out) (λ g. seatedOver g ws t out) (λ g n e. seats.run-kept g n e ws t out) f;
+      round-seated = λ ws t room. judged (λ n. noRound (cond (roundListed (length ws) && leb 1800 room) (refused n 0) (refused 17 0))) (λ g. seatedRounding g ws t room) (λ g n e. seats.round-refused g n e ws t room) f;
+      rounded-seated = λ ws t out. judged (λ n. out) (λ g. seatedRoundOver g ws t out) (λ g n e. seats.round-kept g n e ws t out) f;
+      seats = λ ws t. judged (λ n. noSeats (cond (listed (length ws)) (refused n 0) (refused 17 0))) (λ g. seatsAfter g ws t) (λ g n e. seats.seats-refused g n e ws t) f;
+      choose = λ l b i p. judged (λ n. refused n 0) (λ g. choosing g l b i p) (λ g n e. choose-refused g n e l b i p) f;
+      records = λ l b i p. judged (λ n. l) (λ g. recordsOver g l b i p) (λ g n e. records-kept g n e l b i p) f;
+      beside = λ l b i p. judged (λ n. b) (λ g. besideOver g l b i p) (λ g n e. beside-kept g n e l b i p) f;
+      start = λ records words. judged (λ n. refused n 0) (λ g. starting g records words) (λ g n e. start-refused g n e records words) f;
+      started = λ l b. judged (λ n. l) (λ g. recordsStarted g l b) (λ g n e. started-kept g n e l b) f;
+      counts = λ l b. judged (λ n. b) (λ g. besideStarted g l b) (λ g n e. counts-kept g n e l b) f;
+    };
+    measure = stands-measured kept f stands;
+    place = λ room. stands-placed room kept f stands;
+    measure-at = λ t m. stands-measured-at t m kept f stands;
+    place-at = λ t m room. stands-place-at t m room kept f stands;
+    merge-first = both .first;
+    merge-second = both .second;
+    merged-first = both .first-over;
+    merged-second = both .second-over;
   };
-  measure = stands-measured kept f stands;
-  place = λ room. stands-placed room kept f stands;
   placed = λ out. stands-over out kept f stands;
-  measure-at = λ t m. stands-measured-at t m kept f stands;
-  place-at = λ t m room. stands-place-at t m room kept f stands;
   placed-at = λ t m out. stands-over-at t m out kept f stands;
-  merge-first = both .first;
-  merge-second = both .second;
-  merged-first = both .first-over;
-  merged-second = both .second-over;
 }
   where
     kept : List ℕ

@@ -1,6 +1,7 @@
 -- A clinic with nothing planned (02, K7): zero bytes have every answer of the 26 bytes that they read as, and these answers in numbers; fewer bytes than a head has are refused.
 use Prim.Native.Nat.{ℕ, zero, suc, _+_, _≤_, _<_}
 use mathlib.Core.Path.{_≡_, refl, sym, ap, _∙_}
+use mathlib.Core.Logic.{inl, inr}
 use mathlib.Core.Bool.{false}
 use mathlib.Core.List.{List, [], _∷_, _++_}
 use native.Mathlib.Omega.{arith}
@@ -9,10 +10,11 @@ use lib.Seq.{sets-eq}
 use borrow.Author.Tests.{eq-eqb, lt-ltb, le-leb}
 use Rattle.format.specs.Words.{wordAt, bytesOf}
 use Rattle.format.specs.Answers.{fine, refused}
-use Rattle.format.specs.Header.{more, nothingPlanned, headBytes, from1, headOf}
+use Rattle.format.specs.Header.{WithJuniors, more, nothingPlanned, headBytes, from1, headOf}
 use Rattle.format.specs.Contents.{inCount, tabled, contentsAt, contentsOf}
 use Rattle.format.specs.declared.HeadAnswer.the-variants.{Refused}
 use Rattle.format.proofs.ContentsLaws.{count-past}
+use Rattle.format.proofs.HeadLaws.{juniors-iff}
 use Rattle.reading_exact.proofs.Exact.{read-alike}
 use Rattle.checking.specs.Check.{readingNames, checking}
 use Rattle.checking.proofs.CheckLaws.{names-refused, check-refused}
@@ -38,7 +40,7 @@ unfolding contentsAt tabled
 nothing-held = refl
 
 pub nothing-alike : Alike [] nothingPlanned
-nothing-alike = alike [] nothingPlanned (sym (read-alike [])) nothing-held refl
+nothing-alike = alike [] nothingPlanned (sym (read-alike [])) nothing-held refl refl
 
 -- the check passes, and so does reading
 pub nothing-checked : checking [] ≡ fine
@@ -91,7 +93,7 @@ nothing-chosen l b records words threads made totals i p =
     past-ten-one [] l b i p 18 (omega arith) (λ e. omega (arith, e)) .1
     (nothing-lent l b records words threads made totals, none-chosen (clinicOf (contentsOf [])) (stateOf l b) (ap (λ (n : ℕ). take n l) threads) i p)
 
--- 1 to 25 bytes, and up to 27 where the first word is 2
+-- 1 to 25 bytes, and up to 27 where the first word is 2 or 3
 short-head : (f : List ℕ) → 1 ≤ length f → length f < headBytes (wordAt f 0) → headOf f ≡ Refused 1
 unfolding headOf from1
 short-head [] some few = absurd (omega (arith, some))
@@ -103,9 +105,10 @@ short-answers f e = (names-refused f 1 e, check-refused f 1 e, head-refused f 1 
 pub short-one : (f : List ℕ) → 1 ≤ length f → length f ≤ 25 → (readingNames f ≡ refused 1 0) × (checking f ≡ refused 1 0) × (measuring f ≡ noPlace 1 0)
 short-one f some few = short-answers f (short-head f some (omega (arith, few)))
 
-pub short-second : (f : List ℕ) → wordAt f 0 ≡ 2 → length f ≤ 27 → (readingNames f ≡ refused 1 0) × (checking f ≡ refused 1 0) × (measuring f ≡ noPlace 1 0)
-short-second [] two few = absurd (omega (arith, two))
+pub short-second : (f : List ℕ) → WithJuniors (wordAt f 0) → length f ≤ 27 → (readingNames f ≡ refused 1 0) × (checking f ≡ refused 1 0) × (measuring f ≡ noPlace 1 0)
+short-second [] (inl e) few = absurd (omega (arith, e))
+short-second [] (inr e) few = absurd (omega (arith, e))
 short-second (x ∷ xs) two few =
     let f : List ℕ = x ∷ xs in
-    let one : more (wordAt f 0) ≡ 1 = rw (eq-eqb (wordAt f 0) 2 two) in
+    let one : more (wordAt f 0) ≡ 1 = rw (juniors-iff (wordAt f 0) .1 two) in
     short-answers f (short-head f (omega arith) (omega (arith, few, one)))

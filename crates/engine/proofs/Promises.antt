@@ -1,7 +1,7 @@
 -- What the engine promises, each promise under a sentence of the paper (01), of the demands or of a request (K1 ..); nothing else stands here. Where "1 to 8" or "1 to 10" is written, 21 is among them.
 -- What a caller gets is in the contracts of the exported functions (src/lib.rt): of any bytes handed over `pilzdamo_read` answers `readingNames`, the refusals 1 to 10,
 -- `pilzdamo_check` `checking`, the refusals 1 to 13, `pilzdamo_place` `placing`, with `placedOver` in the output, for a minute of the week `pilzdamo_check_at` `checkingAt`
--- and `pilzdamo_place_at` `placingAt`, with `placedOverAt`, of two files `pilzdamo_merge` `merging`, with `mergedOver` in the output, `pilzdamo_run`
+-- and `pilzdamo_place_at` `placingAt`, with `placedOverAt`, of two files `pilzdamo_merge` `merging`, with `mergedOver` in the output, `pilzdamo_to_columns` `turning` of version 2 and `pilzdamo_to_rows` of version 3, with `turnedOver`, `pilzdamo_run`
 -- `running`, with `runOver` in the output, `pilzdamo_ready` `ready`, `pilzdamo_round` `rounding`, with `roundOver` in the output, with a table of seats
 -- `pilzdamo_run_seated` `seatedRunning` and the length `seatedLength`, with `seatedOver` in the output, `pilzdamo_round_seated` `seatedRounding`, with `seatedRoundOver`, and `pilzdamo_seats` `seatsAfter`, `pilzdamo_totals` `totalsAfter`, `pilzdamo_total` `totalIn`,
 -- `pilzdamo_start` `starting`, with `recordsStarted` in the lent list and
@@ -11,7 +11,7 @@ use Prim.Native.Nat.{ℕ, suc, _+_, _*_, _-_, _/_, _%_, _^_, _≤_, _<_}
 use mathlib.Core.Path.{_≡_, refl, sym, _∙_}
 use mathlib.Core.Logic.{_↔_, _≢_, _⊎_}
 use mathlib.Core.Bool.{true, false, cond}
-use mathlib.Core.List.{List, [], _∷_, _++_}
+use mathlib.Core.List.{List, [], _∷_, _++_, map}
 use native.Mathlib.Omega.{arith}
 use lib.Dec.{eqb}
 use lib.ListN.{length, getD, take, drop, replicate}
@@ -20,7 +20,9 @@ use Rattle.format.specs.Words.{wordAt, bytesOf}
 use Rattle.format.specs.Contents.{Contents, item, noSession, contentsOf}
 use Rattle.format.specs.Answers.{fine, refused}
 use Rattle.format.specs.declared.Verdict.{Verdict}
-use Rattle.format.specs.Header.{Counted, versionAt, roomFor}
+use Rattle.format.specs.Header.{Counted, versionAt, roomFor, WithJuniors, nothingPlanned, headOf}
+use Rattle.format.specs.Sections.{spot}
+use Rattle.format.specs.Writing.{nodeRows, fileWords}
 use Rattle.format.specs.declared.Six.{Six}
 use Rattle.reading.specs.Reading.{reading}
 use Rattle.reading_exact.specs.Lists.{All}
@@ -46,7 +48,7 @@ use Rattle.placing_exact.specs.Placed.{AllStates, listedAll, insertAll, Bare}
 use Rattle.placing_exact.specs.Idle.{idleNodesOf, idleIn, idleAmong}
 use Rattle.placing_exact.specs.Causes.{SomeMask, IsSwitch, Unserved, PlacedWith, Cause, refusalIn, placingOrder}
 use Rattle.placing_exact.specs.Promised.{WellPlaced, Ruled, Clean, Lowest, Unrefused, NoPlacement, session, Covers}
-use Rattle.placing_exact.specs.Cases.{Shown, cases, juniorCases, nothingCases}
+use Rattle.placing_exact.specs.Cases.{Shown, cases, juniorCases, columnCases, nothingCases}
 use Rattle.format.specs.declared.Node.{Node}
 use Rattle.rules.specs.Rules.{Context, childOf}
 use Rattle.steps.specs.declared.Thread.{Thread}
@@ -87,7 +89,7 @@ use Rattle.placing_exact.proofs.PlacingFirst.{placing-first}
 use Rattle.placing_exact.proofs.OneRole.{one-role-written}
 use Rattle.placing_exact.proofs.RivalsByRoles.{rivals-all, fewest-of-all, none-at-all}
 use Rattle.placing_exact.proofs.IdleRivals.{least-idle-of-all, idle-stated}
-use Rattle.placing_exact.proofs.StarredCases.{starred, ranked, unplanned as unplanned-shown}
+use Rattle.placing_exact.proofs.StarredCases.{starred, ranked, columned, unplanned as unplanned-shown}
 use Rattle.running_exact.proofs.Operands.{stands-for}
 use Rattle.running_exact.proofs.Agree.{agree, one-result, refused-first, done-free}
 use Rattle.running_exact.proofs.StepEffects.{step-effect}
@@ -120,8 +122,9 @@ use Rattle.hours_exact.proofs.PlaceAtFirst.{place-at-first}
 use Rattle.hours_exact.proofs.PlaceAtExact.{roomless-at, well-at, fewest-at, least-idle-at, fifteen-at, none-at, fifteen-place-at, ruled-at, sixteen-at, seventeen-at, placed-at, written-over-at, kept-at}
 use Rattle.hours_exact.proofs.EmptyTable.{check-empty, place-empty, over-empty}
 use Rattle.hours_exact.proofs.CasesShown.{hours-shown}
-use Rattle.engine.specs.Alike.{AlikeBesideForm, Alike}
-use Rattle.engine.proofs.SameContents.{alike-beside-form, alike, second-alike}
+use Rattle.engine.specs.Alike.{AlikeBesideForm, AlikeBesideBytes, Alike, ColumnsOf}
+use Rattle.engine.proofs.SameContents.{alike-beside-form, alike-beside-bytes, alike, second-alike}
+use Rattle.engine.proofs.Columns.{columns-alike, rows-alike}
 use Rattle.rounds.specs.Rounds.{Midway, Here}
 use Rattle.dispatching.specs.Dispatch.{rounding, roundOver}
 use Rattle.dispatching_exact.specs.IsRound.{IsRound, VisitsOf}
@@ -143,7 +146,13 @@ use Rattle.reasons.proofs.NumbersSaid.{number-said}
 use Rattle.reasons.proofs.ReasonsShown.{reasons-shown}
 use Rattle.merging.specs.Merged.{shifted}
 use Rattle.merging.specs.Merging.{merging, mergedBytes, mergedOver}
-use Rattle.merging.specs.declared.Written.{Written as Merge·Written}
+use Rattle.format.specs.declared.Written.{Written as Merge·Written}
+use Rattle.format.proofs.SpotLaws.{spot-within, spot-one, Spotted, spot-found}
+use Rattle.turning.specs.Turning.{headNumber, inColumns, inRows, turning, turnedOver}
+use Rattle.turning_exact.specs.TurnCauses.{TurnAnswers}
+use Rattle.turning_exact.specs.ColumnWords.{rowBooking, columnBooking}
+use Rattle.turning_exact.proofs.Turned.{turned-holds, there-and-back, turned-writes, refused-writes-nothing, same-head-refusals, nothing-turned, booking-turned, booking-answered, forms-in-words}
+use Rattle.turning_exact.proofs.TurnExact.{turning-exactly as turning-answers-exactly}
 use Rattle.merging_exact.specs.MergedFile.{mergedFile}
 use Rattle.merging_exact.specs.Operands.{Item, Names, Stands}
 use Rattle.merging_exact.specs.Sums.{SameTables, SumsFit}
@@ -337,8 +346,8 @@ placed-otherwise = placed-exactly
 pub first-of-placing : (f : List ℕ) → All (λ b. b < 256) f → (room : ℕ) → First placingOrder (Cause f room) (refusalIn (placing f room))
 first-of-placing = placing-first
 
--- One by one: 17, 1 to 10, 14 at place 0 and at a node, 15 in words. "17 output under 6,874 bytes for placing", and "placing an input whose first word is 2 needs" 6,908: one of a single byte has no first word.
-pub room-wanted : (f : List ℕ) → ((2 ≤ length f) × (wordAt f 0 ≡ 2) → roomFor f ≡ 6908) × (((2 ≤ length f) × (wordAt f 0 ≡ 2) → ⊥) → roomFor f ≡ 6874)
+-- One by one: 17, 1 to 10, 14 at place 0 and at a node, 15 in words. "17 output under 6,874 bytes for placing", and "placing an input whose first word is 2 needs" 6,908, as does one whose first word is 3 (K11): one of a single byte has no first word.
+pub room-wanted : (f : List ℕ) → ((2 ≤ length f) × WithJuniors (wordAt f 0) → roomFor f ≡ 6908) × (((2 ≤ length f) × WithJuniors (wordAt f 0) → ⊥) → roomFor f ≡ 6874)
 room-wanted = room-by-word
 
 pub no-room : (f : List ℕ) (room : ℕ) → (placing f room ≡ noPlace 17 0) ↔ (room < roomFor f)
@@ -635,11 +644,14 @@ pub starred-cases : All Shown cases
 starred-cases = starred
 
 -- What a file holds decides: two files that 1 to 8 answer alike and that hold the same have the same answers, for every caller, and the same outputs but for the placed file's form;
--- where placing wants as much output of both, they have that as well.
+-- where placing wants as much output of both, the lengths too, and where both are of one version, all.
 pub same-answers : (f g : List ℕ) → reading f ≡ reading g → contentsOf f ≡ contentsOf g → AlikeBesideForm f g
 same-answers = alike-beside-form
 
-pub same-contents : (f g : List ℕ) → reading f ≡ reading g → contentsOf f ≡ contentsOf g → roomFor f ≡ roomFor g → Alike f g
+pub same-lengths : (f g : List ℕ) → reading f ≡ reading g → contentsOf f ≡ contentsOf g → roomFor f ≡ roomFor g → AlikeBesideBytes f g
+same-lengths = alike-beside-bytes
+
+pub same-contents : (f g : List ℕ) → reading f ≡ reading g → contentsOf f ≡ contentsOf g → roomFor f ≡ roomFor g → versionAt f ≡ versionAt g → Alike f g
 same-contents = alike
 
 -- Request K1, version 2. "Version 1 still reads, as if all masks were 0": a file of version 1 and the same in version 2 with all masks 0 hold the same, and are answered alike.
@@ -893,11 +905,11 @@ pub no-thread-to-choose : (l : List Thread) (b : List ℕ) → length l ≡ 64 �
     → (i p : ℕ) → choosing [] l b i p ≡ refused 18 1
 no-thread-to-choose = nothing-chosen
 
--- "One to 25 bytes still give 1", up to 27 where the first word is 2.
+-- "One to 25 bytes still give 1", up to 27 where the first word is 2 or 3.
 pub short-refused : (f : List ℕ) → 1 ≤ length f → length f ≤ 25 → (readingNames f ≡ refused 1 0) × (checking f ≡ refused 1 0) × (measuring f ≡ noPlace 1 0)
 short-refused = short-one
 
-pub short-second-refused : (f : List ℕ) → wordAt f 0 ≡ 2 → length f ≤ 27 → (readingNames f ≡ refused 1 0) × (checking f ≡ refused 1 0) × (measuring f ≡ noPlace 1 0)
+pub short-second-refused : (f : List ℕ) → WithJuniors (wordAt f 0) → length f ≤ 27 → (readingNames f ≡ refused 1 0) × (checking f ≡ refused 1 0) × (measuring f ≡ noPlace 1 0)
 short-second-refused = short-second
 
 -- "The empty-input case of 01 is amended so": in literal words.
@@ -1326,3 +1338,87 @@ seated-run-written = seated-written
 -- In literal words: a line of two, a free seat that goes to the head alone, a refused choice after one answered 26, the start, each wrong table, and rounds.
 pub seats-in-words : All SeatShown seatCases
 seats-in-words = seats-shown
+-- K11: "Version 3 holds the node section as all tags, then all f1, then all f2; the rest is version 2": what is held, in words of version 2 and of version 3. Where a word of
+-- a record is read stands in `records-by-words`, and the encodings of all three versions are read exactly (`reads-exactly`, `checks-exactly`).
+pub columns-in-words : (C : Contents) → (rest : List ℕ) × (fileWords 2 C ≡ 2 ∷ (rest ++ nodeRows (C .nodes)))
+    × (fileWords 3 C ≡ 3 ∷ (rest ++ (map (λ (n : Node). n .tag) (C .nodes) ++ (map (λ (n : Node). n .f1) (C .nodes) ++ map (λ (n : Node). n .f2) (C .nodes)))))
+columns-in-words = forms-in-words
+
+-- "One argument about a node's position serves both layouts": in a section of so many nodes, of whatever version, each word of a node stands within it, no two stand in one place, and
+-- every place has a word.
+pub words-within : (version nodes n j : ℕ) → 1 ≤ n → n ≤ nodes → j < 3 → spot version nodes n j < 3 * nodes
+words-within = spot-within
+
+pub no-two-alike : (version nodes n m i j : ℕ) → 1 ≤ n → n ≤ nodes → 1 ≤ m → m ≤ nodes → i < 3 → j < 3 → spot version nodes n i ≡ spot version nodes m j → (n ≡ m) × (i ≡ j)
+no-two-alike = spot-one
+
+pub no-place-left : (version nodes place : ℕ) → place < 3 * nodes → Spotted version nodes place
+no-place-left = spot-found
+
+-- "Turning a version 2 file to columns and back restores it, and a version 3 file to rows and back": all bytes that 1 to 5 leave clean; what is turned is taken back, with the same answer.
+pub columns-and-back : (f : List ℕ) → All (λ b. b < 256) f → (room : ℕ) → turning 2 f room .number ≡ 0 → (turning 3 (inColumns f) room ≡ turning 2 f room) × (inRows (inColumns f) ≡ f)
+columns-and-back = there-and-back 2 3 refl refl
+
+pub rows-and-back : (f : List ℕ) → All (λ b. b < 256) f → (room : ℕ) → turning 3 f room .number ≡ 0 → (turning 2 (inRows f) room ≡ turning 3 f room) × (inColumns (inRows f) ≡ f)
+rows-and-back = there-and-back 3 2 refl refl
+
+-- What is turned holds what it held.
+pub columns-hold : (f : List ℕ) → contentsOf (inColumns f) ≡ contentsOf f
+columns-hold f = turned-holds f 3 refl
+
+pub rows-hold : (f : List ℕ) → contentsOf (inRows f) ≡ contentsOf f
+rows-hold f = turned-holds f 2 refl
+
+-- "turning refuses by 17 (output under 6,908 bytes), then 1 to 5, another version being 2": to columns (version 2) and to rows (version 3).
+pub turning-to-columns : (f : List ℕ) (room : ℕ) (a : Merge·Written) → (turning 2 f room ≡ a) ↔ TurnAnswers 2 f room a
+turning-to-columns = turning-answers-exactly 2
+
+pub turning-to-rows : (f : List ℕ) (room : ℕ) (a : Merge·Written) → (turning 3 f room ≡ a) ↔ TurnAnswers 3 f room a
+turning-to-rows = turning-answers-exactly 3
+
+-- "Here and in later requests an output's length is answered and nothing past it is written" (K8).
+pub columns-written : (f out : List ℕ) → turning 2 f (length out) .number ≡ 0
+    → (turning 2 f (length out) .length ≡ length (inColumns f)) × (turnedOver 2 3 f out ≡ inColumns f ++ drop (length (inColumns f)) out)
+columns-written = turned-writes 2 3 refl refl
+
+pub rows-written : (f out : List ℕ) → turning 3 f (length out) .number ≡ 0
+    → (turning 3 f (length out) .length ≡ length (inRows f)) × (turnedOver 3 2 f out ≡ inRows f ++ drop (length (inRows f)) out)
+rows-written = turned-writes 3 2 refl refl
+
+pub columns-written-nothing : (f out : List ℕ) → turning 2 f (length out) .number ≢ 0 → turnedOver 2 3 f out ≡ out
+columns-written-nothing = refused-writes-nothing 2 3 refl refl
+
+pub rows-written-nothing : (f out : List ℕ) → turning 3 f (length out) .number ≢ 0 → turnedOver 3 2 f out ≡ out
+rows-written-nothing = refused-writes-nothing 3 2 refl refl
+
+-- "Every other answer on the column file is the one on its row file; a file placed or handed back keeps the form it came in": reading, check, hours, placing and measuring with length and on
+-- steps, runs, ready pairs, rounds, totals, lent lists and merging; and the placed column file is the columns of the placed row file. Of a version 2 file that turning takes, and of a version 3 file.
+pub column-answers : (f : List ℕ) (room : ℕ) → turning 2 f room .number ≡ 0 → ColumnsOf (inColumns f) f
+column-answers = columns-alike
+
+pub row-answers : (c : List ℕ) → All (λ b. b < 256) c → (room : ℕ) → turning 3 c room .number ≡ 0 → ColumnsOf c (inRows c)
+row-answers = rows-alike
+
+-- Where turning does not take a file for 1 to 5, bytes of version 3 are refused as the same bytes of version 2.
+pub heads-alike : (bs : List ℕ) → headNumber (headOf (3 ∷ 0 ∷ bs)) ≡ headNumber (headOf (2 ∷ 0 ∷ bs))
+heads-alike = same-head-refusals
+
+-- "the output that placing needs included": the largest file is no larger.
+pub largest-third : (n : Six) → Counted n → (lengthOf 3 n ≡ lengthOf 2 n) × (lengthOf 3 n ≤ 6908)
+largest-third n c = (refl, omega (arith, c))
+
+-- Zero bytes, "the version 1 file with all counts 0" (K7), are refused as its 26 bytes are: with 2.
+pub zero-bytes-turned : (room : ℕ) → (turning 2 [] room ≡ turning 2 nothingPlanned room) × (turning 3 [] room ≡ turning 3 nothingPlanned room)
+zero-bytes-turned = nothing-turned
+
+-- In literal words: a booking turned both ways, the answers of turning it, of zero bytes and of a short output, and column files in the check and in placing.
+pub turned-in-words : (inColumns (bytesOf rowBooking) ≡ bytesOf columnBooking) × (inRows (bytesOf columnBooking) ≡ bytesOf rowBooking)
+turned-in-words = booking-turned
+
+pub turning-in-words : (turning 2 (bytesOf rowBooking) 6908 ≡ record { number = 0; place = 0; length = 88 }) × (turning 3 (bytesOf columnBooking) 6908 ≡ record { number = 0; place = 0; length = 88 })
+    × (turning 3 (bytesOf rowBooking) 6908 ≡ record { number = 2; place = 0; length = 0 }) × (turning 2 (bytesOf columnBooking) 6908 ≡ record { number = 2; place = 0; length = 0 })
+    × (turning 2 [] 6908 ≡ record { number = 2; place = 0; length = 0 }) × (turning 2 (bytesOf rowBooking) 6907 ≡ record { number = 17; place = 0; length = 0 })
+turning-in-words = booking-answered
+
+pub column-cases : All Shown columnCases
+column-cases = columned

@@ -4,10 +4,10 @@ use mathlib.Core.Logic.{_⊎_, inl, inr}
 use native.Mathlib.Omega.{arith}
 use borrow.Author.Tests.{eqb-true}
 use Rattle.format.specs.Words.{wordAt}
-use Rattle.format.proofs.HeadLaws.{IsVersion, Headed}
+use Rattle.format.proofs.HeadLaws.{juniors-iff, juniors-not, IsVersion, Headed}
 use Rattle.format.proofs.AnswerLaws.{NoRefusal, both-quiet}
 use Rattle.checking.proofs.CheckLaws.{names-headed}
-use Rattle.placing.proofs.PlaceLaws.{room-by-word, over-room}
+use Rattle.placing.proofs.PlaceLaws.{room-by-word}
 use Prim.Native.Nat.{ℕ}
 use mathlib.Core.Bool.{Bool, true, false, cond}
 use mathlib.Core.List.{List, [], _∷_}
@@ -15,7 +15,7 @@ use lib.Dec.{eqb, ltb}
 use lib.ListN.{length}
 use lib.Seq.{sets}
 use Rattle.format.specs.Answers.{orElse}
-use Rattle.format.specs.Header.{Laid, headAt, versionAt, roomFor}
+use Rattle.format.specs.Header.{hasJuniors, WithJuniors, Laid, headAt, versionAt, roomFor}
 use Rattle.format.specs.declared.Verdict.{Verdict}
 use Rattle.rules.specs.Checking.{namesAnswer}
 use Rattle.states.specs.declared.Turn.{Turn}
@@ -24,7 +24,8 @@ use Rattle.format.specs.Contents.{Contents, contentsOf}
 use Rattle.reading.specs.Reading.{reading}
 use Rattle.checking.specs.Check.{readingNames, checking}
 use Rattle.checking_at.specs.CheckAt.{readingAt, readingNamesAt, checkingAt}
-use Rattle.placing.specs.Placing.{turnsFor, placeable, judging, noPlace, placedBy, answerBy, bytesBy, overBy, measuring, placing, placedBytes, placedOver}
+use Rattle.placing.specs.Placing.{turnsFor, placeable, judging, noPlace, placedBy, answerBy, bytesBy, measuring, placing, placedBytes, placedOver}
+use Rattle.placing.specs.declared.Placed.{Placed}
 use Rattle.placing_at.specs.PlaceAt.{openContents, turnsAt, judgingAt, measuringAt, placingAt, placedBytesAt, placedOverAt}
 use Rattle.running.specs.Run.{running, runOver, ready, totalsAfter}
 use Rattle.dispatching.specs.Dispatch.{rounding, roundOver}
@@ -38,7 +39,27 @@ use Rattle.reading_exact.proofs.FileContents.{contents-back}
 use Rattle.reading_exact.proofs.Exact.{complete}
 use Rattle.reading_exact.proofs.AsSecond.{as-second-held, as-second-read}
 use Rattle.merging_exact.proofs.SameMerging.{same-own, merged-alike}
-use Rattle.engine.specs.Alike.{AlikeBesideForm, Alike}
+use Rattle.engine.specs.Alike.{AlikeBesideForm, AlikeBesideBytes, Alike}
+
+-- how much output is wanted, by the version
+pub wanted : (h : List ℕ) → Headed h → ((hasJuniors (versionAt h) ≡ false) × (roomFor h ≡ 6874)) ⊎ ((hasJuniors (versionAt h) ≡ true) × (roomFor h ≡ 6908))
+wanted [] d = inl (refl, refl)
+wanted (x ∷ xs) d = by (d .version)
+  where
+    h : List ℕ
+    h = x ∷ xs
+
+    by : IsVersion (wordAt h 0) → ((hasJuniors (wordAt h 0) ≡ false) × (roomFor h ≡ 6874)) ⊎ ((hasJuniors (wordAt h 0) ≡ true) × (roomFor h ≡ 6908))
+    by (inl e) = let none : WithJuniors (wordAt h 0) → ⊥ = first e in inl (juniors-not (wordAt h 0) none, room-by-word h .1 (λ (l, j). none j))
+      where
+        first : wordAt h 0 ≡ 1 → WithJuniors (wordAt h 0) → ⊥
+        first e (inl two) = omega (arith, e, two)
+        first e (inr three) = omega (arith, e, three)
+    by (inr j) = inr (juniors-iff (wordAt h 0) .1 j, room-by-word h .0 (let l : Laid h (headAt h) = d .laid in omega (arith, l), j))
+
+-- what placing writes, by its answer and its bytes
+pub over-alike : (b b′ : List ℕ) (a a′ : Placed) → a ≡ a′ → b ≡ b′ → (out : List ℕ) → cond (eqb (a .number) 0) (sets out 0 b) out ≡ cond (eqb (a′ .number) 0) (sets out 0 b′) out
+over-alike b b′ a a′ same placed out = ap₂ (λ (x : Placed) (bs : List ℕ). cond (eqb (x .number) 0) (sets out 0 bs) out) same placed
 
 module _ (f g : List ℕ) (r : reading f ≡ reading g) (c : contentsOf f ≡ contentsOf g) where
   names : readingNames f ≡ readingNames g
@@ -92,27 +113,21 @@ module _ (f g : List ℕ) (r : reading f ≡ reading g) (c : contentsOf f ≡ co
     counts = λ l b. rw (r, c);
   }
 
-  -- with as much output wanted
+  -- with as much output wanted: both have masks of juniors, or neither has
   module _ (w : roomFor f ≡ roomFor g) where
-    wanted : (h : List ℕ) → Headed h → ((versionAt h ≡ 1) × (roomFor h ≡ 6874)) ⊎ ((versionAt h ≡ 2) × (roomFor h ≡ 6908))
-    wanted [] d = inl (refl, refl)
-    wanted (x ∷ xs) d = by (d .version)
+    forms : NoRefusal (readingNames g) → hasJuniors (versionAt f) ≡ hasJuniors (versionAt g)
+    forms q = both (wanted f (names-headed f (subst NoRefusal (sym names) q))) (wanted g (names-headed g q))
       where
-        h : List ℕ
-        h = x ∷ xs
-
-        by : IsVersion (wordAt h 0) → ((wordAt h 0 ≡ 1) × (roomFor h ≡ 6874)) ⊎ ((wordAt h 0 ≡ 2) × (roomFor h ≡ 6908))
-        by (inl e) = inl (e, room-by-word h .1 (λ (l, two). omega (arith, e, two)))
-        by (inr e) = inr (e, room-by-word h .0 (let l : Laid h (headAt h) = d .laid in omega (arith, l), e))
-
-    versions : NoRefusal (readingNames g) → versionAt f ≡ versionAt g
-    versions q = both (wanted f (names-headed f (subst NoRefusal (sym names) q))) (wanted g (names-headed g q))
-      where
-        both : ((versionAt f ≡ 1) × (roomFor f ≡ 6874)) ⊎ ((versionAt f ≡ 2) × (roomFor f ≡ 6908)) → ((versionAt g ≡ 1) × (roomFor g ≡ 6874)) ⊎ ((versionAt g ≡ 2) × (roomFor g ≡ 6908)) → versionAt f ≡ versionAt g
+        both : ((hasJuniors (versionAt f) ≡ false) × (roomFor f ≡ 6874)) ⊎ ((hasJuniors (versionAt f) ≡ true) × (roomFor f ≡ 6908))
+            → ((hasJuniors (versionAt g) ≡ false) × (roomFor g ≡ 6874)) ⊎ ((hasJuniors (versionAt g) ≡ true) × (roomFor g ≡ 6908)) → hasJuniors (versionAt f) ≡ hasJuniors (versionAt g)
         both (inl (a, x)) (inl (b, y)) = a ∙ sym b
         both (inr (a, x)) (inr (b, y)) = a ∙ sym b
         both (inl (a, x)) (inr (b, y)) = absurd (omega (arith, x, y, w))
         both (inr (a, x)) (inl (b, y)) = absurd (omega (arith, x, y, w))
+
+    -- a placed file is as long in either form
+    placed-alike : (C : Contents) (ts : List Turn) → hasJuniors (versionAt f) ≡ hasJuniors (versionAt g) → placedBy (versionAt f) C ts ≡ placedBy (versionAt g) C ts
+    placed-alike C ts e = rw e
 
     unrefused : NoRefusal (judging g) → NoRefusal (readingNames g)
     unfolding judging
@@ -134,15 +149,7 @@ module _ (f g : List ℕ) (r : reading f ≡ reading g) (c : contentsOf f ≡ co
         where
           go : (b : Bool) → eqb (x .number) 0 ≡ b
               → cond b (placedBy (versionAt f) (contentsOf f) (turns (contentsOf f))) (noPlace (x .number) (x .place)) ≡ cond b (placedBy (versionAt g) (contentsOf g) (turns (contentsOf g))) (noPlace (x .number) (x .place))
-          go true e = λ i. placedBy (versions (quiet (eqb-true (x .number) 0 e)) i) (c i) (turns (c i))
-          go false e = refl
-
-      written : (out : List ℕ) → overBy (versionAt f) (contentsOf f) (turns (contentsOf f)) x out ≡ overBy (versionAt g) (contentsOf g) (turns (contentsOf g)) x out
-      written out = go (eqb (x .number) 0) refl
-        where
-          go : (b : Bool) → eqb (x .number) 0 ≡ b
-              → cond b (sets out 0 (bytesBy (versionAt f) (contentsOf f) (turns (contentsOf f)))) out ≡ cond b (sets out 0 (bytesBy (versionAt g) (contentsOf g) (turns (contentsOf g)))) out
-          go true e = λ i. sets out 0 (bytesBy (versions (quiet (eqb-true (x .number) 0 e)) i) (c i) (turns (c i)))
+          go true e = (λ i. placedBy (versionAt f) (c i) (turns (c i))) ∙ placed-alike (contentsOf g) (turns (contentsOf g)) (forms (quiet (eqb-true (x .number) 0 e)))
           go false e = refl
 
     measures : measuring f ≡ measuring g
@@ -152,14 +159,6 @@ module _ (f g : List ℕ) (r : reading f ≡ reading g) (c : contentsOf f ≡ co
     places : (room : ℕ) → placing f room ≡ placing g room
     unfolding placing
     places room = ap₂ (λ n a. cond (ltb room n) (noPlace 17 0) a) w measures
-
-    over : (out : List ℕ) → placedOver f out ≡ placedOver g out
-    unfolding placedOver placedBytes placing measuring
-    over out =
-        let same = ap (λ (x : Verdict). overBy (versionAt f) (contentsOf f) (turnsFor (contentsOf f)) x out) judged ∙ written turnsFor (judging g) unrefused out in
-        over-room (ltb (length out) (roomFor f)) (versionAt f) (contentsOf f) (turnsFor (contentsOf f)) (judging f) out
-        ∙ ap₂ (λ n o. cond (ltb (length out) n) out o) w same
-        ∙ sym (over-room (ltb (length out) (roomFor g)) (versionAt g) (contentsOf g) (turnsFor (contentsOf g)) (judging g) out)
 
     module _ (t : List ℕ) (m : ℕ) where
       abbrev turns : Contents → List Turn
@@ -173,30 +172,32 @@ module _ (f g : List ℕ) (r : reading f ≡ reading g) (c : contentsOf f ≡ co
       unfolding placingAt
       places-at room = ap₂ (λ n a. cond (ltb room n) (noPlace 17 0) a) w measures-at
 
-      over-at : (out : List ℕ) → placedOverAt f t m out ≡ placedOverAt g t m out
-      unfolding placedOverAt placedBytesAt placingAt measuringAt
-      over-at out =
-          let same = ap (λ (x : Verdict). overBy (versionAt f) (contentsOf f) (turns (contentsOf f)) x out) (judged-at t m) ∙ written turns (judgingAt g t m) (unrefused-at t m) out in
-          over-room (ltb (length out) (roomFor f)) (versionAt f) (contentsOf f) (turns (contentsOf f)) (judgingAt f t m) out
-          ∙ ap₂ (λ n o. cond (ltb (length out) n) out o) w same
-          ∙ sym (over-room (ltb (length out) (roomFor g)) (versionAt g) (contentsOf g) (turns (contentsOf g)) (judgingAt g t m) out)
-
-    pub alike : Alike f g
-    alike =
+    pub alike-beside-bytes : AlikeBesideBytes f g
+    alike-beside-bytes =
         let both = merged-alike f g (same-own f g names w) (λ e. c) in
         record {
           answers = alike-beside-form;
           measure = measures;
           place = places;
-          placed = over;
           measure-at = measures-at;
           place-at = places-at;
-          placed-at = over-at;
           merge-first = both .first;
           merge-second = both .second;
           merged-first = both .first-over;
           merged-second = both .second-over;
         }
+
+    -- and in the same form
+    module _ (form : versionAt f ≡ versionAt g) where
+      pub alike : Alike f g
+      unfolding placedOver placedBytes placedOverAt placedBytesAt
+      alike = record {
+        beside = alike-beside-bytes;
+        placed = λ out.
+            over-alike (placedBytes f) (placedBytes g) (placing f (length out)) (placing g (length out)) (places (length out)) (λ i. bytesBy (form i) (c i) (turnsFor (c i))) out;
+        placed-at = λ t m out.
+            over-alike (placedBytesAt f t m) (placedBytesAt g t m) (placingAt f t m (length out)) (placingAt g t m (length out)) (places-at t m (length out)) (λ i. bytesBy (form i) (c i) (turns t m (c i))) out;
+      }
 
 -- a file of version 1 in version 2
 pub second-alike : (F : File) → WellFormed F → (contentsOf (encode (asSecond F)) ≡ contentsOf (encode F)) × AlikeBesideForm (encode (asSecond F)) (encode F)

@@ -1,11 +1,15 @@
 -- Two files with the same answers, to every caller.
 use Prim.Native.Nat.{ℕ}
 use mathlib.Core.Path.{_≡_}
+use mathlib.Core.Bool.{cond}
 use mathlib.Core.List.{List}
+use lib.Dec.{eqb}
+use lib.ListN.{length}
+use lib.Seq.{sets}
 use Rattle.checking.specs.Check.{readingNames, checking}
 use Rattle.checking_at.specs.CheckAt.{checkingAt}
-use Rattle.placing.specs.Placing.{measuring, placing, placedOver}
-use Rattle.placing_at.specs.PlaceAt.{measuringAt, placingAt, placedOverAt}
+use Rattle.placing.specs.Placing.{measuring, placing, placedBytes, placedOver}
+use Rattle.placing_at.specs.PlaceAt.{measuringAt, placingAt, placedBytesAt, placedOverAt}
 use Rattle.steps.specs.declared.Thread.{Thread}
 use Rattle.running.specs.Run.{running, runOver, ready, totalsAfter}
 use Rattle.dispatching.specs.Dispatch.{rounding, roundOver}
@@ -15,6 +19,7 @@ use Rattle.seating.specs.SeatedRound.{seatedRounding, seatedRoundOver}
 use Rattle.lending.specs.Lent.{choosing, recordsOver, besideOver}
 use Rattle.lending.specs.Starting.{starting, recordsStarted, besideStarted}
 use Rattle.merging.specs.Merging.{merging, mergedOver}
+use Rattle.turning.specs.Turning.{inColumns}
 
 -- in all but what goes by the form of a file: how much output is wanted, the placed file's length and bytes, and merging, which takes version 1 alone
 pub record AlikeBesideForm (f g : List ℕ) : Type 0 where
@@ -45,17 +50,30 @@ pub record AlikeBesideForm (f g : List ℕ) : Type 0 where
   pub started : (l : List Thread) (b : List ℕ) → recordsStarted f l b ≡ recordsStarted g l b
   pub counts : (l : List Thread) (b : List ℕ) → besideStarted f l b ≡ besideStarted g l b
 
--- and in all
-pub record Alike (f g : List ℕ) : Type 0 where
+-- in all but the bytes of a placed file, which keep the form that it came in
+pub record AlikeBesideBytes (f g : List ℕ) : Type 0 where
   pub answers : AlikeBesideForm f g
   pub measure : measuring f ≡ measuring g
   pub place : (room : ℕ) → placing f room ≡ placing g room
-  pub placed : (out : List ℕ) → placedOver f out ≡ placedOver g out
   pub measure-at : (t : List ℕ) (m : ℕ) → measuringAt f t m ≡ measuringAt g t m
   pub place-at : (t : List ℕ) (m room : ℕ) → placingAt f t m room ≡ placingAt g t m room
-  pub placed-at : (t : List ℕ) (m : ℕ) (out : List ℕ) → placedOverAt f t m out ≡ placedOverAt g t m out
   -- merged with any other file, as the first and as the second
   pub merge-first : (h : List ℕ) (room : ℕ) → merging f h room ≡ merging g h room
   pub merge-second : (h : List ℕ) (room : ℕ) → merging h f room ≡ merging h g room
   pub merged-first : (h out : List ℕ) → mergedOver f h out ≡ mergedOver g h out
   pub merged-second : (h out : List ℕ) → mergedOver h f out ≡ mergedOver h g out
+
+-- and in all
+pub record Alike (f g : List ℕ) : Type 0 where
+  pub beside : AlikeBesideBytes f g
+  pub placed : (out : List ℕ) → placedOver f out ≡ placedOver g out
+  pub placed-at : (t : List ℕ) (m : ℕ) (out : List ℕ) → placedOverAt f t m out ≡ placedOverAt g t m out
+
+-- "Every other answer on the column file is the one on its row file; a file placed or handed back keeps the form it came in": c has the answers of f, and c placed is
+-- the columns of f placed, at a minute too
+pub record ColumnsOf (c f : List ℕ) : Type 0 where
+  pub answers : AlikeBesideBytes c f
+  pub placed : placedBytes c ≡ inColumns (placedBytes f)
+  pub over : (out : List ℕ) → placedOver c out ≡ cond (eqb (placing f (length out) .number) 0) (sets out 0 (inColumns (placedBytes f))) out
+  pub placed-at : (t : List ℕ) (m : ℕ) → placedBytesAt c t m ≡ inColumns (placedBytesAt f t m)
+  pub over-at : (t : List ℕ) (m : ℕ) (out : List ℕ) → placedOverAt c t m out ≡ cond (eqb (placingAt f t m (length out) .number) 0) (sets out 0 (inColumns (placedBytesAt f t m))) out

@@ -7,13 +7,13 @@ mod walk;
 use choosing::choose_by;
 use dispatching::Round;
 use format::Verdict;
+use format::Written;
 use lending::admit;
 use lending::head_of;
 use lending::is_refused;
 use lending::starting::begin;
 use lending::starting::sessions_of;
 use lending::verdict_of;
-use merging::Written;
 use placing::Placed;
 use reasons::Reason;
 use running::Ready;
@@ -38,6 +38,7 @@ ghost use Rattle.reasons.specs.Reasons.{reasonOf, understood, reasonLength, rea
 ghost use Rattle.lending.specs.Lent.{choosing, recordsOver, besideOver};
 ghost use Rattle.lending.specs.Starting.{starting, recordsStarted, besideStarted};
 ghost use Rattle.merging.specs.Merging.{merging, mergedOver};
+ghost use Rattle.turning.specs.Turning.{turning, turnedOver};
 
 // Reads a clinic file, of any bytes and any length: the first of the refusals 1 to 10, or 0 and 0 where there is none.
 #[no_mangle]
@@ -113,6 +114,23 @@ pub extern "C" fn pilzdamo_merge(first: &[u8], second: &[u8], out: &mut [u8]) ->
         × (now (out .exit) ≡ mergedOver (now (first .entry)) (now (second .entry)) (now (out .entry))) ⌝ }
 {
     merging::merge(first, second, out)
+}
+
+// Turns a version 2 file to columns: the first of 17 and 1 to 5, where another version is 2; or the version 3 file at the start of the output, and its length in
+// bytes. Every other byte of the output stays.
+#[no_mangle]
+pub extern "C" fn pilzdamo_to_columns(file: &[u8], out: &mut [u8]) -> Written
+    ensures { λ r. ⌜ (r ≡ turning 2 (now (file .entry)) (length (now (out .entry)))) × (now (out .exit) ≡ turnedOver 2 3 (now (file .entry)) (now (out .entry))) ⌝ }
+{
+    turning::to_columns(file, out)
+}
+
+// Turns a version 3 file to rows, in the same way: the version 2 file.
+#[no_mangle]
+pub extern "C" fn pilzdamo_to_rows(file: &[u8], out: &mut [u8]) -> Written
+    ensures { λ r. ⌜ (r ≡ turning 3 (now (file .entry)) (length (now (out .entry)))) × (now (out .exit) ≡ turnedOver 3 2 (now (file .entry)) (now (out .entry))) ⌝ }
+{
+    turning::to_rows(file, out)
 }
 
 // Runs a clinic file through a list of choices, two words each: thread, partner. The first of 17 and 1 to 10; or the refusal that halted the run, with

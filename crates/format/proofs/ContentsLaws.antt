@@ -9,7 +9,7 @@ use lib.Dec.{leb, ltb}
 use lib.ListN.{length, getD, take, drop, set, drop-of-length-le, List·getD-eq-default}
 use lib.Seq.{drop-cons, drop-at, set-split, length-take-le}
 use borrow.Author.Tests.{lt-ltb, lt-leb, ltb-true, ltb-false, leb-false}
-use Rattle.format.specs.Sections.{placeOf, userRoles, roleOf, juniorsOf, carried, channelOf, sessionOf, nodeAt}
+use Rattle.format.specs.Sections.{userRoles, roleOf, juniorsOf, carried, channelOf, sessionOf, nodeOf}
 use Rattle.format.specs.Contents.{Contents, tabled, inCount, item, noNode, contentsAt}
 use Rattle.format.specs.declared.Head.{Head}
 use Rattle.format.specs.declared.Node.{Node}
@@ -140,7 +140,7 @@ module _ (f : List ℕ) (h : Head) where
 
   pub nodes-held : length (contentsAt f h .nodes) ≡ h .count .nodes
   unfolding contentsAt
-  nodes-held = tabled-length _ 1 (h .count .nodes)
+  nodes-held = tabled-length (nodeOf f h) 1 (h .count .nodes)
 
   -- a node in count, by the head and by what is held
   pub nodes-counted : (n : ℕ) → inCount (h .count .nodes) n ≡ inCount (length (contentsAt f h .nodes)) n

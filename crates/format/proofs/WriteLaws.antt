@@ -5,14 +5,13 @@ use mathlib.Core.Bool.{Bool, true, false, cond}
 use mathlib.Core.List.{List, [], _∷_, _++_}
 use native.Mathlib.Omega.{arith}
 use native.Mathlib.Numerals.{add-one}
-use lib.Dec.{eqb}
 use lib.ListN.{length, getD, take, drop, set, length-append}
 use lib.Seq.{sets, drop-cons}
 use Rattle.format.specs.Words.{wordAt, wideAt, bytesOf}
-use Rattle.format.specs.Header.{Laid, more, juniorRecords, sixWords, offsetWords, headWords}
-use Rattle.format.specs.Sections.{wordsFrom, placeOf, juniorsOf}
+use Rattle.format.specs.Header.{Laid, hasJuniors, more, juniorRecords, sixWords, offsetWords, headWords}
+use Rattle.format.specs.Sections.{wordsFrom, placeOf, juniorsOf, sessionOf}
 use Rattle.format.specs.Contents.{Contents, tabled, contentsAt}
-use Rattle.format.specs.Writing.{juniorWords, roleWords, channelWords, sessionWords, nodeWords, tableWords}
+use Rattle.format.specs.Writing.{juniorWords, roleWords, channelWords, sessionWords, nodeRows, tableWords}
 use Rattle.format.specs.declared.Head.{Head}
 use Rattle.format.specs.declared.Seven.{Seven}
 use Rattle.format.specs.declared.Section.the-variants.{Juniors}
@@ -43,7 +42,7 @@ head-put l l1 l2 l3 l4 h e1 e2 e3 e4 = rw (e4, e3, e2, e1)
 
 -- the words of a head, with a seventh offset or without
 pub head-length : (h : Head) → length (headWords h) ≡ 13 + more (h .version)
-head-length h = go (eqb (h .version) 2)
+head-length h = go (hasJuniors (h .version))
   where
     at : Seven
     at = h .at
@@ -65,7 +64,7 @@ bytes-more l m f whole i end h k e inv =
     let c : end - i ≡ suc (end - (i + 1)) = omega arith in
     rw (e, add-one i) (rw (drop-cons f i 0 k, c, add-one i) at inv)
 
-bytes-words : (f : List ℕ) (p k : ℕ) → Bytes f → 2 * (p + k) ≤ length f → take (2 * k) (drop (2 * p) f) ≡ bytesOf (wordsFrom f p k)
+pub bytes-words : (f : List ℕ) (p k : ℕ) → Bytes f → 2 * (p + k) ≤ length f → take (2 * k) (drop (2 * p) f) ≡ bytesOf (wordsFrom f p k)
 unfolding bytesOf wordsFrom
 bytes-words f p zero b h = refl
 bytes-words f p (suc k) b h =
@@ -122,7 +121,7 @@ module _ (f : List ℕ) (p : ℕ) where
       high : (q : ℕ) → wideAt f q / 65536 ≡ wordAt f (suc q)
       high q = let next : q + 1 ≡ suc q = omega arith in rw (← next) (omega (arith, b (2 * q), b (2 * q + 1)))
 
-words-joined : (f : List ℕ) (p a b : ℕ) → wordsFrom f p (a + b) ≡ wordsFrom f p a ++ wordsFrom f (p + a) b
+pub words-joined : (f : List ℕ) (p a b : ℕ) → wordsFrom f p (a + b) ≡ wordsFrom f p a ++ wordsFrom f (p + a) b
 unfolding wordsFrom
 words-joined f p zero b =
     let z : 0 + b ≡ b = omega arith in
@@ -137,7 +136,7 @@ words-joined f p (suc a) b =
 juniors-words : (f : List ℕ) (h : Head) (q : ℕ) → q ≡ h .at .juniors
     → wordsFrom f q (juniorRecords (h .version) (h .count .roles)) ≡ juniorWords (h .version) (tabled (juniorsOf f h) 1 (h .count .roles))
 unfolding wordsFrom
-juniors-words f h q e = go (eqb (h .version) 2)
+juniors-words f h q e = go (hasJuniors (h .version))
   where
     go : (b : Bool) → wordsFrom f q (cond b (h .count .roles) 0) ≡ cond b (tabled (λ n. cond b (wordAt f (placeOf h Juniors n)) 0) 1 (h .count .roles)) []
     go true = single-words f (h .at .juniors) q 0 (h .count .roles) (omega arith)
@@ -160,13 +159,27 @@ tables-words f h l b =
     ∙ ap₂ _++_ (juniors-words f h (p + u + r) (omega arith)) (words-joined f (p + u + r + j) k c
     ∙ ap₂ _++_ (single-words f (h .at .kinds) (p + u + r + j) 0 k (omega arith)) (channel-words f (h .at .channels) (p + u + r + j + k) 0 (h .count .channels) (omega arith)))))
 
+-- the sessions
+sessions-from : (f : List ℕ) (h : Head) (q i k : ℕ) → q ≡ h .at .sessions + 3 * i → wordsFrom f q (3 * k) ≡ sessionWords (tabled (sessionOf f h) (suc i) k)
+unfolding wordsFrom tabled sessionWords
+sessions-from f h q i zero e = refl
+sessions-from f h q i (suc k) e =
+    let three : 3 * suc k ≡ suc (suc (suc (3 * k))) = omega arith in
+    let here : h .at .sessions + 3 * (suc i - 1) ≡ q = omega (arith, e) in
+    let third : q + 2 ≡ suc (suc q) = omega arith in
+    rw (three, here, third, add-one q, sessions-from f h (suc (suc (suc q))) (suc i) k (omega (arith, e)))
+
+pub sessions-words : (f : List ℕ) (h : Head) → wordsFrom f (h .at .sessions) (3 * h .count .sessions) ≡ sessionWords (contentsAt f h .sessions)
+unfolding contentsAt
+sessions-words f h = sessions-from f h (h .at .sessions) 0 (h .count .sessions) (omega arith)
+
 -- how many words there are
-role-words-length : (rs : List Role) → length (roleWords rs) ≡ 4 * length rs
+pub role-words-length : (rs : List Role) → length (roleWords rs) ≡ 4 * length rs
 unfolding roleWords
 role-words-length [] = refl
 role-words-length (r ∷ rs) = omega (arith, role-words-length rs)
 
-channel-words-length : (cs : List Channel) → length (channelWords cs) ≡ 2 * length cs
+pub channel-words-length : (cs : List Channel) → length (channelWords cs) ≡ 2 * length cs
 unfolding channelWords
 channel-words-length [] = refl
 channel-words-length (c ∷ cs) = omega (arith, channel-words-length cs)
@@ -176,13 +189,8 @@ unfolding sessionWords
 session-words-length [] = refl
 session-words-length (s ∷ ss) = omega (arith, session-words-length ss)
 
-pub node-words-length : (ns : List Node) → length (nodeWords ns) ≡ 3 * length ns
-unfolding nodeWords
-node-words-length [] = refl
-node-words-length (n ∷ ns) = omega (arith, node-words-length ns)
-
 pub junior-words-length : (v : ℕ) (js : List ℕ) → length (juniorWords v js) ≡ juniorRecords v (length js)
-junior-words-length v js = go (eqb v 2)
+junior-words-length v js = go (hasJuniors v)
   where
     go : (b : Bool) → length (cond b js []) ≡ cond b (length js) 0
     go true = refl
@@ -194,7 +202,7 @@ unfolding tableWords
 table-words-length v C =
     simp length-append (omega (arith, role-words-length (C .roles), channel-words-length (C .channels), junior-words-length v (C .juniors)))
 
-pub node-words-append : (ms ns : List Node) → nodeWords (ms ++ ns) ≡ nodeWords ms ++ nodeWords ns
-unfolding nodeWords
-node-words-append [] ns = refl
-node-words-append (m ∷ ms) ns = rw (node-words-append ms ns)
+pub node-rows-append : (ms ns : List Node) → nodeRows (ms ++ ns) ≡ nodeRows ms ++ nodeRows ns
+unfolding nodeRows
+node-rows-append [] ns = refl
+node-rows-append (m ∷ ms) ns = rw (node-rows-append ms ns)

@@ -5,9 +5,8 @@ use mathlib.Core.List.{List, [], _∷_}
 use lib.Dec.{leb, ltb}
 use lib.ListN.{getD}
 use Rattle.format.specs.Header.{headAt}
-use Rattle.format.specs.Sections.{placeOf, userRoles, roleOf, juniorsOf, carried, channelOf, sessionOf, nodeAt}
+use Rattle.format.specs.Sections.{userRoles, roleOf, juniorsOf, carried, channelOf, sessionOf, nodeOf}
 use Rattle.format.specs.declared.Head.{Head}
-use Rattle.format.specs.declared.Section.the-variants.{Nodes}
 use Rattle.format.specs.declared.Role.{Role}
 use Rattle.format.specs.declared.Channel.{Channel}
 use Rattle.format.specs.declared.Session.{Session}
@@ -58,7 +57,7 @@ contentsAt f h = record {
   kinds = tabled (carried f h) 1 (h .count .kinds);
   channels = tabled (channelOf f h) 1 (h .count .channels);
   sessions = tabled (sessionOf f h) 1 (h .count .sessions);
-  nodes = tabled (λ n. nodeAt f (placeOf h Nodes n)) 1 (h .count .nodes);
+  nodes = tabled (nodeOf f h) 1 (h .count .nodes);
 }
 
 -- by the file's own head

@@ -4,6 +4,8 @@ use super::Node;
 use super::Section;
 use super::Session;
 use super::Seven;
+use super::header::has_juniors;
+use super::sections::node_spot;
 use super::sections::place_of;
 use super::words::put_word;
 use super::words::wide;
@@ -13,13 +15,13 @@ ghost use Prim.Native.Nat.{_+_, _*_, _-_, _≤_, _<_};
 ghost use lib.ListN.{length};
 ghost use lib.Seq.{sets};
 ghost use Rattle.format.specs.Words.{bytesOf};
-ghost use Rattle.format.specs.Header.{Laid, offsetWords, headWords};
+ghost use Rattle.format.specs.Header.{Laid, lengthFor, offsetWords, headWords};
 ghost use Rattle.format.specs.Sections.{placeOf, wordsFrom};
 ghost use Rattle.format.specs.Contents.{contentsAt};
-ghost use Rattle.format.specs.Writing.{tableWords, sessionWords, nodeWords};
-ghost use Rattle.format.specs.declared.Section.the-variants.{Sessions, Nodes};
+ghost use Rattle.format.specs.Writing.{tableWords, sessionWords, nodePut};
+ghost use Rattle.format.specs.declared.Section.the-variants.{Sessions};
 
-// Three words: a node's, a session's, or half of what the head has for the sections.
+// Three words: a session's, or half of what the head has for the sections.
 fn put_three(out: &mut [u8], at: usize, first: u16, second: u16, third: u16)
     requires { ⌜ 2 * at + 6 ≤ length (now out) ⌝ }
     ensures { λ r. ⌜ now (out .exit) ≡ sets (now (out .entry)) (2 * at) (bytesOf (first ∷ second ∷ third ∷ [])) ⌝ }
@@ -33,7 +35,7 @@ fn put_offsets(out: &mut [u8], version: u16, at: Seven)
     requires { ⌜ 28 ≤ length (now out) ⌝ }
     ensures { λ r. ⌜ now (out .exit) ≡ sets (now (out .entry)) 14 (bytesOf (offsetWords version at)) ⌝ }
 {
-    if version == 2 {
+    if has_juniors(version) {
         put_three(out, 7, at.users, at.roles, at.juniors);
         put_three(out, 10, at.kinds, at.channels, at.sessions);
         put_word(out, 13, at.nodes);
@@ -76,6 +78,14 @@ pub fn put_tables(file: &[u8], head: Head, out: &mut [u8])
     put_words(file, wide(head.at.users), wide(head.at.sessions), out);
 }
 
+// The sessions of a file.
+pub fn put_sessions(file: &[u8], head: Head, out: &mut [u8])
+    requires { ⌜ Laid (now file) head × (2 * head .at .nodes ≤ length (now out)) ⌝ }
+    ensures { λ r. ⌜ now (out .exit) ≡ sets (now (out .entry)) (2 * head .at .sessions) (bytesOf (sessionWords (contentsAt (now (file .entry)) head .sessions))) ⌝ }
+{
+    put_words(file, wide(head.at.sessions), wide(head.at.nodes), out);
+}
+
 pub fn put_session(out: &mut [u8], head: Head, n: u16, it: Session)
     requires { ⌜ (0 < n) × (2 * placeOf head Sessions n + 6 ≤ length (now out)) ⌝ }
     ensures { λ r. ⌜ now (out .exit) ≡ sets (now (out .entry)) (2 * placeOf head Sessions n) (bytesOf (sessionWords (it ∷ []))) ⌝ }
@@ -89,9 +99,12 @@ pub fn put_session(out: &mut [u8], head: Head, n: u16, it: Session)
     );
 }
 
+// A node of a file with this head, by row or by column.
 pub fn put_node(out: &mut [u8], head: Head, n: u16, it: Node)
-    requires { ⌜ (0 < n) × (2 * placeOf head Nodes n + 6 ≤ length (now out)) ⌝ }
-    ensures { λ r. ⌜ now (out .exit) ≡ sets (now (out .entry)) (2 * placeOf head Nodes n) (bytesOf (nodeWords (it ∷ []))) ⌝ }
+    requires { ⌜ (0 < n) × (n ≤ head .count .nodes) × (lengthFor (head .at .nodes) (head .count .nodes) ≤ length (now out)) ⌝ }
+    ensures { λ r. ⌜ now (out .exit) ≡ nodePut head n it (now (out .entry)) ⌝ }
 {
-    put_three(out, place_of(head, Section::Nodes, n), it.tag, it.f1, it.f2);
+    put_word(out, node_spot(head, n, 0), it.tag);
+    put_word(out, node_spot(head, n, 1), it.f1);
+    put_word(out, node_spot(head, n, 2), it.f2);
 }

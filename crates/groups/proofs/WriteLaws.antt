@@ -8,18 +8,19 @@ use native.Mathlib.Omega.{arith}
 use native.Mathlib.Numerals.{add-one}
 use lib.Dec.{eqb, eqb·suc-zero}
 use lib.ListN.{length, getD, take, drop, set, length-append, length-drop, length-map}
-use lib.Seq.{sets, drop-cons, length-take-le}
+use lib.Seq.{sets, length-sets, drop-cons, length-take-le}
 use Rattle.format.specs.Words.{bytesOf}
-use Rattle.format.specs.Header.{juniorRecords, Laid, headWords}
+use Rattle.format.specs.Header.{juniorRecords, lengthFor, Laid, headWords}
 use Rattle.format.specs.Contents.{Contents, item, noSession, noNode, contentsAt}
-use Rattle.format.specs.Writing.{headFor, sessionWords, nodeWords, tableWords, fileWords, encoded}
+use Rattle.format.specs.Writing.{headFor, sessionWords, nodeWords, tableWords, fileWords, encoded, nodePut, nodesPut}
 use Rattle.format.specs.declared.Six.{Six}
 use Rattle.format.specs.declared.Head.{Head}
 use Rattle.format.specs.declared.Session.{Session}
 use Rattle.format.specs.declared.Node.{Node}
 use Rattle.format.proofs.ContentsLaws.{next-item, none-past, users-held, roles-held, juniors-held, kinds-held, channels-held, sessions-held, nodes-held}
 use Rattle.format.proofs.PutRuns.{puts-then, puts-turn}
-use Rattle.format.proofs.WriteLaws.{head-length, session-words-length, node-words-length, table-words-length, node-words-append}
+use Rattle.format.proofs.WriteLaws.{head-length, session-words-length, table-words-length}
+use Rattle.format.proofs.NodesPut.{nodes-append, no-nodes, one-node, section-put}
 use Rattle.states.specs.declared.Turn.{Turn}
 use Rattle.states.specs.States.{unpacked}
 use Rattle.groups.specs.Groups.{switchTo, offs, ons, before, sizeOf, sizesOf, onOf, onsOf, startsFrom, moved, groupsFrom, rerooted, sessionsFrom, withNodes, placedContents, turnsIn}
@@ -105,22 +106,17 @@ unfolding turnsAfter
 turns-none table i n h = let z : n - i ≡ 0 = omega arith in rw z
 
 -- nodes after nodes, by their numbers
-nodes-then : (base : ℕ) (l m q : List ℕ) (i j : ℕ) (ms ns : List Node) → 1 ≤ i → j ≡ i + length ms
-    → m ≡ sets l (2 * (base + 3 * (i - 1))) (bytesOf (nodeWords ms)) → q ≡ sets m (2 * (base + 3 * (j - 1))) (bytesOf (nodeWords ns))
-    → q ≡ sets l (2 * (base + 3 * (i - 1))) (bytesOf (nodeWords (ms ++ ns)))
-nodes-then base l m q i j ms ns one k em eq =
-    puts-then l m q (base + 3 * (i - 1)) (base + 3 * (j - 1)) (nodeWords ms) (nodeWords ns) em (omega (arith, one, k, node-words-length ms)) eq
-    ∙ ap (λ (ws : List ℕ). sets l (2 * (base + 3 * (i - 1))) (bytesOf ws)) (sym (node-words-append ms ns))
+nodes-then : (h : Head) (l m q : List ℕ) (i j : ℕ) (ms ns : List Node) → j ≡ i + length ms → m ≡ nodesPut h i ms l → q ≡ nodesPut h j ns m → q ≡ nodesPut h i (ms ++ ns) l
+nodes-then h l m q i j ms ns k em eq = eq ∙ (λ x. nodesPut h (k x) ns (em x)) ∙ sym (nodes-append h i ms ns l)
 
 -- a group: two switches, then the node
-pub group-put : (base : ℕ) (l m q out : List ℕ) (at after next : ℕ) (t : Turn) (n : Node) → 1 ≤ at
-    → after ≡ at + length (off t) → m ≡ sets l (2 * (base + 3 * (at - 1))) (bytesOf (nodeWords (off t)))
-    → next ≡ after + length (on t) → q ≡ sets m (2 * (base + 3 * (after - 1))) (bytesOf (nodeWords (on t)))
-    → out ≡ sets q (2 * (base + 3 * (next - 1))) (bytesOf (nodeWords (n ∷ []))) → out ≡ sets l (2 * (base + 3 * (at - 1))) (bytesOf (nodeWords (before t ++ n ∷ [])))
-group-put base l m q out at after next t n one ea em en eq eo =
-    let both = nodes-then base l m q at after (off t) (on t) one ea em eq in
-    nodes-then base l q out at next (off t ++ on t) (n ∷ []) one (omega (arith, ea, en, length-append (off t) (on t))) both eo
-    ∙ ap (λ (ns : List Node). sets l (2 * (base + 3 * (at - 1))) (bytesOf (nodeWords (ns ++ n ∷ [])))) (sym (before-switches t))
+pub group-put : (h : Head) (l m q out : List ℕ) (at after next : ℕ) (t : Turn) (n : Node)
+    → after ≡ at + length (off t) → m ≡ nodesPut h at (off t) l → next ≡ after + length (on t) → q ≡ nodesPut h after (on t) m
+    → out ≡ nodePut h next n q → out ≡ nodesPut h at (before t ++ n ∷ []) l
+group-put h l m q out at after next t n ea em en eq eo =
+    let both = nodes-then h l m q at after (off t) (on t) ea em eq in
+    nodes-then h l q out at next (off t ++ on t) (n ∷ []) (omega (arith, ea, en, length-append (off t) (on t))) both (eo ∙ sym (one-node h next n q))
+    ∙ ap (λ (ns : List Node). nodesPut h at (ns ++ n ∷ []) l) (sym (before-switches t))
 
 -- the groups after i
 abbrev pub groupsAfter : List Node → ℕ → List ℕ → List ℕ → ℕ → List Node
@@ -138,9 +134,11 @@ groups-more ns n turns starts i h e k =
     ap₂ (groupsFrom starts) (next-item noNode ns i (omega arith)) (turns-more turns i n h k)
     ∙ sym (append-assoc (before t) (m ∷ []) (groupsAfter ns n turns starts (i + 1)))
 
-pub groups-none : (ns : List Node) (n : ℕ) (turns starts : List ℕ) (i : ℕ) → length ns ≤ i → nodeWords (groupsAfter ns n turns starts i) ≡ []
-unfolding groupsFrom nodeWords
-groups-none ns n turns starts i h = ap (λ (xs : List Node). nodeWords (groupsFrom starts xs (turnsAfter turns i n))) (none-past ns i h)
+-- none is left
+pub groups-end : (h : Head) (ns : List Node) (n : ℕ) (turns starts l whole : List ℕ) (i at : ℕ) → length ns ≤ i → nodesPut h at (groupsAfter ns n turns starts i) l ≡ whole → l ≡ whole
+unfolding groupsFrom
+groups-end h ns n turns starts l whole i at past inv =
+    sym (no-nodes h at l) ∙ ap (λ (xs : List Node). nodesPut h at (groupsFrom starts xs (turnsAfter turns i n)) l) (sym (none-past ns i past)) ∙ inv
 
 pub sizes-more : (turns : List ℕ) (i n : ℕ) → i < n → n < length turns
     → sizesOf (turnsAfter turns i n) ≡ sizeOf (unpacked (getD turns (i + 1) 0)) + sizesOf (turnsAfter turns (i + 1) n)
@@ -153,18 +151,19 @@ unfolding onsOf
 ons-more turns i n h k = rw (turns-more turns i n h k)
 
 -- a turn of each loop
-pub groups-turn : (ns : List Node) (turns starts l m whole : List ℕ) (base n i at next : ℕ) → i < n → n ≡ length ns → n < length turns → 1 ≤ at
+pub groups-turn : (h : Head) (ns : List Node) (turns starts l m whole : List ℕ) (n i at next : ℕ) → i < n → n ≡ length ns → n < length turns
     → next ≡ at + sizeOf (unpacked (getD turns (i + 1) 0))
-    → m ≡ sets l (2 * (base + 3 * (at - 1))) (bytesOf (nodeWords (before (unpacked (getD turns (i + 1) 0)) ++ moved starts (item noNode ns (i + 1)) ∷ [])))
-    → sets l (2 * (base + 3 * (at - 1))) (bytesOf (nodeWords (groupsAfter ns n turns starts i))) ≡ whole
-    → sets m (2 * (base + 3 * (next - 1))) (bytesOf (nodeWords (groupsAfter ns n turns starts (i + 1)))) ≡ whole
-groups-turn ns turns starts l m whole base n i at next h e k one step em inv =
+    → m ≡ nodesPut h at (before (unpacked (getD turns (i + 1) 0)) ++ moved starts (item noNode ns (i + 1)) ∷ []) l
+    → nodesPut h at (groupsAfter ns n turns starts i) l ≡ whole
+    → nodesPut h next (groupsAfter ns n turns starts (i + 1)) m ≡ whole
+groups-turn h ns turns starts l m whole n i at next less e k step em inv =
     let t : Turn = unpacked (getD turns (i + 1) 0) in
     let group : List Node = before t ++ moved starts (item noNode ns (i + 1)) ∷ [] in
     let size : length group ≡ length (before t) + 1 = length-append (before t) (moved starts (item noNode ns (i + 1)) ∷ []) in
-    puts-turn l m whole (base + 3 * (at - 1)) (base + 3 * (next - 1)) (nodeWords group) (nodeWords (groupsAfter ns n turns starts (i + 1))) (nodeWords (groupsAfter ns n turns starts i)) em
-    (omega (arith, one, step, size, node-words-length group))
-    (ap nodeWords (groups-more ns n turns starts i h e k) ∙ node-words-append group (groupsAfter ns n turns starts (i + 1))) inv
+    let place : next ≡ at + length group = omega (arith, step, size) in
+    (λ x. nodesPut h (place x) (groupsAfter ns n turns starts (i + 1)) (em x))
+    ∙ sym (nodes-append h at group (groupsAfter ns n turns starts (i + 1)) l)
+    ∙ ap (λ (xs : List Node). nodesPut h at xs l) (sym (groups-more ns n turns starts i less e k)) ∙ inv
 
 pub sessions-turn : (ss : List Session) (starts l m whole : List ℕ) (base i : ℕ) → i < length ss
     → m ≡ sets l (2 * (base + 3 * (i + 1 - 1))) (bytesOf (sessionWords (rerooted starts (item noSession ss (i + 1)) ∷ [])))
@@ -238,15 +237,20 @@ head-placed f h ts starts l e =
 pub file-put : (f : List ℕ) (h : Head) (ts : List Turn) (starts l l1 l2 l3 l4 : List ℕ) → Laid f h → length ts ≡ h .count .nodes
     → l1 ≡ sets l 0 (bytesOf (headWords (withNodes h (sizesOf ts)))) → l2 ≡ sets l1 (2 * h .at .users) (bytesOf (tableWords (h .version) (contentsAt f h)))
     → l3 ≡ sets l2 (2 * h .at .sessions) (bytesOf (sessionWords (sessionsFrom starts (contentsAt f h .sessions))))
-    → l4 ≡ sets l3 (2 * h .at .nodes) (bytesOf (nodeWords (groupsFrom starts (contentsAt f h .nodes) ts)))
-    → l4 ≡ sets l 0 (encoded (h .version) (placedContents (contentsAt f h) ts starts))
+    → l4 ≡ nodesPut (withNodes h (sizesOf ts)) 1 (groupsFrom starts (contentsAt f h .nodes) ts) l3
+    → lengthFor (h .at .nodes) (sizesOf ts) ≤ length l → l4 ≡ sets l 0 (encoded (h .version) (placedContents (contentsAt f h) ts starts))
 unfolding encoded fileWords tableWords
-file-put f h ts starts l l1 l2 l3 l4 d e e1 e2 e3 e4 =
+file-put f h ts starts l l1 l2 l3 l4 d e e1 e2 e3 e4 room =
     let C : Contents = contentsAt f h in
     let head : List ℕ = headWords (withNodes h (sizesOf ts)) in
     let tables : List ℕ = tableWords (h .version) C in
     let sessions : List ℕ = sessionWords (sessionsFrom starts (C .sessions)) in
-    let nodes : List ℕ = nodeWords (groupsFrom starts (C .nodes) ts) in
+    let ns : List Node = groupsFrom starts (C .nodes) ts in
+    let nodes : List ℕ = nodeWords (h .version) ns in
+    let long : length l3 ≡ length l =
+    ap length e3 ∙ length-sets l2 (2 * h .at .sessions) (bytesOf sessions) ∙ ap length e2 ∙ length-sets l1 (2 * h .at .users) (bytesOf tables) ∙ ap length e1 ∙ length-sets l 0 (bytesOf head) in
+    let put : l4 ≡ sets l3 (2 * h .at .nodes) (bytesOf nodes) =
+    e4 ∙ section-put (withNodes h (sizesOf ts)) ns l3 (groups-length starts (C .nodes) ts (nodes-held f h ∙ sym e)) (omega (arith, room, long)) in
     let size1 : length head ≡ h .at .users = head-length (withNodes h (sizesOf ts)) ∙ sym (d .users-at) in
     let masks : juniorRecords (h .version) (length (C .juniors)) ≡ juniorRecords (h .version) (h .count .roles) = ap (juniorRecords (h .version)) (juniors-held f h) in
     let size2 : h .at .users + length tables ≡ h .at .sessions =
@@ -258,6 +262,6 @@ file-put f h ts starts l l1 l2 l3 l4 d e e1 e2 e3 e4 =
     let q3 : l3 ≡ sets l 0 (bytesOf ((head ++ tables) ++ sessions)) =
     puts-then l l2 l3 0 (h .at .sessions) (head ++ tables) sessions q2 (omega (arith, two, size1, size2)) e3 in
     let three : length ((head ++ tables) ++ sessions) ≡ length (head ++ tables) + length sessions = length-append (head ++ tables) sessions in
-    puts-then l l3 l4 0 (h .at .nodes) ((head ++ tables) ++ sessions) nodes q3 (omega (arith, d, two, three, size1, size2, size3)) e4
+    puts-then l l3 l4 0 (h .at .nodes) ((head ++ tables) ++ sessions) nodes q3 (omega (arith, d, two, three, size1, size2, size3)) put
     ∙ ap (λ (ws : List ℕ). sets l 0 (bytesOf ws)) (append-assoc (head ++ tables) sessions nodes ∙ append-assoc head tables (sessions ++ nodes))
     ∙ ap (λ (x : Head). sets l 0 (bytesOf (headWords x ++ (tables ++ (sessions ++ nodes))))) (head-placed f h ts starts d e)

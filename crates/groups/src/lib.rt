@@ -19,10 +19,8 @@ ghost use lib.ListN.{length, getD};
 ghost use lib.Seq.{sets};
 ghost use Rattle.format.specs.Words.{bytesOf};
 ghost use Rattle.format.specs.Header.{Laid, lengthFor};
-ghost use Rattle.format.specs.Sections.{placeOf};
 ghost use Rattle.format.specs.Contents.{contentsAt};
-ghost use Rattle.format.specs.Writing.{sessionWords, nodeWords, encoded};
-ghost use Rattle.format.specs.declared.Section.the-variants.{Nodes};
+ghost use Rattle.format.specs.Writing.{sessionWords, nodesPut, encoded};
 ghost use Rattle.states.specs.States.{unpacked};
 ghost use Rattle.groups.specs.Groups.{before, sizeOf, sizesOf, onsOf, startsFrom, moved, groupsFrom, sessionsFrom, withNodes, placedContents, turnsIn};
 ghost use Rattle.groups.specs.Switches.{switches};
@@ -83,9 +81,9 @@ fn put_switch(
     to: u16,
     role: UserRole,
 ) -> u16
-    requires { ⌜ (0 < at) × (at + length (switches tag from to (role .0)) ≤ 1025) × (2 * placeOf head Nodes (at + length (switches tag from to (role .0))) ≤ length (now out)) ⌝ }
+    requires { ⌜ (0 < at) × (at + length (switches tag from to (role .0)) ≤ 1 + head .count .nodes) × (head .count .nodes ≤ 1024) × (lengthFor (head .at .nodes) (head .count .nodes) ≤ length (now out)) ⌝ }
     ensures { λ r. ⌜ (r ≡ at + length (switches tag from to (role .0)))
-        × (now (out .exit) ≡ sets (now (out .entry)) (2 * placeOf head Nodes at) (bytesOf (nodeWords (switches tag from to (role .0))))) ⌝ }
+        × (now (out .exit) ≡ nodesPut head at (switches tag from to (role .0)) (now (out .entry))) ⌝ }
 {
     if from == to {
         return at;
@@ -108,9 +106,9 @@ fn put_switch(
 
 // The group of a node, from a number on; the number after it.
 fn put_group(out: &mut [u8], head: Head, at: u16, turn: u16, it: Node, starts: &[u16]) -> u16
-    requires { ⌜ (0 < at) × (at + sizeOf (unpacked turn) ≤ 1025) × (2 * placeOf head Nodes (at + sizeOf (unpacked turn)) ≤ length (now out)) ⌝ }
+    requires { ⌜ (0 < at) × (at + sizeOf (unpacked turn) ≤ 1 + head .count .nodes) × (head .count .nodes ≤ 1024) × (lengthFor (head .at .nodes) (head .count .nodes) ≤ length (now out)) ⌝ }
     ensures { λ r. ⌜ (r ≡ at + sizeOf (unpacked turn))
-        × (now (out .exit) ≡ sets (now (out .entry)) (2 * placeOf head Nodes at) (bytesOf (nodeWords (before (unpacked turn) ++ moved (now (starts .entry)) it ∷ [])))) ⌝ }
+        × (now (out .exit) ≡ nodesPut head at (before (unpacked turn) ++ moved (now (starts .entry)) it ∷ []) (now (out .entry))) ⌝ }
 {
     let from = turn % 256;
     let to = turn / 256;
@@ -130,19 +128,18 @@ fn put_group(out: &mut [u8], head: Head, at: u16, turn: u16, it: Node, starts: &
     on + 1
 }
 
-// The groups of all the nodes.
-fn put_groups(file: &[u8], head: Head, turns: &[u16], starts: &[u16], out: &mut [u8])
-    requires { ⌜ Laid (now file) head × (length (now turns) ≡ 1025) × (sizesOf (turnsIn (now turns) (head .count .nodes)) ≤ 1024)
-        × (2 * placeOf head Nodes (1 + sizesOf (turnsIn (now turns) (head .count .nodes))) ≤ length (now out)) ⌝ }
-    ensures { λ r. ⌜ now (out .exit) ≡ sets (now (out .entry)) (2 * head .at .nodes)
-        (bytesOf (nodeWords (groupsFrom (now (starts .entry)) (contentsAt (now (file .entry)) head .nodes) (turnsIn (now (turns .entry)) (head .count .nodes))))) ⌝ }
+// The groups of all the nodes, in a file with another head: by column a node's words stand as far from each other as that file has nodes.
+fn put_groups(file: &[u8], head: Head, whole: Head, turns: &[u16], starts: &[u16], out: &mut [u8])
+    requires { ⌜ Laid (now file) head × (length (now turns) ≡ 1025) × (whole .count .nodes ≡ sizesOf (turnsIn (now turns) (head .count .nodes))) × (whole .count .nodes ≤ 1024)
+        × (lengthFor (whole .at .nodes) (whole .count .nodes) ≤ length (now out)) ⌝ }
+    ensures { λ r. ⌜ now (out .exit) ≡ nodesPut whole 1 (groupsFrom (now (starts .entry)) (contentsAt (now (file .entry)) head .nodes) (turnsIn (now (turns .entry)) (head .count .nodes))) (now (out .entry)) ⌝ }
 {
     let nodes = head.count.nodes;
     let mut at: u16 = 1;
     let mut n: u16 = 0;
     while n < nodes {
         n += 1;
-        at = put_group(out, head, at, turns[wide(n)], node(file, head, n), starts);
+        at = put_group(out, whole, at, turns[wide(n)], node(file, head, n), starts);
     }
 }
 
@@ -195,8 +192,9 @@ pub fn put_file(file: &[u8], head: Head, turns: &[u16], starts: &[u16], nodes: u
         × (nodes ≡ sizesOf (turnsIn (now turns) (head .count .nodes))) × (nodes ≤ 1024) × (lengthFor (head .at .nodes) nodes ≤ length (now out)) × (28 ≤ length (now out)) ⌝ }
     ensures { λ r. ⌜ now (out .exit) ≡ sets (now (out .entry)) 0 (encoded (head .version) (placedContents (contentsAt (now (file .entry)) head) (turnsIn (now (turns .entry)) (head .count .nodes)) (now (starts .entry)))) ⌝ }
 {
-    put_head(out, with_nodes(head, nodes));
+    let whole = with_nodes(head, nodes);
+    put_head(out, whole);
     put_tables(file, head, out);
     put_sessions(file, head, starts, out);
-    put_groups(file, head, turns, starts, out);
+    put_groups(file, head, whole, turns, starts, out);
 }

@@ -11,7 +11,7 @@ use lib.Seq.{sets-eq}
 use borrow.Author.Tests.{eq-eqb, ne-eqb, lt-ltb, ltb-true, ltb-false}
 use Rattle.format.specs.Contents.{Contents, contentsOf}
 use Rattle.format.specs.Answers.{fine, refused}
-use Rattle.format.specs.Header.{headAt, versionAt, Laid, largest, largestFirst, roomFor}
+use Rattle.format.specs.Header.{hasJuniors, headAt, versionAt, Laid, largest, largestFirst, roomFor}
 use Rattle.format.specs.declared.Verdict.{Verdict}
 use Rattle.format.proofs.HeadLaws.{Headed}
 use Rattle.checking.specs.Check.{readingNames}
@@ -63,7 +63,7 @@ low-stage : (n : ℕ) → OfFile n → o .stage n ≤ 36
 low-stage n h = omega (arith, stage-other placingOrder n (other-file n h), stage-low n h .1)
 
 -- how much output is wanted, by the version
-room-of : (h : List ℕ) → Headed h → roomFor h ≡ cond (eqb (versionAt h) 2) largest largestFirst
+room-of : (h : List ℕ) → Headed h → roomFor h ≡ cond (hasJuniors (versionAt h)) largest largestFirst
 room-of [] d = refl
 room-of (x ∷ xs) d = let l : Laid (x ∷ xs) (headAt (x ∷ xs)) = d .laid in rw (lt-ltb 1 (length (x ∷ xs)) (omega (arith, l)))
 
@@ -138,7 +138,7 @@ module _ (f : List ℕ) (bytes : All (λ b. b < 256) f) (t : List ℕ) (m room :
   some-file : UnrefusedAt f t m room → (F : File) × ReadsAs f F
   some-file u = let (F, W, e, N) = names-exact f bytes .0 (u .names) in (F, e)
 
-  -- 17: output under 6,874 bytes, or 6,908 where the first word is 2
+  -- 17: output under 6,874 bytes, or 6,908 where the first word is 2 or 3
   pub seventeen-at : (placingAt f t m room ≡ noPlace 17 0) ↔ (room < roomFor f)
   seventeen-at = (λ h. of (refused-for 17 0 (omega arith) h .0), λ l. too-small-at f t m room l)
     where
@@ -293,7 +293,7 @@ module _ (f : List ℕ) (bytes : All (λ b. b < 256) f) (t : List ℕ) (m room :
         let (F, e) = some-file u in
         let version : versionAt (g u F e) ≡ versionAt f = version-back (openFile t m F) ∙ sym (version-read F f e) in
         let there = names-headed (g u F e) (number-of (clear u F e .names)) in
-        let wanted = room-of (g u F e) there ∙ ap (λ (v : ℕ). cond (eqb v 2) largest largestFirst) version ∙ sym (room-of f (names-headed f (number-of (u .names)))) in
+        let wanted = room-of (g u F e) there ∙ ap (λ (v : ℕ). cond (hasJuniors v) largest largestFirst) version ∙ sym (room-of f (names-headed f (number-of (u .names)))) in
         omega (arith, well-at .sized, ap (λ (a : Placed). a .length) (same u F e), length-within (g u F e) (roomFor (g u F e)), wanted, u .wide)
 
 -- measuring wants no room

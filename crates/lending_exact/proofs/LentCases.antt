@@ -8,6 +8,7 @@ use Rattle.masks.specs.Mask.{has, with, namesOnly, within}
 use Rattle.format.specs.Words.{bytesOf}
 use Rattle.format.specs.Answers.{fine, refused, firstOf}
 use Rattle.format.specs.Header.{from1, from2, from3, from4, from5, headOf}
+use Rattle.format.specs.Sections.{spot}
 use Rattle.format.specs.Contents.{tabled, item, contentsAt}
 use Rattle.format.specs.declared.Verdict.{Verdict}
 use Rattle.tables.specs.Records.{recordFits, sectionAnswer, recordsAnswer}
@@ -117,5 +118,5 @@ lentCases =
     ∷ []
 
 pub lent-cases : All LentShown lentCases
-unfolding has with namesOnly within bytesOf firstOf from1 from2 from3 from4 from5 headOf tabled item contentsAt recordFits sectionAnswer recordsAnswer following nodeFits shapeFrom roots shapeAnswer reading together effective permits permittingTo named kindOf mine namesFit kindsFit able wrong childOf reached openingsFrom firstBy namesAnswer readingNames value firstFree kindHeld meeting sending lone aloneOnly acting done outcome choice madeIn madeWords isValue varsFit threadFits madeFits every mayBeLent lending choosing recordsOver besideOver same waiting waitingFrom scopeFrom bindScope scopeOf marked nodeScope scopesIn rightly
+unfolding has with namesOnly within bytesOf firstOf from1 from2 from3 from4 from5 headOf tabled item spot contentsAt recordFits sectionAnswer recordsAnswer following nodeFits shapeFrom roots shapeAnswer reading together effective permits permittingTo named kindOf mine namesFit kindsFit able wrong childOf reached openingsFrom firstBy namesAnswer readingNames value firstFree kindHeld meeting sending lone aloneOnly acting done outcome choice madeIn madeWords isValue varsFit threadFits madeFits every mayBeLent lending choosing recordsOver besideOver same waiting waitingFrom scopeFrom bindScope scopeOf marked nodeScope scopesIn rightly
 lent-cases = ((refl, refl, refl), ((refl, refl, refl), ((refl, refl, refl), ((refl, refl, refl), ((refl, refl, refl), ((refl, refl, refl), ((refl, refl, refl), ((refl, refl, refl), ((refl, refl, refl), ((refl, refl, refl), ((refl, refl, refl), ((refl, refl, refl), ((refl, refl, refl), ((refl, refl, refl), ((refl, refl, refl), ((refl, refl, refl), ((refl, refl, refl), ((refl, refl, refl), ((refl, refl, refl), ((refl, refl, refl), ((refl, refl, refl), ((refl, refl, refl), tt))))))))))))))))))))))

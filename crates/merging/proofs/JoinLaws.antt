@@ -11,7 +11,7 @@ use Rattle.format.specs.Words.{bytesOf}
 use Rattle.format.specs.Header.{Laid, headWords}
 use Rattle.format.specs.Sections.{wordsFrom}
 use Rattle.format.specs.Contents.{Contents, contentsAt}
-use Rattle.format.specs.Writing.{headFor, roleWords, channelWords, sessionWords, nodeWords, tableWords, fileWords, encoded}
+use Rattle.format.specs.Writing.{headFor, roleWords, channelWords, sessionWords, nodeRows, tableWords, fileWords, encoded}
 use Rattle.format.specs.declared.Six.{Six}
 use Rattle.format.specs.declared.Head.{Head}
 use Rattle.format.specs.declared.Channel.{Channel}
@@ -20,13 +20,14 @@ use Rattle.format.specs.declared.Node.{Node}
 use Rattle.format.proofs.BoolLaws.{le-iff, and-iff}
 use Rattle.format.proofs.ContentsLaws.{users-held, roles-held, kinds-held, channels-held, sessions-held, nodes-held}
 use Rattle.format.proofs.PutRuns.{puts-then}
-use Rattle.format.proofs.WriteLaws.{Bytes, head-length, session-words-length, node-words-length, table-words-length, node-words-append}
+use Rattle.format.proofs.WriteLaws.{Bytes, head-length, sessions-words, role-words-length, channel-words-length, session-words-length, table-words-length, node-rows-append}
+use Rattle.format.proofs.SpotLaws.{node-rows-length}
 use Rattle.merging.specs.Merged.{Shifts, behind, movedChannel, movedSession, movedNode, mergedContents}
 use Rattle.merging.specs.Writers.{countsOfBoth, sumsWithin, firstHead, shiftsBy, shiftAfter, FewBefore, Limited, Joining}
 use Rattle.merging.specs.declared.Shift.{Shift}
-use Rattle.merging.proofs.TableLaws.{role-words-length, users-words, tables-later, sessions-words, nodes-words, inside}
+use Rattle.merging.proofs.TableLaws.{users-words, tables-later, nodes-words, inside}
 
--- words of records joined, and how many words channels have
+-- words of records joined
 channels-join : (xs ys : List Channel) → channelWords (xs ++ ys) ≡ channelWords xs ++ channelWords ys
 unfolding channelWords
 channels-join [] ys = refl
@@ -36,11 +37,6 @@ sessions-join : (xs ys : List Session) → sessionWords (xs ++ ys) ≡ sessionWo
 unfolding sessionWords
 sessions-join [] ys = refl
 sessions-join (x ∷ xs) ys = ap {B = List ℕ} (λ l. x .user ∷ x .mask ∷ x .root ∷ l) (sessions-join xs ys)
-
-channel-words-length : (cs : List Channel) → length (channelWords cs) ≡ 2 * length cs
-unfolding channelWords
-channel-words-length [] = refl
-channel-words-length (c ∷ cs) = omega (arith, channel-words-length cs)
 
 -- sums that fit
 pub within-iff : (n : Six) → (sumsWithin n ≡ true) ↔ ((((n .users ≤ 32) × (n .channels ≤ 64)) × (n .sessions ≤ 32)) × (n .nodes ≤ 1024))
@@ -155,8 +151,9 @@ module _ (f g : List ℕ) (one two : Head) where
           pub second-sessions : Laid g two × Limited D × FewBefore s × (one .count .sessions ≤ 32) × (2 * (whole .at .sessions + 3 * (one .count .sessions + two .count .sessions)) ≤ room)
           second-sessions = (j .second, j .second-limited, few s e, j .first .sessions, omega (arith, ends .2, wide))
 
-          pub second-nodes : Laid g two × Limited D × FewBefore s × (one .count .nodes ≤ 1024) × (2 * (whole .at .nodes + 3 * (one .count .nodes + two .count .nodes)) ≤ room)
-          second-nodes = (j .second, j .second-limited, few s e, j .first .nodes, omega (arith, ends .3, wide))
+          pub second-nodes : Laid g two × Limited D × FewBefore s × (one .count .nodes ≤ 1024) × (whole .version ≡ 1) × (whole .count .nodes ≡ one .count .nodes + two .count .nodes) × (2 * (whole .at .nodes + 3 * (one .count .nodes + two .count .nodes)) ≤ room)
+          second-nodes =
+              (j .second, j .second-limited, few s e, j .first .nodes, ap (λ (h : Head). h .version) is, ap (λ (h : Head). h .count .nodes) is, omega (arith, ends .3, wide))
 
       pub tables-put : (l l1 l2 l3 : List ℕ) (p q n : ℕ) (t : Shift) → Bytes f
           → p ≡ whole .at .roles → q ≡ one .at .roles → n ≡ 4 * one .count .roles + one .count .kinds + 2 * one .count .channels → t ≡ shiftAfter (one .count)
@@ -190,40 +187,40 @@ module _ (f g : List ℕ) (one two : Head) where
           → l1 ≡ sets l (2 * p) (bytesOf (wordsFrom f q n))
           → l2 ≡ sets l1 (2 * (whole .at .sessions + 3 * one .count .sessions)) (bytesOf (sessionWords (map (movedSession (shiftsBy t)) (D .sessions))))
           → l3 ≡ sets l2 (2 * p′) (bytesOf (wordsFrom f q′ n′))
-          → l4 ≡ sets l3 (2 * (whole .at .nodes + 3 * one .count .nodes)) (bytesOf (nodeWords (map (movedNode (shiftsBy t)) (D .nodes))))
-          → l4 ≡ sets l (2 * whole .at .sessions) (bytesOf (sessionWords (M .sessions) ++ nodeWords (M .nodes)))
+          → l4 ≡ sets l3 (2 * (whole .at .nodes + 3 * one .count .nodes)) (bytesOf (nodeRows (map (movedNode (shiftsBy t)) (D .nodes))))
+          → l4 ≡ sets l (2 * whole .at .sessions) (bytesOf (sessionWords (M .sessions) ++ nodeRows (M .nodes)))
       unfolding mergedContents
       trees-put l l1 l2 l3 l4 p q n p′ q′ n′ t et ep eq en ep′ eq′ en′ e1 e2 e3 e4 =
           let base : ℕ = whole .at .sessions in
           let ss : List ℕ = sessionWords (C .sessions) in
           let ts : List ℕ = sessionWords (map (movedSession (behind C)) (D .sessions)) in
-          let ns : List ℕ = nodeWords (C .nodes) in
-          let ms : List ℕ = nodeWords (map (movedNode (behind C)) (D .nodes)) in
+          let ns : List ℕ = nodeRows (C .nodes) in
+          let ms : List ℕ = nodeRows (map (movedNode (behind C)) (D .nodes)) in
           let sessions = ap (λ (h : Head). h .at .sessions) is in
           let nodes = ap (λ (h : Head). h .at .nodes) is in
           let own : length ss ≡ 3 * one .count .sessions = session-words-length (C .sessions) ∙ ap (λ k. 3 * k) (sessions-held f one) in
           let other : length ts ≡ 3 * two .count .sessions =
           session-words-length (map (movedSession (behind C)) (D .sessions)) ∙ ap (λ k. 3 * k) (length-map (D .sessions) (movedSession (behind C)) ∙ sessions-held g two) in
-          let trees : length ns ≡ 3 * one .count .nodes = node-words-length (C .nodes) ∙ ap (λ k. 3 * k) (nodes-held f one) in
+          let trees : length ns ≡ 3 * one .count .nodes = node-rows-length (C .nodes) ∙ ap (λ k. 3 * k) (nodes-held f one) in
           let a : l1 ≡ sets l (2 * base) (bytesOf ss) = e1 ∙ ap₂ (λ (k : ℕ) (ws : List ℕ). sets l (2 * k) (bytesOf ws)) ep (ap₂ (wordsFrom f) eq en ∙ sessions-words f one) in
           let b = puts-then l l1 l2 base (base + 3 * one .count .sessions) ss ts a (omega (arith, own))
           (e2 ∙ ap (λ (x : Shifts). sets l1 (2 * (base + 3 * one .count .sessions)) (bytesOf (sessionWords (map (movedSession x) (D .sessions))))) (shifts t et)) in
           let c = puts-then l l2 l3 base p′ (ss ++ ts) ns b (omega (arith, own, other, sessions, nodes, ep′, length-append ss ts))
-          (e3 ∙ ap (λ (ws : List ℕ). sets l2 (2 * p′) (bytesOf ws)) (ap₂ (wordsFrom f) eq′ en′ ∙ nodes-words f one)) in
+          (e3 ∙ ap (λ (ws : List ℕ). sets l2 (2 * p′) (bytesOf ws)) (ap₂ (wordsFrom f) eq′ en′ ∙ nodes-words f one (j .first-version))) in
           let d = puts-then l l3 l4 base (whole .at .nodes + 3 * one .count .nodes) ((ss ++ ts) ++ ns) ms c (omega (arith, own, other, trees, sessions, nodes, length-append ss ts, length-append (ss ++ ts) ns))
-          (e4 ∙ ap (λ (x : Shifts). sets l3 (2 * (whole .at .nodes + 3 * one .count .nodes)) (bytesOf (nodeWords (map (movedNode x) (D .nodes))))) (shifts t et)) in
+          (e4 ∙ ap (λ (x : Shifts). sets l3 (2 * (whole .at .nodes + 3 * one .count .nodes)) (bytesOf (nodeRows (map (movedNode x) (D .nodes))))) (shifts t et)) in
           d ∙ ap (λ (ws : List ℕ). sets l (2 * base) (bytesOf ws))
           (append-assoc (ss ++ ts) ns ms
-          ∙ ap₂ _++_ (sym (sessions-join (C .sessions) (map (movedSession (behind C)) (D .sessions)))) (sym (node-words-append (C .nodes) (map (movedNode (behind C)) (D .nodes)))))
+          ∙ ap₂ _++_ (sym (sessions-join (C .sessions) (map (movedSession (behind C)) (D .sessions)))) (sym (node-rows-append (C .nodes) (map (movedNode (behind C)) (D .nodes)))))
 
       pub file-put : (l l1 l2 l3 : List ℕ) → l1 ≡ sets l 0 (bytesOf (headWords whole)) → l2 ≡ sets l1 26 (bytesOf (tableWords 1 M))
-          → l3 ≡ sets l2 (2 * whole .at .sessions) (bytesOf (sessionWords (M .sessions) ++ nodeWords (M .nodes))) → l3 ≡ sets l 0 (encoded 1 M)
+          → l3 ≡ sets l2 (2 * whole .at .sessions) (bytesOf (sessionWords (M .sessions) ++ nodeRows (M .nodes))) → l3 ≡ sets l 0 (encoded 1 M)
       unfolding encoded fileWords
       file-put l l1 l2 l3 e1 e2 e3 =
           let H : Head = headFor 1 M in
           let same : whole ≡ H = is ∙ head-merged in
           let sessions = ap (λ (h : Head). h .at .sessions) same in
           let a = puts-then l l1 l2 0 13 (headWords H) (tableWords 1 M) (e1 ∙ ap (λ (h : Head). sets l 0 (bytesOf (headWords h))) same) (sym (head-length H)) e2 in
-          let b = puts-then l l2 l3 0 (whole .at .sessions) (headWords H ++ tableWords 1 M) (sessionWords (M .sessions) ++ nodeWords (M .nodes)) a
+          let b = puts-then l l2 l3 0 (whole .at .sessions) (headWords H ++ tableWords 1 M) (sessionWords (M .sessions) ++ nodeRows (M .nodes)) a
           (omega (arith, sessions, head-length H, table-words-length 1 M, length-append (headWords H) (tableWords 1 M))) e3 in
-          b ∙ ap (λ (ws : List ℕ). sets l 0 (bytesOf ws)) (append-assoc (headWords H) (tableWords 1 M) (sessionWords (M .sessions) ++ nodeWords (M .nodes)))
+          b ∙ ap (λ (ws : List ℕ). sets l 0 (bytesOf ws)) (append-assoc (headWords H) (tableWords 1 M) (sessionWords (M .sessions) ++ nodeRows (M .nodes)))

@@ -8,7 +8,7 @@ use lib.Dec.{leb}
 use lib.ListN.{length}
 use lib.Seq.{sets}
 use borrow.Author.Tests.{ne-eqb, lt-ltb, le-ltb}
-use Rattle.format.specs.Answers.{fine, refused, orElse}
+use Rattle.format.specs.Answers.{fine, refused, orElse, notWritten}
 use Rattle.format.specs.Header.{lengthFor, Counted, Laid}
 use Rattle.format.specs.Contents.{Contents, contentsAt, contentsOf}
 use Rattle.format.specs.Writing.{encoded}
@@ -19,9 +19,9 @@ use Rattle.format.proofs.ContentsLaws.{users-held, channels-held, sessions-held
 use Rattle.reading.specs.declared.Opened.the-variants.{Fine, Refused}
 use Rattle.checking.proofs.CheckLaws.{entered-fine}
 use Rattle.merging.specs.Merged.{mergedContents, sameTables, sumsFit}
-use Rattle.merging.specs.Merging.{ownAnswer, joinAnswer, bothAnswer, notWritten, firstLength, writtenFor, merging, mergedBytes, mergedOver}
+use Rattle.merging.specs.Merging.{ownAnswer, joinAnswer, bothAnswer, firstLength, writtenFor, merging, mergedBytes, mergedOver}
 use Rattle.merging.specs.Writers.{countsOfBoth, sumsWithin, firstHead, Joining, ownEntered}
-use Rattle.merging.specs.declared.Written.{Written}
+use Rattle.format.specs.declared.Written.{Written}
 use Rattle.merging.proofs.JoinLaws.{within-iff, head-merged}
 use Rattle.merging.proofs.LimitLaws.{limited}
 use Rattle.merging.proofs.OwnLaws.{own-fine, own-loud}

@@ -10,7 +10,7 @@ use lib.Seq.{sets}
 use borrow.Author.Tests.{eqb-true, ne-eqb, leb-true}
 use Rattle.format.specs.Words.{bytesOf}
 use Rattle.format.specs.Contents.{inCount, item, noChannel, noSession, noNode}
-use Rattle.format.specs.Writing.{channelWords, sessionWords, nodeWords}
+use Rattle.format.specs.Writing.{channelWords, sessionWords, nodeRows}
 use Rattle.format.specs.declared.Channel.{Channel}
 use Rattle.format.specs.declared.Session.{Session}
 use Rattle.format.specs.declared.Node.{Node}
@@ -112,8 +112,8 @@ sessions-one : (x : Session) (xs : List Session) → sessionWords (x ∷ xs) ≡
 unfolding sessionWords
 sessions-one x xs = refl
 
-nodes-one : (x : Node) (xs : List Node) → nodeWords (x ∷ xs) ≡ nodeWords (x ∷ []) ++ nodeWords xs
-unfolding nodeWords
+nodes-one : (x : Node) (xs : List Node) → nodeRows (x ∷ xs) ≡ nodeRows (x ∷ []) ++ nodeRows xs
+unfolding nodeRows
 nodes-one x xs = refl
 
 -- the same of each section, from its base on, after so many others
@@ -149,15 +149,15 @@ module _ (s : Shifts) (ss : List Session) (base others : ℕ) where
 
 module _ (s : Shifts) (ns : List Node) (base others : ℕ) where
   pub nodes-turn : (l m whole : List ℕ) (i : ℕ) (it : Node) → i < length ns → it ≡ movedNode s (item noNode ns (i + 1))
-      → m ≡ sets l (2 * (base + 3 * (others + (i + 1) - 1))) (bytesOf (nodeWords (it ∷ [])))
-      → sets l (2 * (base + 3 * (others + i))) (bytesOf (nodeWords (map (movedNode s) (drop i ns)))) ≡ whole
-      → sets m (2 * (base + 3 * (others + (i + 1)))) (bytesOf (nodeWords (map (movedNode s) (drop (i + 1) ns)))) ≡ whole
-  unfolding nodeWords
+      → m ≡ sets l (2 * (base + 3 * (others + (i + 1) - 1))) (bytesOf (nodeRows (it ∷ [])))
+      → sets l (2 * (base + 3 * (others + i))) (bytesOf (nodeRows (map (movedNode s) (drop i ns)))) ≡ whole
+      → sets m (2 * (base + 3 * (others + (i + 1)))) (bytesOf (nodeRows (map (movedNode s) (drop (i + 1) ns)))) ≡ whole
+  unfolding nodeRows
   nodes-turn l m whole i it h is e inv =
       let here : others + (i + 1) - 1 ≡ others + i = omega arith in
-      turn noNode nodeWords nodes-one (movedNode s) ns l m whole (base + 3 * (others + i)) (base + 3 * (others + (i + 1))) i it h is (omega arith)
-      (e ∙ ap (λ k. sets l (2 * (base + 3 * k)) (bytesOf (nodeWords (it ∷ [])))) here) inv
+      turn noNode nodeRows nodes-one (movedNode s) ns l m whole (base + 3 * (others + i)) (base + 3 * (others + (i + 1))) i it h is (omega arith)
+      (e ∙ ap (λ k. sets l (2 * (base + 3 * k)) (bytesOf (nodeRows (it ∷ [])))) here) inv
 
-  pub nodes-end : (l whole : List ℕ) (i : ℕ) → length ns ≤ i → sets l (2 * (base + 3 * (others + i))) (bytesOf (nodeWords (map (movedNode s) (drop i ns)))) ≡ whole → l ≡ whole
-  unfolding nodeWords
-  nodes-end l whole i h inv = ends noNode nodeWords nodes-one (movedNode s) ns l whole (2 * (base + 3 * (others + i))) i refl h inv
+  pub nodes-end : (l whole : List ℕ) (i : ℕ) → length ns ≤ i → sets l (2 * (base + 3 * (others + i))) (bytesOf (nodeRows (map (movedNode s) (drop i ns)))) ≡ whole → l ≡ whole
+  unfolding nodeRows
+  nodes-end l whole i h inv = ends noNode nodeRows nodes-one (movedNode s) ns l whole (2 * (base + 3 * (others + i))) i refl h inv

@@ -4,42 +4,22 @@ use mathlib.Core.Path.{_≡_, refl, sym, ap, ap₂, _∙_}
 use mathlib.Core.Bool.{Bool, true, false, _&&_}
 use mathlib.Core.List.{List, [], _∷_, _++_, append-assoc}
 use native.Mathlib.Omega.{arith}
-use native.Mathlib.Numerals.{add-one}
 use lib.Dec.{eqb}
 use lib.ListN.{length, length-append}
-use Rattle.format.specs.Words.{wordAt}
 use Rattle.format.specs.Header.{juniorRecords, Laid}
-use Rattle.format.specs.Sections.{wordsFrom, placeOf, sessionOf, nodeAt}
-use Rattle.format.specs.Contents.{Contents, tabled, contentsAt}
-use Rattle.format.specs.Writing.{roleWords, channelWords, sessionWords, nodeWords, tableWords}
+use Rattle.format.specs.Sections.{wordsFrom}
+use Rattle.format.specs.Contents.{Contents, contentsAt}
+use Rattle.format.specs.Writing.{roleWords, channelWords, nodeRows, nodeWords, tableWords}
 use Rattle.format.specs.declared.Head.{Head}
-use Rattle.format.specs.declared.Section.the-variants.{Nodes}
-use Rattle.format.specs.declared.Role.{Role}
 use Rattle.format.proofs.ContentsLaws.{users-held, roles-held, kinds-held}
 use Rattle.format.proofs.HeadLaws.{some-there}
-use Rattle.format.proofs.WriteLaws.{Bytes, tables-words}
+use Rattle.format.proofs.WriteLaws.{Bytes, words-joined, tables-words, role-words-length}
+use Rattle.format.proofs.SpotLaws.{words-length, section-words}
 use Rattle.trees.proofs.SoundLaws.{same-head}
 use Rattle.merging.specs.Merged.{sameWords, sameTables}
 
-words-joined : (f : List ℕ) (p q a b : ℕ) → q ≡ p + a → wordsFrom f p (a + b) ≡ wordsFrom f p a ++ wordsFrom f q b
-unfolding wordsFrom
-words-joined f p q zero b e =
-    let z : 0 + b ≡ b = omega arith in
-    let y : p ≡ q = omega (arith, e) in
-    rw (z, y)
-words-joined f p q (suc a) b e =
-    let z : suc a + b ≡ suc (a + b) = omega arith in
-    rw z (ap {B = List ℕ} (λ l. wordAt f p ∷ l) (words-joined f (suc p) q a b (omega (arith, e))))
-
-words-length : (f : List ℕ) (p k : ℕ) → length (wordsFrom f p k) ≡ k
-unfolding wordsFrom
-words-length f p zero = refl
-words-length f p (suc k) = ap suc (words-length f (suc p) k)
-
-pub role-words-length : (rs : List Role) → length (roleWords rs) ≡ 4 * length rs
-unfolding roleWords
-role-words-length [] = refl
-role-words-length (r ∷ rs) = omega (arith, role-words-length rs)
+joined : (f : List ℕ) (p q a b : ℕ) → q ≡ p + a → wordsFrom f p (a + b) ≡ wordsFrom f p a ++ wordsFrom f q b
+joined f p q a b e = words-joined f p a b ∙ ap (λ x. wordsFrom f p a ++ wordsFrom f x b) (sym e)
 
 -- lists joined alike, of which the first parts are of a length
 parts : (xs ys zs ws : List ℕ) → length xs ≡ length zs → xs ++ ys ≡ zs ++ ws → (xs ≡ zs) × (ys ≡ ws)
@@ -63,8 +43,8 @@ module _ (f : List ℕ) (h : Head) (l : Laid f h) (first : h .version ≡ 1) (b 
       let t : ℕ = 4 * h .count .roles + h .count .kinds in
       let c : ℕ = 2 * h .count .channels in
       let all : h .at .sessions - h .at .users ≡ u + (t + c) = omega (arith, l, none) in
-      ap (λ ws. wordsFrom f (h .at .users) u ++ ws) (sym (words-joined f (h .at .roles) (h .at .channels) t c (omega (arith, l, none))))
-      ∙ sym (words-joined f (h .at .users) (h .at .roles) u (t + c) (l .roles-at))
+      ap (λ ws. wordsFrom f (h .at .users) u ++ ws) (sym (joined f (h .at .roles) (h .at .channels) t c (omega (arith, l, none))))
+      ∙ sym (joined f (h .at .users) (h .at .roles) u (t + c) (l .roles-at))
       ∙ ap (wordsFrom f (h .at .users)) (sym all)
       ∙ tables-words f h l b
       ∙ ap (λ v. tableWords v C) first
@@ -86,35 +66,10 @@ module _ (f : List ℕ) (h : Head) (l : Laid f h) (first : h .version ≡ 1) (b 
   -- with the channels, which stand after them
   pub tables-later : wordsFrom f (h .at .roles) (4 * h .count .roles + h .count .kinds + 2 * h .count .channels)
       ≡ (roleWords (contentsAt f h .roles) ++ contentsAt f h .kinds) ++ channelWords (contentsAt f h .channels)
-  tables-later = words-joined f (h .at .roles) (h .at .channels) (4 * h .count .roles + h .count .kinds) (2 * h .count .channels) (omega (arith, l, none)) ∙ later
+  tables-later = joined f (h .at .roles) (h .at .channels) (4 * h .count .roles + h .count .kinds) (2 * h .count .channels) (omega (arith, l, none)) ∙ later
 
--- sessions and nodes as words, from the place q of the one after i on
-module _ (f : List ℕ) (h : Head) where
-  sessions-from : (q i k : ℕ) → q ≡ h .at .sessions + 3 * i → wordsFrom f q (3 * k) ≡ sessionWords (tabled (sessionOf f h) (suc i) k)
-  unfolding wordsFrom tabled sessionWords
-  sessions-from q i zero e = refl
-  sessions-from q i (suc k) e =
-      let three : 3 * suc k ≡ suc (suc (suc (3 * k))) = omega arith in
-      let here : h .at .sessions + 3 * (suc i - 1) ≡ q = omega (arith, e) in
-      let third : q + 2 ≡ suc (suc q) = omega arith in
-      rw (three, here, third, add-one q, sessions-from (suc (suc (suc q))) (suc i) k (omega (arith, e)))
-
-  nodes-from : (q i k : ℕ) → q ≡ h .at .nodes + 3 * i → wordsFrom f q (3 * k) ≡ nodeWords (tabled (λ n. nodeAt f (placeOf h Nodes n)) (suc i) k)
-  unfolding wordsFrom tabled nodeWords
-  nodes-from q i zero e = refl
-  nodes-from q i (suc k) e =
-      let three : 3 * suc k ≡ suc (suc (suc (3 * k))) = omega arith in
-      let here : h .at .nodes + 3 * (suc i - 1) ≡ q = omega (arith, e) in
-      let third : q + 2 ≡ suc (suc q) = omega arith in
-      rw (three, here, third, add-one q, nodes-from (suc (suc (suc q))) (suc i) k (omega (arith, e)))
-
-  pub sessions-words : wordsFrom f (h .at .sessions) (3 * h .count .sessions) ≡ sessionWords (contentsAt f h .sessions)
-  unfolding contentsAt
-  sessions-words = sessions-from (h .at .sessions) 0 (h .count .sessions) (omega arith)
-
-  pub nodes-words : wordsFrom f (h .at .nodes) (3 * h .count .nodes) ≡ nodeWords (contentsAt f h .nodes)
-  unfolding contentsAt
-  nodes-words = nodes-from (h .at .nodes) 0 (h .count .nodes) (omega arith)
+pub nodes-words : (f : List ℕ) (h : Head) → h .version ≡ 1 → wordsFrom f (h .at .nodes) (3 * h .count .nodes) ≡ nodeRows (contentsAt f h .nodes)
+nodes-words f h first = section-words f h ∙ ap (λ v. nodeWords v (contentsAt f h .nodes)) first
 
 -- what lies between the users and the end lies within the file
 pub inside : (f : List ℕ) (h : Head) → Laid f h → (p n : ℕ) → h .at .users ≤ p → p + n ≤ h .at .nodes + 3 * h .count .nodes → 0 < n → 2 * (p + n) ≤ length f

@@ -1,17 +1,16 @@
 -- Words of a file one after another: as they are moved, and as two files' are compared.
-use Prim.Native.Nat.{ℕ, zero, suc, _+_, _*_, _-_, _/_, _%_, _≤_, _<_}
+use Prim.Native.Nat.{ℕ, zero, suc, _+_, _*_, _-_, _≤_, _<_}
 use mathlib.Core.Path.{_≡_, refl, sym, ap, ap₂, _∙_}
 use mathlib.Core.Bool.{true, false, _&&_}
 use mathlib.Core.List.{List, [], _∷_}
 use native.Mathlib.Omega.{arith}
-use native.Mathlib.Numerals.{add-one}
 use lib.Dec.{eqb}
 use lib.ListN.{length, getD, take, drop, set}
 use lib.Seq.{sets, drop-cons}
 use borrow.Author.Tests.{eq-eqb, ne-eqb}
 use Rattle.format.specs.Words.{wordAt, bytesOf}
 use Rattle.format.specs.Sections.{wordsFrom}
-use Rattle.format.proofs.WriteLaws.{Bytes}
+use Rattle.format.proofs.WriteLaws.{Bytes, bytes-words}
 use Rattle.merging.specs.Merged.{sameWords}
 
 -- all of them, the next one and those after it, and none
@@ -33,16 +32,6 @@ unfolding wordsFrom
 words-none f p k i h = let none : k - i ≡ 0 = omega arith in ap (wordsFrom f (p + i)) none
 
 -- moved to another place, byte by byte
-bytes-words : (f : List ℕ) (p k : ℕ) → Bytes f → 2 * (p + k) ≤ length f → take (2 * k) (drop (2 * p) f) ≡ bytesOf (wordsFrom f p k)
-unfolding bytesOf wordsFrom
-bytes-words f p zero b h = refl
-bytes-words f p (suc k) b h =
-    let two : 2 * suc k ≡ suc (suc (2 * k)) = omega arith in
-    let next : suc (suc (2 * p)) ≡ 2 * suc p = omega arith in
-    let low : wordAt f p % 256 ≡ getD f (2 * p) 0 = omega (arith, b (2 * p)) in
-    let high : wordAt f p / 256 ≡ getD f (2 * p + 1) 0 = omega (arith, b (2 * p)) in
-    rw (two, drop-cons f (2 * p) 0 (omega arith), drop-cons f (suc (2 * p)) 0 (omega arith), next, low, high, add-one (2 * p), bytes-words f (suc p) k b (omega arith))
-
 module _ (f : List ℕ) (from at count : ℕ) where
   pub moved-begins : (l : List ℕ) → sets l (2 * at + 0) (take (2 * count - 0) (drop (2 * from + 0) f)) ≡ sets l (2 * at) (take (2 * count) (drop (2 * from) f))
   moved-begins l =

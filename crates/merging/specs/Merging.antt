@@ -5,14 +5,14 @@ use mathlib.Core.List.{List}
 use lib.Dec.{eqb, ltb}
 use lib.ListN.{length}
 use lib.Seq.{sets}
-use Rattle.format.specs.Answers.{fine, refused, orElse}
+use Rattle.format.specs.Answers.{fine, refused, orElse, notWritten}
 use Rattle.format.specs.Header.{versionAt, lengthFor}
 use Rattle.format.specs.Contents.{Contents, contentsOf}
 use Rattle.format.specs.Writing.{headFor, encoded}
 use Rattle.format.specs.declared.Verdict.{Verdict}
+use Rattle.format.specs.declared.Written.{Written}
 use Rattle.checking.specs.Check.{readingNames}
 use Rattle.merging.specs.Merged.{mergedContents, sameTables, sumsFit}
-use Rattle.merging.specs.declared.Written.{Written}
 
 -- a file's own refusal, 1 to 10: another version than 1 is 2, at 2's turn, after 1
 unfoldable pub ownAnswer : List ℕ → Verdict
@@ -24,9 +24,6 @@ joinAnswer C D = cond (sameTables C D) (cond (sumsFit C D) fine (refused 3 0)) (
 
 unfoldable pub bothAnswer : List ℕ → List ℕ → Verdict
 bothAnswer f g = orElse (ownAnswer f) (orElse (ownAnswer g) (joinAnswer (contentsOf f) (contentsOf g)))
-
-abbrev pub notWritten : ℕ → ℕ → Written
-notWritten n p = record { number = n; place = p; length = 0 }
 
 -- the length in bytes of a file of version 1 that holds this
 abbrev pub firstLength : Contents → ℕ

@@ -14,7 +14,7 @@ ghost use lib.ListN.{length};
 ghost use lib.Seq.{sets};
 ghost use Rattle.format.specs.Words.{bytesOf};
 ghost use Rattle.format.specs.Contents.{contentsAt};
-ghost use Rattle.format.specs.Writing.{sessionWords, nodeWords, tableWords, encoded};
+ghost use Rattle.format.specs.Writing.{sessionWords, nodeRows, tableWords, encoded};
 ghost use Rattle.merging.specs.Merged.{mergedContents};
 ghost use Rattle.merging.specs.Writers.{countsOfBoth, firstHead, Joining};
 
@@ -57,7 +57,7 @@ fn put_trees(first: &[u8], one: Head, second: &[u8], two: Head, whole: Head, out
     requires { ⌜ Joining (now first) (now second) one two × (whole ≡ firstHead (countsOfBoth (one .count) (two .count))) × (6874 ≤ length (now out)) ⌝ }
     ensures { λ r. ⌜ now (out .exit) ≡ sets (now (out .entry)) (2 * whole .at .sessions)
         (bytesOf (sessionWords (mergedContents (contentsAt (now (first .entry)) one) (contentsAt (now (second .entry)) two) .sessions)
-        ++ nodeWords (mergedContents (contentsAt (now (first .entry)) one) (contentsAt (now (second .entry)) two) .nodes))) ⌝ }
+        ++ nodeRows (mergedContents (contentsAt (now (first .entry)) one) (contentsAt (now (second .entry)) two) .nodes))) ⌝ }
 {
     let by = shift_after(one.count);
     let sessions = 3 * wide(one.count.sessions);

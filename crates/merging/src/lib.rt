@@ -12,6 +12,8 @@ use counts::sums_fit;
 use file::put_file;
 use format::Head;
 use format::Verdict;
+use format::Written;
+use format::answers::not_written;
 use format::answers::or_else;
 use format::header::length_for;
 use format::words::narrow;
@@ -24,16 +26,8 @@ ghost use Prim.Native.Nat.{_≤_};
 ghost use lib.ListN.{length};
 ghost use Rattle.format.specs.Answers.{fine, refused};
 ghost use Rattle.reading.specs.declared.Opened.the-variants.{Fine};
-ghost use Rattle.merging.specs.Merging.{notWritten, merging, mergedOver};
+ghost use Rattle.merging.specs.Merging.{merging, mergedOver};
 ghost use Rattle.merging.specs.Writers.{ownEntered};
-
-// What a caller gets: a refusal's number and place, or 0 and 0 with the length in bytes of what was written.
-#[repr(C)]
-pub struct Written {
-    pub number: u16,
-    pub place: u16,
-    pub length: u16,
-}
 
 // How many users, channels and nodes stand before a file's own.
 pub struct Shift {
@@ -44,16 +38,6 @@ pub struct Shift {
 
 // The largest file of version 1, in bytes.
 const ROOM: usize = 6874;
-
-fn not_written(number: u16, place: u16) -> Written
-    ensures { λ r. ⌜ r ≡ notWritten number place ⌝ }
-{
-    Written {
-        number,
-        place,
-        length: 0,
-    }
-}
 
 // A test's refusal, at place 0.
 fn unless(holds: bool, number: u16) -> Verdict

@@ -22,8 +22,8 @@ ghost use Rattle.format.specs.Words.{bytesOf};
 ghost use Rattle.format.specs.Header.{Laid};
 ghost use Rattle.format.specs.Sections.{placeOf, wordsFrom};
 ghost use Rattle.format.specs.Contents.{contentsAt};
-ghost use Rattle.format.specs.Writing.{channelWords, sessionWords, nodeWords};
-ghost use Rattle.format.specs.declared.Section.the-variants.{Channels, Sessions, Nodes};
+ghost use Rattle.format.specs.Writing.{channelWords, sessionWords, nodeRows};
+ghost use Rattle.format.specs.declared.Section.the-variants.{Channels, Sessions};
 ghost use Rattle.merging.specs.Merged.{movedChannel, movedSession, movedNode};
 ghost use Rattle.merging.specs.Writers.{shiftsBy, FewBefore, Limited};
 
@@ -81,9 +81,9 @@ pub fn put_sessions(file: &[u8], head: Head, by: Shift, whole: Head, others: u16
 
 pub fn put_nodes(file: &[u8], head: Head, by: Shift, whole: Head, others: u16, out: &mut [u8])
     requires { ⌜ Laid (now file) head × Limited (contentsAt (now file) head) × FewBefore by
-        × (others ≤ 1024) × (2 * (whole .at .nodes + 3 * (others + head .count .nodes)) ≤ length (now out)) ⌝ }
+        × (others ≤ 1024) × (whole .version ≡ 1) × (whole .count .nodes ≡ others + head .count .nodes) × (2 * (whole .at .nodes + 3 * (others + head .count .nodes)) ≤ length (now out)) ⌝ }
     ensures { λ r. ⌜ now (out .exit) ≡ sets (now (out .entry)) (2 * (whole .at .nodes + 3 * others))
-        (bytesOf (nodeWords (map (movedNode (shiftsBy by)) (contentsAt (now (file .entry)) head .nodes)))) ⌝ }
+        (bytesOf (nodeRows (map (movedNode (shiftsBy by)) (contentsAt (now (file .entry)) head .nodes)))) ⌝ }
 {
     let count = head.count.nodes;
     let mut n: u16 = 0;

@@ -16,7 +16,7 @@ use Rattle.format.proofs.AnswerLaws.{quiet-first, loud-first}
 use Rattle.checking.specs.Check.{readingNames}
 use Rattle.merging.specs.Merged.{mergedContents, sameTables, sumsFit}
 use Rattle.merging.specs.Merging.{ownAnswer, joinAnswer, bothAnswer, writtenFor, merging, mergedBytes}
-use Rattle.merging.specs.declared.Written.{Written}
+use Rattle.format.specs.declared.Written.{Written}
 use Rattle.reading_exact.specs.Lists.{All}
 use Rattle.reading_exact.specs.Order.{OfFile, First}
 use Rattle.reading_exact.proofs.FirstLaws.{number-of}

@@ -16,7 +16,7 @@ use Rattle.placing.specs.declared.Placed.{Placed}
 use Rattle.placing.specs.Placing.{masksAnswer, switchesAnswer, turnsFor, placing, placedBytes}
 use Rattle.merging.specs.Merged.{mergedContents}
 use Rattle.merging.specs.Merging.{firstLength, mergedBytes}
-use Rattle.reading_exact.specs.File.{Grants, first, second, versionOf, rolesOf, Routine, File, WellFormed, contentsFor, encode}
+use Rattle.reading_exact.specs.File.{Grants, first, second, third, versionOf, rolesOf, Routine, File, WellFormed, contentsFor, encode}
 use Rattle.reading_exact.proofs.AllLaws.{all-both}
 use Rattle.reading_exact.proofs.Exact.{complete}
 use Rattle.reading_exact.proofs.Places.{Formed, length-encoded}
@@ -43,7 +43,9 @@ use Rattle.merging_exact.proofs.MergedContents.{merged-contents}
 same-grants : (g h : Grants) → versionOf g ≡ 1 → versionOf h ≡ 1 → rolesOf g ≡ rolesOf h → g ≡ h
 same-grants (first rs) (first ss) v w e = ap first e
 same-grants (first rs) (second ss) v w e = absurd (omega (arith, w))
+same-grants (first rs) (third ss) v w e = absurd (omega (arith, w))
 same-grants (second rs) h v w e = absurd (omega (arith, v))
+same-grants (third rs) h v w e = absurd (omega (arith, v))
 
 module _ (f : List ℕ) (F : File) (P : Passed f F) where
   -- it passes exactly when it obeys the rules as data

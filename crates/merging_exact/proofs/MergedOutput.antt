@@ -13,7 +13,7 @@ use Rattle.checking.specs.Check.{readingNames, checking}
 use Rattle.placing.specs.Placing.{placing, placedBytes}
 use Rattle.merging.specs.Merged.{shifted}
 use Rattle.merging.specs.Merging.{merging, mergedBytes, mergedOver}
-use Rattle.merging.specs.declared.Written.{Written}
+use Rattle.format.specs.declared.Written.{Written}
 use Rattle.reading_exact.specs.Lists.{All}
 use Rattle.reading_exact.specs.File.{File, WellFormed, contentsFor, encode, ReadsAs}
 use Rattle.checking_exact.specs.Typing.{WellKinded}

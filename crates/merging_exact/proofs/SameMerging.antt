@@ -2,7 +2,7 @@
 use Prim.Native.Nat.{ℕ, _≤_, _<_}
 use mathlib.Core.Path.{_≡_, refl, sym, ap, ap₂, _∙_}
 use mathlib.Core.Logic.{inl, inr, _≢_}
-use mathlib.Core.Bool.{Bool, true, false, cond, _||_}
+use mathlib.Core.Bool.{Bool, true, false, cond, _||_, true≢false}
 use mathlib.Core.List.{List, [], _∷_}
 use native.Mathlib.Omega.{arith}
 use lib.Dec.{eqb, ltb}
@@ -10,17 +10,18 @@ use lib.ListN.{length}
 use lib.Seq.{sets}
 use borrow.Author.Tests.{eqb-true, eqb-false, ltb-true, ltb-false, ne-eqb}
 use Rattle.format.specs.Words.{wordAt}
-use Rattle.format.specs.Answers.{fine, refused, orElse}
-use Rattle.format.specs.Header.{versionAt, roomFor}
+use Rattle.format.specs.Answers.{fine, refused, orElse, notWritten}
+use Rattle.format.specs.Header.{hasJuniors, WithJuniors, versionAt, roomFor}
 use Rattle.format.specs.Contents.{Contents, contentsOf}
 use Rattle.format.specs.Writing.{encoded}
 use Rattle.format.specs.declared.Verdict.{Verdict}
+use Rattle.format.proofs.HeadLaws.{juniors-iff}
 use Rattle.format.proofs.AnswerLaws.{loud-first}
 use Rattle.checking.specs.Check.{readingNames}
 use Rattle.placing.proofs.PlaceLaws.{room-by-word}
 use Rattle.merging.specs.Merged.{mergedContents}
-use Rattle.merging.specs.Merging.{ownAnswer, joinAnswer, bothAnswer, notWritten, writtenFor, merging, mergedBytes, mergedOver}
-use Rattle.merging.specs.declared.Written.{Written}
+use Rattle.merging.specs.Merging.{ownAnswer, joinAnswer, bothAnswer, writtenFor, merging, mergedBytes, mergedOver}
+use Rattle.format.specs.declared.Written.{Written}
 use Rattle.reading_exact.specs.Order.{OfFile, First}
 use Rattle.reading_exact.specs.Refusals.{Refusable, short, short-second, odd, version, count, offset, size, misnamed, misranked, unassigned, misshapen}
 use Rattle.reading_exact.proofs.FirstLaws.{number-of}
@@ -33,12 +34,12 @@ module _ (f : List ℕ) where
   abbrev Objected : ℕ → ℕ → Type 0
   Objected n p = Objection f n p × OfFile n
 
-  -- 2 is another version than 1, and than 2
+  -- 2 is another version than 1
   refusal-two : (n p : ℕ) → Refusable f n p → n ≡ 2 → versionAt f ≢ 1
   refusal-two n p (short e z l) is = absurd (omega (arith, e, is))
   refusal-two n p (short-second e z w l) is = absurd (omega (arith, e, is))
   refusal-two n p (odd e z l) is = absurd (omega (arith, e, is))
-  refusal-two n p (version e z a b) is = a
+  refusal-two n p (version e z a b c) is = a
   refusal-two n p (count e z h) is = absurd (omega (arith, e, is))
   refusal-two n p (offset e z h) is = absurd (omega (arith, e, is))
   refusal-two n p (size e z h) is = absurd (omega (arith, e, is))
@@ -58,26 +59,28 @@ module _ (f : List ℕ) where
       go (inl (e, none)) = absurd (omega (arith, z, number-of e))
       go (inr (n, p, e, (o, low))) = objection-two n p (o .0) (sym (number-of e) ∙ z)
 
-  read-two : readingNames f .number ≢ 1 → versionAt f ≢ 1 → versionAt f ≢ 2 → readingNames f .number ≡ 2
+  read-two : readingNames f .number ≢ 1 → versionAt f ≢ 1 → (WithJuniors (versionAt f) → ⊥) → readingNames f .number ≡ 2
   read-two other a b = go (names-first f)
     where
       here : Objected 2 0
-      here = (of-file (version refl refl a b), inl (omega arith, omega arith))
+      here = (of-file (version refl refl a (λ e. b (inl e)) (λ e. b (inr e))), inl (omega arith, omega arith))
 
       go : First checkOrder Objected (readingNames f) → readingNames f .number ≡ 2
       go (inl (e, none)) = absurd (none 2 0 here)
       go (inr (n, p, e, (o, low))) = number-of e ∙ one-first n p 2 0 (low 2 0 here) (two-next n p (o .1) (λ is. other (number-of e ∙ is))) .0
 
   -- the output wanted goes by the version
-  word-two : (g : List ℕ) → versionAt g ≡ 2 → wordAt g 0 ≡ 2
-  word-two [] e = absurd (omega (arith, e))
+  word-two : (g : List ℕ) → WithJuniors (versionAt g) → WithJuniors (wordAt g 0)
+  word-two [] (inl e) = absurd (omega (arith, e))
+  word-two [] (inr e) = absurd (omega (arith, e))
   word-two (b ∷ bs) e = e
 
-  too-short : (g : List ℕ) → versionAt g ≡ 2 → length g < 2 → Refusable g 1 0
-  too-short [] v l = absurd (omega (arith, v))
+  too-short : (g : List ℕ) → WithJuniors (versionAt g) → length g < 2 → Refusable g 1 0
+  too-short [] (inl v) l = absurd (omega (arith, v))
+  too-short [] (inr v) l = absurd (omega (arith, v))
   too-short (b ∷ bs) v l = short refl refl (omega (arith, l))
 
-  room-two : readingNames f .number ≢ 1 → versionAt f ≡ 2 → roomFor f ≡ 6908
+  room-two : readingNames f .number ≢ 1 → WithJuniors (versionAt f) → roomFor f ≡ 6908
   room-two other v = go (ltb (length f) 2) refl
     where
       go : (b : Bool) → ltb (length f) 2 ≡ b → roomFor f ≡ 6908
@@ -87,17 +90,18 @@ module _ (f : List ℕ) where
 room-one : (g : List ℕ) → versionAt g ≡ 1 → roomFor g ≡ 6874
 room-one g v = room-by-word g .1 (λ (l, e). not-two g v l e)
   where
-    not-two : (g : List ℕ) → versionAt g ≡ 1 → 2 ≤ length g → wordAt g 0 ≡ 2 → ⊥
+    not-two : (g : List ℕ) → versionAt g ≡ 1 → 2 ≤ length g → WithJuniors (wordAt g 0) → ⊥
     not-two [] v l e = omega (arith, l)
-    not-two (b ∷ bs) v l e = omega (arith, v, e)
+    not-two (b ∷ bs) v l (inl e) = omega (arith, v, e)
+    not-two (b ∷ bs) v l (inr e) = omega (arith, v, e)
 
 -- of files that are read alike and want as much output none is of version 1 alone, unless 1 is wrong with them
 alone : (f g : List ℕ) → readingNames f ≡ readingNames g → roomFor f ≡ roomFor g → readingNames g .number ≢ 1 → versionAt f ≡ 1 → versionAt g ≢ 1 → ⊥
-alone f g names form other a b = go (eqb (versionAt g) 2) refl
+alone f g names form other a b = go (hasJuniors (versionAt g)) refl
   where
-    go : (c : Bool) → eqb (versionAt g) 2 ≡ c → ⊥
-    go true e = omega (arith, form, room-one f a, room-two g other (eqb-true (versionAt g) 2 e))
-    go false e = two-version f (number-of names ∙ read-two g other b (eqb-false (versionAt g) 2 e)) a
+    go : (c : Bool) → hasJuniors (versionAt g) ≡ c → ⊥
+    go true e = omega (arith, form, room-one f a, room-two g other (juniors-iff (versionAt g) .0 e))
+    go false e = two-version f (number-of names ∙ read-two g other b (λ j. true≢false (sym (juniors-iff (versionAt g) .1 j) ∙ e))) a
 
 pub same-own : (f g : List ℕ) → readingNames f ≡ readingNames g → roomFor f ≡ roomFor g → ownAnswer f ≡ ownAnswer g
 unfolding ownAnswer

@@ -7,7 +7,7 @@ use lib.ListN.{length}
 use Rattle.format.specs.Header.{versionAt}
 use Rattle.format.specs.Contents.{contentsOf}
 use Rattle.merging.specs.Merging.{mergedBytes}
-use Rattle.merging.specs.declared.Written.{Written}
+use Rattle.format.specs.declared.Written.{Written}
 use Rattle.reading_exact.specs.Order.{OfFile, FirstAt}
 use Rattle.checking_exact.specs.Faults.{Objection, checkOrder}
 use Rattle.merging_exact.specs.Sums.{SameTables, SumsFit}

@@ -22,7 +22,7 @@ inWords =
     " at node " ∷
     " at choice " ∷
     " at row " ∷
-    "Refused 1: the file has 1 to 25 bytes (to 27 in version 2), or an odd number of them" ∷
+    "Refused 1: the file has 1 to 25 bytes (to 27 in versions 2 and 3), or an odd number" ∷
     "Refused 2: the version is not one that can be read here" ∷
     "Refused 3: a count is out of range" ∷
     "Refused 4: an offset is not the one that the counts give" ∷
@@ -60,7 +60,7 @@ abbrev pub rowCount : ℕ
 rowCount = 42
 
 abbrev pub byteCount : ℕ
-byteCount = 1836
+byteCount = 1835
 
 -- the row of a tag's ending (9: no tag), of what is counted (0: none), of a number's meaning
 abbrev pub endingRow : ℕ → ℕ

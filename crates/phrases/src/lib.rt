@@ -6,7 +6,7 @@ ghost use lib.Seq.{paste, slice};
 ghost use Rattle.phrases.specs.Table.{rowCount};
 ghost use Rattle.phrases.specs.Phrases.{phrases, phrase, prefix, allText, allStarts, leading, putInto};
 
-const TEXT: [u8; 1836] = *b"\
+const TEXT: [u8; 1835] = *b"\
     , an end.\
     , a fork.\
     , a repeat.\
@@ -23,7 +23,7 @@ const TEXT: [u8; 1836] = *b"\
     \x20at node \
     \x20at choice \
     \x20at row \
-    Refused 1: the file has 1 to 25 bytes (to 27 in version 2), or an odd number of them\
+    Refused 1: the file has 1 to 25 bytes (to 27 in versions 2 and 3), or an odd number\
     Refused 2: the version is not one that can be read here\
     Refused 3: a count is out of range\
     Refused 4: an offset is not the one that the counts give\
@@ -68,39 +68,39 @@ const STARTS: [u16; 43] = [
     136,
     147,
     155,
-    239,
-    294,
-    328,
-    384,
-    441,
-    507,
-    588,
-    672,
-    742,
-    803,
-    868,
-    910,
-    953,
-    1024,
-    1085,
-    1140,
-    1224,
-    1301,
-    1374,
-    1429,
-    1494,
-    1577,
-    1642,
-    1694,
-    1752,
-    1836,
+    238,
+    293,
+    327,
+    383,
+    440,
+    506,
+    587,
+    671,
+    741,
+    802,
+    867,
+    909,
+    952,
+    1023,
+    1084,
+    1139,
+    1223,
+    1300,
+    1373,
+    1428,
+    1493,
+    1576,
+    1641,
+    1693,
+    1751,
+    1835,
 ];
 
 // How many phrases there are.
 const COUNT: usize = 42;
 
 // All phrases one after the other.
-pub fn phrase_text() -> [u8; 1836]
+pub fn phrase_text() -> [u8; 1835]
     ensures { λ r. ⌜ r ≡ allText ⌝ }
 {
     TEXT

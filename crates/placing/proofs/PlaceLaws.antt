@@ -11,13 +11,13 @@ use borrow.Author.Tests.{eq-eqb, ne-eqb, lt-ltb, le-ltb, ltb-true, ltb-false, eq
 use Rattle.format.specs.Contents.{Contents, contentsAt, contentsOf}
 use Rattle.format.specs.Writing.{headFor}
 use Rattle.format.specs.Answers.{refused, orElse}
-use Rattle.format.specs.Header.{more, juniorRecords, headAt, versionAt, headOf, lengthFor, largest, roomFor, Laid}
+use Rattle.format.specs.Header.{hasJuniors, WithJuniors, more, juniorRecords, headAt, versionAt, headOf, lengthFor, largest, roomFor, Laid}
 use Rattle.format.specs.Words.{wordAt}
 use Rattle.format.specs.declared.Verdict.{Verdict}
 use Rattle.format.specs.declared.Head.{Head}
 use Rattle.format.specs.declared.HeadAnswer.the-variants.{Refused}
 use Rattle.format.proofs.AnswerLaws.{NoRefusal, quiet-first, loud-first, both-quiet}
-use Rattle.format.proofs.HeadLaws.{Headed, head-number}
+use Rattle.format.proofs.HeadLaws.{juniors-iff, Headed, head-number}
 use Rattle.format.proofs.ContentsLaws.{users-held, roles-held, kinds-held, channels-held, sessions-held}
 use Rattle.tables.specs.Records.{recordsAnswer}
 use Rattle.trees.specs.Shape.{shapeAnswer}
@@ -42,35 +42,35 @@ nodes-begin f h l =
     omega (arith, l, users-held f h, roles-held f h, masks, kinds-held f h, channels-held f h, sessions-held f h)
 
 pub room-least : (f : List ℕ) → 6874 ≤ roomFor f
-room-least f = go (ltb 1 (length f) && eqb (wordAt f 0) 2)
+room-least f = go (ltb 1 (length f) && hasJuniors (wordAt f 0))
   where
     go : (b : Bool) → 6874 ≤ cond b 6908 6874
     go true = omega arith
     go false = omega arith
 
 pub room-most : (f : List ℕ) → roomFor f ≤ 6908
-room-most f = go (ltb 1 (length f) && eqb (wordAt f 0) 2)
+room-most f = go (ltb 1 (length f) && hasJuniors (wordAt f 0))
   where
     go : (b : Bool) → cond b 6908 6874 ≤ 6908
     go true = omega arith
     go false = omega arith
 
 -- by the first word, where there is one
-pub room-by-word : (f : List ℕ) → ((2 ≤ length f) × (wordAt f 0 ≡ 2) → roomFor f ≡ 6908) × (((2 ≤ length f) × (wordAt f 0 ≡ 2) → ⊥) → roomFor f ≡ 6874)
+pub room-by-word : (f : List ℕ) → ((2 ≤ length f) × WithJuniors (wordAt f 0) → roomFor f ≡ 6908) × (((2 ≤ length f) × WithJuniors (wordAt f 0) → ⊥) → roomFor f ≡ 6874)
 room-by-word f = (
-  λ (l, e). rw (lt-ltb 1 (length f) l, eq-eqb (wordAt f 0) 2 e),
-  λ other. go (ltb 1 (length f)) (eqb (wordAt f 0) 2) refl refl other,
+  λ (l, e). rw (lt-ltb 1 (length f) l, juniors-iff (wordAt f 0) .1 e),
+  λ other. go (ltb 1 (length f)) (hasJuniors (wordAt f 0)) refl refl other,
 )
   where
-    go : (a b : Bool) → ltb 1 (length f) ≡ a → eqb (wordAt f 0) 2 ≡ b → ((2 ≤ length f) × (wordAt f 0 ≡ 2) → ⊥) → _≡_ {A = ℕ} (cond (a && b) 6908 6874) 6874
-    go true true h e other = absurd (other (ltb-true 1 (length f) h, eqb-true (wordAt f 0) 2 e))
+    go : (a b : Bool) → ltb 1 (length f) ≡ a → hasJuniors (wordAt f 0) ≡ b → ((2 ≤ length f) × WithJuniors (wordAt f 0) → ⊥) → _≡_ {A = ℕ} (cond (a && b) 6908 6874) 6874
+    go true true h e other = absurd (other (ltb-true 1 (length f) h, juniors-iff (wordAt f 0) .0 e))
     go true false h e other = refl
     go false b h e other = refl
 
 -- the output that a file's version wants has room for every file of that version with its tables
 pub room-enough : (f : List ℕ) (n : ℕ) → Headed f → n ≤ 1024 → lengthFor (headAt f .at .nodes) n ≤ roomFor f
 room-enough [] n d few = omega (arith, few)
-room-enough (x ∷ xs) n d few = go (eqb (wordAt f 0) 2) refl
+room-enough (x ∷ xs) n d few = go (hasJuniors (wordAt f 0)) refl
   where
     f : List ℕ
     f = x ∷ xs
@@ -78,7 +78,7 @@ room-enough (x ∷ xs) n d few = go (eqb (wordAt f 0) 2) refl
     l : Laid f (headAt f)
     l = d .laid
 
-    go : (b : Bool) → eqb (wordAt f 0) 2 ≡ b → lengthFor (headAt f .at .nodes) n ≤ roomFor f
+    go : (b : Bool) → hasJuniors (wordAt f 0) ≡ b → lengthFor (headAt f .at .nodes) n ≤ roomFor f
     go true e =
         let long : ltb 1 (length f) ≡ true = lt-ltb 1 (length f) (omega (arith, l)) in
         let room : roomFor f ≡ 6908 = rw (long, e) in

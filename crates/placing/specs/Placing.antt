@@ -114,7 +114,7 @@ placedAnswer version C v = answerBy version C (turnsFor C) v
 unfoldable pub measuring : List ℕ → Placed
 measuring f = placedAnswer (versionAt f) (contentsOf f) (judging f)
 
--- 17 first of all: output under 6,874 bytes, or under 6,908 where the file's first word is 2
+-- 17 first of all: output under 6,874 bytes, or under 6,908 where the file's first word is 2 or 3
 unfoldable pub placing : List ℕ → ℕ → Placed
 placing f room = cond (ltb room (roomFor f)) (noPlace 17 0) (measuring f)
 

@@ -102,7 +102,7 @@ bare-iff F = (
   λ b. (masks-bare F .1 (all-map (λ s h. h .0) (F .sessions) b), switches-bare F .1 (all-map (λ s h. h .1) (F .sessions) b)),
 )
 
--- 17 first of all: output under 6,874 bytes, or 6,908 where the first word is 2
+-- 17 first of all: output under 6,874 bytes, or 6,908 where the first word is 2 or 3
 pub seventeen-exactly : (f : List ℕ) (room : ℕ) → (placing f room ≡ noPlace 17 0) ↔ (room < roomFor f)
 seventeen-exactly f room = room-stage f room
 

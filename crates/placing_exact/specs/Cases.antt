@@ -1,4 +1,4 @@
--- The paper's starred cases, those of idle holding (02, K4), of version 2 and of zero bytes (02, K7). Braces hold the roles that permit a step.
+-- The paper's starred cases, those of idle holding (02, K4), of version 2, of version 3 (02, K11) and of zero bytes (02, K7). Braces hold the roles that permit a step.
 use Prim.Native.Nat.{ℕ, _*_}
 use mathlib.Core.Path.{_≡_}
 use mathlib.Core.List.{List, [], _∷_, _++_, map}
@@ -162,10 +162,29 @@ juniorCases =
     -- 6 at a later place comes before it, and 7 after it
     ∷ checks (2 ∷ 2 ∷ 3 ∷ 2 ∷ 2 ∷ 1 ∷ 3 ∷ 14 ∷ 16 ∷ 28 ∷ 31 ∷ 33 ∷ 37 ∷ 40 ∷ 4 ∷ 0 ∷ 1 ∷ 0 ∷ 0 ∷ 0 ∷ 2 ∷ 0 ∷ 0 ∷ 0 ∷ 0 ∷ 0 ∷ 0 ∷ 0 ∷ 0 ∷ 2 ∷ 0 ∷ 0 ∷ 0 ∷ 2 ∷ 1 ∷ 2 ∷ 3 ∷ 1 ∷ 0 ∷ 1 ∷ twoSends) (refused 6 35)
     ∷ checks (2 ∷ 2 ∷ 3 ∷ 2 ∷ 2 ∷ 1 ∷ 3 ∷ 14 ∷ 16 ∷ 28 ∷ 31 ∷ 33 ∷ 37 ∷ 40 ∷ 4 ∷ 0 ∷ 1 ∷ 0 ∷ 0 ∷ 0 ∷ 2 ∷ 0 ∷ 0 ∷ 0 ∷ 0 ∷ 0 ∷ 0 ∷ 0 ∷ 0 ∷ 2 ∷ 0 ∷ 0 ∷ 0 ∷ 2 ∷ 1 ∷ 2 ∷ 2 ∷ 3 ∷ 0 ∷ 1 ∷ twoSends) (refused 21 29)
-    -- 26 bytes whose first word is 2, the least file of version 2, and version 3
+    -- 26 bytes whose first word is 2, the least file of version 2, and version 4
     ∷ checks (2 ∷ 0 ∷ 0 ∷ 0 ∷ 0 ∷ 0 ∷ 0 ∷ 13 ∷ 13 ∷ 13 ∷ 13 ∷ 13 ∷ 13 ∷ []) (refused 1 0)
     ∷ checks (2 ∷ 0 ∷ 0 ∷ 0 ∷ 0 ∷ 0 ∷ 0 ∷ 14 ∷ 14 ∷ 14 ∷ 14 ∷ 14 ∷ 14 ∷ 14 ∷ []) fine
-    ∷ checks (3 ∷ 0 ∷ 0 ∷ 0 ∷ 0 ∷ 0 ∷ 0 ∷ 14 ∷ 14 ∷ 14 ∷ 14 ∷ 14 ∷ 14 ∷ 14 ∷ []) (refused 2 0)
+    ∷ checks (4 ∷ 0 ∷ 0 ∷ 0 ∷ 0 ∷ 0 ∷ 0 ∷ 14 ∷ 14 ∷ 14 ∷ 14 ∷ 14 ∷ 14 ∷ 14 ∷ []) (refused 2 0)
+    ∷ []
+
+-- the same words in version 3
+abbrev third : List ℕ → List ℕ
+third [] = []
+third (v ∷ ws) = 3 ∷ ws
+
+abbrev pub columnCases : List Case
+columnCases =
+    -- all tags, then all f1, then all f2: the placed file has as many words between them as it has nodes
+    places (third (withMasks chain 3 (6 ∷ 6 ∷ 0 ∷ 257 ∷ 258 ∷ 0 ∷ 2 ∷ 2 ∷ 0 ∷ []))) (third (withMasks chain 5 (7 ∷ 6 ∷ 6 ∷ 8 ∷ 0 ∷ 3 ∷ 257 ∷ 258 ∷ 3 ∷ 0 ∷ 0 ∷ 2 ∷ 2 ∷ 0 ∷ 0 ∷ []))) 1
+    ∷ checks (third (withMasks chain 5 (7 ∷ 6 ∷ 6 ∷ 8 ∷ 0 ∷ 3 ∷ 257 ∷ 258 ∷ 3 ∷ 0 ∷ 0 ∷ 2 ∷ 2 ∷ 0 ∷ 0 ∷ []))) fine
+    -- rows in a column file: 257 is no tag
+    ∷ checks (third (withMasks chain 3 twoSends)) (refused 8 2)
+    -- a mask of juniors is judged, at its offset
+    ∷ checks (third (withMasks (0 ∷ 2 ∷ 0 ∷ []) 3 twoSends)) (refused 21 29)
+    -- 26 bytes whose first word is 3, and the least file of version 3
+    ∷ checks (3 ∷ 0 ∷ 0 ∷ 0 ∷ 0 ∷ 0 ∷ 0 ∷ 13 ∷ 13 ∷ 13 ∷ 13 ∷ 13 ∷ 13 ∷ []) (refused 1 0)
+    ∷ checks (3 ∷ 0 ∷ 0 ∷ 0 ∷ 0 ∷ 0 ∷ 0 ∷ 14 ∷ 14 ∷ 14 ∷ 14 ∷ 14 ∷ 14 ∷ 14 ∷ []) fine
     ∷ []
 
 -- "Zero bytes shall read as the version 1 file with all counts 0 .. One to 25 bytes still give 1": one byte and 25 are in the promise of all lengths (`short-refused`)

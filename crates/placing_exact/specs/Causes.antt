@@ -48,7 +48,7 @@ PlacedWith Size f =
 
 -- a refusal's number and place have their cause in a file and the room for the output
 pub data Cause (f : List ℕ) (room n p : ℕ) : Type 0 where
-  -- 17: output under 6,874 bytes, or under 6,908 for an input whose first word is 2
+  -- 17: output under 6,874 bytes, or under 6,908 for an input whose first word is 2 or 3
   no-room : n ≡ 17 → p ≡ 0 → room < roomFor f → Cause f room n p
   -- 1 to 10, 21 among them
   objected : OfFile n → Objection f n p → Cause f room n p

@@ -61,7 +61,7 @@ pub record Ruled (f : List ℕ) (F : File) : Type 0 where
   pub measured : sizesOf (turnsFor (contentsOf f)) ≡ length (nodesOf (graft F (insertAll (schemaFor F) (F .sessions) states)))
   pub written : placedBytes f ≡ encode (graft F (insertAll (schemaFor F) (F .sessions) states))
 
--- nothing before 14 in the order refuses: 17 (output under 6,874 bytes, or 6,908 where the first word is 2), then 1 to 10
+-- nothing before 14 in the order refuses: 17 (output under 6,874 bytes, or 6,908 where the first word is 2 or 3), then 1 to 10
 pub record Clean (f : List ℕ) (room : ℕ) : Type 0 where
   pub wide : roomFor f ≤ room
   pub names : readingNames f ≡ fine

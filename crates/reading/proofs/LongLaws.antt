@@ -10,7 +10,7 @@ use lib.Dec.{eqb, ltb, leb}
 use borrow.Author.Tests.{ltb-true, ltb-false, leb-true, leb-false, lt-ltb, le-ltb, ne-eqb}
 use Rattle.format.specs.Words.{wordAt}
 use Rattle.format.specs.Answers.{refused}
-use Rattle.format.specs.Header.{more, sixAt, offsetsAt, headIn, headAt, headBytes, countsFit, offsetsFit, lengthFor, largest, roomFor, from1, from2, from3, from4, from5, headOf, Laid}
+use Rattle.format.specs.Header.{isVersion, more, sixAt, offsetsAt, headIn, headAt, headBytes, countsFit, offsetsFit, lengthFor, largest, roomFor, from1, from2, from3, from4, from5, headOf, Laid}
 use Rattle.format.specs.declared.Head.{Head}
 use Rattle.format.specs.declared.HeadAnswer.{HeadAnswer}
 use Rattle.format.specs.declared.HeadAnswer.the-variants.{Refused}
@@ -26,7 +26,7 @@ most-bytes (b ∷ bs) h l = omega arith
 
 -- the refusal of a longer input: by its head, 2 to 5, and before that by its length's remainder
 abbrev headNumber : Head → ℕ
-headNumber h = cond (eqb (h .version) 1 || eqb (h .version) 2) (cond (countsFit (h .count)) (cond (offsetsFit (h .version) (h .count) (h .at)) 5 4) 3) 2
+headNumber h = cond (isVersion (h .version)) (cond (countsFit (h .count)) (cond (offsetsFit (h .version) (h .count) (h .at)) 5 4) 3) 2
 
 abbrev longNumber : ℕ → Head → ℕ
 longNumber odd h = cond (eqb odd 1) 1 (headNumber h)
@@ -45,7 +45,7 @@ unfolding headOf from1 from2 from3 from4 from5
 long-words x xs long =
     rw (le-ltb (length f) (headBytes (wordAt f 0)) (omega (arith, more-few (wordAt f 0))))
     (refuses-first (eqb (length f % 2) 1) (from2 f) (headNumber (headAt f)) 1
-    (refuses (eqb (wordAt f 0) 1 || eqb (wordAt f 0) 2) (from3 f) (cond (countsFit (sixAt f 1)) (cond back 5 4) 3) 2 (λ version.
+    (refuses (isVersion (wordAt f 0)) (from3 f) (cond (countsFit (sixAt f 1)) (cond back 5 4) 3) 2 (λ version.
     refuses (countsFit (sixAt f 1)) (from4 f) (cond back 5 4) 3 (λ counts.
     refuses back (from5 f) 5 4 (λ offsets. longer counts offsets)))))
   where

@@ -5,7 +5,7 @@ use Rattle.format.specs.Answers.{fine}
 use Rattle.format.specs.Contents.{Contents}
 use Rattle.format.specs.declared.Role.{Role}
 use Rattle.reading.specs.Reading.{reading}
-use Rattle.reading_exact.specs.File.{Grants, first, second, versionOf, rolesOf, juniorsOf, masksNone, asSecond, File, WellFormed, contentsFor, encode}
+use Rattle.reading_exact.specs.File.{Grants, first, second, third, versionOf, rolesOf, juniorsOf, masksNone, asSecond, File, WellFormed, contentsFor, encode}
 use Rattle.reading_exact.proofs.ContentsJudged.{ContentsFit, not-refused}
 use Rattle.reading_exact.proofs.FileContents.{formed-by, known}
 use Rattle.reading_exact.proofs.Exact.{contents-fit}
@@ -21,10 +21,12 @@ no-juniors (r ∷ rs) = ap (λ l. 0 ∷ l) (no-juniors rs)
 same-roles : (g : Grants) → rolesOf (masksNone g) ≡ rolesOf g
 same-roles (first rs) = own-roles rs
 same-roles (second rs) = refl
+same-roles (third rs) = refl
 
 same-juniors : (g : Grants) → juniorsOf (masksNone g) ≡ juniorsOf g
 same-juniors (first rs) = no-juniors rs
 same-juniors (second rs) = refl
+same-juniors (third rs) = refl
 
 pub as-second-held : (F : File) → contentsFor (asSecond F) ≡ contentsFor F
 as-second-held F = λ i. record {

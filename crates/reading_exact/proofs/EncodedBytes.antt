@@ -2,26 +2,26 @@
 use Prim.Native.Nat.{ℕ, suc, _+_, _-_, _^_, _≤_, _<_}
 use mathlib.Core.Path.{_≡_, sym, subst}
 use mathlib.Core.Bool.{Bool, true, false, cond}
-use mathlib.Core.List.{List, [], _∷_, _++_}
+use mathlib.Core.List.{List, [], _∷_, _++_, map}
 use native.Mathlib.Omega.{arith}
-use lib.Dec.{eqb}
 use lib.ListN.{length}
 use Rattle.masks.specs.Mask.{NamesOnly}
 use Rattle.masks.proofs.Bounds.{namesOnly-iff, namesOnly-lt}
-use Rattle.format.specs.Header.{more, juniorRecords, sixWords, headWords}
-use Rattle.format.specs.Writing.{juniorWords, headFor, fileWords, encoded}
+use Rattle.format.specs.Header.{hasJuniors, more, juniorRecords, sixWords, headWords}
+use Rattle.format.specs.Sections.{byColumn}
+use Rattle.format.specs.Writing.{juniorWords, nodeRows, nodeColumns, nodeWords, headFor, fileWords, encoded}
 use Rattle.format.specs.declared.Seven.{Seven}
 use Rattle.format.specs.declared.Role.{Role}
 use Rattle.format.specs.declared.Node.{Node}
 use Rattle.format.proofs.HeadLaws.{more-few, juniors-few}
 use Rattle.reading_exact.specs.Lists.{All}
 use Rattle.reading_exact.specs.Tree.{past, flatten, Worded}
-use Rattle.reading_exact.specs.File.{Routine, Grants, first, second, versionOf, rolesOf, juniorsOf, LowerFrom, File, WellFormed, nodesOf, rooted, contentsFor, encode}
+use Rattle.reading_exact.specs.File.{Routine, Grants, first, second, third, versionOf, rolesOf, juniorsOf, LowerFrom, File, WellFormed, nodesOf, rooted, contentsFor, encode}
 use Rattle.reading_exact.proofs.TreeEnds.{past-length}
 use Rattle.reading_exact.proofs.WordedTrees.{WordsFit, worded-nodes}
 use Rattle.reading_exact.proofs.Bytes.{Byte, Word, small-bytes}
 use Rattle.reading_exact.proofs.Rows.{cat}
-use Rattle.reading_exact.proofs.SectionRows.{oneRow, roleRow, channelRow, sessionRow, nodeRow, rowWords, file-rows}
+use Rattle.reading_exact.proofs.SectionRows.{oneRow, roleRow, channelRow, sessionRow, rowWords, file-rows}
 use Rattle.reading_exact.proofs.AllLaws.{all-map, all-append, all-get}
 use Rattle.reading_exact.proofs.RecordsJudged.{Seated}
 use Rattle.reading_exact.proofs.FileContents.{juniors-each, treesOf, length-rooted, all-trees}
@@ -51,6 +51,35 @@ small-rooted at (s ∷ ss) l h =
     let e = past-length at (s .tree) (flatten (past at (s .tree)) (treesOf ss)) in
     ((h .0 .0, (h .0 .1, (omega arith, tt))), small-rooted (past at (s .tree)) ss (omega arith) (h .1))
 
+-- by row and by column
+small-rows : (ns : List Node) → All WordsFit ns → All Word (nodeRows ns)
+unfolding nodeRows
+small-rows [] h = tt
+small-rows (n ∷ ns) h = (h .0 .0, (h .0 .1, (h .0 .2, small-rows ns (h .1))))
+
+small-column : (word : Node → ℕ) → ((n : Node) → WordsFit n → Word (word n)) → (ns : List Node) → All WordsFit ns → All Word (map word ns)
+small-column word fits [] h = tt
+small-column word fits (n ∷ ns) h = (fits n (h .0), small-column word fits ns (h .1))
+
+small-nodes : (v : ℕ) (ns : List Node) → All WordsFit ns → Small (nodeWords v ns)
+unfolding nodeColumns
+small-nodes v ns h = record { words = go (byColumn v) }
+  where
+    A : List ℕ
+    A = map (λ (n : Node). n .tag) ns
+
+    B : List ℕ
+    B = map (λ (n : Node). n .f1) ns
+
+    C : List ℕ
+    C = map (λ (n : Node). n .f2) ns
+
+    go : (c : Bool) → All Word (cond c (nodeColumns ns) (nodeRows ns))
+    go false = small-rows ns h
+    go true =
+        all-append Word A (B ++ C) (small-column (λ (n : Node). n .tag) (λ n f. f .0) ns h)
+        (all-append Word B C (small-column (λ (n : Node). n .f1) (λ n f. f .1) ns h) (small-column (λ (n : Node). n .f2) (λ n f. f .2) ns h))
+
 module _ (F : File) (w : WellFormed F) where
   small-mask : (m : ℕ) → NamesOnly (length (rolesOf (F .grants))) m → Word m
   small-mask m h = mask-lt 16 (length (rolesOf (F .grants))) m (w .few-roles) h
@@ -68,14 +97,11 @@ module _ (F : File) (w : WellFormed F) where
       let all = all-get (NamesOnly (length (rolesOf (F .grants)))) (F .users) (s .user - 1) 0 there (w .users-fit) in
       (omega arith, small-mask (s .mask) (λ x p. all x (h .1 x p)))
 
-  small-node : (n : Node) → WordsFit n → All Word (nodeRow n)
-  small-node n h = (h .0, (h .1, (h .2, tt)))
-
-  small-nodes : All (λ n. All Word (nodeRow n)) (nodesOf F)
-  small-nodes =
+  fit-nodes : All WordsFit (nodesOf F)
+  fit-nodes =
       let worded : All Worded (treesOf (F .sessions)) = all-trees Worded (F .sessions) .1 (all-map (λ s h. h .1) (F .sessions) (w .trees-fit)) in
       let few = w .few-nodes in
-      all-map small-node (nodesOf F) (worded-nodes 1 (treesOf (F .sessions)) worded (omega arith))
+      worded-nodes 1 (treesOf (F .sessions)) worded (omega arith)
 
   abbrev v : ℕ
   v = versionOf (F .grants)
@@ -86,9 +112,10 @@ module _ (F : File) (w : WellFormed F) where
       go : (g : Grants) → versionOf g < 65536
       go (first rs) = omega arith
       go (second rs) = omega arith
+      go (third rs) = omega arith
 
   small-head : Small (headWords (headFor v (contentsFor F)))
-  small-head = record { words = go (eqb v 2) }
+  small-head = record { words = go (hasJuniors v) }
     where
       at : Seven
       at = headFor v (contentsFor F) .at
@@ -113,7 +140,7 @@ module _ (F : File) (w : WellFormed F) where
   small-lower i (m ∷ ms) l h = (mask-lt 16 16 m (omega arith) (λ x p. omega (arith, h .0 x p)), small-lower (suc i) ms (omega arith) (h .1))
 
   small-juniors : Small (juniorWords v (juniorsOf (F .grants)))
-  small-juniors = record { words = go (eqb v 2) }
+  small-juniors = record { words = go (hasJuniors v) }
     where
       go : (b : Bool) → All Word (cond b (juniorsOf (F .grants)) [])
       go true = small-lower 1 (juniorsOf (F .grants)) (omega (arith, w .few-roles, juniors-each F)) (w .juniors-fit)
@@ -129,7 +156,7 @@ module _ (F : File) (w : WellFormed F) where
       let kinds = small-cat oneRow (F .kinds) (all-map (λ k h. omega arith) (F .kinds) (w .kinds-fit)) in
       let channels = small-cat channelRow (F .channels) (all-map (λ c h. omega arith) (F .channels) (w .channels-fit)) in
       let sessions = small-cat sessionRow (rooted 1 (F .sessions)) (small-rooted 1 (F .sessions) (omega arith) (all-map small-user (F .sessions) (w .sessions-fit))) in
-      let nodes = small-cat nodeRow (nodesOf F) small-nodes in
+      let nodes = small-nodes v (nodesOf F) fit-nodes in
       small-append small-head (small-append users (small-append roles (small-append small-juniors (small-append kinds (small-append channels (small-append sessions nodes))))))
 
   -- so that `sound` speaks of every file that `complete` does

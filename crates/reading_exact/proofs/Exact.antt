@@ -4,15 +4,13 @@ use mathlib.Core.Path.{_≡_, refl, sym, ap, ap₂, _∙_, subst}
 use mathlib.Core.Logic.{_⊎_, inl, inr}
 use mathlib.Core.Bool.{Bool, true, false}
 use mathlib.Core.List.{List, [], _∷_, map}
-use lib.Dec.{eqb}
 use Rattle.format.specs.Words.{wordAt}
 use Rattle.format.specs.Answers.{fine}
-use Rattle.format.specs.Header.{asRead, headAt, versionAt, from1, from2, from3, from4, from5, headOf}
-use Rattle.format.specs.Sections.{placeOf, juniorsOf, nodeAt}
+use Rattle.format.specs.Header.{hasJuniors, asRead, headAt, versionAt, from1, from2, from3, from4, from5, headOf}
+use Rattle.format.specs.Sections.{juniorsOf, nodeSpot, nodeOf}
 use Rattle.format.specs.Contents.{Contents, tabled, contentsAt, contentsOf}
 use Rattle.format.specs.Writing.{encoded}
 use Rattle.format.specs.declared.Head.{Head}
-use Rattle.format.specs.declared.Section.the-variants.{Nodes}
 use Rattle.format.proofs.ContentsLaws.{tabled-same, roles-held, juniors-held}
 use Rattle.trees.specs.Shape.{shapeFrom}
 use Rattle.reading.specs.Reading.{reading}
@@ -85,14 +83,14 @@ same-contents v C ts formed nodes roots =
     λ i. record { users = C .users; roles = roles i; juniors = juniors i; kinds = C .kinds; channels = C .channels; sessions = sessions i; nodes = trees i }
 
 -- what is read is formed by the version that is read
-read-formed : (f : List ℕ) → Formed (versionAt f) (contentsOf f)
+pub read-formed : (f : List ℕ) → Formed (versionAt f) (contentsOf f)
 unfolding contentsAt
-read-formed f = go (eqb (versionAt f) 2) refl
+read-formed f = go (hasJuniors (versionAt f)) refl
   where
     h : Head
     h = headAt f
 
-    go : (b : Bool) → eqb (versionAt f) 2 ≡ b → Formed (versionAt f) (contentsOf f)
+    go : (b : Bool) → hasJuniors (versionAt f) ≡ b → Formed (versionAt f) (contentsOf f)
     go true e = inl (e, juniors-held f h ∙ sym (roles-held f h))
     go false e = inr (e, tabled-same (juniorsOf f h) (λ n. 0) 1 (h .count .roles) (λ j p q. rw e) ∙ ap (tabled (λ n. 0) 1) (sym (roles-held f h)))
 
@@ -101,9 +99,9 @@ read-fields : (f : List ℕ) (h : Head) → ((i : ℕ) → Word (wordAt f i)) �
 unfolding contentsAt tabled
 read-fields f h small = go 1 (h .count .nodes)
   where
-    go : (i k : ℕ) → All FieldsFit (tabled (λ n. nodeAt f (placeOf h Nodes n)) i k)
+    go : (i k : ℕ) → All FieldsFit (tabled (nodeOf f h) i k)
     go i zero = tt
-    go i (suc k) = ((small (placeOf h Nodes i + 1), small (placeOf h Nodes i + 2)), go (suc i) k)
+    go i (suc k) = ((small (nodeSpot h i 1), small (nodeSpot h i 2)), go (suc i) k)
 
 -- zero bytes and the file that they read as are answered alike
 pub read-alike : (f : List ℕ) → reading (asRead f) ≡ reading f

@@ -2,15 +2,15 @@
 use Prim.Native.Nat.{ℕ, suc}
 use mathlib.Core.Path.{_≡_, refl, sym, ap, ap₂, _∙_}
 use mathlib.Core.Logic.{_↔_, _⊎_, inl, inr}
-use mathlib.Core.Bool.{true, false, cond}
+use mathlib.Core.Bool.{Bool, true, false, cond}
 use mathlib.Core.List.{List, [], _∷_, map}
 use native.Mathlib.Omega.{arith}
-use lib.Dec.{eqb}
 use lib.ListN.{length, length-map}
 use borrow.Author.Tests.{eq-eqb, ne-eqb}
 use Rattle.format.specs.Words.{bytesOf}
-use Rattle.format.specs.Header.{nothingPlanned, asRead, versionAt}
-use Rattle.format.specs.Writing.{roleWords, channelWords, sessionWords, nodeWords, tableWords, fileWords, encoded}
+use Rattle.format.specs.Header.{hasJuniors, nothingPlanned, asRead, versionAt}
+use Rattle.format.specs.Sections.{byColumn}
+use Rattle.format.specs.Writing.{roleWords, channelWords, sessionWords, nodeRows, tableWords, fileWords, encoded}
 use Rattle.format.specs.Contents.{Contents, tabled, contentsAt, contentsOf}
 use Rattle.format.specs.declared.Head.{Head}
 use Rattle.format.specs.declared.Role.{Role}
@@ -18,7 +18,7 @@ use Rattle.format.specs.declared.Session.{Session}
 use Rattle.format.proofs.HeadLaws.{IsVersion}
 use Rattle.reading_exact.specs.Lists.{All}
 use Rattle.reading_exact.specs.Tree.{Tree, past, flatten}
-use Rattle.reading_exact.specs.File.{Routine, Senior, Grants, first, second, versionOf, rolesOf, juniorsOf, File, rooted, contentsFor, encode, unplanned, ReadsAs, sent, nothing-sent}
+use Rattle.reading_exact.specs.File.{Routine, Senior, Grants, first, second, third, versionOf, rolesOf, juniorsOf, File, rooted, contentsFor, encode, unplanned, ReadsAs, sent, nothing-sent}
 use Rattle.reading_exact.proofs.NodeSorts.{flatten-single}
 use Rattle.reading_exact.proofs.Standing.{rootsIn, rootsOf}
 use Rattle.reading_exact.proofs.Places.{Formed, encoded-back}
@@ -84,7 +84,7 @@ seniors (r ∷ rs) (j ∷ js) = record { own = r; juniors = j } ∷ seniors rs j
 
 -- the roles by a version
 abbrev pub grantsFor : ℕ → List Role → List ℕ → Grants
-grantsFor v rs js = cond (eqb v 2) (second (seniors rs js)) (first rs)
+grantsFor v rs js = cond (hasJuniors v) (cond (byColumn v) (third (seniors rs js)) (second (seniors rs js))) (first rs)
 
 seniors-back : (rs : List Senior) → seniors (rolesOf (second rs)) (juniorsOf (second rs)) ≡ rs
 unfolding seniors
@@ -94,6 +94,7 @@ seniors-back (r ∷ rs) = ap {B = List Senior} (λ l. r ∷ l) (seniors-back rs)
 grants-back : (g : Grants) → grantsFor (versionOf g) (rolesOf g) (juniorsOf g) ≡ g
 grants-back (first rs) = refl
 grants-back (second rs) = ap second (seniors-back rs)
+grants-back (third rs) = ap third (seniors-back rs)
 
 seniors-roles : (rs : List Role) (js : List ℕ) → length js ≡ length rs → rolesOf (second (seniors rs js)) ≡ rs
 unfolding seniors
@@ -116,27 +117,37 @@ zeros i (r ∷ rs) = ap {B = List ℕ} (λ l. 0 ∷ l) (zeros (suc i) rs)
 
 -- what a version holds is the roles that it makes
 pub grants-held : (v : ℕ) (C : Contents) → Formed v C → (rolesOf (grantsFor v (C .roles) (C .juniors)) ≡ C .roles) × (juniorsOf (grantsFor v (C .roles) (C .juniors)) ≡ C .juniors)
-grants-held v C (inl (e, same)) = rw e (seniors-roles (C .roles) (C .juniors) same, seniors-juniors (C .roles) (C .juniors) same)
+grants-held v C (inl (e, same)) = rw e (go (byColumn v))
+  where
+    either : Bool → Grants
+    either b = cond b (third (seniors (C .roles) (C .juniors))) (second (seniors (C .roles) (C .juniors)))
+
+    go : (b : Bool) → (rolesOf (either b) ≡ C .roles) × (juniorsOf (either b) ≡ C .juniors)
+    go true = (seniors-roles (C .roles) (C .juniors) same, seniors-juniors (C .roles) (C .juniors) same)
+    go false = (seniors-roles (C .roles) (C .juniors) same, seniors-juniors (C .roles) (C .juniors) same)
 grants-held v C (inr (e, none)) = rw e (refl, zeros 1 (C .roles) ∙ sym none)
 
 pub version-held : (v : ℕ) → IsVersion v → (rs : List Role) (js : List ℕ) → versionOf (grantsFor v rs js) ≡ v
-version-held v (inl e) rs js = rw (ne-eqb v 2 (omega arith)) (sym e)
-version-held v (inr e) rs js = rw (eq-eqb v 2 e) (sym e)
+version-held v (inl e) rs js = rw (ne-eqb v 2 (omega arith), ne-eqb v 3 (omega arith)) (sym e)
+version-held v (inr (inl e)) rs js = rw (eq-eqb v 2 e, ne-eqb v 3 (omega arith)) (sym e)
+version-held v (inr (inr e)) rs js = rw (ne-eqb v 2 (omega arith), eq-eqb v 3 e) (sym e)
 
 -- a file's own contents are formed by its version
 pub formed-by : (F : File) → Formed (versionOf (F .grants)) (contentsFor F)
 formed-by F = go (F .grants)
   where
-    go : (g : Grants) → ((eqb (versionOf g) 2 ≡ true) × (length (juniorsOf g) ≡ length (rolesOf g))) ⊎ ((eqb (versionOf g) 2 ≡ false) × (juniorsOf g ≡ tabled (λ n. 0) 1 (length (rolesOf g))))
+    go : (g : Grants) → ((hasJuniors (versionOf g) ≡ true) × (length (juniorsOf g) ≡ length (rolesOf g))) ⊎ ((hasJuniors (versionOf g) ≡ false) × (juniorsOf g ≡ tabled (λ n. 0) 1 (length (rolesOf g))))
     go (first rs) = inr (refl, zeros 1 rs)
     go (second rs) = inl (refl, length-map rs (λ (r : Senior). r .juniors) ∙ sym (length-map rs (λ (r : Senior). r .own)))
+    go (third rs) = inl (refl, length-map rs (λ (r : Senior). r .juniors) ∙ sym (length-map rs (λ (r : Senior). r .own)))
 
 pub known : (F : File) → IsVersion (versionOf (F .grants))
 known F = go (F .grants)
   where
     go : (g : Grants) → IsVersion (versionOf g)
     go (first rs) = inl refl
-    go (second rs) = inr refl
+    go (second rs) = inr (inl refl)
+    go (third rs) = inr (inr refl)
 
 -- a mask for each role
 pub juniors-each : (F : File) → length (juniorsOf (F .grants)) ≡ length (rolesOf (F .grants))
@@ -145,6 +156,7 @@ juniors-each F = go (F .grants)
     go : (g : Grants) → length (juniorsOf g) ≡ length (rolesOf g)
     go (first rs) = length-map rs (λ (r : Role). 0)
     go (second rs) = length-map rs (λ (r : Senior). r .juniors) ∙ sym (length-map rs (λ (r : Senior). r .own))
+    go (third rs) = length-map rs (λ (r : Senior). r .juniors) ∙ sym (length-map rs (λ (r : Senior). r .own))
 
 abbrev pub fileOf : ℕ → Contents → List Tree → File
 fileOf v C ts = record {
@@ -193,7 +205,7 @@ single F G e =
 
 -- the bytes of the file with nothing planned
 pub unplanned-bytes : encode unplanned ≡ nothingPlanned
-unfolding encode encoded fileWords tableWords roleWords channelWords sessionWords nodeWords rooted flatten bytesOf
+unfolding encode encoded fileWords tableWords roleWords channelWords sessionWords nodeRows rooted flatten bytesOf
 unplanned-bytes = refl
 
 -- bytes read as a file exactly if the bytes as they are read are its own

@@ -11,7 +11,7 @@ use borrow.Author.Tests.{eqb-true, eqb-false, eq-eqb, ne-eqb, ltb-true, lt-ltb}
 use Rattle.format.specs.Words.{wordAt}
 use Rattle.format.specs.Answers.{fine, refused}
 use Rattle.format.specs.Contents.{Contents, contentsAt, contentsOf}
-use Rattle.format.specs.Header.{more, sixAt, offsetsAt, asRead, headAt, headBytes, lengthFits, lengthFor, Laid, from5, from4, from3, from2, from1, headOf}
+use Rattle.format.specs.Header.{hasJuniors, WithJuniors, more, sixAt, offsetsAt, asRead, headAt, headBytes, lengthFits, lengthFor, Laid, from5, from4, from3, from2, from1, headOf}
 use Rattle.tables.specs.Records.{recordsAnswer}
 use Rattle.trees.specs.Shape.{shapeAnswer}
 use Rattle.reading.specs.Reading.{bodyAnswer, readingBy, reading}
@@ -19,7 +19,7 @@ use Rattle.format.specs.declared.Head.{Head}
 use Rattle.format.specs.declared.HeadAnswer.{HeadAnswer}
 use Rattle.format.specs.declared.HeadAnswer.the-variants.{Fine, Refused}
 use Rattle.format.proofs.BoolLaws.{eq-iff}
-use Rattle.format.proofs.HeadLaws.{IsVersion, version-iff, counts-iff, offsets-iff, laid-iff, more-few}
+use Rattle.format.proofs.HeadLaws.{juniors-iff, IsVersion, version-iff, counts-iff, offsets-iff, laid-iff, more-few}
 use Rattle.reading_exact.specs.Order.{inTurn, First}
 use Rattle.format.specs.Header.{Counted, BackToBack}
 use Rattle.reading_exact.specs.Refusals.{Refusable, short, short-second, odd, version, count, offset, size, misnamed, misranked, unassigned, misshapen, lengthOf, readingOrder}
@@ -88,9 +88,9 @@ module _ (f : List ℕ) where
   abbrev From2 : ℕ → ℕ → Type 0
   From2 = Both (OfHead 2 (IsVersion (wordAt g 0) → ⊥)) From3
 
-  -- under 26 bytes, or a version 2 file under 28
+  -- under 26 bytes, or a file of version 2 or 3 under 28
   abbrev Short : Type 0
-  Short = (length g < 26) ⊎ ((wordAt g 0 ≡ 2) × (length g < 28))
+  Short = (length g < 26) ⊎ (WithJuniors (wordAt g 0) × (length g < 28))
 
   abbrev From1 : ℕ → ℕ → Type 0
   From1 = Both (OfHead 1 (Short ⊎ (length g % 2 ≡ 1))) From2
@@ -132,15 +132,15 @@ module _ (f : List ℕ) where
 
   -- the test of 1 by the first word
   short-iff : (ltb (length g) (headBytes (wordAt g 0)) ≡ true) ↔ Short
-  short-iff = (to (eqb (wordAt g 0) 2) refl, back)
+  short-iff = (to (hasJuniors (wordAt g 0)) refl, back)
     where
-      to : (b : Bool) → eqb (wordAt g 0) 2 ≡ b → ltb (length g) (headBytes (wordAt g 0)) ≡ true → Short
-      to true e h = let one : more (wordAt g 0) ≡ 1 = rw e in inr (eqb-true (wordAt g 0) 2 e, omega (arith, ltb-true (length g) (headBytes (wordAt g 0)) h, one))
+      to : (b : Bool) → hasJuniors (wordAt g 0) ≡ b → ltb (length g) (headBytes (wordAt g 0)) ≡ true → Short
+      to true e h = let one : more (wordAt g 0) ≡ 1 = rw e in inr (juniors-iff (wordAt g 0) .0 e, omega (arith, ltb-true (length g) (headBytes (wordAt g 0)) h, one))
       to false e h = let none : more (wordAt g 0) ≡ 0 = rw e in inl (omega (arith, ltb-true (length g) (headBytes (wordAt g 0)) h, none))
 
       back : Short → ltb (length g) (headBytes (wordAt g 0)) ≡ true
       back (inl l) = lt-ltb (length g) (headBytes (wordAt g 0)) (omega (arith, l))
-      back (inr (e, l)) = let one : more (wordAt g 0) ≡ 1 = rw (eq-eqb (wordAt g 0) 2 e) in lt-ltb (length g) (headBytes (wordAt g 0)) (omega (arith, l, one))
+      back (inr (e, l)) = let one : more (wordAt g 0) ≡ 1 = rw (juniors-iff (wordAt g 0) .1 e) in lt-ltb (length g) (headBytes (wordAt g 0)) (omega (arith, l, one))
 
   first1 : First readingOrder From1 (reading f)
   unfolding reading headOf from1
@@ -164,7 +164,7 @@ module _ (f : List ℕ) where
   to-refusable n p (inl (a, b, inl (inl l))) = short a b l
   to-refusable n p (inl (a, b, inl (inr (e, l)))) = short-second a b e l
   to-refusable n p (inl (a, b, inr e)) = odd a b e
-  to-refusable n p (inr (inl (a, b, o))) = version a b (λ e. o (inl e)) (λ e. o (inr e))
+  to-refusable n p (inr (inl (a, b, o))) = version a b (λ e. o (inl e)) (λ e. o (inr (inl e))) (λ e. o (inr (inr e)))
   to-refusable n p (inr (inr (inl (a, b, o)))) = count a b o
   to-refusable n p (inr (inr (inr (inl (a, b, o))))) = offset a b o
   to-refusable n p (inr (inr (inr (inr (inl (a, b, o)))))) = size a b o
@@ -177,11 +177,12 @@ module _ (f : List ℕ) where
   of-refusable n p (short a b l) = inl (a, b, inl (inl l))
   of-refusable n p (short-second a b e l) = inl (a, b, inl (inr (e, l)))
   of-refusable n p (odd a b e) = inl (a, b, inr e)
-  of-refusable n p (version a b o s) = inr (inl (a, b, neither))
+  of-refusable n p (version a b o s t) = inr (inl (a, b, neither))
     where
       neither : IsVersion (wordAt g 0) → ⊥
       neither (inl e) = o e
-      neither (inr e) = s e
+      neither (inr (inl e)) = s e
+      neither (inr (inr e)) = t e
   of-refusable n p (count a b o) = inr (inr (inl (a, b, o)))
   of-refusable n p (offset a b o) = inr (inr (inr (inl (a, b, o))))
   of-refusable n p (size a b o) = inr (inr (inr (inr (inl (a, b, o)))))
@@ -199,7 +200,7 @@ pub refusable-turn : (f : List ℕ) (n p : ℕ) → Refusable f n p → (1 ≤ n
 refusable-turn f n p (short a b l) = rw a (omega arith)
 refusable-turn f n p (short-second a b e l) = rw a (omega arith)
 refusable-turn f n p (odd a b e) = rw a (omega arith)
-refusable-turn f n p (version a b o s) = rw a (omega arith)
+refusable-turn f n p (version a b o s t) = rw a (omega arith)
 refusable-turn f n p (count a b o) = rw a (omega arith)
 refusable-turn f n p (offset a b o) = rw a (omega arith)
 refusable-turn f n p (size a b o) = rw a (omega arith)

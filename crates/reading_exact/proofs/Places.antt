@@ -3,23 +3,23 @@ use Prim.Native.Nat.{ℕ, _+_, _*_}
 use mathlib.Core.Path.{_≡_, refl, sym, ap, _∙_, subst}
 use mathlib.Core.Logic.{_⊎_, inl, inr}
 use mathlib.Core.Bool.{Bool, true, false, cond, false≢true}
-use mathlib.Core.List.{List, [], _++_, append-nil}
+use mathlib.Core.List.{List, [], _++_}
 use native.Mathlib.Omega.{arith}
-use lib.Dec.{eqb}
 use lib.ListN.{length, length-append}
 use Rattle.format.specs.Words.{wordAt}
-use Rattle.format.specs.Header.{more, juniorRecords, headWords, lengthFor}
-use Rattle.format.specs.Sections.{placeOf, juniorsOf, nodeAt}
+use Rattle.format.specs.Header.{hasJuniors, more, juniorRecords, headWords, lengthFor}
+use Rattle.format.specs.Sections.{placeOf, juniorsOf}
 use Rattle.format.specs.Contents.{Contents, tabled, contentsAt, contentsOf}
-use Rattle.format.specs.Writing.{juniorWords, headFor, fileWords, encoded}
+use Rattle.format.specs.Writing.{juniorWords, nodeWords, headFor, fileWords, encoded}
 use Rattle.format.specs.declared.Head.{Head}
 use Rattle.format.specs.declared.Section.the-variants.{Juniors}
 use Rattle.format.proofs.ContentsLaws.{tabled-same}
 use Rattle.reading_exact.proofs.Bytes.{length-bytesOf}
 use Rattle.reading_exact.proofs.Rows.{Holds, holds-all, holds-past, cat, length-cat, rows-back}
-use Rattle.reading_exact.proofs.SectionRows.{oneRow, cat-one, roleRow, channelRow, sessionRow, nodeRow, roleAt, channelAt, sessionAt}
-use Rattle.reading_exact.proofs.SectionRows.{one-back, role-back, channel-back, session-back, node-back, rowWords, file-rows, head-back}
+use Rattle.reading_exact.proofs.SectionRows.{oneRow, cat-one, roleRow, channelRow, sessionRow, roleAt, channelAt, sessionAt}
+use Rattle.reading_exact.proofs.SectionRows.{one-back, role-back, channel-back, session-back, rowWords, file-rows, head-back}
 use Rattle.format.proofs.WriteLaws.{head-length}
+use Rattle.format.proofs.SpotLaws.{node-words-length, section-read}
 
 chosen : (b : Bool) (x y : ℕ) → b ≡ true → cond b x y ≡ x
 chosen true x y e = refl
@@ -27,7 +27,7 @@ chosen false x y e = absurd (false≢true e)
 
 -- what a version holds: a mask of juniors for each role, and in version 1 all of them 0
 abbrev pub Formed : ℕ → Contents → Type 0
-Formed v C = ((eqb v 2 ≡ true) × (length (C .juniors) ≡ length (C .roles))) ⊎ ((eqb v 2 ≡ false) × (C .juniors ≡ tabled (λ n. 0) 1 (length (C .roles))))
+Formed v C = ((hasJuniors v ≡ true) × (length (C .juniors) ≡ length (C .roles))) ⊎ ((hasJuniors v ≡ false) × (C .juniors ≡ tabled (λ n. 0) 1 (length (C .roles))))
 
 module _ (v : ℕ) (C : Contents) (formed : Formed v C) where
   -- as many words as the head leaves room for
@@ -46,7 +46,7 @@ module _ (v : ℕ) (C : Contents) (formed : Formed v C) where
     kinds : (post : List ℕ) × Holds (encoded v C) (headFor v C .at .kinds) (cat oneRow (C .kinds) ++ post)
     channels : (post : List ℕ) × Holds (encoded v C) (headFor v C .at .channels) (cat channelRow (C .channels) ++ post)
     sessions : (post : List ℕ) × Holds (encoded v C) (headFor v C .at .sessions) (cat sessionRow (C .sessions) ++ post)
-    nodes : (post : List ℕ) × Holds (encoded v C) (headFor v C .at .nodes) (cat nodeRow (C .nodes) ++ post)
+    nodes : Holds (encoded v C) (headFor v C .at .nodes) (nodeWords v (C .nodes))
 
   users-length : length (cat oneRow (C .users)) ≡ length (C .users)
   users-length = omega (arith, length-cat oneRow 1 (λ x. refl) (C .users))
@@ -63,14 +63,14 @@ module _ (v : ℕ) (C : Contents) (formed : Formed v C) where
   sessions-length : length (cat sessionRow (C .sessions)) ≡ 3 * length (C .sessions)
   sessions-length = length-cat sessionRow 3 (λ x. refl) (C .sessions)
 
-  nodes-length : length (cat nodeRow (C .nodes)) ≡ 3 * length (C .nodes)
-  nodes-length = length-cat nodeRow 3 (λ x. refl) (C .nodes)
+  nodes-length : length (nodeWords v (C .nodes)) ≡ 3 * length (C .nodes)
+  nodes-length = node-words-length v (C .nodes)
 
   places : SectionsPlaced
   unfolding encoded
   places =
       let f : List ℕ = encoded v C in
-      let nodes : List ℕ = cat nodeRow (C .nodes) in
+      let nodes : List ℕ = nodeWords v (C .nodes) in
       let sessions : List ℕ = cat sessionRow (C .sessions) ++ nodes in
       let channels : List ℕ = cat channelRow (C .channels) ++ sessions in
       let kinds : List ℕ = cat oneRow (C .kinds) ++ channels in
@@ -95,7 +95,7 @@ module _ (v : ℕ) (C : Contents) (formed : Formed v C) where
         kinds = (channels, at-kinds);
         channels = (sessions, at-channels);
         sessions = (nodes, at-sessions);
-        nodes = ([], rw append-nil at-nodes);
+        nodes = at-nodes;
       }
 
   -- as long as its head says
@@ -105,7 +105,7 @@ module _ (v : ℕ) (C : Contents) (formed : Formed v C) where
       let sections : List ℕ =
       cat oneRow (C .users)
       ++ (cat roleRow (C .roles)
-      ++ (juniorWords v (C .juniors) ++ (cat oneRow (C .kinds) ++ (cat channelRow (C .channels) ++ (cat sessionRow (C .sessions) ++ cat nodeRow (C .nodes)))))) in
+      ++ (juniorWords v (C .juniors) ++ (cat oneRow (C .kinds) ++ (cat channelRow (C .channels) ++ (cat sessionRow (C .sessions) ++ nodeWords v (C .nodes)))))) in
       let rest : 13 + more v + length sections ≡ headFor v C .at .nodes + 3 * length (C .nodes) =
       simp length-append (omega (arith, users-length, roles-length, juniors-length, kinds-length, channels-length, sessions-length, nodes-length)) in
       let words : length (rowWords v C) ≡ headFor v C .at .nodes + 3 * length (C .nodes) =
@@ -128,7 +128,7 @@ module _ (v : ℕ) (C : Contents) (formed : Formed v C) where
       go (inl (e, same)) =
           let there : Holds f at (C .juniors ++ places .juniors .0) = subst (λ (b : Bool). Holds f at (cond b (C .juniors) [] ++ places .juniors .0)) e (places .juniors .1) in
           let rows : Holds f at (cat oneRow (C .juniors) ++ places .juniors .0) = rw (cat-one (C .juniors)) there in
-          tabled-same (juniorsOf f h) (λ n. wordAt f (placeOf h Juniors n)) 1 (length (C .roles)) (λ j p q. chosen (eqb v 2) _ 0 e)
+          tabled-same (juniorsOf f h) (λ n. wordAt f (placeOf h Juniors n)) 1 (length (C .roles)) (λ j p q. chosen (hasJuniors v) _ 0 e)
           ∙ ap (tabled (λ n. wordAt f (placeOf h Juniors n)) 1) (sym same) ∙ rows-back oneRow 1 (λ x. refl) f (wordAt f) at (one-back f) (C .juniors) (places .juniors .0) rows
       go (inr (e, none)) = tabled-same (juniorsOf f h) (λ n. 0) 1 (length (C .roles)) (λ j p q. rw e) ∙ sym none
 
@@ -144,6 +144,6 @@ module _ (v : ℕ) (C : Contents) (formed : Formed v C) where
       let kinds = rows-back oneRow 1 (λ x. refl) f (wordAt f) (at .at .kinds) (one-back f) (C .kinds) (st .kinds .0) (st .kinds .1) in
       let channels = rows-back channelRow 2 (λ x. refl) f (channelAt f) (at .at .channels) (channel-back f) (C .channels) (st .channels .0) (st .channels .1) in
       let sessions = rows-back sessionRow 3 (λ x. refl) f (sessionAt f) (at .at .sessions) (session-back f) (C .sessions) (st .sessions .0) (st .sessions .1) in
-      let nodes = rows-back nodeRow 3 (λ x. refl) f (nodeAt f) (at .at .nodes) (node-back f) (C .nodes) (st .nodes .0) (st .nodes .1) in
+      let nodes = section-read f at (C .nodes) refl (λ i h. st .nodes i) in
       ap (contentsAt f) (head-back v C)
       ∙ (λ i. record { users = users i; roles = roles i; juniors = juniors-back i; kinds = kinds i; channels = channels i; sessions = sessions i; nodes = nodes i })

@@ -9,10 +9,11 @@ use lib.ListN.{length}
 use borrow.Author.Tests.{leb-true, leb-false, eq-eqb, ne-eqb}
 use Rattle.format.specs.Words.{wordAt, wideAt}
 use Rattle.format.specs.Header.{headAt}
-use Rattle.format.specs.Sections.{placeOf, userRoles, roleOf, juniorsOf, carried, channelOf, sessionOf, nodeAt}
+use Rattle.format.specs.Sections.{placeOf, userRoles, roleOf, juniorsOf, carried, channelOf, sessionOf, byColumn, spot, nodeSpot, nodeOf}
 use Rattle.format.specs.Contents.{item, noRole, noChannel, noSession, noNode, tabled, contentsAt}
 use Rattle.format.specs.declared.Head.{Head}
-use Rattle.format.specs.declared.Section.the-variants.{Users, Roles, Juniors, Kinds, Channels, Sessions, Nodes}
+use Rattle.format.specs.declared.Section.the-variants.{Users, Roles, Juniors, Kinds, Channels, Sessions}
+use Rattle.format.proofs.HeadLaws.{juniors-iff, juniors-not}
 use Rattle.format.proofs.ContentsLaws.{item-made, item-past, users-held, roles-held, juniors-held, kinds-held, channels-held, sessions-held, nodes-held}
 use Rattle.reading_exact.specs.File.{InCount}
 use Rattle.reading_exact.specs.ByWords.{recordWord, after, CountedByWords, ByWords}
@@ -51,6 +52,18 @@ module _ (x : ℕ) (xs : List ℕ) where
       let next : q + 1 ≡ wordAt f at + width * (n - 1) + (j + 1) = omega (arith, e) in
       ap₂ (λ x y. x + 65536 * y) (word-on at width n j q e) (word-on at width n (j + 1) (q + 1) next)
 
+  -- where a node's words stand
+  by-row : (n j : ℕ) → byColumn (wordAt f 0) ≡ false → nodeSpot (headAt f) n j ≡ wordAt f (after f 12) + 3 * (n - 1) + j
+  unfolding spot
+  by-row n j e = rw e (omega arith)
+
+  row-on : (n j : ℕ) → (wordAt f 0 ≡ 3 → ⊥) → wordAt f (nodeSpot (headAt f) n j) ≡ recordWord f (after f 12) 3 n j
+  row-on n j e = ap (wordAt f) (by-row n j (ne-eqb (wordAt f 0) 3 e))
+
+  by-column : (n j : ℕ) → wordAt f 0 ≡ 3 → nodeSpot (headAt f) n j ≡ wordAt f 13 + (1 * (n - 1) + wordAt f 6 * j)
+  unfolding spot
+  by-column n j e = rw (eq-eqb (wordAt f 0) 3 e, ne-eqb (wordAt f 0) 2 (omega (arith, e)))
+
   by-words-of-some : ByWords f
   unfolding contentsAt
   by-words-of-some = record {
@@ -60,8 +73,8 @@ module _ (x : ℕ) (xs : List ℕ) where
         item-made noRole (roleOf f h) (h .count .roles) n pos le
         ∙ ap₂ (λ s r. record { sends = s; receives = r }) (wide-on 8 4 n 0 p (omega arith)) (wide-on 8 4 n 2 (p + 2) (omega arith));
     juniors = λ n (pos, le) e.
-        item-made 0 (juniorsOf f h) (h .count .roles) n pos le ∙ rw (eq-eqb (wordAt f 0) 2 e) (word-on 9 1 n 0 (placeOf h Juniors n) (omega arith));
-    no-juniors = λ n (pos, le) e. item-made 0 (juniorsOf f h) (h .count .roles) n pos le ∙ rw (ne-eqb (wordAt f 0) 2 e);
+        item-made 0 (juniorsOf f h) (h .count .roles) n pos le ∙ rw (juniors-iff (wordAt f 0) .1 e) (word-on 9 1 n 0 (placeOf h Juniors n) (omega arith));
+    no-juniors = λ n (pos, le) e. item-made 0 (juniorsOf f h) (h .count .roles) n pos le ∙ rw (juniors-not (wordAt f 0) e);
     kind = λ n (pos, le). item-made 0 (carried f h) (h .count .kinds) n pos le ∙ word-on (after f 9) 1 n 0 (placeOf h Kinds n) (omega arith);
     channel = λ n (pos, le).
         let p : ℕ = placeOf h Channels n in
@@ -71,10 +84,14 @@ module _ (x : ℕ) (xs : List ℕ) where
         let p : ℕ = placeOf h Sessions n in
         item-made noSession (sessionOf f h) (h .count .sessions) n pos le
         ∙ three (λ u m r. record { user = u; mask = m; root = r }) (word-on (after f 11) 3 n 0 p (omega arith)) (word-on (after f 11) 3 n 1 (p + 1) (omega arith)) (word-on (after f 11) 3 n 2 (p + 2) (omega arith));
-    node = λ n (pos, le).
-        let p : ℕ = placeOf h Nodes n in
-        item-made noNode (λ m. nodeAt f (placeOf h Nodes m)) (h .count .nodes) n pos le
-        ∙ three (λ t a b. record { tag = t; f1 = a; f2 = b }) (word-on (after f 12) 3 n 0 p (omega arith)) (word-on (after f 12) 3 n 1 (p + 1) (omega arith)) (word-on (after f 12) 3 n 2 (p + 2) (omega arith));
+    node = λ n (pos, le) e.
+        item-made noNode (nodeOf f h) (h .count .nodes) n pos le ∙ three (λ t a b. record { tag = t; f1 = a; f2 = b }) (row-on n 0 e) (row-on n 1 e) (row-on n 2 e);
+    column = λ n (pos, le) e.
+        let c0 : wordAt f 13 + (1 * (n - 1) + wordAt f 6 * 0) ≡ wordAt f 13 + (n - 1) = omega arith in
+        let c1 : wordAt f 13 + (1 * (n - 1) + wordAt f 6 * 1) ≡ wordAt f 13 + wordAt f 6 + (n - 1) = omega arith in
+        let c2 : wordAt f 13 + (1 * (n - 1) + wordAt f 6 * 2) ≡ wordAt f 13 + 2 * wordAt f 6 + (n - 1) = omega arith in
+        item-made noNode (nodeOf f h) (h .count .nodes) n pos le
+        ∙ three (λ t a b. record { tag = t; f1 = a; f2 = b }) (ap (wordAt f) (by-column n 0 e ∙ c0)) (ap (wordAt f) (by-column n 1 e ∙ c1)) (ap (wordAt f) (by-column n 2 e ∙ c2));
   }
     where
       h : Head
@@ -92,6 +109,7 @@ by-words [] = record {
   kind = λ n c. none-in n c;
   channel = λ n c. none-in n c;
   session = λ n c. none-in n c;
-  node = λ n c. none-in n c;
+  node = λ n c e. none-in n c;
+  column = λ n c e. none-in n c;
 }
 by-words (x ∷ xs) = by-words-of-some x xs

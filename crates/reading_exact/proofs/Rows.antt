@@ -9,6 +9,7 @@ use lib.Seq.{getD-append-add}
 use Rattle.format.specs.Words.{wordAt, bytesOf}
 use Rattle.format.specs.Sections.{wordsFrom}
 use Rattle.format.specs.Contents.{tabled}
+use Rattle.format.proofs.WriteLaws.{words-joined}
 use Rattle.reading_exact.proofs.Bytes.{word-back}
 
 -- from the word p on, the file holds these words
@@ -22,17 +23,6 @@ pub holds-past : (f : List ℕ) (p k : ℕ) (a b : List ℕ) → length a ≡ k 
 holds-past f p k a b e h n =
     let there : p + k + n ≡ p + (length a + n) = omega arith in
     ap (wordAt f) there ∙ h (length a + n) ∙ getD-append-add a b n 0
-
-pub words-joined : (f : List ℕ) (p a b : ℕ) → wordsFrom f p (a + b) ≡ wordsFrom f p a ++ wordsFrom f (p + a) b
-unfolding wordsFrom
-words-joined f p zero b =
-    let z : 0 + b ≡ b = omega arith in
-    let y : p + 0 ≡ p = omega arith in
-    rw (z, y)
-words-joined f p (suc a) b =
-    let z : suc a + b ≡ suc (a + b) = omega arith in
-    let y : p + suc a ≡ suc p + a = omega arith in
-    rw (z, y) (ap {B = List ℕ} (λ l. wordAt f p ∷ l) (words-joined f (suc p) a b))
 
 pub holds-words : (f : List ℕ) (p : ℕ) (ws : List ℕ) → Holds f p ws → wordsFrom f p (length ws) ≡ ws
 unfolding wordsFrom

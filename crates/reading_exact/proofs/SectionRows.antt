@@ -4,18 +4,15 @@ use mathlib.Core.Path.{_≡_, refl, ap, _∙_}
 use mathlib.Core.Bool.{Bool, true, false}
 use mathlib.Core.List.{List, [], _∷_, _++_, append-assoc}
 use native.Mathlib.Omega.{arith}
-use lib.Dec.{eqb}
 use lib.ListN.{getD}
 use Rattle.format.specs.Words.{wordAt, wideAt, bytesOf}
-use Rattle.format.specs.Header.{more, juniorRecords, offsetsAt, headIn, asRead, headAt, headWords}
-use Rattle.format.specs.Sections.{nodeAt}
+use Rattle.format.specs.Header.{hasJuniors, more, juniorRecords, offsetsAt, headIn, asRead, headAt, headWords}
 use Rattle.format.specs.Contents.{Contents}
 use Rattle.format.specs.Writing.{juniorWords, roleWords, channelWords, sessionWords, nodeWords, tableWords, headFor, fileWords, encoded}
 use Rattle.format.specs.declared.Head.{Head}
 use Rattle.format.specs.declared.Role.{Role}
 use Rattle.format.specs.declared.Channel.{Channel}
 use Rattle.format.specs.declared.Session.{Session}
-use Rattle.format.specs.declared.Node.{Node}
 use Rattle.reading_exact.proofs.Rows.{Holds, holds-all, cat}
 
 abbrev pub oneRow : ℕ → List ℕ
@@ -34,9 +31,6 @@ channelRow c = c .owner ∷ c .kind .0 ∷ []
 
 abbrev pub sessionRow : Session → List ℕ
 sessionRow s = s .user ∷ s .mask ∷ s .root ∷ []
-
-abbrev pub nodeRow : Node → List ℕ
-nodeRow n = n .tag ∷ n .f1 ∷ n .f2 ∷ []
 
 -- A record of each section at an offset.
 
@@ -80,13 +74,6 @@ session-back f p s post h =
     let root : wordAt f (p + 2) ≡ s .root = h 2 in
     λ i. record { user = user i; mask = mask i; root = root i }
 
-pub node-back : (f : List ℕ) (p : ℕ) (n : Node) (post : List ℕ) → Holds f p (nodeRow n ++ post) → nodeAt f p ≡ n
-node-back f p n post h =
-    let tag : wordAt f p ≡ n .tag = here f p (nodeRow n ++ post) h in
-    let f1 : wordAt f (p + 1) ≡ n .f1 = h 1 in
-    let f2 : wordAt f (p + 2) ≡ n .f2 = h 2 in
-    λ i. record { tag = tag i; f1 = f1 i; f2 = f2 i }
-
 -- the words of each section, as format writes them
 
 roles-cat : (rs : List Role) → roleWords rs ≡ cat roleRow rs
@@ -104,22 +91,17 @@ unfolding sessionWords cat
 sessions-cat [] = refl
 sessions-cat (s ∷ ss) = ap {B = List ℕ} (λ l. sessionRow s ++ l) (sessions-cat ss)
 
-nodes-cat : (ns : List Node) → nodeWords ns ≡ cat nodeRow ns
-unfolding nodeWords cat
-nodes-cat [] = refl
-nodes-cat (n ∷ ns) = ap {B = List ℕ} (λ l. nodeRow n ++ l) (nodes-cat ns)
-
 -- a file's words section by section
 abbrev pub rowWords : ℕ → Contents → List ℕ
 rowWords v C =
     headWords (headFor v C)
     ++ (cat oneRow (C .users)
     ++ (cat roleRow (C .roles)
-    ++ (juniorWords v (C .juniors) ++ (cat oneRow (C .kinds) ++ (cat channelRow (C .channels) ++ (cat sessionRow (C .sessions) ++ cat nodeRow (C .nodes)))))))
+    ++ (juniorWords v (C .juniors) ++ (cat oneRow (C .kinds) ++ (cat channelRow (C .channels) ++ (cat sessionRow (C .sessions) ++ nodeWords v (C .nodes)))))))
 
 pub file-rows : (v : ℕ) (C : Contents) → fileWords v C ≡ rowWords v C
 unfolding fileWords tableWords
-file-rows v C = simp (roles-cat, channels-cat, sessions-cat, nodes-cat, cat-one, append-assoc)
+file-rows v C = simp (roles-cat, channels-cat, sessions-cat, cat-one, append-assoc)
 
 -- what is read of the offsets, where a file begins with a head whose sections stand back to back
 module _ (f : List ℕ) (h : Head) (post : List ℕ) (w : Holds f 0 (headWords h ++ post)) where
@@ -127,9 +109,9 @@ module _ (f : List ℕ) (h : Head) (post : List ℕ) (w : Holds f 0 (headWords h
   word i = let z : i ≡ 0 + i = omega arith in ap (wordAt f) z ∙ w i
 
   offsets-read : h .at .kinds ≡ h .at .juniors + juniorRecords (h .version) (h .count .roles) → offsetsAt f (h .version) ≡ h .at
-  offsets-read back = go (eqb (h .version) 2) refl
+  offsets-read back = go (hasJuniors (h .version)) refl
     where
-      go : (b : Bool) → eqb (h .version) 2 ≡ b → offsetsAt f (h .version) ≡ h .at
+      go : (b : Bool) → hasJuniors (h .version) ≡ b → offsetsAt f (h .version) ≡ h .at
       go true e =
           let w9 : wordAt f 9 ≡ h .at .juniors = word 9 ∙ rw e in
           let w10 : wordAt f (9 + more (h .version)) ≡ h .at .kinds = rw e (word 10 ∙ rw e) in

@@ -4,23 +4,24 @@ use mathlib.Core.Path.{_≡_, refl, sym, ap, ap₂, _∙_}
 use mathlib.Core.Bool.{Bool, true, false, cond}
 use mathlib.Core.List.{List, [], _∷_, _++_}
 use native.Mathlib.Omega.{arith}
-use lib.Dec.{eqb}
 use lib.ListN.{length}
 use Rattle.format.specs.Words.{wordAt, wideAt, bytesOf}
-use Rattle.format.specs.Header.{more, juniorRecords, headIn, asRead, headAt, versionAt, headWords, Laid}
-use Rattle.format.specs.Sections.{placeOf, juniorsOf, nodeAt, wordsFrom}
+use Rattle.format.specs.Header.{hasJuniors, more, juniorRecords, headIn, asRead, headAt, versionAt, headWords, Laid}
+use Rattle.format.specs.Sections.{placeOf, juniorsOf, wordsFrom}
 use Rattle.format.specs.Contents.{tabled, contentsAt, contentsOf}
-use Rattle.format.specs.Writing.{roleWords, channelWords, sessionWords, nodeWords, juniorWords, headFor, tableWords, fileWords, encoded}
+use Rattle.format.specs.Writing.{roleWords, channelWords, sessionWords, nodeRows, nodeColumns, juniorWords, headFor, tableWords, fileWords, encoded}
 use Rattle.format.specs.declared.Head.{Head}
 use Rattle.format.specs.declared.Six.{Six}
 use Rattle.format.specs.declared.Seven.{Seven}
 use Rattle.format.specs.declared.Section.the-variants.{Juniors}
 use Rattle.format.proofs.HeadLaws.{Headed}
+use Rattle.format.proofs.WriteLaws.{words-joined}
+use Rattle.format.proofs.SpotLaws.{section-words}
 use Rattle.format.proofs.ContentsLaws.{users-held, roles-held, kinds-held, channels-held, sessions-held, nodes-held}
 use Rattle.reading_exact.specs.Lists.{All}
 use Rattle.reading_exact.proofs.Bytes.{Byte, Word, length-bytesOf, paired, small-words}
-use Rattle.reading_exact.proofs.Rows.{holds-all, holds-words, words-joined, rows-words}
-use Rattle.reading_exact.proofs.SectionRows.{oneRow, cat-one, roleRow, channelRow, sessionRow, nodeRow, roleAt, channelAt, sessionAt, rowWords, file-rows}
+use Rattle.reading_exact.proofs.Rows.{holds-all, holds-words, rows-words}
+use Rattle.reading_exact.proofs.SectionRows.{oneRow, cat-one, roleRow, channelRow, sessionRow, roleAt, channelAt, sessionAt, rowWords, file-rows}
 
 -- the head that the contents read have is the file's own
 same-head : (f : List ℕ) → Headed f → headFor (versionAt f) (contentsOf f) ≡ headAt f
@@ -50,9 +51,9 @@ same-head f d =
 
 head-words : (f : List ℕ) → headWords (headIn f) ≡ wordsFrom f 0 (13 + more (wordAt f 0))
 unfolding wordsFrom
-head-words f = go (eqb (wordAt f 0) 2) refl
+head-words f = go (hasJuniors (wordAt f 0)) refl
   where
-    go : (b : Bool) → eqb (wordAt f 0) 2 ≡ b → headWords (headIn f) ≡ wordsFrom f 0 (13 + more (wordAt f 0))
+    go : (b : Bool) → hasJuniors (wordAt f 0) ≡ b → headWords (headIn f) ≡ wordsFrom f 0 (13 + more (wordAt f 0))
     go true e = rw e
     go false e = rw e
 
@@ -95,7 +96,7 @@ triple-words f p =
 -- the masks of juniors, where the version has them
 juniors-words : (f : List ℕ) (h : Head) → juniorWords (h .version) (tabled (juniorsOf f h) 1 (h .count .roles)) ≡ wordsFrom f (h .at .juniors) (juniorRecords (h .version) (h .count .roles))
 unfolding wordsFrom
-juniors-words f h = go (eqb (h .version) 2)
+juniors-words f h = go (hasJuniors (h .version))
   where
     r : ℕ
     r = h .count .roles
@@ -125,7 +126,7 @@ module _ (x : ℕ) (xs : List ℕ) (d : Headed (x ∷ xs)) (bytes : All Byte (x 
       let kinds = rows-words oneRow 1 (λ x. refl) f (wordAt f) (at .kinds) (one-words f) (n .kinds) in
       let channels = rows-words channelRow 2 (λ x. refl) f (channelAt f) (at .channels) (channel-words f) (n .channels) in
       let sessions = rows-words sessionRow 3 (λ x. refl) f (sessionAt f) (at .sessions) (triple-words f) (n .sessions) in
-      let nodes = rows-words nodeRow 3 (λ x. refl) f (nodeAt f) (at .nodes) (triple-words f) (n .nodes) in
+      let nodes = sym (section-words f (headAt f)) in
       let past-users : at .users + 1 * n .users ≡ at .roles = omega arith in
       let past-kinds : at .kinds + 1 * n .kinds ≡ at .channels = omega arith in
       let end : 13 + more v + (1 * n .users + (4 * n .roles + (juniorRecords v (n .roles) + (1 * n .kinds + (2 * n .channels + (3 * n .sessions + 3 * n .nodes)))))) ≡ at .nodes + 3 * wordAt f 6 = omega arith in
@@ -149,6 +150,6 @@ module _ (x : ℕ) (xs : List ℕ) (d : Headed (x ∷ xs)) (bytes : All Byte (x 
 
 -- read, then written, gives the bytes back
 pub bytes-back : (f : List ℕ) → Headed f → All Byte f → encoded (versionAt f) (contentsOf f) ≡ asRead f
-unfolding encoded fileWords tableWords contentsAt tabled roleWords channelWords sessionWords nodeWords bytesOf
+unfolding encoded fileWords tableWords contentsAt tabled roleWords channelWords sessionWords nodeRows nodeColumns bytesOf
 bytes-back [] d bytes = refl
 bytes-back (x ∷ xs) d bytes = some-back x xs d bytes

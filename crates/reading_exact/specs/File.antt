@@ -20,28 +20,32 @@ pub record Routine : Type 0 where
   pub mask : ℕ
   pub tree : Tree
 
--- a role of a file of version 2: what its own record permits, and the mask of its juniors
+-- a role of a file of version 2 or 3: what its own record permits, and the mask of its juniors
 pub record Senior : Type 0 where
   pub own : Role
   pub juniors : ℕ
 
--- the roles, by the version of the file: version 2 adds a mask of junior roles to each
+-- the roles, by the version of the file: version 2 adds a mask of junior roles to each, and version 3 has the same, with its nodes by column
 pub data Grants : Type 0 where
   first : List Role → Grants
   second : List Senior → Grants
+  third : List Senior → Grants
 
 abbrev pub versionOf : Grants → ℕ
 versionOf (first rs) = 1
 versionOf (second rs) = 2
+versionOf (third rs) = 3
 
 abbrev pub rolesOf : Grants → List Role
 rolesOf (first rs) = rs
 rolesOf (second rs) = map (λ (r : Senior). r .own) rs
+rolesOf (third rs) = map (λ (r : Senior). r .own) rs
 
 -- version 1 reads as if all masks were 0
 abbrev pub juniorsOf : Grants → List ℕ
 juniorsOf (first rs) = map (λ (r : Role). 0) rs
 juniorsOf (second rs) = map (λ (r : Senior). r .juniors) rs
+juniorsOf (third rs) = map (λ (r : Senior). r .juniors) rs
 
 -- each user's mask of roles, the roles, what each kind carries, the channels, the sessions
 pub record File : Type 0 where
@@ -101,6 +105,7 @@ contentsFor F = record {
 abbrev pub masksNone : Grants → Grants
 masksNone (first rs) = second (map (λ (r : Role). record { own = r; juniors = 0 }) rs)
 masksNone (second rs) = second rs
+masksNone (third rs) = second rs
 
 abbrev pub asSecond : File → File
 asSecond F = record { users = F .users; grants = masksNone (F .grants); kinds = F .kinds; channels = F .channels; sessions = F .sessions }

@@ -6,7 +6,7 @@ use mathlib.Core.Bool.{true, false}
 use mathlib.Core.List.{List, map}
 use lib.ListN.{length, getD}
 use Rattle.masks.specs.Mask.{has}
-use Rattle.format.specs.Header.{more, juniorRecords, asRead, headAt, versionAt, Counted, BackToBack}
+use Rattle.format.specs.Header.{WithJuniors, more, juniorRecords, asRead, headAt, versionAt, Counted, BackToBack}
 use Rattle.format.specs.Sections.{placeOf}
 use Rattle.format.specs.Contents.{Contents, item, noRole, noChannel, noSession, noNode, contentsOf}
 use Rattle.trees.specs.Shape.{boundBelow}
@@ -81,7 +81,7 @@ pub data Misshapen (ns : List Node) (roots : List ℕ) (p : ℕ) : Type 0 where
   left-over : Begins ns (suc (length roots)) p → InCount (length ns) p → Misshapen ns roots p
   ninth : (b : ℕ) → ReachedWith ns (length roots) p b → 8 ≤ b → InCount (length ns) p → (nth ns p .tag ≡ 3) ⊎ (nth ns p .tag ≡ 5) → Misshapen ns roots p
 
--- the length in bytes that the six counts give: 13 words of head, and for each record its words; version 2 has a word more in the head, and one for each role
+-- the length in bytes that the six counts give: 13 words of head, and for each record its words; versions 2 and 3 have a word more in the head, and one for each role
 abbrev pub lengthOf : ℕ → Six → ℕ
 lengthOf version n =
     2 * (13 + more version + n .users + 4 * n .roles + juniorRecords version (n .roles) + n .kinds + 2 * n .channels + 3 * n .sessions + 3 * n .nodes)
@@ -89,9 +89,9 @@ lengthOf version n =
 -- a refusal's number and place hold of a file; zero bytes are judged as the file that they read as
 pub data Refusable (f : List ℕ) (n p : ℕ) : Type 0 where
   short : n ≡ 1 → p ≡ 0 → length (asRead f) < 26 → Refusable f n p
-  short-second : n ≡ 1 → p ≡ 0 → versionAt f ≡ 2 → length (asRead f) < 28 → Refusable f n p
+  short-second : n ≡ 1 → p ≡ 0 → WithJuniors (versionAt f) → length (asRead f) < 28 → Refusable f n p
   odd : n ≡ 1 → p ≡ 0 → length (asRead f) % 2 ≡ 1 → Refusable f n p
-  version : n ≡ 2 → p ≡ 0 → versionAt f ≢ 1 → versionAt f ≢ 2 → Refusable f n p
+  version : n ≡ 2 → p ≡ 0 → versionAt f ≢ 1 → versionAt f ≢ 2 → versionAt f ≢ 3 → Refusable f n p
   count : n ≡ 3 → p ≡ 0 → (Counted (headAt f .count) → ⊥) → Refusable f n p
   offset : n ≡ 4 → p ≡ 0 → (BackToBack (versionAt f) (headAt f .count) (headAt f .at) → ⊥) → Refusable f n p
   size : n ≡ 5 → p ≡ 0 → length (asRead f) ≢ lengthOf (versionAt f) (headAt f .count) → Refusable f n p

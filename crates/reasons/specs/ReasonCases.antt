@@ -42,7 +42,7 @@ abbrev pub reasonCases : List ReasonCase
 reasonCases =
     says 13 3 4 6 "Refused 13: no active role permits the step at node 4, a send."
     ∷ says 13 4 10 9 "Refused 13: no active role permits the step at choice 10."
-    ∷ says 1 0 0 9 "Refused 1: the file has 1 to 25 bytes (to 27 in version 2), or an odd number of them; no place."
+    ∷ says 1 0 0 9 "Refused 1: the file has 1 to 25 bytes (to 27 in versions 2 and 3), or an odd number; no place."
     ∷ says 6 1 65535 9 "Refused 6: the record names a role, kind or user that is not there at word 65535."
     ∷ says 7 2 32 9 "Refused 7: the session's user is not there, or a starting role is not that user's at session 32."
     ∷ says 23 5 1 9 "Refused 23: the row names no such role, or no stretch of the week at row 1."
@@ -119,7 +119,7 @@ reasonCases =
     ∷ counts 25 (0 ∷ [])
     ∷ counts 26 (2 ∷ 4 ∷ [])
     ∷ counts 27 []
-    ∷ means 1 "Refused 1: the file has 1 to 25 bytes (to 27 in version 2), or an odd number of them"
+    ∷ means 1 "Refused 1: the file has 1 to 25 bytes (to 27 in versions 2 and 3), or an odd number"
     ∷ means 2 "Refused 2: the version is not one that can be read here"
     ∷ means 3 "Refused 3: a count is out of range"
     ∷ means 4 "Refused 4: an offset is not the one that the counts give"

@@ -27,7 +27,7 @@ use Rattle.dispatching.proofs.EntryLaws.{output-words}
 use Rattle.rounds.specs.Round.{Taken, refuses, waits, steps}
 use Rattle.seats.specs.Seats.{Limited, limitedOf, SeatedState, seatedChoice, SeatedRan, followSeated, seatedRun, plainly, seatedStart, overfilledAt}
 use Rattle.seating.specs.SeatedRunning.{smallSeats, seatTableAnswer, seatStartAnswer, seatedRunning, seatedOver, seatedLength}
-use Rattle.merging.specs.declared.Written.{Written}
+use Rattle.format.specs.declared.Written.{Written}
 use Rattle.seated.specs.declared.SeatedWent.{SeatedWent}
 use Rattle.seated.specs.SeatedTables.{seatedIn}
 use Rattle.seated.specs.SeatedLists.{SeatedThrough}

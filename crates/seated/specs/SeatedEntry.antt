@@ -16,7 +16,7 @@ use Rattle.seats.specs.Seats.{Limited, limitedOf, SeatedRan, seatedRun, plainly
 use Rattle.seating.specs.declared.Seats.{Seats}
 use Rattle.seating.specs.SeatedRunning.{seatTableAnswer, seatStartAnswer, seatedRunning, seatedLength}
 use Rattle.seating.specs.SeatsRead.{seatsOf, noSeats}
-use Rattle.merging.specs.declared.Written.{Written}
+use Rattle.format.specs.declared.Written.{Written}
 use Rattle.seated.specs.SeatedLists.{seatedBeside}
 
 abbrev pub writtenOf : Verdict → ℕ → Written

@@ -12,7 +12,7 @@ use choices::Progress;
 use dispatching::output_length;
 use format::Head;
 use format::Verdict;
-use merging::Written;
+use format::Written;
 use read::line_words;
 use read::taken_words;
 use read::waiting_words;

@@ -13,9 +13,9 @@ use Rattle.format.specs.declared.Verdict.{Verdict}
 use Rattle.format.specs.Sections.{part}
 use Rattle.format.specs.declared.Head.{Head}
 use Rattle.format.specs.declared.Section.{Section}
-use Rattle.format.specs.declared.Section.the-variants.{Users, Roles, Juniors, Kinds, Channels, Sessions, Nodes}
+use Rattle.format.specs.declared.Section.the-variants.{Users, Roles, Juniors, Kinds, Channels, Sessions}
 use Rattle.format.proofs.AnswerLaws.{NoRefusal, first-quiet, both-quiet}
-use Rattle.format.proofs.ContentsLaws.{in-count, item-past, users-held, roles-held, juniors-held, kinds-held, channels-held, sessions-held, nodes-held}
+use Rattle.format.proofs.ContentsLaws.{in-count, item-past, users-held, roles-held, juniors-held, kinds-held, channels-held, sessions-held}
 use Rattle.tables.specs.Records.{countIn, recordFits, refusalOf, sectionAnswer, recordsAnswer}
 
 pub counted : (f : List ℕ) (h : Head) (s : Section) → countIn s (contentsAt f h) ≡ part s (h .count)
@@ -25,7 +25,6 @@ counted f h Juniors = juniors-held f h
 counted f h Kinds = kinds-held f h
 counted f h Channels = channels-held f h
 counted f h Sessions = sessions-held f h
-counted f h Nodes = nodes-held f h
 
 -- where none is refused, all of them fit
 all-fit : (fits : ℕ → Bool) (refusal : ℕ → Verdict) → ((n : ℕ) → 1 ≤ refusal n .number) → (i k : ℕ) → NoRefusal (firstOf fits refusal i k) → (n : ℕ) → i ≤ n → n < i + k → fits n ≡ true
@@ -56,7 +55,6 @@ module _ (h : Head) (C : Contents) where
   some Kinds n = omega arith
   some Channels n = omega arith
   some Sessions n = omega arith
-  some Nodes n = omega arith
 
   fitting : (s : Section) → NoRefusal (sectionAnswer h C s) → (n : ℕ) → 1 ≤ n → n ≤ countIn s C → recordFits C s n ≡ true
   unfolding sectionAnswer

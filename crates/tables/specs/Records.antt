@@ -10,7 +10,7 @@ use Rattle.format.specs.Contents.{Contents, inCount, item, noRole, noChannel, n
 use Rattle.format.specs.declared.Verdict.{Verdict}
 use Rattle.format.specs.declared.Head.{Head}
 use Rattle.format.specs.declared.Section.{Section}
-use Rattle.format.specs.declared.Section.the-variants.{Users, Roles, Juniors, Kinds, Channels, Sessions, Nodes}
+use Rattle.format.specs.declared.Section.the-variants.{Users, Roles, Juniors, Kinds, Channels, Sessions}
 
 -- how many records a section has
 abbrev pub countIn : Section → Contents → ℕ
@@ -20,7 +20,6 @@ countIn Juniors C = length (C .juniors)
 countIn Kinds C = length (C .kinds)
 countIn Channels C = length (C .channels)
 countIn Sessions C = length (C .sessions)
-countIn Nodes C = length (C .nodes)
 
 -- a record names only items that the counts have; of juniors: each has a lower number than the role; of a session: its user exists, and each starting
 -- role is assigned to that user
@@ -35,7 +34,6 @@ recordFits C Channels n =
 recordFits C Sessions n =
     inCount (length (C .users)) (item noSession (C .sessions) n .user)
     && within (item noSession (C .sessions) n .mask) (item 0 (C .users) (item noSession (C .sessions) n .user))
-recordFits C Nodes n = true
 
 -- what refuses a section's record
 abbrev pub numberOf : Section → ℕ
@@ -45,7 +43,6 @@ numberOf Juniors = 21
 numberOf Kinds = 6
 numberOf Channels = 6
 numberOf Sessions = 7
-numberOf Nodes = 8
 
 -- the place of 6 and 21 is an offset in the file, that of any other a number
 abbrev pub byOffset : ℕ → Bool

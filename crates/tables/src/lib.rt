@@ -23,7 +23,7 @@ ghost use Rattle.format.specs.Header.{Laid};
 ghost use Rattle.format.specs.Sections.{placeOf};
 ghost use Rattle.format.specs.Contents.{contentsAt};
 ghost use Rattle.tables.specs.Records.{recordFits, numberOf, byOffset, refusalOf, sectionAnswer, recordsAnswer};
-ghost use Rattle.format.specs.declared.Section.the-variants.{Users, Roles, Juniors, Kinds, Channels, Sessions, Nodes};
+ghost use Rattle.format.specs.declared.Section.the-variants.{Users, Roles, Juniors, Kinds, Channels, Sessions};
 
 fn user_fits(file: &[u8], head: Head, n: u16) -> bool
     requires { ⌜ Laid (now file) head ⌝ }
@@ -77,7 +77,6 @@ fn record_fits(file: &[u8], head: Head, section: Section, n: u16) -> bool
         Section::Kinds => carries(file, head, ChannelKind(n)).0 <= head.count.kinds,
         Section::Channels => channel_fits(file, head, n),
         Section::Sessions => session_fits(file, head, n),
-        Section::Nodes => true,
     }
 }
 
@@ -92,7 +91,6 @@ fn number_of(section: Section) -> u16
         Section::Kinds => 6,
         Section::Channels => 6,
         Section::Sessions => 7,
-        Section::Nodes => 8,
     }
 }
 

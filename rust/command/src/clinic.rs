@@ -29,7 +29,7 @@ const fn section(
 
 pub const USERS: Section = section("users", "user", 1, 32, 0);
 pub const ROLES: Section = section("roles", "role", 4, 16, 1);
-/// A mask for each role, in version 2 alone.
+/// A mask for each role, in versions 2 and 3 alone.
 pub const JUNIORS: Section = section("juniors", "junior mask", 1, 16, 1);
 pub const KINDS: Section = section("kinds", "kind", 1, 32, 2);
 pub const CHANNELS: Section = section("channels", "channel", 2, 64, 3);
@@ -40,13 +40,13 @@ pub const NODES: Section = section("nodes", "node", 3, 1_024, 5);
 /// is that of version 1's sections.
 pub const COUNTED: [Section; 6] = [USERS, ROLES, KINDS, CHANNELS, SESSIONS, NODES];
 
-/// The sections of version 2.
+/// The sections of versions 2 and 3.
 const OF_SECOND: [Section; 7] = [USERS, ROLES, JUNIORS, KINDS, CHANNELS, SESSIONS, NODES];
 
 /// The sections of a version, in the file's order.
 fn sections(version: u16) -> &'static [Section] {
     match version {
-        2 => &OF_SECOND,
+        2 | 3 => &OF_SECOND,
         _ => &COUNTED,
     }
 }
@@ -109,7 +109,10 @@ impl Clinic {
             clinic.kinds = take(&mut rest, clinic.count(KINDS));
             clinic.channels = take(&mut rest, clinic.count(CHANNELS));
             clinic.sessions = take(&mut rest, clinic.count(SESSIONS));
-            clinic.nodes = take(&mut rest, clinic.count(NODES));
+            clinic.nodes = match clinic.is_by_column() {
+                true => take_columns(rest, clinic.count(NODES)),
+                false => take(&mut rest, clinic.count(NODES)),
+            };
         }
         clinic
     }
@@ -122,12 +125,17 @@ impl Clinic {
     /// Whether its version is known and its head is whole.
     pub fn has_head(&self) -> bool {
         let version = self.version();
-        matches!(version, 1 | 2) && self.head.len() == head_words(version)
+        matches!(version, 1..=3) && self.head.len() == head_words(version)
     }
 
     /// Whether its version has masks of juniors.
     pub fn has_juniors(&self) -> bool {
-        self.version() == 2
+        matches!(self.version(), 2 | 3)
+    }
+
+    /// Whether its version has the nodes by column.
+    pub fn is_by_column(&self) -> bool {
+        self.version() == 3
     }
 
     /// The counts as the head has them.
@@ -196,4 +204,13 @@ fn take<const W: usize>(rest: &mut &[u16], count: usize) -> Vec<[u16; W]> {
     let (section, after) = rest.split_at((W * count).min(rest.len()));
     *rest = after;
     section.as_chunks().0.to_vec()
+}
+
+/// The nodes of a section that has all tags, then all f1, then all f2: those whose f2 is
+/// there.
+fn take_columns(section: &[u16], count: usize) -> Vec<[u16; 3]> {
+    let whole = section.len().saturating_sub(2 * count).min(count);
+    (0..whole)
+        .map(|at| [0, 1, 2].map(|column| section[column * count + at]))
+        .collect()
 }

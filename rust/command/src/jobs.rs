@@ -6,8 +6,9 @@ use crate::hours;
 use crate::output;
 use crate::source::Source;
 use crate::state::State;
+use crate::turning::Turn;
 use crate::words::{At, Job};
-use crate::{explain, merging, names, reasons, refusals, report, seats, show};
+use crate::{explain, merging, names, reasons, refusals, report, seats, show, turning};
 use crate::{Outcome, WrongUse};
 use pilzdamo::{Counts, Placed, Totals, Verdict, BEFORE_ROUND, ROOM, ROOM_1, RUN_ROOM};
 use std::path::Path;
@@ -19,6 +20,7 @@ pub fn carry_out(job: Job) -> Result<Outcome, WrongUse> {
         Job::Place { file, at, out } => place(&file, at.as_ref(), out.as_deref()),
         Job::Measure { file, at } => measure(&file, at.as_ref()),
         Job::Merge { first, second, out } => merge(&first, &second, out.as_deref()),
+        Job::Turn { turn, file, out } => turn_file(turn, &file, out.as_deref()),
         Job::Run {
             file,
             choices,
@@ -178,6 +180,23 @@ fn merge(first: &Source, second: &Source, out: Option<&Path>) -> Result<Outcome,
     let (names, told) = (merging::names(&files), merging::size(merged));
     let into = out.map_or(String::new(), |path| format!(" in {}", path.display()));
     output::say(&format!("{names}: merged, {told}{into}"));
+    Ok(Outcome::Answer)
+}
+
+fn turn_file(turn: Turn, file: &Source, out: Option<&Path>) -> Result<Outcome, WrongUse> {
+    output::spare(file, out)?;
+    let bytes = file.read()?;
+    let mut room = [0; ROOM];
+    let written = turn.call(&bytes, &mut room);
+    let name = file.name();
+    if !written.is_written() {
+        let verdict = written.verdict();
+        return refusal(&turning::refused(turn, &name, &bytes, verdict));
+    }
+    let length = usize::from(written.length);
+    output::deliver(&room[..length.min(ROOM)], out)?;
+    let into = out.map_or(String::new(), |path| format!(" in {}", path.display()));
+    output::say(&format!("{name}: {}, {length} bytes{into}", turn.done()));
     Ok(Outcome::Answer)
 }
 

@@ -21,6 +21,7 @@ pub mod show;
 mod source;
 mod state;
 mod tree;
+mod turning;
 mod words;
 
 use std::ffi::OsString;

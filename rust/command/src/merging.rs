@@ -55,7 +55,12 @@ fn own(bytes: &[u8]) -> Option<Verdict> {
 fn of_one(name: &str, bytes: &[u8], verdict: Verdict) -> String {
     let message = report::of_file(name, bytes, verdict);
     match (verdict.number, Clinic::of(bytes).version()) {
-        (2, 2) => message + "\n  this file has version 2, and two are merged in version 1 alone",
+        (2, version @ (2 | 3)) => {
+            message
+                + &format!(
+                    "\n  this file has version {version}, and two are merged in version 1 alone"
+                )
+        }
         _ => message,
     }
 }

@@ -54,8 +54,8 @@ pub const ALL: [Refusal; 26] = [
         place: NOTHING,
         who: WRITER,
         wrong: "A file is made of words of two bytes, and its head alone has 13 of them, 14 in \
-            version 2. This one is shorter than a head, or ends in the middle of a word. (Zero \
-            bytes are no fault: a clinic that has nothing planned yet sends none.)",
+            versions 2 and 3. This one is shorter than a head, or ends in the middle of a word. \
+            (Zero bytes are no fault: a clinic that has nothing planned yet sends none.)",
         mend: "Fetch the file again: most often it was cut off on its way. If it is so at its \
             source, write it again.",
     },
@@ -63,8 +63,10 @@ pub const ALL: [Refusal; 26] = [
         place: NOTHING,
         who: WRITER,
         wrong:
-            "The first word of a file is the version of its format. This engine reads version 1, \
-            and version 2, in which roles have juniors. Two files are merged in version 1 alone.",
+            "The first word of a file is the version of its format. This engine reads version 1; \
+            version 2, in which roles have juniors; and version 3, which is version 2 with its \
+            nodes by column. Two files are merged in version 1 alone; only version 2 is turned to \
+            columns, and only version 3 to rows.",
         mend:
             "Write the file in one of these. If that is what was meant, make sure that each word \
             is written low byte first, and that this is a clinic's file at all.",
@@ -81,8 +83,8 @@ pub const ALL: [Refusal; 26] = [
     Refusal {
         place: NOTHING,
         who: WRITER,
-        wrong: "The sections (users, roles, in version 2 the roles' juniors, kinds, channels, \
-            sessions, nodes) stand back to back behind the head, and the head says at which word \
+        wrong: "The sections (users, roles, in versions 2 and 3 the roles' juniors, kinds, \
+            channels, sessions, nodes) stand back to back behind the head, and the head says at which word \
             each begins. One of these offsets isn't the one that follows from the counts.",
         mend: "Correct the offset, or the count before it. `pilzdamo show` names the offset that \
             is due.",
@@ -185,7 +187,7 @@ pub const ALL: [Refusal; 26] = [
         mend:
             "Let another user's session make the step; or the schema's keeper grants the kind to \
             one of the user's roles, makes a role that has it the junior of one of them (in \
-            version 2), or assigns the user a role that has it.",
+            versions 2 and 3), or assigns the user a role that has it.",
     },
     Refusal {
         place: NOTHING,
@@ -235,7 +237,7 @@ pub const ALL: [Refusal; 26] = [
         place: JUNIORS,
         who: KEEPER,
         wrong:
-            "In version 2 a role has a word of juniors: the roles whose grants it has as well as \
+            "In versions 2 and 3 a role has a word of juniors: the roles whose grants it has as well as \
             its own. A junior must have a lower number than its senior. This word has the role \
             itself, a higher one, or one above the count. It is judged behind every 6.",
         mend:

@@ -25,7 +25,12 @@ fn head(page: &mut Page, clinic: &Clinic, verdict: Verdict) {
     page.line(&format!("check: {}", judged(clinic, verdict)));
     page.marked(&length(clinic), Spot::Length);
     if !clinic.head.is_empty() {
-        page.marked(&format!("version: {}", clinic.version()), Spot::Version);
+        let form = match clinic.is_by_column() {
+            true => ", nodes by column",
+            false => "",
+        };
+        let version = format!("version: {}{form}", clinic.version());
+        page.marked(&version, Spot::Version);
     }
     if clinic.has_head() {
         page.marked(&count_line(clinic.counted()), Spot::Counts);
@@ -37,7 +42,7 @@ fn head(page: &mut Page, clinic: &Clinic, verdict: Verdict) {
     match clinic.counts {
         Some(_) => page.line(&format!("on steps: {}", clinic.on_steps())),
         None => page.line(
-            "(no records can be told apart: that takes a head of version 1 or 2, counts in range)",
+            "(no records can be told apart: that takes a head of version 1 to 3, counts in range)",
         ),
     }
 }
@@ -104,7 +109,7 @@ fn tables(page: &mut Page, clinic: &Clinic) {
     });
 }
 
-/// The roles, in version 2 with their juniors.
+/// The roles, in versions 2 and 3 with their juniors.
 fn role_table(page: &mut Page, clinic: &Clinic) {
     let kinds = clinic.count(KINDS);
     if clinic.count(ROLES) > 0 {

@@ -3,6 +3,7 @@
 use crate::hours;
 use crate::refusals;
 use crate::source::Source;
+use crate::turning::Turn;
 use crate::WrongUse;
 use std::ffi::OsString;
 use std::path::PathBuf;
@@ -25,6 +26,11 @@ pub enum Job {
     Merge {
         first: Source,
         second: Source,
+        out: Option<PathBuf>,
+    },
+    Turn {
+        turn: Turn,
+        file: Source,
         out: Option<PathBuf>,
     },
     Run {
@@ -83,9 +89,9 @@ struct Operands {
 }
 
 /// The words that name a job.
-const WORDS: [&str; 12] = [
-    "check", "place", "measure", "merge", "run", "waiting", "seats", "round", "dispatch", "show",
-    "explain", "reason",
+const WORDS: [&str; 14] = [
+    "check", "place", "measure", "merge", "columns", "rows", "run", "waiting", "seats", "round",
+    "dispatch", "show", "explain", "reason",
 ];
 
 /// These words in a sentence.
@@ -129,6 +135,14 @@ fn named(verb: &str, operands: Operands) -> Result<Job, WrongUse> {
         "merge" => {
             let [first, second] = two(verb, ["A", "B"], plain)?;
             Ok(Job::Merge { first, second, out })
+        }
+        "columns" => {
+            let (turn, file) = (Turn::ToColumns, one(verb, "FILE", plain)?);
+            Ok(Job::Turn { turn, file, out })
+        }
+        "rows" => {
+            let (turn, file) = (Turn::ToRows, one(verb, "FILE", plain)?);
+            Ok(Job::Turn { turn, file, out })
         }
         "run" => {
             let ([file, choices], seats) = with_seats(verb, plain, seats)?;
@@ -209,7 +223,7 @@ fn sorted(verb: &str, mut words: impl Iterator<Item = OsString>) -> Result<Opera
         let text = word.to_string_lossy();
         match text.as_ref() {
             "-h" | "--help" => operands.help = true,
-            "-o" if matches!(verb, "place" | "merge") => {
+            "-o" if matches!(verb, "place" | "merge" | "columns" | "rows") => {
                 let name = format!("{verb}: -o");
                 let wants = format!("{name} wants the name of a file behind it");
                 keep(&name, &wants, &mut operands.out, words.next())?;

@@ -600,7 +600,8 @@ impl Reason {
     }
 }
 
-/// What [`merge`](crate::merge) answers: a refusal's number and place, or the length of
+/// What [`merge`](crate::merge), [`to_columns`](crate::to_columns) and
+/// [`to_rows`](crate::to_rows) answer: a refusal's number and place, or the length of
 /// what is written. What doesn't apply is 0. Also what
 /// [`run_seated`](crate::run_seated) answers, which writes a state, and has its length,
 /// where it halts at a choice too.

@@ -3,8 +3,9 @@
 use crate::raw;
 use crate::{Placed, Ready, Reason, Round, Seats, Thread, Totals, Verdict, Written};
 
-/// As many bytes as [`place`] wants of its output for any file: those of the
-/// largest file of version 2. What it wants for a given file is [`room`].
+/// As many bytes as [`place`] wants of its output for any file, and [`to_columns`] and
+/// [`to_rows`] for every one: those of the largest file of versions 2 and 3. What
+/// placing wants for a given file is [`room`].
 pub const ROOM: usize = 6_908;
 
 /// The bytes that [`place`] wants of its output for a file of version 1, and [`merge`]
@@ -56,12 +57,12 @@ pub const TOTALS: usize = 32;
 pub const SENTENCE: usize = 120;
 
 /// The bytes that [`place`] wants of its output for this file: [`ROOM`] where its
-/// first word is 2, else [`ROOM_1`], also where it has no first word.
+/// first word is 2 or 3, else [`ROOM_1`], also where it has no first word.
 ///
 /// ```
 /// use pilzdamo::{room, ROOM, ROOM_1};
 ///
-/// assert_eq!((room(&[1, 0]), room(&[2, 0])), (ROOM_1, ROOM));
+/// assert_eq!((room(&[1, 0]), room(&[2, 0]), room(&[3, 0])), (ROOM_1, ROOM, ROOM));
 /// assert_eq!((room(&[]), room(&[2])), (ROOM_1, ROOM_1));
 ///
 /// // A byte less, and the file isn't looked at.
@@ -74,7 +75,7 @@ pub const SENTENCE: usize = 120;
 /// ```
 pub fn room(file: &[u8]) -> usize {
     match file {
-        [2, 0, ..] => ROOM,
+        [2 | 3, 0, ..] => ROOM,
         _ => ROOM_1,
     }
 }
@@ -851,6 +852,108 @@ pub fn merge(first: &[u8], second: &[u8], out: &mut [u8]) -> Written {
 pub fn merged(first: &[u8], second: &[u8]) -> Result<Vec<u8>, Verdict> {
     let mut out = vec![0; ROOM_1];
     let written = merge(first, second, &mut out);
+    cut(written, out)
+}
+
+/// Writes a file of version 2 in version 3, which has its nodes by column: all tags,
+/// then all f1, then all f2. All else stays, and so does the length.
+///
+/// Every other function answers the column file as it does the file with its nodes by
+/// row, and what is placed keeps the form in which it came. [`to_rows`] gives the file
+/// back, byte by byte.
+///
+/// Any bytes will do, of any length. Refusal 17 comes first: `out` must have [`ROOM`]
+/// bytes or more. Then come 1 to 5, where another version than 2 is 2, and that is all:
+/// the records aren't judged. Where the answer is a refusal nothing of `out` is written,
+/// and otherwise nothing past the answer's length. [`in_columns`] has an output of its
+/// own.
+///
+/// ```
+/// // A file with two nodes: user 1 compares herself with herself, and ends.
+/// let words = [
+///     2, 1, 0, 0, 0, 1, 2, 14, 15, 15, 15, 15, 15, 18, // version, counts, offsets
+///     0, // user
+///     1, 0, 1, // session
+///     4, 1, 1, 0, 0, 0u16, // nodes
+/// ];
+/// let file = words.map(u16::to_le_bytes).concat();
+/// let mut out = [0; pilzdamo::ROOM];
+/// let written = pilzdamo::to_columns(&file, &mut out);
+/// assert_eq!(written.to_string(), "written in 48 bytes");
+///
+/// // The version is 3, and the nodes are tags, f1, f2.
+/// let mut due = words;
+/// due[0] = 3;
+/// due[18..].copy_from_slice(&[4, 0, 1, 0, 1, 0]);
+/// assert_eq!(out[..48], due.map(u16::to_le_bytes).concat());
+///
+/// // Zero bytes are a file of version 1.
+/// assert_eq!(pilzdamo::to_columns(&[], &mut out).to_string(), "refused 2 0");
+/// ```
+#[inline]
+pub fn to_columns(file: &[u8], out: &mut [u8]) -> Written {
+    raw::to_columns(file, out)
+}
+
+/// Writes a file of version 3 in version 2, which has its nodes by row: the other way
+/// of [`to_columns`], which gives the file back, byte by byte. Another version than 3 is
+/// 2; all else is as there. [`in_rows`] has an output of its own.
+///
+/// ```
+/// use pilzdamo::{to_columns, to_rows, ROOM};
+///
+/// let rows = std::fs::read("../../examples/head-nurse/juniors.clinic")?;
+/// let columns = std::fs::read("../../examples/head-nurse/columns.clinic")?;
+/// let mut out = [0; ROOM];
+/// let length = usize::from(to_rows(&columns, &mut out).length);
+/// assert_eq!(out[..length], rows);
+/// let length = usize::from(to_columns(&rows, &mut out).length);
+/// assert_eq!(out[..length], columns);
+///
+/// // It has its nodes by row already; and a byte less of output.
+/// assert_eq!(to_rows(&rows, &mut out).to_string(), "refused 2 0");
+/// assert_eq!(to_rows(&columns, &mut out[1..]).to_string(), "refused 17 0");
+/// # Ok::<(), std::io::Error>(())
+/// ```
+#[inline]
+pub fn to_rows(file: &[u8], out: &mut [u8]) -> Written {
+    raw::to_rows(file, out)
+}
+
+/// [`to_columns`] with an output of its own: the column file.
+///
+/// ```
+/// let rows = std::fs::read("../../examples/head-nurse/juniors.clinic")?;
+/// let columns = pilzdamo::in_columns(&rows)?;
+/// assert_eq!(pilzdamo::measure(&columns), pilzdamo::measure(&rows));
+///
+/// // A file of version 1.
+/// let booking = std::fs::read("../../examples/booking.clinic")?;
+/// let refusal = pilzdamo::in_columns(&booking).unwrap_err();
+/// assert_eq!(refusal.to_string(), "refused 2 0");
+/// # Ok::<(), Box<dyn std::error::Error>>(())
+/// ```
+pub fn in_columns(file: &[u8]) -> Result<Vec<u8>, Verdict> {
+    let mut out = vec![0; ROOM];
+    let written = to_columns(file, &mut out);
+    cut(written, out)
+}
+
+/// [`to_rows`] with an output of its own: the row file.
+///
+/// ```
+/// let rows = std::fs::read("../../examples/head-nurse/juniors.clinic")?;
+/// assert_eq!(pilzdamo::in_rows(&pilzdamo::in_columns(&rows)?)?, rows);
+/// # Ok::<(), Box<dyn std::error::Error>>(())
+/// ```
+pub fn in_rows(file: &[u8]) -> Result<Vec<u8>, Verdict> {
+    let mut out = vec![0; ROOM];
+    let written = to_rows(file, &mut out);
+    cut(written, out)
+}
+
+/// What was written into an output, cut to its length.
+fn cut(written: Written, mut out: Vec<u8>) -> Result<Vec<u8>, Verdict> {
     written.verdict().result()?;
     out.truncate(written.length.into());
     Ok(out)

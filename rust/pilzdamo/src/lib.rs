@@ -24,6 +24,7 @@
 //! | say a refusal in a sentence, and read one back | [`reason`], [`Reason::sentence`], [`read_reason`]; [`phrase`], [`meaning`] for a number alone |
 //! | go on choice by choice | [`Desk`]; [`start`] and [`choose`] in a list of one's own |
 //! | make one file of two | [`merge`], [`merged`] |
+//! | have the nodes by column, and by row again | [`to_columns`], [`in_columns`], [`to_rows`], [`in_rows`] |
 //!
 //! The examples below read files of the project's folder `examples`, and are run as
 //! tests.
@@ -133,6 +134,24 @@
 //! let other = std::fs::read("../../examples/refused/25-tables.clinic")?;
 //! let refusal = pilzdamo::merged(&north, &other).unwrap_err();
 //! assert_eq!(refusal.to_string(), "refused 25 0");
+//! # Ok::<(), Box<dyn std::error::Error>>(())
+//! ```
+//!
+//! # Nodes by column
+//!
+//! In version 3 of the format the nodes stand by column, so that equal words stand
+//! together; all else is version 2. Every answer on a column file is the one on its row
+//! file, and what is placed keeps its form.
+//!
+//! ```
+//! let rows = std::fs::read("../../examples/head-nurse/juniors.clinic")?;
+//! let columns = pilzdamo::in_columns(&rows)?;
+//! assert_eq!(columns, std::fs::read("../../examples/head-nurse/columns.clinic")?);
+//! assert_eq!(pilzdamo::in_rows(&columns)?, rows);
+//!
+//! // The placed column file is the placed row file, by column.
+//! let (placed_rows, on_steps) = pilzdamo::placed(&rows)?;
+//! assert_eq!(pilzdamo::placed(&columns)?, (pilzdamo::in_columns(&placed_rows)?, on_steps));
 //! # Ok::<(), Box<dyn std::error::Error>>(())
 //! ```
 //!
@@ -356,6 +375,7 @@ mod state;
 pub use answers::NO_TAG;
 pub use answers::{Counts, Placed, Ready, Reason, Round, Seats, Totals, Verdict, Written};
 pub use calls::{check, check_at, choose, measure, measure_at, merge, merged};
+pub use calls::{in_columns, in_rows, to_columns, to_rows};
 pub use calls::{meaning, phrase, read_reason, reason};
 pub use calls::{place, place_at, placed, placed_at, read, ready, room, round, run, start};
 pub use calls::{round_seated, run_seated, seats, total, totals};

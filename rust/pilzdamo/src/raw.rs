@@ -110,6 +110,8 @@ extern "C" {
         thread: u16,
         partner: u16,
     ) -> Verdict;
+    fn pilzdamo_to_columns(file: *const u8, len: usize, out: *mut u8, out_len: usize) -> Written;
+    fn pilzdamo_to_rows(file: *const u8, len: usize, out: *mut u8, out_len: usize) -> Written;
     fn pilzdamo_merge(
         first: *const u8,
         first_len: usize,
@@ -402,4 +404,18 @@ pub fn merge(first: &[u8], second: &[u8], out: &mut [u8]) -> Written {
             out.len(),
         )
     }
+}
+
+#[inline]
+pub fn to_columns(file: &[u8], out: &mut [u8]) -> Written {
+    // SAFETY: the engine only reads the `len` bytes from `file` on, and only reads and
+    // writes the `out_len` bytes from `out` on, during the call. The slices vouch for
+    // them, and that nothing of `out` is in the other.
+    unsafe { pilzdamo_to_columns(file.as_ptr(), file.len(), out.as_mut_ptr(), out.len()) }
+}
+
+#[inline]
+pub fn to_rows(file: &[u8], out: &mut [u8]) -> Written {
+    // SAFETY: as in `to_columns`.
+    unsafe { pilzdamo_to_rows(file.as_ptr(), file.len(), out.as_mut_ptr(), out.len()) }
 }

@@ -115,6 +115,15 @@ too many nodes: refusal 3 0, 0 bytes
 the first's own: refusal 10 2, 0 bytes
 the second's own: refusal 2 0, 0 bytes
 in less: refusal 17 0, 0 bytes
+to columns: refusal 0 0, 168 bytes
+its version: 3, behind it: ab
+measure it: refusal 0 0, 204 bytes, on steps: 3
+place it: refusal 0 0, 204 bytes, on steps: 3
+its version: 3
+to rows: refusal 0 0, 168 bytes
+as before: 1
+to rows again: refusal 2 0, 0 bytes
+in less: refusal 17 0, 0 bytes
 record: refused 6 27
 role: refused 13 4
 no bytes: clean

@@ -2,6 +2,7 @@
 //! implementations.
 
 mod checking;
+mod columns;
 mod hours;
 mod juniors;
 mod merging;
@@ -11,6 +12,7 @@ mod reading;
 mod reasons;
 mod running;
 
+pub use columns::{turn_cases, Turn, TurnCase, BY_COLUMN};
 pub use hours::{CheckAtCase, PlaceAtCase};
 pub use merging::{merge_cases, DueOfBoth, MergeCase};
 pub use nothing::NOTHING;
@@ -85,6 +87,7 @@ pub fn cases() -> Vec<Case> {
         juniors::records(),
         juniors::roles(),
         nothing::checks(),
+        columns::checks(),
     ]
     .into_iter()
     .flatten()
@@ -102,6 +105,7 @@ pub fn place_cases() -> Vec<PlaceCase> {
         juniors::placing(),
         juniors::rooms(),
         nothing::placings(),
+        columns::placings(),
     ]
     .into_iter()
     .flatten()

@@ -15,7 +15,7 @@ pub enum Cause {
     TooManyRows,
     Short,
     Odd,
-    /// A version 2 file with room for a version 1 header alone.
+    /// A file of version 2 or 3 with room for a version 1 header alone.
     ShortForSecond,
     Version,
     Count(Section),
@@ -104,8 +104,8 @@ pub enum Cause {
     TooManyChoices,
     Lent(Unfit),
     Choice(Halt),
-    /// A file of version 2 where files of version 1 alone are taken.
-    SecondVersion,
+    /// A file of this version where files of another alone are taken.
+    OtherVersion(Version),
     /// Two files with another number of roles, or of kinds.
     RoleCounts,
     KindCounts,
@@ -154,7 +154,7 @@ impl Cause {
         use Cause::*;
         match self {
             Short | Odd | ShortForSecond => 1,
-            Version | SecondVersion => 2,
+            Version | OtherVersion(_) => 2,
             Count(_) | Sum(_) => 3,
             Offset(_) => 4,
             Shorter | Longer => 5,
@@ -211,7 +211,7 @@ impl Cause {
         ];
         match version {
             Version::One => !of_second.contains(&self),
-            Version::Two => self != Cause::Version,
+            Version::Two | Version::Three => self != Cause::Version,
         }
     }
 
@@ -274,7 +274,8 @@ impl Cause {
         let mut all = Cause::all();
         all.retain(|cause| is_of_file(cause.number()));
         all.retain(|cause| cause.is_of(Version::One));
-        all.extend([Cause::ShortForSecond, Cause::SecondVersion]);
+        all.push(Cause::ShortForSecond);
+        all.extend([Version::Two, Version::Three].map(Cause::OtherVersion));
         all
     }
 

@@ -2,18 +2,21 @@
 //! from them.
 
 use crate::file::{word, File, Version};
+use crate::nodes::{Room, NODE};
 
 /// The sections of a file that is yet to be written out.
 #[derive(Clone, Debug, Default)]
 pub struct Draft {
     pub users: Vec<[u16; 1]>,
     pub roles: Vec<[u16; 4]>,
-    /// For each role the mask of its juniors. With this, the file has version 2.
+    /// For each role the mask of its juniors. With this, the file has version 2 or 3.
     pub juniors: Option<Vec<[u16; 1]>>,
     pub kinds: Vec<[u16; 1]>,
     pub channels: Vec<[u16; 2]>,
     pub sessions: Vec<[u16; 3]>,
     pub nodes: Vec<[u16; 3]>,
+    /// Whether a file with juniors has its nodes by column, and so version 3.
+    pub by_column: bool,
 }
 
 impl Draft {
@@ -23,22 +26,21 @@ impl Draft {
         Draft {
             users: records(file.users),
             roles: records(file.roles),
-            juniors: match file.version {
-                Version::One => None,
-                Version::Two => Some(records(file.juniors)),
-            },
+            juniors: file.version.has_juniors().then(|| records(file.juniors)),
             kinds: records(file.kinds),
             channels: records(file.channels),
             sessions: records(file.sessions),
-            nodes: records(file.nodes),
+            nodes: file.nodes.all(),
+            by_column: file.version == Version::Three,
         }
     }
 
     /// The version that it has.
     pub fn version(&self) -> Version {
-        match self.juniors {
-            None => Version::One,
-            Some(_) => Version::Two,
+        match (&self.juniors, self.by_column) {
+            (None, _) => Version::One,
+            (Some(_), false) => Version::Two,
+            (Some(_), true) => Version::Three,
         }
     }
 
@@ -60,15 +62,24 @@ impl Draft {
             self.kinds.as_flattened(),
             self.channels.as_flattened(),
             self.sessions.as_flattened(),
-            self.nodes.as_flattened(),
         ]);
         let mut offset = self.version().header();
         for section in &sections {
             words.push(offset as u16);
             offset += section.len();
         }
+        words.push(offset as u16);
         words.extend_from_slice(&sections.concat());
-        to_bytes(&words)
+        [to_bytes(&words), self.node_bytes()].concat()
+    }
+
+    fn node_bytes(&self) -> Vec<u8> {
+        let mut bytes = vec![0; NODE * self.nodes.len()];
+        let mut room = Room::of(self.version(), &mut bytes);
+        for (index, &node) in self.nodes.iter().enumerate() {
+            room.put(index, node);
+        }
+        bytes
     }
 }
 

@@ -2,8 +2,9 @@
 
 use crate::cause::{Cause, Refusal};
 use crate::draft::word_at;
+use crate::nodes::{Nodes, NODE};
 
-/// The sections, in the file's order. The juniors are in version 2 alone, one
+/// The sections, in the file's order. The juniors are in versions 2 and 3 alone, one
 /// record for each role.
 #[derive(Clone, Copy, Debug, PartialEq, Eq, PartialOrd, Ord)]
 pub enum Section {
@@ -70,15 +71,19 @@ impl Section {
     }
 }
 
-/// The versions of the format.
+/// The versions of the format. The third has its nodes by column.
 #[derive(Clone, Copy, Debug, PartialEq, Eq, PartialOrd, Ord)]
 pub enum Version {
     One,
     Two,
+    Three,
 }
 
 impl Version {
-    pub const ALL: [Version; 2] = [Version::One, Version::Two];
+    pub const ALL: [Version; 3] = [Version::One, Version::Two, Version::Three];
+
+    /// Those whose nodes stand in rows.
+    pub const BY_ROW: [Version; 2] = [Version::One, Version::Two];
 
     /// The version that a file's first word names, if there is such a one.
     pub fn named(first: u16) -> Option<Version> {
@@ -97,14 +102,20 @@ impl Version {
         match self {
             Version::One => 1,
             Version::Two => 2,
+            Version::Three => 3,
         }
+    }
+
+    /// Whether its roles have juniors.
+    pub const fn has_juniors(self) -> bool {
+        !matches!(self, Version::One)
     }
 
     /// The sections that it has, in the file's order.
     pub const fn sections(self) -> &'static [Section] {
         match self {
             Version::One => &Section::COUNTED,
-            Version::Two => &Section::ALL,
+            Version::Two | Version::Three => &Section::ALL,
         }
     }
 
@@ -154,7 +165,7 @@ pub struct File<'a> {
     pub kinds: &'a [[u8; 2]],
     pub channels: &'a [[u8; 4]],
     pub sessions: &'a [[u8; 6]],
-    pub nodes: &'a [[u8; 6]],
+    pub nodes: Nodes<'a>,
 }
 
 /// Word `i` of a record.
@@ -186,15 +197,38 @@ impl<'a> File<'a> {
             version,
             users: take(&mut rest, users),
             roles: take(&mut rest, roles),
-            juniors: match version {
-                Version::One => &[],
-                Version::Two => take(&mut rest, roles),
+            juniors: match version.has_juniors() {
+                false => &[],
+                true => take(&mut rest, roles),
             },
             kinds: take(&mut rest, kinds),
             channels: take(&mut rest, channels),
             sessions: take(&mut rest, sessions),
-            nodes: take(&mut rest, nodes),
+            nodes: Nodes::take(&mut rest, version, nodes),
         })
+    }
+
+    /// The same where files of one version alone are taken: another is 2, at its turn.
+    pub fn open_only(file: &'a [u8], version: Version) -> Result<File<'a>, Refusal> {
+        let opened = File::open(file);
+        match (&opened, Version::claimed(file)) {
+            (Err(refusal), _) if refusal.cause.number() <= 2 => opened,
+            (_, other) if other != version => Err(Refusal {
+                cause: Cause::OtherVersion(other),
+                place: 0,
+            }),
+            _ => opened,
+        }
+    }
+
+    /// The bytes before the nodes.
+    pub fn before_nodes(&self) -> &'a [u8] {
+        &self.bytes[..self.bytes.len() - NODE * self.nodes.len()]
+    }
+
+    /// Those of the nodes.
+    pub fn node_bytes(&self) -> &'a [u8] {
+        &self.bytes[self.before_nodes().len()..]
     }
 
     /// The mask of a role's juniors; the first role has index 0.
@@ -243,7 +277,7 @@ fn judge_header(file: &[u8]) -> Result<(Version, [u16; 6]), Refusal> {
 }
 
 /// The next `count` records of `N` bytes.
-fn take<'a, const N: usize>(rest: &mut &'a [u8], count: u16) -> &'a [[u8; N]] {
+pub fn take<'a, const N: usize>(rest: &mut &'a [u8], count: u16) -> &'a [[u8; N]] {
     let (section, after) = rest.split_at(N * usize::from(count));
     *rest = after;
     section.as_chunks().0

@@ -5,8 +5,9 @@
 //! are spoken of, 21 is among them. The timed functions, [`read`], [`read_names`],
 //! [`check`], [`check_at`], [`place`], [`place_at`], [`measure`], [`measure_at`],
 //! [`run`], [`round`], [`ready`], [`totals`], [`run_seated`], [`round_seated`],
-//! [`seats`], [`start`], [`choose`] and [`merge`], go over the file a few times, in
-//! place, and allocate nothing; nor do [`reason`], [`read_reason`] and [`phrase`].
+//! [`seats`], [`start`], [`choose`], [`merge`], [`to_columns`] and [`to_rows`], go over
+//! the file a few times, in place, and allocate nothing; nor do [`reason`],
+//! [`read_reason`] and [`phrase`].
 
 #![forbid(unsafe_code)]
 
@@ -18,12 +19,14 @@ mod file;
 mod hours;
 mod merging;
 mod names;
+mod nodes;
 mod placing;
 mod reasons;
 mod roles;
 mod running;
 mod schema;
 mod tree;
+mod turning;
 
 pub use answers::{Placed, Ready, Reason, Round, Seats, Totals, Verdict, Written};
 pub use cause::{is_of_file, is_of_reading, Cause, Refusal};
@@ -34,6 +37,7 @@ pub use reasons::{Unsaid, SENTENCE};
 pub use running::{Answer, Halt, Run, SeatedRun, Thread, Unfit};
 pub use running::{BEFORE_ROUND, BEFORE_TOTALS, BESIDE, MOST_CHOICES, RECORDS};
 pub use running::{LINE_WORDS, ROLES, ROUND_WORDS, RUN_ROOM, TOTALS};
+pub use turning::TURNED_ROOM;
 
 use file::File;
 use hours::{Hours, ALWAYS};
@@ -322,6 +326,28 @@ pub fn merge(first: &[u8], second: &[u8], out: &mut [u8]) -> Written {
     }
 }
 
+/// Refusal 17, and 1 to 5, another version than 2 being 2; without one, the file is
+/// written in version 3, with its nodes by column, at the start of `out`.
+pub fn to_columns(file: &[u8], out: &mut [u8]) -> Written {
+    turn([Version::Two, Version::Three], file, out)
+}
+
+/// Refusal 17, and 1 to 5, another version than 3 being 2; without one, the file is
+/// written in version 2, with its nodes by row, at the start of `out`.
+pub fn to_rows(file: &[u8], out: &mut [u8]) -> Written {
+    turn([Version::Three, Version::Two], file, out)
+}
+
+fn turn([from, to]: [Version; 2], file: &[u8], out: &mut [u8]) -> Written {
+    match turning::judge(file, from, out.len()) {
+        Ok(file) => Written::bytes(turning::write(&file, to, out)),
+        Err(refusal) => {
+            let Verdict { number, place } = refusal.verdict();
+            Written::refused(number, place)
+        }
+    }
+}
+
 /// A run that has yet to make its first choice, if 1 to 10 leave the file clean.
 pub fn begin(file: &[u8]) -> Result<Run<'_>, Refusal> {
     judge_running(file, &[], MOST_CHOICES)
@@ -408,6 +434,12 @@ pub fn cause_in_merging(first: &[u8], second: &[u8], room: usize) -> Option<Refu
 /// Why [`merge`] refuses a file whatever the other is, if it does.
 pub fn cause_to_be_merged(file: &[u8]) -> Option<Refusal> {
     judge_to_be_merged(file).err()
+}
+
+/// Why a file isn't turned, by [`to_columns`] from version 2 or by [`to_rows`] from 3,
+/// where the output has this many bytes, if it isn't.
+pub fn cause_in_turning(from: Version, file: &[u8], room: usize) -> Option<Refusal> {
+    turning::judge(file, from, room).err()
 }
 
 /// Why [`check_at`] refuses, if it does.
@@ -538,7 +570,7 @@ fn judge_choosing(
 }
 
 fn judge_to_be_merged(file: &[u8]) -> Result<File<'_>, Refusal> {
-    merging::judge_version(file)?;
+    File::open_only(file, Version::One)?;
     let file = judge_reading(file)?;
     names::judge(&file)?;
     Ok(file)

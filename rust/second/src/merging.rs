@@ -14,15 +14,6 @@ pub fn judge_room(room: usize) -> Result<(), Refusal> {
     Ok(())
 }
 
-/// Refusal 2 for version 2, where 1 has had its turn.
-pub fn judge_version(file: &[u8]) -> Result<(), Refusal> {
-    match File::open(file) {
-        Err(refusal) if refusal.cause.number() == 1 => Err(refusal),
-        _ if Version::claimed(file) != Version::One => refuse(Cause::SecondVersion),
-        _ => Ok(()),
-    }
-}
-
 /// Refusal 25, and then 3 for the sums.
 pub fn judge(first: &File, second: &File) -> Result<(), Refusal> {
     judge_tables(first, second)?;
@@ -103,8 +94,8 @@ impl Shift {
         [user + self.users, mask, root + self.nodes]
     }
 
-    fn node(&self, node: &[u8; 6]) -> [u16; 3] {
-        match three(node) {
+    fn node(&self, node: [u16; 3]) -> [u16; 3] {
+        match node {
             [1, second, f2] => [1, second + self.nodes, f2],
             [4, one, other] => [4, self.operand(one), self.operand(other)],
             [5, channel, f2] => [5, self.operand(channel), f2],
@@ -132,9 +123,10 @@ pub fn write(first: &File, second: &File, out: &mut [u8]) -> u16 {
     for session in second.sessions {
         pen.words(shift.session(session));
     }
-    pen.bytes(first.nodes.as_flattened());
-    for node in second.nodes {
-        pen.words(shift.node(node));
+    pen.bytes(first.node_bytes());
+    // In version 1 they stand in rows.
+    for node in second.node_bytes().as_chunks().0 {
+        pen.words(shift.node(three(node)));
     }
     pen.at as u16
 }

@@ -1,7 +1,8 @@
 //! Names, kinds and roles, node by node: refusals 9 to 13.
 
 use crate::cause::{Cause, Refusal};
-use crate::file::{numbered, three, word, File};
+use crate::file::{three, word, File};
+use crate::nodes::{in_layout, Layout};
 use crate::roles::{self, Act, Grants, Whose};
 use crate::tree::VARIABLES;
 
@@ -67,6 +68,15 @@ pub fn each_node(file: &File, reach: impl FnMut(&Context, u16)) -> Result<(), Re
 
 fn go_through(
     file: &File,
+    reach: impl FnMut(&Context, u16),
+    show: impl FnMut(&mut Context, u16, Act),
+) -> Result<(), Refusal> {
+    in_layout!(file.nodes, nodes => go_through_in(file, nodes, reach, show))
+}
+
+fn go_through_in(
+    file: &File,
+    nodes: impl Layout,
     mut reach: impl FnMut(&Context, u16),
     mut show: impl FnMut(&mut Context, u16, Act),
 ) -> Result<(), Refusal> {
@@ -75,13 +85,12 @@ fn go_through(
     let mut at_root = true;
     let mut waiting = [Point::default(); MOST_FORKS];
     let mut open = 0;
-    for (place, node) in numbered(file.nodes) {
+    for (place, [tag, f1, f2]) in nodes.numbered() {
         if at_root {
             context.enter(sessions.next().expect("a session for each root"));
             at_root = false;
         }
         reach(&context, place);
-        let [tag, f1, f2] = three(node);
         match tag {
             0 if open == 0 => at_root = true,
             0 => {

@@ -6,12 +6,13 @@ mod states;
 use crate::cause::{Cause, Refusal};
 use crate::draft::set_word;
 use crate::file::{three, word, File, Section, Version};
+use crate::nodes::{in_layout, Layout, Room, NODE};
 use crate::Placed;
 use needs::Needs;
 use states::{Choice, Waiting};
 
 /// As many bytes as any file wants of the output.
-pub const ROOM: usize = Version::Two.largest();
+pub const ROOM: usize = Version::Three.largest();
 
 const MOST_NODES: usize = Section::Nodes.most() as usize;
 
@@ -24,8 +25,8 @@ const COMPARE: u16 = 4;
 const ON: u16 = 7;
 const OFF: u16 = 8;
 
-/// Bytes of a node, and of a session.
-const BYTES: usize = 6;
+/// Bytes of a session.
+const SESSION: usize = 6;
 
 /// The bytes that the output must have, whatever is written there. The file's
 /// first word decides, if it has one.
@@ -75,8 +76,13 @@ impl Plan {
     /// these roles are open.
     pub fn draw_up(&mut self, file: &File, open: u16) -> Result<(), Refusal> {
         let needs = Needs::of(file, open)?;
-        let choices = choose(file, open, &needs);
-        self.take_states(file, &choices);
+        let mut tags = [0; MOST_NODES];
+        let tags = &mut tags[..file.nodes.len()];
+        in_layout!(file.nodes, nodes => {
+            tags.iter_mut().zip(nodes.tags()).for_each(|(slot, tag)| *slot = tag);
+        });
+        let choices = choose(file, tags, open, &needs);
+        self.take_states(tags, &choices);
         if self.nodes > Section::Nodes.most() {
             return refuse(Cause::ResultTooLarge, 0);
         }
@@ -85,12 +91,12 @@ impl Plan {
 
     /// Goes through the nodes from the left: each takes its state by its
     /// parent's, and its start by what stands before it.
-    fn take_states(&mut self, file: &File, choices: &[Choice; MOST_NODES]) {
+    fn take_states(&mut self, tags: &[u16], choices: &[Choice; MOST_NODES]) {
         let mut forks = [0; MOST_ENDS];
         let mut open = 0;
         let (mut parent, mut last, mut on_steps) = (0, 0, 0);
         let rows = self.before.iter_mut().zip(choices);
-        for ((before, choice), node) in rows.zip(file.nodes) {
+        for ((before, choice), &tag) in rows.zip(tags) {
             let own = choice.below(parent);
             let (off, on) = if own == parent { (0, 0) } else { (parent, own) };
             let start = last + 1;
@@ -98,7 +104,7 @@ impl Plan {
             last = start + u16::from(off != 0) + u16::from(on != 0);
             on_steps += u16::from(on != 0);
             parent = own;
-            match word(node, 0) {
+            match tag {
                 FORK => {
                     forks[open] = own;
                     open += 1;
@@ -122,68 +128,59 @@ impl Plan {
 
     /// What is answered where the file is placed.
     pub fn measure(&self, file: &File) -> Placed {
-        let head = file.bytes.len() - BYTES * file.nodes.len();
-        let length = head + BYTES * usize::from(self.nodes);
+        let length = file.before_nodes().len() + NODE * usize::from(self.nodes);
         Placed::written(length as u16, self.on_steps)
     }
 
     /// Writes the placed file.
     pub fn write(&self, file: &File, out: &mut [u8]) -> Placed {
         let placed = self.measure(file);
-        let head = file.bytes.len() - BYTES * file.nodes.len();
-        let (start, nodes) = out[..placed.length.into()].split_at_mut(head);
-        start.copy_from_slice(&file.bytes[..head]);
+        let before = file.before_nodes();
+        let (start, nodes) = out[..placed.length.into()].split_at_mut(before.len());
+        start.copy_from_slice(before);
         set_word(start, Section::Nodes.count_at(), self.nodes);
-        self.write_roots(&mut start[head - BYTES * file.sessions.len()..]);
-        self.write_nodes(file, nodes.as_chunks_mut().0);
+        self.write_roots(&mut start[before.len() - SESSION * file.sessions.len()..]);
+        let room = Room::of(file.version, nodes);
+        in_layout!(file.nodes, nodes => self.write_nodes(nodes, room));
         placed
     }
 
     fn write_roots(&self, sessions: &mut [u8]) {
-        for session in sessions.as_chunks_mut::<BYTES>().0 {
+        for session in sessions.as_chunks_mut::<SESSION>().0 {
             let root = self.start_of(word(session, 2));
             set_word(session, 2, root);
         }
     }
 
-    fn write_nodes(&self, file: &File, out: &mut [[u8; BYTES]]) {
-        let mut slots = out.iter_mut();
-        let mut put = |node| *slots.next().expect("room for every node") = node;
-        for (before, node) in self.before.iter().zip(file.nodes) {
+    fn write_nodes(&self, nodes: impl Layout, mut room: Room) {
+        let mut indices = 0..;
+        let mut put = |node| room.put(indices.next().expect("an index for every node"), node);
+        for (before, node) in self.before.iter().zip(nodes.words()) {
             if before.off != 0 {
-                put(node_of(OFF, before.off));
+                put([OFF, before.off, 0]);
             }
             if before.on != 0 {
-                put(node_of(ON, before.on));
+                put([ON, before.on, 0]);
             }
-            let mut node = *node;
-            if let [FORK, second, _] = three(&node) {
-                set_word(&mut node, 1, self.start_of(second));
-            }
-            put(node);
+            put(match node {
+                [FORK, second, f2] => [FORK, self.start_of(second), f2],
+                other => other,
+            });
         }
     }
 }
 
-/// A node that puts a role on or off.
-fn node_of(tag: u16, role: u16) -> [u8; BYTES] {
-    let mut node = [0; BYTES];
-    set_word(&mut node, 0, tag);
-    set_word(&mut node, 1, role);
-    node
-}
-
 /// Every node's choice, tree by tree from the right.
-fn choose(file: &File, open: u16, needs: &Needs) -> [Choice; MOST_NODES] {
+fn choose(file: &File, tags: &[u16], open: u16, needs: &Needs) -> [Choice; MOST_NODES] {
     let mut choices = [Choice::default(); MOST_NODES];
     let mut waiting = Waiting::new();
-    let mut end = file.nodes.len();
+    let mut end = tags.len();
     for session in file.sessions.iter().rev() {
         let [user, _, root] = three(session);
         let tree = usize::from(root) - 1..end;
         end = tree.start;
         states::choose(
-            &file.nodes[tree.clone()],
+            &tags[tree.clone()],
             open & word(&file.users[usize::from(user) - 1], 0),
             &needs.roles[tree.clone()],
             &mut waiting,

@@ -11,7 +11,7 @@ pub const SENTENCE: usize = 120;
 
 /// What each number means, from 1 on.
 const MEANINGS: [&[u8]; 26] = [
-    b"Refused 1: the file has 1 to 25 bytes (to 27 in version 2), or an odd number of them",
+    b"Refused 1: the file has 1 to 25 bytes (to 27 in versions 2 and 3), or an odd number",
     b"Refused 2: the version is not one that can be read here",
     b"Refused 3: a count is out of range",
     b"Refused 4: an offset is not the one that the counts give",

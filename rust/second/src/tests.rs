@@ -1,16 +1,17 @@
 use crate::cases::{booking, cases, choose_cases, place_cases, placed_booking, run_cases};
 use crate::cases::{check_at_cases, place_at_cases, round_cases, start_cases, totals_cases};
 use crate::cases::{merge_cases, reason_cases, Due, DueOfBoth, BOOKING, NO_SENTENCES};
-use crate::cases::{seat_cases, seated_round_cases};
-use crate::draft::to_bytes;
+use crate::cases::{seat_cases, seated_round_cases, turn_cases, Turn};
+use crate::draft::{set_word, to_bytes};
 use crate::{begin, merge, resume, total, totals};
 use crate::{cause, cause_in_choosing, cause_in_placing, cause_in_run, cause_in_starting};
 use crate::{cause_at, cause_in_merging, cause_in_placing_at, cause_in_round, check_at};
 use crate::{cause_in_reason, phrase, read_reason, reason};
 use crate::{cause_in_seated_run, round_seated, run_seated, seats};
+use crate::{cause_in_turning, to_columns, to_rows, TURNED_ROOM};
 use crate::{check, choose, is_of_file, is_of_reading, measure, measure_at};
 use crate::{place, place_at, read, read_names, ready, round, run, start};
-use crate::{Cause, Placed, Reason, Run, Thread, Unsaid, Verdict, Version, SENTENCE};
+use crate::{Cause, Placed, Reason, Run, Thread, Unsaid, Verdict, Version, Written, SENTENCE};
 use crate::{BEFORE_ROUND, BEFORE_TOTALS, BESIDE, MERGED_ROOM, RECORDS, ROOM, RUN_ROOM};
 use std::collections::BTreeSet;
 
@@ -335,8 +336,8 @@ fn the_booking_is_built_as_the_paper_writes_it() {
 
 #[test]
 fn the_largest_files() {
-    assert_eq!(Version::ALL.map(Version::header), [13, 14]);
-    assert_eq!(Version::ALL.map(Version::largest), [6_874, 6_908]);
+    assert_eq!(Version::ALL.map(Version::header), [13, 14, 14]);
+    assert_eq!(Version::ALL.map(Version::largest), [6_874, 6_908, 6_908]);
     assert_eq!(ROOM, 6_908);
 }
 
@@ -449,7 +450,10 @@ fn named_cases_of_merging() {
         causes.extend(refusal.map(|refusal| refusal.cause));
     }
     let due = [
-        vec![Cause::OutputTooShort, Cause::SecondVersion],
+        vec![Cause::OutputTooShort],
+        [Version::Two, Version::Three]
+            .map(Cause::OtherVersion)
+            .to_vec(),
         Cause::of_both(),
     ];
     for cause in due.concat() {
@@ -491,4 +495,76 @@ fn merged_files_are_judged_as_both() {
         merged > 500 && passed > 50 && placed > 100,
         "{merged} {passed} {placed}"
     );
+}
+
+fn turned(turn: Turn, file: &[u8], out: &mut [u8]) -> Written {
+    match turn {
+        Turn::ToColumns => to_columns(file, out),
+        Turn::ToRows => to_rows(file, out),
+    }
+}
+
+#[test]
+fn named_cases_of_turning() {
+    let mut causes = BTreeSet::new();
+    for case in turn_cases() {
+        case.demand("second", turned);
+        let refusal = cause_in_turning(case.turn.from(), &case.file, case.room);
+        let told = refusal.map(|refusal| refusal.cause.number());
+        assert_eq!(told, case.due.as_ref().err().copied(), "{}", case.name);
+        causes.extend(refusal.map(|refusal| refusal.cause));
+    }
+    for cause in [Version::One, Version::Two, Version::Three].map(Cause::OtherVersion) {
+        assert!(causes.contains(&cause), "no case of {cause:?}");
+    }
+}
+
+/// The column file of a version 2 file; where 1 to 5 refuse it, the same with a first
+/// word of 3.
+fn by_column(file: &[u8]) -> Vec<u8> {
+    let mut out = vec![0; TURNED_ROOM];
+    let written = to_columns(file, &mut out);
+    if written.number == 0 {
+        out.truncate(written.length.into());
+        return out;
+    }
+    let mut file = file.to_vec();
+    set_word(&mut file, 0, 3);
+    file
+}
+
+/// The cases of version 2 have the same answers by column, and what is placed keeps
+/// its form.
+#[test]
+fn column_files_are_answered_as_their_rows() {
+    let is_second = |file: &[u8]| file.len() >= 2 && Version::claimed(file) == Version::Two;
+    let (mut checked, mut placings, mut runs) = (0, 0, 0);
+    for case in cases().into_iter().filter(|case| is_second(&case.file)) {
+        let columns = by_column(&case.file);
+        assert_eq!(read(&columns), read(&case.file), "{}", case.name);
+        assert_eq!(check(&columns), check(&case.file), "{}", case.name);
+        checked += 1;
+    }
+    for case in place_cases() {
+        if !is_second(&case.file) || case.room < ROOM {
+            continue;
+        }
+        let (mut out, mut of_rows) = ([0; ROOM], [0; ROOM]);
+        let placed = place(&by_column(&case.file), &mut out);
+        assert_eq!(placed, place(&case.file, &mut of_rows), "{}", case.name);
+        let length = usize::from(placed.length);
+        if placed.number == 0 {
+            assert_eq!(out[..length], by_column(&of_rows[..length]));
+            placings += 1;
+        }
+    }
+    for case in run_cases() {
+        if is_second(&case.file) {
+            case.demand("by column", |file, choices, out| {
+                run(&by_column(file), choices, out)
+            });
+            runs += 1;
+        }
+    }
+    assert!(checked > 50 && placings > 5 && runs > 5);
 }

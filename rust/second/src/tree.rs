@@ -5,7 +5,8 @@
 //! wait for that are kept on a stack.
 
 use crate::cause::{Cause, Refusal};
-use crate::file::{numbered, three, word, File, Section};
+use crate::file::{word, File, Section};
+use crate::nodes::{in_layout, Layout};
 
 /// The most variables on a path.
 pub const VARIABLES: u8 = 8;
@@ -77,9 +78,13 @@ impl Lowest {
     }
 }
 
+pub fn judge(file: &File) -> Result<(), Refusal> {
+    in_layout!(file.nodes, nodes => judge_in(file, nodes))
+}
+
 /// A function of its own in the machine code too: inlined, it is slower.
 #[inline(never)]
-pub fn judge(file: &File) -> Result<(), Refusal> {
+fn judge_in(file: &File, nodes: impl Layout) -> Result<(), Refusal> {
     let mut lowest = Lowest(None);
     let mut waiting = Waiting {
         forks: [0; MOST_NODES],
@@ -89,7 +94,7 @@ pub fn judge(file: &File) -> Result<(), Refusal> {
     let mut sessions = file.sessions.iter();
     let mut at_root = true;
     let mut bound = 0;
-    for (place, node) in numbered(file.nodes) {
+    for (place, [tag, f1, f2]) in nodes.numbered() {
         if at_root {
             let Some(session) = sessions.next() else {
                 lowest.note(place, Cause::LeftOver);
@@ -101,7 +106,6 @@ pub fn judge(file: &File) -> Result<(), Refusal> {
             at_root = false;
             bound = 0;
         }
-        let [tag, f1, f2] = three(node);
         let Some(form) = FORMS.get(usize::from(tag)) else {
             lowest.note(place, Cause::Tag);
             return lowest.verdict();
@@ -120,7 +124,8 @@ pub fn judge(file: &File) -> Result<(), Refusal> {
         } else if tag == END {
             match waiting.pop() {
                 Some((fork, bound_above)) => {
-                    if word(&file.nodes[usize::from(fork) - 1], 1) != place + 1 {
+                    let [_, second, _] = nodes.at(usize::from(fork) - 1);
+                    if second != place + 1 {
                         lowest.note(fork, Cause::SecondChild);
                     }
                     bound = bound_above;
@@ -129,7 +134,7 @@ pub fn judge(file: &File) -> Result<(), Refusal> {
             }
         }
     }
-    let past = file.nodes.len() as u16 + 1;
+    let past = nodes.count() as u16 + 1;
     if !at_root {
         lowest.note(past, Cause::PastLast);
     } else if sessions.next().is_some() {

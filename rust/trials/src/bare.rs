@@ -56,21 +56,22 @@ pub fn deal_bare(version: Version, seed: u64, index: u64) -> (Vec<u8>, Vec<u8>) 
             pad(rng, &mut draft, nodes);
             draft.bytes()
         }
-        24 if version == Version::Two && rng.once_in(4) => few_bytes(rng),
+        24 if version.has_juniors() && rng.once_in(4) => few_bytes(rng, version),
         _ => deal(version, seed, index),
     };
     let room = room(rng, &file);
     (file, filled(rng, room))
 }
 
-/// So few bytes that there is hardly a first word, mostly 2.
-fn few_bytes(rng: &mut Rng) -> Vec<u8> {
+/// So few bytes that there is hardly a first word, mostly the version's.
+fn few_bytes(rng: &mut Rng, version: Version) -> Vec<u8> {
     let any = rng.word().to_le_bytes();
+    let number = version.number() as u8;
     let all = [
-        [2, 0, any[0]],
-        [2, any[0], any[1]],
+        [number, 0, any[0]],
+        [number, any[0], any[1]],
         [any[0], 0, 0],
-        [0, 2, 0],
+        [0, number, 0],
     ];
     let bytes = *rng.of(&[all[0], all[0], all[1], all[2], all[3]]);
     bytes[..*rng.of(&[1, 1, 1, 2, 3])].to_vec()
@@ -80,7 +81,7 @@ fn few_bytes(rng: &mut Rng) -> Vec<u8> {
 /// bytes, mostly as another version would have it.
 fn room(rng: &mut Rng, file: &[u8]) -> usize {
     let wanted = room_for(file);
-    let [least, most] = Version::ALL.map(Version::largest);
+    let [least, most] = Version::BY_ROW.map(Version::largest);
     match rng.below(600) {
         0 => 0,
         1..=6 => wanted - 1,
@@ -126,7 +127,8 @@ pub fn tied_bare(rng: &mut Rng, version: Version, nodes: u16) -> Draft {
     let mut draft = Draft {
         users: vec![[7]],
         roles: roles.map(|kinds| [kinds, 0, kinds, 0]).to_vec(),
-        juniors: (version == Version::Two).then(|| vec![[0]; 3]),
+        juniors: version.has_juniors().then(|| vec![[0]; 3]),
+        by_column: version == Version::Three,
         kinds: vec![[0]; 6],
         channels: (1..=6).map(|kind| [1, kind]).collect(),
         sessions: vec![[1, 0, 1]],

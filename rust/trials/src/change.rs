@@ -99,14 +99,14 @@ pub fn any_bytes(rng: &mut Rng, file: &mut Vec<u8>) {
     }
 }
 
-/// Random bytes, mostly few. Behind a first word of 2, in version 2.
+/// Random bytes, mostly few. In versions 2 and 3, behind a first word that says so.
 pub fn noise(rng: &mut Rng, version: Version) -> Vec<u8> {
     let most = *rng.of(&[30, 80, 80, 300, 7_000]);
     let length = rng.below(most);
     let bytes = std::iter::repeat_with(|| rng.word() as u8);
     let mut bytes: Vec<u8> = bytes.take(length).collect();
-    if version == Version::Two && length >= 2 {
-        set_word(&mut bytes, 0, 2);
+    if version.has_juniors() && length >= 2 {
+        set_word(&mut bytes, 0, version.number());
     }
     bytes
 }
@@ -139,10 +139,11 @@ pub fn blank(rng: &mut Rng, version: Version) -> Draft {
     Draft {
         users: vec![[0; 1]; users],
         roles: vec![[0; 4]; roles],
-        juniors: (version == Version::Two).then(|| vec![[0; 1]; roles]),
+        juniors: version.has_juniors().then(|| vec![[0; 1]; roles]),
         kinds: vec![[0; 1]; few()],
         channels: vec![[0; 2]; few()],
         sessions: vec![[0; 3]; few()],
         nodes: vec![[0; 3]; few()],
+        by_column: version == Version::Three,
     }
 }

@@ -12,6 +12,7 @@ pub use fit::{any_thread, Clinic, Sort};
 pub use steps::{long_run_by_choices, run_by_choices, Steps};
 pub use tally::ChooseTally;
 
+use crate::columns::row_file;
 use crate::lists::{by_engine, Call, Lists};
 use second::draft::Draft;
 use second::{is_of_file, Thread, Verdict, Version, BEFORE_TOTALS};
@@ -110,6 +111,17 @@ pub fn compare_choosing(version: Version, seed: u64, files: u64) -> ChooseTally 
             let origin =
                 format_args!("trials::deal_lent(Version::{version:?}, {seed}, {index})[{turn}]");
             let (verdict, after) = agreed_choice(&lent.file, &lent.lists, lent.choice, origin);
+            if let Some(rows) = row_file(&lent.file) {
+                let Lists {
+                    mut threads,
+                    mut beside,
+                } = lent.lists.clone();
+                let [thread, partner] = lent.choice;
+                let by_row = engine_choose(&rows, &mut threads, &mut beside, thread, partner);
+                assert_eq!(verdict, by_row, "by row: {origin}");
+                let same = after == Lists { threads, beside };
+                assert!(same, "other lists by row: {origin}");
+            }
             tally.count(lent, verdict, &after);
         }
     }

@@ -55,7 +55,7 @@ pub fn deal(version: Version, seed: u64, index: u64) -> Vec<u8> {
         21 => {
             let causes = reading(version);
             let mut several: Vec<Cause> = (0..2 + rng.below(3)).map(|_| *rng.of(&causes)).collect();
-            if version == Version::Two && rng.once_in(2) {
+            if version.has_juniors() && rng.once_in(2) {
                 several = at_neighbours(rng, &causes);
             }
             aimed(rng, version, &several)

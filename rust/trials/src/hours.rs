@@ -7,9 +7,11 @@ mod tally;
 pub use deal::{deal_at, deal_bare_at, grant_more, with_hours, At};
 pub use tally::{CheckAtTally, PlaceAtTally};
 
+use crate::columns::{assert_placed_as_rows, row_file};
+use crate::measuring::{agreed_measure_at, engine_measure_at};
 use crate::placing::{differences, in_form, judge};
 use second::draft::Draft;
-use second::{Placed, Verdict, ROOM};
+use second::{Placed, Verdict, Version, ROOM};
 use std::fmt::Display;
 
 /// The engine's answer, in the second implementation's form.
@@ -113,26 +115,38 @@ fn judge_states(at: &At, out: &[u8], placed: Placed) -> Result<(), &'static str>
     unless(out.users != draft.users, "other users than the input's")
 }
 
-/// Deals `files` files with hours to both and panics at the first difference.
-pub fn compare_checking_at(seed: u64, files: u64) -> CheckAtTally {
+/// Deals `files` files of these versions with hours to both and panics at the first
+/// difference.
+pub fn compare_checking_at(versions: &[Version], seed: u64, files: u64) -> CheckAtTally {
     let mut tally = CheckAtTally::default();
     for index in 0..files {
-        let at = deal_at(seed, index);
-        let origin = format_args!("trials::deal_at({seed}, {index})");
+        let at = deal_at(versions, seed, index);
+        let origin = format_args!("trials::deal_at(&{versions:?}, {seed}, {index})");
         let verdict = agreed_check_at(&at, origin);
+        if let Some(rows) = row_file(&at.file) {
+            let by_row = engine_check_at(&rows, &at.hours, at.minute);
+            assert_eq!(verdict, by_row, "by row: {origin}");
+        }
         tally.count(&at, verdict);
     }
     tally
 }
 
-/// Deals `files` files to be placed, with hours, to both and panics at the first
-/// difference.
-pub fn compare_placing_at(seed: u64, files: u64) -> PlaceAtTally {
+/// Deals `files` files of these versions to be placed, with hours, to both and panics at
+/// the first difference.
+pub fn compare_placing_at(versions: &[Version], seed: u64, files: u64) -> PlaceAtTally {
     let mut tally = PlaceAtTally::default();
     for index in 0..files {
-        let (at, before) = deal_bare_at(seed, index);
-        let origin = format_args!("trials::deal_bare_at({seed}, {index})");
+        let (at, before) = deal_bare_at(versions, seed, index);
+        let origin = format_args!("trials::deal_bare_at(&{versions:?}, {seed}, {index})");
         let (placed, out) = agreed_placing_at(&at, &before, origin);
+        if let Some(rows) = row_file(&at.file) {
+            let At { hours, minute, .. } = &at;
+            let place = |out: &mut [u8]| engine_place_at(&rows, hours, *minute, out);
+            assert_placed_as_rows(placed, &out, &before, place, origin);
+            let measured = engine_measure_at(&rows, hours, *minute);
+            assert_eq!(agreed_measure_at(&at, origin), measured, "by row: {origin}");
+        }
         tally.count(&at, placed, &out);
     }
     tally

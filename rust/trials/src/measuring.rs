@@ -96,7 +96,7 @@ pub fn compare_measuring(seed: u64, files: u64) -> MeasureTally {
     let mut tally = MeasureTally::default();
     for index in 0..files {
         // Each family of files comes up in both versions.
-        let version = Version::ALL[(index / 216 % 2) as usize];
+        let version = Version::BY_ROW[(index / 216 % 2) as usize];
         let bare = index / 432 % 2 == 0;
         let origin = format_args!("trials::compare_measuring({seed}, ..), file {index}");
         let file = if bare {
@@ -107,9 +107,9 @@ pub fn compare_measuring(seed: u64, files: u64) -> MeasureTally {
         let placed = agreed_measure(&file, origin);
         *tally.plain.entry(placed.number).or_default() += 1;
         let at = if bare {
-            deal_bare_at(seed, index).0
+            deal_bare_at(&Version::BY_ROW, seed, index).0
         } else {
-            deal_at(seed, index)
+            deal_at(&Version::BY_ROW, seed, index)
         };
         let placed = agreed_measure_at(&at, origin);
         *tally.at_a_minute.entry(placed.number).or_default() += 1;

@@ -5,6 +5,8 @@ mod tally;
 pub use tally::PlaceTally;
 
 use crate::bare::deal_bare;
+use crate::columns::{assert_placed_as_rows, row_file};
+use crate::measuring::{agreed_measure, engine_measure};
 use crate::trees::Trees;
 use second::cases::NOTHING;
 use second::draft::{to_bytes, Draft};
@@ -140,6 +142,12 @@ pub fn compare_placing(version: Version, seed: u64, files: u64) -> PlaceTally {
         let (file, before) = deal_bare(version, seed, index);
         let origin = format_args!("trials::deal_bare(Version::{version:?}, {seed}, {index})");
         let (placed, out) = agreed_placing(&file, &before, origin);
+        if let Some(rows) = row_file(&file) {
+            let place = |out: &mut [u8]| engine_place(&rows, out);
+            assert_placed_as_rows(placed, &out, &before, place, origin);
+            let measured = engine_measure(&rows);
+            assert_eq!(agreed_measure(&file, origin), measured, "by row: {origin}");
+        }
         tally.count(&file, placed, &out);
     }
     tally

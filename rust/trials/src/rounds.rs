@@ -13,6 +13,7 @@ pub use tally::RoundTally;
 pub use timed::{lone_round, meeting_round, typical_round};
 pub use visits::{Came, Visits};
 
+use crate::columns::row_file;
 use crate::running::{agreed, engine_run, is_halted, Dealt};
 use second::draft::word_at;
 use second::{Round, Verdict, Version, BEFORE_ROUND};
@@ -130,6 +131,12 @@ pub fn compare_rounds(version: Version, seed: u64, rounds: u64) -> RoundTally {
         let dealt = deal_round(version, seed, index);
         let origin = format!("trials::deal_round(Version::{version:?}, {seed}, {index})");
         let (round, out) = agreed_round(&dealt, &origin);
+        if let Some(rows) = row_file(&dealt.file) {
+            let mut of_rows = dealt.before.clone();
+            let by_row = engine_round(&rows, &dealt.choices, &mut of_rows);
+            assert_eq!(round, by_row, "by row: {origin}");
+            assert!(out == of_rows, "another output by row: {origin}");
+        }
         let sample = index % 4 == 0;
         let came = look_into(&dealt, &round, &out, sample, &origin);
         tally.count(&dealt, &round, came.as_ref());

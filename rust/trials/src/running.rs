@@ -10,6 +10,7 @@ pub use placed::{run_placed, PlacedRuns};
 pub use replay::{sends_in, Replay};
 pub use tally::RunTally;
 
+use crate::columns::row_file;
 use second::draft::word_at;
 use second::{Ready, Verdict, Version, RUN_ROOM};
 use std::fmt::{Debug, Display};
@@ -152,6 +153,14 @@ pub fn compare_running(version: Version, seed: u64, runs: u64) -> RunTally {
         let dealt = deal_run(version, seed, index);
         let origin = format_args!("trials::deal_run(Version::{version:?}, {seed}, {index})");
         let (verdict, out) = agreed_run(&dealt, origin);
+        if let Some(rows) = row_file(&dealt.file) {
+            let mut of_rows = dealt.before.clone();
+            let by_row = engine_run(&rows, &dealt.choices, &mut of_rows);
+            assert_eq!(verdict, by_row, "by row: {origin}");
+            assert!(out == of_rows, "another output by row: {origin}");
+            let ready = [&dealt.file, &rows].map(|file| engine_ready(file, &dealt.choices));
+            assert_eq!(ready[0], ready[1], "by row: {origin}");
+        }
         if is_halted(verdict) && index % 4 == 0 {
             assert_state_before(&dealt, verdict, &out);
         }

@@ -130,6 +130,7 @@ pub fn schema(rng: &mut Rng, version: Version, size: Size) -> Draft {
     let kinds = usize::from(size.kinds);
     let channels = if size.kinds == 0 { 0 } else { size.channels };
     let mut draft = Draft {
+        by_column: version == Version::Three,
         users: many(size.users, || [rng.mask(size.roles.into()) as u16]),
         ..Draft::default()
     };
@@ -138,7 +139,7 @@ pub fn schema(rng: &mut Rng, version: Version, size: Size) -> Draft {
         let high = |mask: u32| (mask >> 16) as u16;
         [sends as u16, high(sends), receives as u16, high(receives)]
     });
-    if version == Version::Two {
+    if version.has_juniors() {
         draft.juniors = Some(juniors::masks(rng, size.roles));
     }
     draft.kinds = many(size.kinds, || [carried(rng, size.kinds)]);

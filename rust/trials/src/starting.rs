@@ -7,6 +7,7 @@ pub use deal::{any_lists, deal_start};
 pub use tally::StartTally;
 
 use crate::answers::second_read;
+use crate::columns::row_file;
 use crate::lists::{by_engine, Call, Lists};
 use second::draft::Draft;
 use second::{Thread, Verdict, Version, BEFORE_TOTALS, BESIDE, RECORDS};
@@ -72,7 +73,13 @@ pub fn compare_starting(version: Version, seed: u64, files: u64) -> StartTally {
     for index in 0..files {
         let (file, lists) = deal_start(version, seed, index);
         let origin = format_args!("trials::deal_start(Version::{version:?}, {seed}, {index})");
-        agreed_start(&file, &lists, origin);
+        let (verdict, after) = agreed_start(&file, &lists, origin);
+        if let Some(rows) = row_file(&file) {
+            let mut of_rows = lists.clone();
+            let by_row = engine_start(&rows, &mut of_rows.threads, &mut of_rows.beside);
+            assert_eq!(verdict, by_row, "by row: {origin}");
+            assert!(after == of_rows, "other lists by row: {origin}");
+        }
         tally.count(&file, &lists);
     }
     tally

@@ -1,6 +1,7 @@
 //! Counting answers by number and cause.
 
-use crate::answers::agreed;
+use crate::answers::{agreed, engine_check, engine_read};
+use crate::columns::row_file;
 use crate::deal::deal;
 use crate::juniors;
 use crate::trees::Trees;
@@ -11,7 +12,7 @@ use std::collections::BTreeMap;
 /// The least number of files for each cause, and for each of what juniors bring.
 const LEAST: u64 = 500;
 
-/// What has to come up in version 2.
+/// What has to come up in versions 2 and 3.
 const OF_JUNIORS: [&str; 6] = [
     "6 at a later place than a 21",
     "6 at an earlier place than a 21",
@@ -53,7 +54,7 @@ impl Tally {
         let cause = refusal.map(|refusal| refusal.cause);
         let count = self.by_cause.get_mut(&cause);
         *count.expect("every cause is listed") += 1;
-        if self.version == Version::Two {
+        if self.version.has_juniors() {
             self.count_juniors(file, refusal);
         }
     }
@@ -119,7 +120,7 @@ impl Tally {
         println!("{:>9} of another version", self.others);
         let rare: Vec<_> = self.by_cause.iter().filter(|(_, n)| **n < LEAST).collect();
         assert!(rare.is_empty(), "under {LEAST} files: {rare:?}");
-        if self.version == Version::Two {
+        if self.version.has_juniors() {
             for (what, count) in &self.of_juniors {
                 println!("{count:>9} {what}");
             }
@@ -135,7 +136,11 @@ pub fn compare(version: Version, seed: u64, files: u64) -> Tally {
     for index in 0..files {
         let file = deal(version, seed, index);
         let origin = format_args!("trials::deal(Version::{version:?}, {seed}, {index})");
-        agreed(&file, origin);
+        let answer = agreed(&file, origin);
+        if let Some(rows) = row_file(&file) {
+            let by_row = (engine_read(&rows), engine_check(&rows));
+            assert_eq!((engine_read(&file), answer), by_row, "by row: {origin}");
+        }
         tally.count(&file);
     }
     tally

@@ -7,6 +7,7 @@ mod tally;
 pub use deal::deal_totals;
 pub use tally::TotalsTally;
 
+use crate::columns::row_file;
 use crate::lists::count_waiting;
 use crate::running::{agreed, engine_run, is_halted, Dealt};
 use second::draft::{word_at, Draft};
@@ -74,6 +75,9 @@ pub fn compare_totals(version: Version, seed: u64, lists: u64) -> TotalsTally {
         let (file, choices) = deal_totals(version, seed, index);
         let origin = format_args!("trials::deal_totals(Version::{version:?}, {seed}, {index})");
         let told = agreed_totals(&file, &choices, origin);
+        if let Some(rows) = row_file(&file) {
+            assert_eq!(told, engine_totals(&rows, &choices), "by row: {origin}");
+        }
         tally.count(&file, &choices, &told);
     }
     tally

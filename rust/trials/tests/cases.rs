@@ -17,7 +17,11 @@ fn named_cases() {
 
 #[test]
 fn the_largest_file() {
-    for (version, length) in [(Version::One, 6_874), (Version::Two, 6_908)] {
+    for (version, length) in [
+        (Version::One, 6_874),
+        (Version::Two, 6_908),
+        (Version::Three, 6_908),
+    ] {
         let file = trials::largest(version, trials::seed());
         assert_eq!(file.len(), length);
         assert_eq!(trials::agreed(&file, "largest"), (0, 0));

@@ -130,7 +130,7 @@ fn signs(version: Version) -> Vec<(String, Sign)> {
 
 #[test]
 fn files_that_pass_show_everything() {
-    Version::ALL.into_iter().for_each(demand_signs);
+    Version::BY_ROW.into_iter().for_each(demand_signs);
 }
 
 fn demand_signs(version: Version) {

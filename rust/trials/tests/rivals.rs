@@ -14,7 +14,7 @@ const LEAST: u64 = 300;
 
 /// The two take turns.
 fn version(index: u64) -> Version {
-    Version::ALL[(index % 2) as usize]
+    Version::BY_ROW[(index % 2) as usize]
 }
 
 /// A small file; every third has many placements with the fewest on steps.

@@ -3,7 +3,10 @@ use native.Mathlib.Omega.{arith}
 use lib.Seq.{sets}
 use Rattle.format.specs.Words.{bytesOf}
 use Rattle.format.specs.Header.{headWords}
-use Rattle.groups.specs.Groups.{withNodes, turnsIn}
+use Rattle.format.specs.Contents.{contentsAt}
+use Rattle.format.specs.Writing.{nodesPut}
+use Rattle.format.specs.declared.Head.{Head}
+use Rattle.groups.specs.Groups.{groupsFrom, withNodes, turnsIn}
 use Rattle.groups.proofs.WriteLaws.{turns-counted, file-put}
 use borrow.Author.Needs.{needs}
 use Rattle.groups.proofs.put_file.Statement.{statement}
@@ -29,7 +32,12 @@ put-sessions-requires : tie.Need-put-sessions-requires
 put-sessions-requires c κs = search needs
 
 put-groups-requires : tie.Need-put-groups-requires
-put-groups-requires c κs = search needs
+put-groups-requires c κs =
+    let p = c .before .before .before .before .before .before .before .before .before .before .before .before .before .before .before .before .before .before .pre in
+    let is = c .before .before .before .before .before .before .before .before .before .before .before .before .before .with-nodes .ensures in
+    let count = ap (λ (h : Head). h .count .nodes) is in
+    let place = ap (λ (h : Head). h .at .nodes) is in
+    (p .0, p .1, count ∙ p .3, omega (arith, count), omega (arith, count, place))
 
 same-length : tie.Need-same-length
 same-length c = search needs
@@ -43,9 +51,11 @@ returns c =
     let three = c .before .before .before .before .before .before .put-sessions in
     let four = c .before .before .put-groups in
     let n = a .head .count .nodes in
-    let head = one .ensures ∙ ap (λ h. sets (a .out .now) 0 (bytesOf (headWords h))) (c .before .before .before .before .before .before .before .before .before .before .before .before .before .before .before .with-nodes .ensures ∙ ap (withNodes (a .head)) (pre .3)) in
-    file-put (a .file .now) (a .head) (turnsIn (a .turns .now) n) (a .starts .now) (a .out .now) (one .last .0) (two .last .1 .1 .0) (three .last .1 .1 .1 .0) (four .last .1 .1 .1 .1 .0)
-    (pre .0) (turns-counted (a .turns .now) n (omega (arith, pre .0 .nodes, pre .1))) head (two .ensures) (three .ensures) (four .ensures)
+    let whole = c .before .before .before .before .before .before .before .before .before .before .before .before .before .before .before .before .with-nodes .ensures ∙ ap (withNodes (a .head)) (pre .3) in
+    let head = one .ensures ∙ ap (λ h. sets (a .out .now) 0 (bytesOf (headWords h))) whole in
+    let nodes = four .ensures ∙ ap (λ h. nodesPut h 1 (groupsFrom (a .starts .now) (contentsAt (a .file .now) (a .head) .nodes) (turnsIn (a .turns .now) n)) (three .last .1 .1 .1 .0)) whole in
+    file-put (a .file .now) (a .head) (turnsIn (a .turns .now) n) (a .starts .now) (a .out .now) (one .last .0) (two .last .1 .1 .0) (three .last .1 .1 .1 .0) (four .last .1 .1 .1 .1 .1 .0)
+    (pre .0) (turns-counted (a .turns .now) n (omega (arith, pre .0 .nodes, pre .1))) head (two .ensures) (three .ensures) nodes (omega (arith, pre .3, pre .4))
 
 pub put-file-spec : {M : Type 1} → statement M
 put-file-spec =

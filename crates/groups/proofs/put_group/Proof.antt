@@ -1,10 +1,6 @@
-use Prim.Native.Nat.{_+_, _*_, _-_}
 use mathlib.Core.Path.{ap, _∙_}
-use mathlib.Core.List.{[], _∷_}
 use native.Mathlib.Omega.{arith}
-use lib.Seq.{sets}
-use Rattle.format.specs.Words.{bytesOf}
-use Rattle.format.specs.Writing.{nodeWords}
+use Rattle.format.specs.Writing.{nodePut}
 use Rattle.states.specs.declared.Turn.{Turn}
 use Rattle.states.specs.States.{unpacked}
 use Rattle.groups.specs.Groups.{moved}
@@ -43,9 +39,9 @@ returns c =
     let two = c .before .before .before .before .before .before .before .before .put-switch2 in
     let three = c .before .before .put-node in
     let t : Turn = unpacked (a .turn) in
-    let put = three .ensures ∙ ap (λ f1. sets (two .last .0) (2 * (a .head .at .nodes + 3 * (two .result - 1))) (bytesOf (nodeWords (record { tag = a .it .tag; f1 = f1; f2 = a .it .f2 } ∷ [])))) (c .before .before .before .before .renamed .ensures) in (
+    let put = three .ensures ∙ ap (λ f1. nodePut (a .head) (two .result) (record { tag = a .it .tag; f1 = f1; f2 = a .it .f2 }) (two .last .0)) (c .before .before .before .before .renamed .ensures) in (
       omega (arith, one .ensures .0, two .ensures .0, size-switches t),
-      group-put (a .head .at .nodes) (a .out .now) (one .last .0) (two .last .0) (three .last .0) (a .at) (one .result) (two .result) t (moved (a .starts .now) (a .it)) (c .before .before .before .before .before .before .before .before .before .before .before .before .before .before .before .before .pre .0)
+      group-put (a .head) (a .out .now) (one .last .0) (two .last .0) (three .last .0) (a .at) (one .result) (two .result) t (moved (a .starts .now) (a .it))
           (one .ensures .0) (one .ensures .1) (two .ensures .0) (two .ensures .1) put,
     )
 

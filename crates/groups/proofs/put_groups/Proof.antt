@@ -1,17 +1,14 @@
-use Prim.Native.Nat.{_+_, _*_, _-_, _≤_}
+use Prim.Native.Nat.{_+_, _-_, _≤_}
 use mathlib.Core.Path.{_≡_, refl, sym, ap, ap₂, _∙_}
 use mathlib.Core.List.{[], _∷_, _++_}
 use native.Mathlib.Omega.{arith}
 use lib.ListN.{length, getD}
-use lib.Seq.{sets}
-use Rattle.format.specs.Words.{bytesOf}
 use Rattle.format.specs.Contents.{contentsAt}
-use Rattle.format.specs.Writing.{nodeWords}
+use Rattle.format.specs.Writing.{nodesPut}
 use Rattle.format.proofs.ContentsLaws.{nodes-held}
 use Rattle.states.specs.States.{unpacked}
 use Rattle.groups.specs.Groups.{before, sizeOf, sizesOf, moved, groupsFrom, turnsIn}
-use Rattle.format.proofs.PutRuns.{puts-end}
-use Rattle.groups.proofs.WriteLaws.{turnsAfter, turns-all, sizes-more, groupsAfter, groups-all, groups-none, groups-turn}
+use Rattle.groups.proofs.WriteLaws.{turnsAfter, turns-all, sizes-more, groupsAfter, groups-all, groups-end, groups-turn}
 use borrow.Author.Needs.{needs}
 use Rattle.groups.proofs.put_groups.Statement.{statement}
 use Rattle.groups.proofs.put_groups.Tie as tie
@@ -22,25 +19,24 @@ use Rattle.format.proofs.words.wide.Reads as wide-reads
 use Rattle.groups.proofs.put_group.Reads as put-group-reads
 
 abbrev Inv-loop : tie.InvT-loop
-Inv-loop file head turns starts out₀ nodes at₀ n₀ out at n =
+Inv-loop file head whole turns starts out₀ nodes at₀ n₀ out at n =
     (n ≤ head .count .nodes) × (1 ≤ at) × (length out ≡ length out₀)
     × (at + sizesOf (turnsAfter turns n (head .count .nodes)) ≡ 1 + sizesOf (turnsIn turns (head .count .nodes)))
-    × (sets out (2 * (head .at .nodes + 3 * (at - 1))) (bytesOf (nodeWords (groupsAfter (contentsAt file head .nodes) (head .count .nodes) turns starts n)))
-    ≡ sets out₀ (2 * head .at .nodes) (bytesOf (nodeWords (groupsFrom starts (contentsAt file head .nodes) (turnsIn turns (head .count .nodes))))))
+    × (nodesPut whole at (groupsAfter (contentsAt file head .nodes) (head .count .nodes) turns starts n) out
+    ≡ nodesPut whole 1 (groupsFrom starts (contentsAt file head .nodes) (turnsIn turns (head .count .nodes))) out₀)
 
 abbrev μ-loop : tie.MeasureT-loop
-μ-loop file head turns starts out₀ nodes at₀ n₀ out at n = head .count .nodes - n
+μ-loop file head whole turns starts out₀ nodes at₀ n₀ out at n = head .count .nodes - n
 
 loop-holds : tie.Need-loop-holds Inv-loop μ-loop
 loop-holds c =
     let a = c .before .before .before .before .args in
-    let n = a .head .count .nodes in
-    let here : a .head .at .nodes + 3 * (1 - 1) ≡ a .head .at .nodes = omega arith in (
+    let n = a .head .count .nodes in (
       omega arith,
       omega arith,
       refl,
       ap (λ ts. 1 + sizesOf ts) (turns-all (a .turns .now) n),
-      ap₂ (λ p ns. sets (a .out .now) (2 * p) (bytesOf (nodeWords ns))) here (groups-all (contentsAt (a .file .now) (a .head) .nodes) n (a .turns .now) (a .starts .now)),
+      ap (λ ns. nodesPut (a .whole) 1 ns (a .out .now)) (groups-all (contentsAt (a .file .now) (a .head) .nodes) n (a .turns .now) (a .starts .now)),
     )
 
 add-n : tie.Need-add-n Inv-loop μ-loop
@@ -64,7 +60,7 @@ put-group-requires c κs =
     let l = c .before .before .before .before .before .loop in
     let more = sizes-more (a .turns .now) (l .n) (a .head .count .nodes) (omega arith) (omega arith) in
     let same = ap (λ k. sizeOf (unpacked (getD (a .turns .now) k 0))) (c .before .before .wide .ensures .0) in
-    (omega arith, omega (arith, more, same, l .inv .3), omega (arith, more, same, l .inv .3))
+    (omega arith, omega (arith, more, same, l .inv .3), omega arith, omega arith)
 
 loop-less : tie.Need-loop-less Inv-loop μ-loop
 loop-less c = omega arith
@@ -79,12 +75,12 @@ loop-again c =
     let index = c .before .before .before .before .before .wide .ensures .0 in
     let more = sizes-more (a .turns .now) (l .n) n (omega arith) (omega arith) in
     let step = g .ensures .0 ∙ ap (λ k. l .at + sizeOf (unpacked (getD (a .turns .now) k 0))) index in
-    let put = g .ensures .1 ∙ ap₂ (λ k it. sets (l .out) (2 * (a .head .at .nodes + 3 * (l .at - 1))) (bytesOf (nodeWords (before (unpacked (getD (a .turns .now) k 0)) ++ moved (a .starts .now) it ∷ [])))) index (c .before .before .before .node .ensures) in (
+    let put = g .ensures .1 ∙ ap₂ (λ k it. nodesPut (a .whole) (l .at) (before (unpacked (getD (a .turns .now) k 0)) ++ moved (a .starts .now) it ∷ []) (l .out)) index (c .before .before .before .node .ensures) in (
       omega arith,
       omega (arith, step),
       search needs,
       omega (arith, step, more, l .inv .3),
-      groups-turn ns (a .turns .now) (a .starts .now) (l .out) (g .last .0) _ (a .head .at .nodes) n (l .n) (l .at) (g .result) (omega arith) (sym (nodes-held (a .file .now) (a .head))) (omega arith) (omega arith) step put (l .inv .4),
+      groups-turn (a .whole) ns (a .turns .now) (a .starts .now) (l .out) (g .last .0) _ n (l .n) (l .at) (g .result) (omega arith) (sym (nodes-held (a .file .now) (a .head))) (omega arith) step put (l .inv .4),
     )
 
 same-length : tie.Need-same-length Inv-loop μ-loop
@@ -95,8 +91,7 @@ returns c =
     let a = c .before .before .before .before .before .before .args in
     let l = c .before .loop in
     let ns = contentsAt (a .file .now) (a .head) .nodes in
-    puts-end (l .out) _ (nodeWords (groupsAfter ns (a .head .count .nodes) (a .turns .now) (a .starts .now) (l .n))) (2 * (a .head .at .nodes + 3 * (l .at - 1)))
-    (groups-none ns (a .head .count .nodes) (a .turns .now) (a .starts .now) (l .n) (omega (arith, nodes-held (a .file .now) (a .head)))) (l .inv .4)
+    groups-end (a .whole) ns (a .head .count .nodes) (a .turns .now) (a .starts .now) (l .out) _ (l .n) (l .at) (omega (arith, nodes-held (a .file .now) (a .head))) (l .inv .4)
 
 pub put-groups-spec : {M : Type 1} → statement M
 put-groups-spec =

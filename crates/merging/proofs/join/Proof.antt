@@ -19,7 +19,7 @@ use Rattle.merging.proofs.counts.add_counts.Reads as add-counts-reads
 use Rattle.merging.proofs.counts.head_for.Reads as head-for-reads
 use Rattle.merging.proofs.counts.sums_fit.Reads as sums-fit-reads
 use Rattle.merging.proofs.file.put_file.Reads as put-file-reads
-use Rattle.merging.proofs.not_written.Reads as not-written-reads
+use Rattle.format.proofs.answers.not_written.Reads as not-written-reads
 use Rattle.merging.proofs.same.same_tables.Reads as same-tables-reads
 use Rattle.merging.proofs.unless.Reads as unless-reads
 

@@ -6,7 +6,7 @@ use Rattle.merging.proofs.join_second.Tie as tie
 use Rattle.merging.proofs.join_second.Reads as reads
 use Rattle.merging.proofs.join_second.Lts as lts
 use Rattle.merging.proofs.join.Reads as join-reads
-use Rattle.merging.proofs.not_written.Reads as not-written-reads
+use Rattle.format.proofs.answers.not_written.Reads as not-written-reads
 use Rattle.merging.proofs.own.own.Reads as own-reads
 
 own-requires : tie.Need-own-requires

@@ -7,7 +7,7 @@ use Rattle.merging.proofs.merge.Tie as tie
 use Rattle.merging.proofs.merge.Reads as reads
 use Rattle.merging.proofs.merge.Lts as lts
 use Rattle.merging.proofs.join_second.Reads as join-second-reads
-use Rattle.merging.proofs.not_written.Reads as not-written-reads
+use Rattle.format.proofs.answers.not_written.Reads as not-written-reads
 use Rattle.merging.proofs.own.own.Reads as own-reads
 
 not-written-requires : tie.Need-not-written-requires

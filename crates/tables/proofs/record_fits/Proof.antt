@@ -50,9 +50,6 @@ enum-told-6 c = search needs
 session-fits-requires : tie.Need-session-fits-requires
 session-fits-requires c κs = search needs
 
-enum-told-7 : tie.Need-enum-told-7
-enum-told-7 c = search needs
-
 returns : tie.Need-returns
 returns c = cc
 
@@ -74,10 +71,6 @@ returns-5 c = cc
 returns-6 : tie.Need-returns-6
 returns-6 c = cc
 
-returns-7 : tie.Need-returns-7
-unfolding recordFits
-returns-7 c = rw (c .enum-told7 .given .1)
-
 pub record-fits-spec : {M : Type 1} → statement M
 record-fits-spec =
     tie.close
@@ -94,11 +87,9 @@ record-fits-spec =
     channel-fits-requires
     enum-told-6
     session-fits-requires
-    enum-told-7
     returns
     returns-2
     returns-3
     returns-4
     returns-5
-    returns-6
-    returns-7)
+    returns-6)

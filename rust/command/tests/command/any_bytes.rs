@@ -49,7 +49,7 @@ fn noise(dice: &mut Dice) -> Vec<u8> {
 fn records(dice: &mut Dice) -> Vec<u8> {
     let roles: Vec<[u16; 4]> = dice.records(4);
     let masks: Vec<[u16; 1]> = roles.iter().map(|_| [dice.word()]).collect();
-    let juniors = (dice.below(2) == 0).then_some(masks);
+    let juniors = (dice.below(3) != 0).then_some(masks);
     let draft = Draft {
         users: dice.records(6),
         juniors,
@@ -58,6 +58,7 @@ fn records(dice: &mut Dice) -> Vec<u8> {
         channels: dice.records(6),
         sessions: dice.records(4),
         nodes: dice.records(60),
+        by_column: dice.below(2) == 0,
     };
     draft.bytes()
 }

@@ -5,12 +5,14 @@
 pub struct Draft {
     pub users: Vec<[u16; 1]>,
     pub roles: Vec<[u16; 4]>,
-    /// In version 2 the masks of juniors.
+    /// In versions 2 and 3 the masks of juniors.
     pub juniors: Option<Vec<[u16; 1]>>,
     pub kinds: Vec<[u16; 1]>,
     pub channels: Vec<[u16; 2]>,
     pub sessions: Vec<[u16; 3]>,
     pub nodes: Vec<[u16; 3]>,
+    /// In version 3 the nodes stand by column.
+    pub by_column: bool,
 }
 
 impl Draft {
@@ -29,6 +31,12 @@ impl Draft {
     /// Makes it a file of version 2, with these juniors of each role.
     pub fn juniors(mut self, juniors: &[&[u16]]) -> Draft {
         self.juniors = Some(juniors.iter().map(|roles| [mask(roles)]).collect());
+        self
+    }
+
+    /// Makes a file with juniors one of version 3.
+    pub fn in_columns(mut self) -> Draft {
+        self.by_column = true;
         self
     }
 
@@ -76,15 +84,20 @@ impl Draft {
             self.nodes.len(),
         ];
         let juniors = self.juniors.as_ref().map(|juniors| juniors.as_flattened());
+        let nodes = self.node_words();
         let mut sections = vec![self.users.as_flattened(), self.roles.as_flattened()];
         sections.extend(juniors);
         sections.extend([
             self.kinds.as_flattened(),
             self.channels.as_flattened(),
             self.sessions.as_flattened(),
-            self.nodes.as_flattened(),
+            &nodes,
         ]);
-        let mut words = vec![if juniors.is_some() { 2 } else { 1 }];
+        let mut words = vec![match (juniors, self.by_column) {
+            (None, _) => 1,
+            (Some(_), false) => 2,
+            (Some(_), true) => 3,
+        }];
         words.extend(counts.map(|count| count as u16));
         let mut offset = words.len() + sections.len();
         for section in &sections {
@@ -93,6 +106,15 @@ impl Draft {
         }
         words.extend(sections.concat());
         words
+    }
+
+    /// Node by node, or all tags, all f1 and all f2.
+    fn node_words(&self) -> Vec<u16> {
+        if !self.by_column {
+            return self.nodes.concat();
+        }
+        let column = |word: usize| self.nodes.iter().map(move |node| node[word]);
+        (0..3).flat_map(column).collect()
     }
 }
 

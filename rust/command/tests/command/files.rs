@@ -15,6 +15,7 @@ pub fn all() -> Vec<(&'static str, Vec<u8>)> {
         ("desks.clinic", desks().bytes()),
         ("head-nurse/copied.clinic", copied_grants().bytes()),
         ("head-nurse/juniors.clinic", by_juniors().bytes()),
+        ("head-nurse/columns.clinic", by_columns().bytes()),
         ("house/north.clinic", north().bytes()),
         ("house/south.clinic", south().bytes()),
         ("hours/desk.clinic", hours_desk(&BOTH_SENDS).bytes()),
@@ -35,6 +36,7 @@ pub const BARE: [&str; 11] = [
     "transfer.clinic",
     "desks.clinic",
     "head-nurse/juniors.clinic",
+    "head-nurse/columns.clinic",
     "house/north.clinic",
     "house/south.clinic",
     "spring/bare.clinic",
@@ -271,6 +273,11 @@ fn copied_grants() -> Draft {
 /// hers alone.
 pub fn by_juniors() -> Draft {
     ward(&[3]).juniors(&[&[], &[1], &[]])
+}
+
+/// The same with its nodes by column.
+pub fn by_columns() -> Draft {
+    by_juniors().in_columns()
 }
 
 /// The sends of the booking.

@@ -2,6 +2,7 @@
 
 mod any_bytes;
 mod check;
+mod columns;
 mod common;
 mod dispatch;
 mod draft;

@@ -13,8 +13,8 @@ fn help_and_version() {
         );
     }
     let words = [
-        "check", "place", "measure", "merge", "run", "waiting", "seats", "round", "dispatch",
-        "show", "explain", "reason",
+        "check", "place", "measure", "merge", "columns", "rows", "run", "waiting", "seats",
+        "round", "dispatch", "show", "explain", "reason",
     ];
     for word in words {
         assert!(help.contains(&format!("  pilzdamo {word} ")));

@@ -345,6 +345,24 @@ static void house(const char *folder) {
                                             out, sizeof out - 1));
 }
 
+/* A file by column and by row again. */
+static void turns(const char *folder) {
+    clinic rows = example(folder, "head-nurse/juniors.clinic");
+    uint8_t columns[PILZDAMO_ROOM], out[PILZDAMO_ROOM];
+    pilzdamo_written written;
+    memset(columns, 0xab, sizeof columns);
+    written = pilzdamo_to_columns(rows.bytes, rows.len, columns, sizeof columns);
+    print_written("to columns", written);
+    printf("its version: %d, behind it: %x\n", word_at(columns, 0), columns[written.length]);
+    print_placed("measure it", pilzdamo_measure(columns, written.length));
+    print_placed("place it", pilzdamo_place(columns, written.length, out, sizeof out));
+    printf("its version: %d\n", word_at(out, 0));
+    print_written("to rows", pilzdamo_to_rows(columns, written.length, out, sizeof out));
+    printf("as before: %d\n", memcmp(out, rows.bytes, rows.len) == 0);
+    print_written("to rows again", pilzdamo_to_rows(out, rows.len, columns, sizeof columns));
+    print_written("in less", pilzdamo_to_rows(columns, 1, out, sizeof out - 1));
+}
+
 /* Refusals with their places. */
 static void refusals(const char *folder) {
     static const uint16_t odd[] = {2, 0, 2}, unequal[] = {2, 0, 1, 0};
@@ -413,6 +431,7 @@ int main(int argc, char **argv) {
     dispatch(argv[1]);
     seats(argv[1]);
     house(argv[1]);
+    turns(argv[1]);
     refusals(argv[1]);
     reasons();
     return 0;

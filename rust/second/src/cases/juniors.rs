@@ -36,6 +36,7 @@ pub fn ladder(assigned: u16, juniors: &[u16], nodes: &[[u16; 3]]) -> Draft {
         channels: (1..=count).map(|kind| [1, kind]).collect(),
         sessions: vec![[1, 0, 1]],
         nodes: nodes.to_vec(),
+        ..Draft::default()
     }
 }
 
@@ -82,7 +83,7 @@ pub fn heads() -> Vec<Case> {
         case("2: one word too many", longer(2), (5, 0)),
         case("2: one word too few", cut(86), (5, 0)),
         case("2: as version 1", as_first, (4, 0)),
-        with_word("2: as version 3", 0, 3, (2, 0)),
+        with_word("2: as version 3", 0, 3, (8, 2)),
         with_word("2: 33 users", 1, 33, (3, 0)),
         with_word("2: 17 roles", 2, 17, (3, 0)),
         with_word("2: 33 kinds", 3, 33, (3, 0)),
@@ -377,7 +378,7 @@ pub fn rooms() -> Vec<PlaceCase> {
         refused("2: three bytes, output of 6,907", &[2, 0, 9], 6_907, 17),
         refused("258: output of 6,874", &[2, 1], 6_874, 1),
         refused("512: output of 6,874", &[0, 2], 6_874, 1),
-        refused("3: output of 6,874", &[3, 0], 6_874, 1),
+        refused("4: output of 6,874", &[4, 0], 6_874, 1),
         refused("1: output of 6,874", &[1, 0], 6_874, 1),
     ]
 }

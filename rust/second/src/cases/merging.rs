@@ -165,7 +165,7 @@ fn outputs() -> Vec<MergeCase> {
 fn own((number, place): (u16, u16), file: &[u8]) -> Option<(u16, u16)> {
     match (number, Version::claimed(file)) {
         (1, _) => Some((1, place)),
-        (_, Version::Two) => Some((2, 0)),
+        (_, Version::Two | Version::Three) => Some((2, 0)),
         _ => is_of_file(number).then_some((number, place)),
     }
 }
@@ -213,8 +213,13 @@ fn versions() -> Vec<MergeCase> {
             refused(name, file, file, number, 0),
         ]
     };
-    let mut third = booking.clone();
-    set_word(&mut third, 0, 3);
+    let third = Draft {
+        by_column: true,
+        ..Draft::of(&second)
+    };
+    let third = third.bytes();
+    let mut fourth = booking.clone();
+    set_word(&mut fourth, 0, 4);
     [
         either("version 2", &second, 2),
         either("version 2 with 33 users", &with_word(1, 33), 2),
@@ -223,6 +228,9 @@ fn versions() -> Vec<MergeCase> {
         either("version 2 of an odd length", &second[..29], 1),
         either("version 2 in 26 bytes", &second[..26], 1),
         either("version 3", &third, 2),
+        either("version 3, cut off", &third[..28], 2),
+        either("version 3 in 26 bytes", &third[..26], 1),
+        either("version 4", &fourth, 2),
         either("two bytes", &second[..2], 1),
     ]
     .into_iter()

@@ -58,7 +58,7 @@ pub fn cases() -> Vec<ReasonCase> {
 const SAID: [([u16; 4], &str); 45] = [
     (
         [1, 0, 0, 9],
-        "Refused 1: the file has 1 to 25 bytes (to 27 in version 2), or an odd number of them; no place.",
+        "Refused 1: the file has 1 to 25 bytes (to 27 in versions 2 and 3), or an odd number; no place.",
     ),
     (
         [2, 0, 0, 9],

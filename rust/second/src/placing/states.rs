@@ -8,7 +8,7 @@
 //! matters, so a row is kept less what it costs to enter.
 
 use super::{COMPARE, END, FORK, MOST_ENDS};
-use crate::file::{word, Section};
+use crate::file::Section;
 
 const ROLES: usize = Section::Roles.most() as usize;
 
@@ -86,7 +86,7 @@ impl Waiting {
 /// Sets the choices of one tree's nodes. `needs` has the roles that permit a
 /// node, 0 where any state will do.
 pub fn choose(
-    nodes: &[[u8; 6]],
+    tags: &[u16],
     assigned: u16,
     needs: &[u16],
     waiting: &mut Waiting,
@@ -95,9 +95,8 @@ pub fn choose(
     // Of the tree at the next node, by that node's parent's state.
     let mut next = Row::NOTHING;
     waiting.len = 0;
-    let rows = nodes.iter().zip(needs).zip(choices);
-    for ((node, &need), choice) in rows.rev() {
-        let tag = word(node, 0);
+    let rows = tags.iter().zip(needs).zip(choices);
+    for ((&tag, &need), choice) in rows.rev() {
         let mut own = match tag {
             // The next node is a second child, or there is none.
             END => {

@@ -1,7 +1,7 @@
 //! Threads and made channels as they stand, and what a choice does to them.
 
 use super::{Halt, Thread};
-use crate::file::{three, word, File};
+use crate::file::{word, File};
 use crate::roles::Rights;
 
 /// The most threads that there can be.
@@ -46,7 +46,7 @@ pub fn made(beside: &[u16; BESIDE]) -> &[[u16; 2]] {
 
 /// The node at which a thread stands.
 pub fn node_of(file: &File, thread: &Thread) -> [u16; 3] {
-    three(&file.nodes[usize::from(thread.node) - 1])
+    file.nodes.at(usize::from(thread.node) - 1)
 }
 
 /// The kind of a channel, by its value.

@@ -290,7 +290,7 @@ impl ChooseTally {
         println!("version {}", self.version.number());
         let of_juniors = match self.version {
             Version::One => &[][..],
-            Version::Two => &LEAST_OF_JUNIORS,
+            Version::Two | Version::Three => &LEAST_OF_JUNIORS,
         };
         let all = || LEAST.iter().chain(of_juniors);
         for ((number, at_choice), count) in &self.by_number {

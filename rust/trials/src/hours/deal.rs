@@ -37,11 +37,11 @@ impl At {
     }
 }
 
-/// File `index` under `seed`, of either version, with hours and a minute.
-pub fn deal_at(seed: u64, index: u64) -> At {
+/// File `index` under `seed`, of one of these versions, with hours and a minute.
+pub fn deal_at(versions: &[Version], seed: u64, index: u64) -> At {
     let rng = &mut Rng::new(seed.rotate_left(6), index);
-    // So that each family of files comes up in both versions.
-    let version = Version::ALL[(index / 27 % 2) as usize];
+    // So that each family of files comes up in all versions.
+    let version = versions[(index / 27) as usize % versions.len()];
     // Some of the files in which on, off, send and receive pay no heed.
     let of_roles = index / 27 * 27 + 8 + rng.number() % 4;
     let index = *rng.of(&[index, index, of_roles]);
@@ -50,9 +50,9 @@ pub fn deal_at(seed: u64, index: u64) -> At {
 }
 
 /// The same with a file to be placed, and an output with what it holds beforehand.
-pub fn deal_bare_at(seed: u64, index: u64) -> (At, Vec<u8>) {
+pub fn deal_bare_at(versions: &[Version], seed: u64, index: u64) -> (At, Vec<u8>) {
     let rng = &mut Rng::new(seed.rotate_left(7), index);
-    let version = Version::ALL[(index / 24 % 2) as usize];
+    let version = versions[(index / 24) as usize % versions.len()];
     let (file, mut before) = match rng.below(3) {
         0 => {
             let mut draft = lively_bare(rng, version);

@@ -220,6 +220,12 @@ impl CheckAtTally {
         let causes = [Cause::of_hours(), Cause::of_closed()].concat();
         self.0.demand(&causes, &IN_CHECK);
     }
+
+    /// The same of the causes alone.
+    pub fn demand_causes(&self) {
+        let causes = [Cause::of_hours(), Cause::of_closed()].concat();
+        self.0.demand(&causes, &[]);
+    }
 }
 
 /// What placing answers without hours.
@@ -296,5 +302,11 @@ impl PlaceAtTally {
     pub fn demand(&self) {
         let causes = [Cause::of_hours(), Cause::of_placing()].concat();
         self.0.demand(&causes, &IN_PLACING);
+    }
+
+    /// The same of the causes alone.
+    pub fn demand_causes(&self) {
+        let causes = [Cause::of_hours(), Cause::of_placing()].concat();
+        self.0.demand(&causes, &[]);
     }
 }

@@ -5,15 +5,19 @@ use crate::aim::{self, insert};
 use crate::rng::Rng;
 use crate::trees::Trees;
 use second::draft::Draft;
-use second::Cause;
+use second::{Cause, Version};
 
 /// Changes a sound draft for a cause of 6 to 10, or of another version.
 pub fn at_draft(rng: &mut Rng, draft: &mut Draft, cause: Cause) {
     match cause.number() {
         6..=8 => aim::at_draft(rng, draft, cause),
         9 | 10 => at_node(rng, draft, cause),
-        1 | 2 if matches!(cause, Cause::ShortForSecond | Cause::SecondVersion) => {
+        1 | 2 if matches!(cause, Cause::ShortForSecond | Cause::OtherVersion(_)) => {
             draft.juniors = Some(vec![[0]; draft.roles.len()]);
+            draft.by_column = match cause {
+                Cause::OtherVersion(version) => version == Version::Three,
+                _ => rng.once_in(2),
+            };
         }
         _ => {}
     }
@@ -23,7 +27,7 @@ pub fn at_draft(rng: &mut Rng, draft: &mut Draft, cause: Cause) {
 pub fn at_bytes(rng: &mut Rng, file: &mut Vec<u8>, cause: Cause) {
     match cause {
         // Whatever else is wrong in it.
-        Cause::SecondVersion if rng.once_in(2) => {
+        Cause::OtherVersion(_) if rng.once_in(2) => {
             let causes = [Cause::Shorter, Cause::Longer];
             let counts = Cause::all().into_iter();
             let counts = counts.filter(|cause| matches!(cause.number(), 3 | 4));
@@ -31,7 +35,7 @@ pub fn at_bytes(rng: &mut Rng, file: &mut Vec<u8>, cause: Cause) {
             let cause = *rng.of(&causes);
             aim::at_bytes(rng, file, cause);
         }
-        Cause::SecondVersion => {}
+        Cause::OtherVersion(_) => {}
         _ => aim::at_bytes(rng, file, cause),
     }
 }

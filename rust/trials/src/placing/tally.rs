@@ -30,11 +30,12 @@ const LEAST: [(&str, u64); 10] = [
     ("16 by the former rule alone", 500),
 ];
 
-/// What has to come up in version 2, and how often. A chain of two counts where
+/// What has to come up in versions 2 and 3, and how often. One byte is that of the
+/// version's number. A chain of two counts where
 /// the juniors of juniors make a difference.
 const LEAST_OF_JUNIORS: [(&str, u64); 7] = [
     ("17, though version 1 would have room", 500),
-    ("one byte 2, in an output between the two rooms", 500),
+    ("one byte, in an output between the two rooms", 500),
     ("with a junior word that isn't 0", 10_000),
     ("15 lifted by a junior", 500),
     ("15 lifted by a chain of two", 500),
@@ -84,10 +85,10 @@ impl PlaceTally {
     }
 
     pub(super) fn count(&mut self, file: &[u8], placed: Placed, out: &[u8]) {
-        let [first, second] = Version::ALL.map(Version::largest);
+        let [first, second] = Version::BY_ROW.map(Version::largest);
         let between = (first..second).contains(&out.len());
-        let byte = file == [2] && between && placed.number == 1;
-        self.note("one byte 2, in an output between the two rooms", byte);
+        let byte = file == [self.version.number() as u8] && between && placed.number == 1;
+        self.note("one byte, in an output between the two rooms", byte);
         if Version::claimed(file) != self.version {
             self.others += 1;
             return;
@@ -121,7 +122,7 @@ impl PlaceTally {
         self.note("in the bytes of the largest file", length == largest);
         self.note("in a longer output", out.len() > largest);
         self.count_former(&former_placed(&draft), &result);
-        if self.version == Version::Two {
+        if self.version.has_juniors() {
             self.count_juniors(&draft, placed.on_steps);
         }
     }
@@ -167,7 +168,7 @@ impl PlaceTally {
         assert!(self.placed >= self.files.div_ceil(3), "too few placed");
         let of_juniors = match self.version {
             Version::One => &[][..],
-            Version::Two => &LEAST_OF_JUNIORS,
+            Version::Two | Version::Three => &LEAST_OF_JUNIORS,
         };
         for &(what, least) in LEAST.iter().chain(of_juniors) {
             let count = self.counts.get(what).copied().unwrap_or(0);

@@ -16,20 +16,21 @@ pub const SESSIONS: u16 = 32;
 pub type Done = (Draft, Vec<u16>);
 
 /// Three roles of user 1, of which the first sends, the second receives, and the
-/// third does both, in version 2 often by a chain of juniors alone; and so many
+/// third does both, in versions 2 and 3 often by a chain of juniors alone; and so many
 /// channels of user 1. Kind 2 carries channels of kind 1, such as channel 1.
 fn tables(rng: &mut Rng, version: Version, channels: u16) -> Draft {
     let mut draft = Draft {
         users: vec![[7], [1]],
         roles: vec![[3, 0, 0, 0], [0, 0, 3, 0], [1, 0, 1, 0]],
         kinds: vec![[0], [1]],
+        by_column: version == Version::Three,
         ..Draft::default()
     };
     draft.channels.push([1, 1]);
     for _ in 1..channels {
         draft.channels.push([1, *rng.of(&[1, 1, 1, 2])]);
     }
-    if version == Version::Two {
+    if version.has_juniors() {
         draft.juniors = Some(juniors::masks(rng, 3));
         if rng.once_in(2) {
             draft.roles[2] = [0; 4];

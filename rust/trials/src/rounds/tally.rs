@@ -69,7 +69,7 @@ pub struct RoundTally {
 impl RoundTally {
     pub(super) fn new(version: Version) -> RoundTally {
         let mut due = DUE.to_vec();
-        if version == Version::Two {
+        if version.has_juniors() {
             due.extend(OF_JUNIORS);
         }
         RoundTally {
@@ -121,7 +121,7 @@ impl RoundTally {
         if number == 0 {
             self.note("65,471 choices", choices.len() == 2 * BEFORE_ROUND);
             self.note("lists of choices before a round", !choices.is_empty());
-            if self.version == Version::Two {
+            if self.version.has_juniors() {
                 self.count_juniors(dealt, round);
             }
         }
@@ -157,7 +157,7 @@ impl RoundTally {
         assert!(rare.is_empty(), "under {LEAST} of {rare:?}");
         let of_version = match self.version {
             Version::One => &[2][..],
-            Version::Two => &[21],
+            Version::Two | Version::Three => &[21],
         };
         let numbers = [0, 1, 3, 4, 5, 6, 7, 8, 9, 10, 11, 12, 13, 17, 18, 19, 20];
         for number in numbers.iter().chain(of_version) {

@@ -103,7 +103,7 @@ impl RunTally {
         if is_halted(verdict) {
             self.count_halt(&replay, [choices[last - 2], choices[last - 1]]);
         }
-        if self.version == Version::Two {
+        if self.version.has_juniors() {
             self.count_juniors(dealt, verdict, replay.run.ready());
         }
     }
@@ -167,7 +167,7 @@ impl RunTally {
         println!("version {}", self.version.number());
         let of_juniors = match self.version {
             Version::One => &[][..],
-            Version::Two => &LEAST_OF_JUNIORS,
+            Version::Two | Version::Three => &LEAST_OF_JUNIORS,
         };
         let all = || LEAST.iter().chain(of_juniors);
         for (number, count) in &self.by_number {

@@ -97,7 +97,7 @@ impl StartTally {
         println!("{:>9} calls", self.by_number.values().sum::<u64>());
         let others: &[u16] = match self.version {
             Version::One => &[2, 18],
-            Version::Two => &[21, 18],
+            Version::Two | Version::Three => &[21, 18],
         };
         for &number in [1, 3, 4, 5, 6, 7, 8, 9, 10].iter().chain(others) {
             assert!(of_number(number) >= LEAST_OF_EACH, "too few of {number}");

@@ -104,7 +104,8 @@ fn lounge(rng: &mut Rng, version: Version) -> Draft {
     let mut draft = Draft {
         users: vec![[3], [1]],
         roles: vec![[low, high, low, high], [0; 4]],
-        juniors: (version == Version::Two).then(|| vec![[0], [*rng.of(&[0, 1])]]),
+        juniors: version.has_juniors().then(|| vec![[0], [*rng.of(&[0, 1])]]),
+        by_column: version == Version::Three,
         kinds: vec![[0]; kinds],
         channels: vec![[1, 1]],
         ..Draft::default()

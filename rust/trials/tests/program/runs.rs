@@ -192,7 +192,7 @@ fn named_cases() {
 fn random_runs() {
     let files = Files::of("random");
     for index in 0..600 {
-        let version = Version::ALL[(index % 2) as usize];
+        let version = Version::BY_ROW[(index % 2) as usize];
         let dealt = deal_run(version, seed(), index);
         let what = format!("trials::deal_run({version:?}, {}, {index})", seed());
         files.assert_lines(&dealt.file, &dealt.choices, &what);
@@ -230,7 +230,7 @@ fn lists_with_a_lone_byte_at_the_end() {
 #[test]
 fn clinic_files_of_any_length() {
     let files = Files::of("clinics");
-    for version in Version::ALL {
+    for version in Version::BY_ROW {
         for (what, file) in of_any_length(largest(version, seed())) {
             files.assert_lines(&file, &[1, 0], &what);
         }

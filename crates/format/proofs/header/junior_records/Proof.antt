@@ -1,16 +1,18 @@
-use borrow.Author.Tests.{eq-eqb, ne-eqb}
+use borrow.Author.Needs.{needs}
 use Rattle.format.proofs.header.junior_records.Statement.{statement}
 use Rattle.format.proofs.header.junior_records.Tie as tie
 use Rattle.format.proofs.header.junior_records.Reads as reads
 use Rattle.format.proofs.header.junior_records.Lts as lts
+use Rattle.format.proofs.header.has_juniors.Reads as has-juniors-reads
 
--- src/header.rt:44:9
+has-juniors-requires : tie.Need-has-juniors-requires
+has-juniors-requires c κs = search needs
+
 returns : tie.Need-returns
-returns c = rw (eq-eqb _ _ (c .if1 .taken))
+returns c = rw (← c .before .has-juniors .ensures, c .if1 .taken)
 
--- src/header.rt:40:1
 returns-2 : tie.Need-returns-2
-returns-2 c = rw (ne-eqb _ _ (c .if1 .left))
+returns-2 c = rw (← c .before .has-juniors .ensures, c .if1 .left)
 
 pub junior-records-spec : {M : Type 1} → statement M
-junior-records-spec = tie.close (tie.spec returns returns-2)
+junior-records-spec = tie.close (tie.spec has-juniors-requires returns returns-2)

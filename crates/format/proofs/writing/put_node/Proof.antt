@@ -1,31 +1,61 @@
-use Prim.Native.Nat.{_*_}
 use mathlib.Core.Path.{ap, _∙_}
-use mathlib.Core.List.{[], _∷_}
-use lib.Seq.{sets}
-use Rattle.format.specs.Words.{bytesOf}
-use Rattle.format.specs.Writing.{nodeWords}
+use native.Mathlib.Omega.{arith}
+use Rattle.format.specs.Writing.{wordPut}
+use Rattle.format.proofs.SpotLaws.{spot-within}
 use borrow.Author.Needs.{needs}
 use Rattle.format.proofs.writing.put_node.Statement.{statement}
 use Rattle.format.proofs.writing.put_node.Tie as tie
 use Rattle.format.proofs.writing.put_node.Reads as reads
 use Rattle.format.proofs.writing.put_node.Lts as lts
-use Rattle.format.proofs.sections.place_of.Reads as place-of-reads
-use Rattle.format.proofs.writing.put_three.Reads as put-three-reads
+use Rattle.format.proofs.sections.node_spot.Reads as node-spot-reads
+use Rattle.format.proofs.words.put_word.Reads as put-word-reads
 
-place-of-requires : tie.Need-place-of-requires
-place-of-requires c κs = search needs
+node-spot-requires : tie.Need-node-spot-requires
+node-spot-requires c κs = search needs
 
-put-three-requires : tie.Need-put-three-requires
-put-three-requires c κs = search needs
+put-word-requires : tie.Need-put-word-requires
+put-word-requires c κs =
+    let a = c .before .before .before .args in
+    let p = c .before .before .before .pre in
+    omega (arith, p, c .node-spot .ensures .0, spot-within (a .head .version) (a .head .count .nodes) (a .n) 0 (p .0) (p .1) (omega arith))
+
+node-spot-requires-2 : tie.Need-node-spot-requires-2
+node-spot-requires-2 c κs = search needs
+
+put-word-requires-2 : tie.Need-put-word-requires-2
+put-word-requires-2 c κs =
+    let a = c .before .before .before .before .before .before .before .before .args in
+    let p = c .before .before .before .before .before .before .before .before .pre in
+    omega (arith, p, c .node-spot2 .ensures .0, spot-within (a .head .version) (a .head .count .nodes) (a .n) 1 (p .0) (p .1) (omega arith))
+
+node-spot-requires-3 : tie.Need-node-spot-requires-3
+node-spot-requires-3 c κs = search needs
+
+put-word-requires-3 : tie.Need-put-word-requires-3
+put-word-requires-3 c κs =
+    let a = c .before .before .before .before .before .before .before .before .before .before .before .before .before .args in
+    let p = c .before .before .before .before .before .before .before .before .before .before .before .before .before .pre in
+    omega (arith, p, c .node-spot3 .ensures .0, spot-within (a .head .version) (a .head .count .nodes) (a .n) 2 (p .0) (p .1) (omega arith))
 
 same-length : tie.Need-same-length
 same-length c = search needs
 
 returns : tie.Need-returns
-unfolding nodeWords
 returns c =
-    let a = c .before .before .before .before .before .before .args in
-    c .before .before .put-three .ensures ∙ ap (λ p. sets (a .out .now) (2 * p) (bytesOf (nodeWords (a .it ∷ [])))) (c .before .before .before .place-of .ensures .0)
+    let a = c .before .before .before .before .before .before .before .before .before .before .before .before .before .before .before .before .args in
+    let one = c .before .before .before .before .before .before .before .before .before .before .before .before .put-word .ensures ∙ ap (λ p. wordPut p (a .it .tag) (a .out .now)) (c .before .before .before .before .before .before .before .before .before .before .before .before .before .node-spot .ensures .0) in
+    let two = c .before .before .before .before .before .before .before .put-word2 .ensures ∙ (λ i. wordPut (c .before .before .before .before .before .before .before .before .node-spot2 .ensures .0 i) (a .it .f1) (one i)) in
+    c .before .before .put-word3 .ensures ∙ (λ i. wordPut (c .before .before .before .node-spot3 .ensures .0 i) (a .it .f2) (two i))
 
 pub put-node-spec : {M : Type 1} → statement M
-put-node-spec = tie.close (tie.spec place-of-requires put-three-requires same-length returns)
+put-node-spec =
+    tie.close
+    (tie.spec
+    node-spot-requires
+    put-word-requires
+    node-spot-requires-2
+    put-word-requires-2
+    node-spot-requires-3
+    put-word-requires-3
+    same-length
+    returns)

@@ -6,10 +6,12 @@ use lib.ListN.{length, drop}
 use lib.Seq.{sets}
 use borrow.Author.Needs.{needs}
 use Rattle.format.specs.Words.{bytesOf}
+use Rattle.format.specs.Sections.{byColumn}
 use Rattle.format.specs.Contents.{contentsAt}
-use Rattle.format.specs.Writing.{nodeWords}
+use Rattle.format.specs.Writing.{nodeRows}
 use Rattle.format.specs.declared.Node.{Node}
 use Rattle.format.proofs.ContentsLaws.{nodes-held}
+use Rattle.format.proofs.NodesPut.{row-put}
 use Rattle.merging.specs.Merged.{movedNode}
 use Rattle.merging.specs.Writers.{shiftsBy}
 use Rattle.merging.proofs.SectionLaws.{nodes-turn, nodes-end}
@@ -24,8 +26,8 @@ use Rattle.merging.proofs.moves.moved_node.Reads as moved-node-reads
 abbrev Inv-loop : tie.InvT-loop
 Inv-loop file head by whole others out₀ count n₀ out n =
     (n ≤ head .count .nodes) × (length out ≡ length out₀)
-    × (sets out (2 * (whole .at .nodes + 3 * (others + n))) (bytesOf (nodeWords (map (movedNode (shiftsBy by)) (drop n (contentsAt file head .nodes)))))
-    ≡ sets out₀ (2 * (whole .at .nodes + 3 * others)) (bytesOf (nodeWords (map (movedNode (shiftsBy by)) (contentsAt file head .nodes)))))
+    × (sets out (2 * (whole .at .nodes + 3 * (others + n))) (bytesOf (nodeRows (map (movedNode (shiftsBy by)) (drop n (contentsAt file head .nodes)))))
+    ≡ sets out₀ (2 * (whole .at .nodes + 3 * others)) (bytesOf (nodeRows (map (movedNode (shiftsBy by)) (contentsAt file head .nodes)))))
 
 abbrev μ-loop : tie.MeasureT-loop
 μ-loop file head by whole others out₀ count n₀ out n = head .count .nodes - n
@@ -34,7 +36,7 @@ loop-holds : tie.Need-loop-holds Inv-loop μ-loop
 loop-holds c =
     let a = c .before .before .args in
     let here : a .others + 0 ≡ a .others = omega arith in
-    (omega arith, refl, ap (λ k. sets (a .out .now) (2 * (a .whole .at .nodes + 3 * k)) (bytesOf (nodeWords (map (movedNode (shiftsBy (a .by))) (contentsAt (a .file .now) (a .head) .nodes))))) here)
+    (omega arith, refl, ap (λ k. sets (a .out .now) (2 * (a .whole .at .nodes + 3 * k)) (bytesOf (nodeRows (map (movedNode (shiftsBy (a .by))) (contentsAt (a .file .now) (a .head) .nodes))))) here)
 
 add-n : tie.Need-add-n Inv-loop μ-loop
 add-n c = omega arith
@@ -53,7 +55,7 @@ moved-node-requires c κs =
     (p .2, subst (λ (x : Node). x .tag ≡ 1 → x .f1 ≤ 1025) (sym it) (p .1 .forks (l .n + 1)))
 
 put-node-requires : tie.Need-put-node-requires Inv-loop μ-loop
-put-node-requires c κs = (omega arith, omega arith)
+put-node-requires c κs = (omega arith, omega arith, omega arith)
 
 loop-less : tie.Need-loop-less Inv-loop μ-loop
 loop-less c = omega arith
@@ -67,7 +69,8 @@ loop-again c =
       omega arith,
       search needs,
       nodes-turn (shiftsBy (a .by)) (contentsAt (a .file .now) (a .head) .nodes) (a .whole .at .nodes) (a .others) (l .out) (g .last .0) _ (l .n) (moved .result)
-          (omega (arith, nodes-held (a .file .now) (a .head))) (moved .ensures ∙ ap (movedNode (shiftsBy (a .by))) (c .before .before .before .before .before .node .ensures)) (g .ensures) (l .inv .2),
+          (omega (arith, nodes-held (a .file .now) (a .head))) (moved .ensures ∙ ap (movedNode (shiftsBy (a .by))) (c .before .before .before .before .before .node .ensures))
+          (g .ensures ∙ row-put (a .whole) (a .others + (l .n + 1)) (moved .result) (l .out) (ap byColumn (c .before .before .before .before .before .before .before .before .before .before .pre .4))) (l .inv .2),
     )
 
 same-length : tie.Need-same-length Inv-loop μ-loop

@@ -1,10 +1,11 @@
 //! What is timed: a question to both, with its input.
 
 use crate::timing::{Samples, Times, ROUNDS};
+use second::cases::Turn;
 use second::{Ready, Reason, Verdict, SENTENCE};
 use second::{BEFORE_TOTALS, MERGED_ROOM, ROOM, RUN_ROOM};
 use std::hint::black_box;
-use trials::{At, Dealt, Lent, Lists, Pair, Seated};
+use trials::{At, Dealt, Lent, Lists, Pair, Seated, Turned};
 
 /// A question and what it is asked of.
 #[derive(Clone)]
@@ -61,6 +62,11 @@ pub enum Input {
     ReadReason(Vec<u8>),
     /// Two files that are merged.
     Merge([Vec<u8>; 2]),
+    /// A file that is turned.
+    Turn {
+        turn: Turn,
+        file: Vec<u8>,
+    },
 }
 
 /// A row of a table.
@@ -87,7 +93,7 @@ impl Case {
             Input::Choose(Lent { file, .. }) | Input::Start(Lent { file, .. }) => file,
             Input::CheckAt(At { file, .. }) | Input::PlaceAt(At { file, .. }) => file,
             Input::Reason { sentence, .. } | Input::ReadReason(sentence) => sentence,
-            Input::Merge([file, _]) => file,
+            Input::Merge([file, _]) | Input::Turn { file, .. } => file,
             Input::RunSeated(seated) | Input::RoundSeated(seated) => &seated.dealt.file,
             Input::Seats(seated) => &seated.dealt.file,
         }
@@ -173,6 +179,17 @@ impl Case {
                     before: vec![0; MERGED_ROOM],
                 };
                 let (written, mut out) = trials::agreed_merge(&pair, name);
+                assert_eq!(written.number, 0, "{name}");
+                out.truncate(written.length.into());
+                out
+            }
+            Input::Turn { turn, file } => {
+                let turned = Turned {
+                    turn: *turn,
+                    file: file.clone(),
+                    before: vec![0; ROOM],
+                };
+                let (written, mut out) = trials::agreed_turn(&turned, name);
                 assert_eq!(written.number, 0, "{name}");
                 out.truncate(written.length.into());
                 out
@@ -295,6 +312,14 @@ impl Case {
                 || second::read_reason(black_box(sentence)),
             ),
             Input::Merge(files) => merge(files, self.calls, samples),
+            Input::Turn { turn, file } => {
+                let (mut out, mut of_second) = (vec![0; ROOM], vec![0; ROOM]);
+                samples.take(
+                    self.calls,
+                    || trials::engine_turn(*turn, black_box(file), black_box(&mut out)),
+                    || trials::second_turn(*turn, black_box(file), black_box(&mut of_second)),
+                );
+            }
         }
     }
 }

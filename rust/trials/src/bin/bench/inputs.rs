@@ -1,7 +1,7 @@
 //! The inputs of the main table.
 
 use crate::case::{dealt, Case, Input};
-use second::cases::run_cases;
+use second::cases::{run_cases, Turn};
 use second::draft::Draft;
 use second::{Version, RUN_ROOM};
 use trials::{juniors, At, Lent, Seated};
@@ -25,6 +25,11 @@ pub struct Inputs {
     pub typical_2: Vec<u8>,
     pub largest_bare_2: Vec<u8>,
     pub typical_bare_2: Vec<u8>,
+    /// The same in version 3.
+    pub largest_3: Vec<u8>,
+    pub typical_3: Vec<u8>,
+    pub largest_bare_3: Vec<u8>,
+    pub typical_bare_3: Vec<u8>,
     pub largest_run: Run,
     pub typical_run: Run,
     pub short_run: Run,
@@ -54,11 +59,17 @@ impl Inputs {
         let typical = trials::typical(version, seed);
         let largest_bare = trials::largest_bare(version, seed);
         let typical_bare = trials::typical_bare(version, seed);
+        let [largest_2, typical_2, largest_bare_2, typical_bare_2] =
+            [&largest, &typical, &largest_bare, &typical_bare].map(|file| juniors::with_all(file));
         Inputs {
-            largest_2: juniors::with_all(&largest),
-            typical_2: juniors::with_all(&typical),
-            largest_bare_2: juniors::with_all(&largest_bare),
-            typical_bare_2: juniors::with_all(&typical_bare),
+            largest_3: by_column(&largest_2),
+            typical_3: by_column(&typical_2),
+            largest_bare_3: by_column(&largest_bare_2),
+            typical_bare_3: by_column(&typical_bare_2),
+            largest_2,
+            typical_2,
+            largest_bare_2,
+            typical_bare_2,
             largest,
             typical,
             largest_bare,
@@ -116,6 +127,20 @@ impl Inputs {
         let run_seated = |seated: &Seated| Input::RunSeated(seated.clone());
         let round_seated = |seated: &Seated| Input::RoundSeated(seated.clone());
         let seats = |seated: &Seated| Input::Seats(seated.clone());
+        let [run_2, run_3] = both_forms(&self.typical_run.0).map(|file| Input::Run {
+            file,
+            choices: self.typical_run.1.clone(),
+        });
+        let [choose_2, choose_3] = both_forms(&self.largest_lent.file).map(|file| {
+            Input::Choose(Lent {
+                file,
+                ..self.largest_lent.clone()
+            })
+        });
+        let turn = |turn, file: &Vec<u8>| {
+            let file = file.clone();
+            Input::Turn { turn, file }
+        };
         vec![
             Case::new("read largest", read(&self.largest), 50),
             Case::new("read typical", read(&self.typical), 300),
@@ -162,6 +187,28 @@ impl Inputs {
             Case::new("seated typical", run_seated(&self.typical_seated), 300),
             Case::new("seated round", round_seated(&self.typical_seated), 300),
             Case::new("seats typical", seats(&self.typical_seated), 300),
+            Case::new("run typical 2", run_2, 300),
+            Case::new("choose largest 2", choose_2, 50),
+            Case::new("read largest 3", read(&self.largest_3), 50),
+            Case::new("read typical 3", read(&self.typical_3), 300),
+            Case::new("check largest 3", check(&self.largest_3), 50),
+            Case::new("check typical 3", check(&self.typical_3), 300),
+            Case::new("place largest 3", place(&self.largest_bare_3, 0), 50),
+            Case::new("place typical 3", place(&self.typical_bare_3, 0), 300),
+            Case::new("run typical 3", run_3, 300),
+            Case::new("choose largest 3", choose_3, 50),
+            Case::new(
+                "columns largest",
+                turn(Turn::ToColumns, &self.largest_2),
+                50,
+            ),
+            Case::new(
+                "columns typical",
+                turn(Turn::ToColumns, &self.typical_2),
+                300,
+            ),
+            Case::new("rows largest", turn(Turn::ToRows, &self.largest_3), 50),
+            Case::new("rows typical", turn(Turn::ToRows, &self.typical_3), 300),
         ]
     }
 
@@ -188,6 +235,8 @@ impl Inputs {
              typical has {}.\n\
              Ready, crowded: 32 choices, then 64 threads of which no two can meet.\n\
              Rows with a 2: the same file in version 2, with all lower roles as juniors of each.\n\
+             Rows with a 3: that file in version 3, with its nodes by column. Columns, rows: a\n\
+             file turned.\n\
              Measure: what place is asked of, without an output.\n\
              Check at and place at: the largest, with 64 rows of hours, four to each role.\n\
              Round, of 64 threads after 32 choices: crowded has 32 sends, each past the receivers\n\
@@ -215,6 +264,18 @@ impl Inputs {
             waited(&self.typical_seated),
         )
     }
+}
+
+/// A file of version 2 by column.
+fn by_column(file: &[u8]) -> Vec<u8> {
+    trials::column_file(file).expect("a file of version 2")
+}
+
+/// A file in version 2, with all lower roles as juniors of each, and in version 3.
+fn both_forms(file: &[u8]) -> [Vec<u8>; 2] {
+    let rows = juniors::with_all(file);
+    let columns = by_column(&rows);
+    [rows, columns]
 }
 
 /// A typical sentence.

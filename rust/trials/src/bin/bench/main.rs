@@ -21,6 +21,11 @@ working tables in each call, and that is in their times. In choose the two threa
 move and the totals are put back before each call, and that is in both times.
 ";
 
+const COLUMNS: &str = "
+Columns. Best nanoseconds a call by row, in version 2, and by column, in version 3, and the
+factor between them.
+";
+
 const GROWTH: &str = "
 Growth. Best nanoseconds a call, and the factor to the row before. Read and check: 32 nodes
 to a session. Place: a chain that needs one role; it has two nodes less than its result,
@@ -44,6 +49,8 @@ fn main() {
     let (of_cases, of_growth) = times.split_at(cases.len());
     let (of_nodes, of_roles) = of_growth.split_at(by_nodes.len());
     print_table(&cases, of_cases);
+    println!("{COLUMNS}");
+    print_columns(&cases, of_cases);
     println!("{GROWTH}");
     print_growth(&by_nodes, of_nodes);
     println!();
@@ -67,7 +74,7 @@ fn head() -> String {
 
 fn print_table(cases: &[Case], times: &[Times]) {
     println!(
-        "{:<15} {:>6} {:>12} {:>9} {:>12} {:>9} {:>11} {:>13}",
+        "{:<16} {:>6} {:>12} {:>9} {:>12} {:>9} {:>11} {:>13}",
         "call",
         "bytes",
         "engine best",
@@ -79,7 +86,7 @@ fn print_table(cases: &[Case], times: &[Times]) {
     );
     for (case, Times { engine, second }) in cases.iter().zip(times) {
         println!(
-            "{:<15} {:>6} {:>12.0} {:>9.0} {:>12.0} {:>9.0} {:>11.2} {:>13.2}",
+            "{:<16} {:>6} {:>12.0} {:>9.0} {:>12.0} {:>9.0} {:>11.2} {:>13.2}",
             case.name,
             case.length(),
             engine.best,
@@ -88,6 +95,35 @@ fn print_table(cases: &[Case], times: &[Times]) {
             second.median,
             engine.best / second.best,
             engine.median / second.median,
+        );
+    }
+}
+
+/// The rows with a 3 beside those with a 2.
+fn print_columns(cases: &[Case], times: &[Times]) {
+    println!(
+        "{:<16} {:>9} {:>9} {:>7} {:>9} {:>9} {:>7}",
+        "call", "engine 2", "3", "factor", "second 2", "3", "factor"
+    );
+    let all = || cases.iter().zip(times);
+    for (case, by_column) in all() {
+        let Some(call) = case.name.strip_suffix(" 3") else {
+            continue;
+        };
+        let mut rows = all().filter(|(case, _)| case.name.strip_suffix(" 2") == Some(call));
+        let (_, by_row) = rows.next().expect("a row with a 2");
+        let [engine, of_second] = [
+            [by_row.engine.best, by_column.engine.best],
+            [by_row.second.best, by_column.second.best],
+        ];
+        println!(
+            "{call:<16} {:>9.0} {:>9.0} {:>7.2} {:>9.0} {:>9.0} {:>7.2}",
+            engine[0],
+            engine[1],
+            engine[1] / engine[0],
+            of_second[0],
+            of_second[1],
+            of_second[1] / of_second[0],
         );
     }
 }

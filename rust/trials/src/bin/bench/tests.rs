@@ -32,11 +32,13 @@ fn the_largest_are_as_large_as_can_be() {
         run,
         &inputs.largest_lent.file,
         &inputs.largest_2,
+        &inputs.largest_3,
     ] {
         assert_eq!(file.len(), Version::claimed(file).largest());
         assert_eq!((nodes(file), roles(file)), (1_024, 16));
     }
     assert_eq!(Version::claimed(&inputs.largest_2), Version::Two);
+    assert_eq!(Version::claimed(&inputs.largest_3), Version::Three);
     assert_eq!(choices.len(), 2 * MOST_CHOICES);
     assert!(sends_in(run, choices) > 16_000);
     let Lent { lists, .. } = &inputs.largest_lent;
@@ -49,6 +51,7 @@ fn what_is_placed_fills_the_output() {
     for (file, nodes_before) in [
         (&inputs.largest_bare, Some(1_022)),
         (&inputs.largest_bare_2, Some(1_022)),
+        (&inputs.largest_bare_3, Some(1_022)),
         (&inputs.full_bare, None),
     ] {
         assert!(nodes_before.is_none_or(|due| due == nodes(file)));
@@ -71,6 +74,8 @@ fn the_typical_have_40_nodes() {
         &inputs.typical_lent.file,
         &inputs.typical_2,
         &inputs.typical_bare_2,
+        &inputs.typical_3,
+        &inputs.typical_bare_3,
     ] {
         assert_eq!((nodes(file), roles(file)), (40, 4));
     }
@@ -198,6 +203,20 @@ fn version_2_has_the_same_records() {
         for (role, [mask]) in juniors.into_iter().enumerate() {
             assert_eq!(mask.count_ones() as usize, role);
         }
+    }
+}
+
+/// The rows of version 3 are those of version 2 by column.
+#[test]
+fn version_3_has_the_same_records() {
+    let inputs = Inputs::new(seed());
+    for (rows, columns) in [
+        (&inputs.largest_2, &inputs.largest_3),
+        (&inputs.typical_2, &inputs.typical_3),
+        (&inputs.largest_bare_2, &inputs.largest_bare_3),
+        (&inputs.typical_bare_2, &inputs.typical_bare_3),
+    ] {
+        assert_eq!(trials::row_file(columns).as_ref(), Some(rows));
     }
 }
 

@@ -1,0 +1,3 @@
+pub mod HeadCauses
+pub mod Turned
+pub mod TurnExact

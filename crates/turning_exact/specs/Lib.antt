@@ -1,0 +1,2 @@
+pub mod TurnCauses
+pub mod ColumnWords
