@@ -15,11 +15,11 @@
  * pointer, allocates, or has a memory of the last one, so that calls may be made
  * from several threads at once.
  *
- * A refusal is a number from 1 to 26 and a place, which goes by the number: 0 for 1
- * to 5, 16, 17, 22 and 25; for 6 and 21 the first word of a record, from 0; for 7
- * and 26 a session, for 8 to 15 and 24 a node, from 1 (0 for a starting mask, with 14); for 18
- * to 20, and in a run for 11 to 13 too, a choice, from 1; for 23 a row, from 1. Where
- * nothing is refused both are 0.
+ * A refusal is a number from 1 to 28 and a place, which goes by the number: 0 for 1
+ * to 5, 16, 17, 22, 25 and 28; for 6 and 21 the first word of a record, from 0; for 7
+ * and 26 a session, for 8 to 15 and 24 a node, from 1 (0 for a starting mask, with 14);
+ * for 18 to 20, and in a run for 11 to 13 too, a choice, from 1; for 23 a row, from 1;
+ * for 27 a notice, 1 or 2. Where nothing is refused both are 0.
  *
  * Files have version 1; version 2, in which a role has a word of junior roles; or
  * version 3, which is version 2 with the nodes by column: all tags, then all f1, then
@@ -78,6 +78,7 @@ extern "C" {
 #define PILZDAMO_COUNTS_NODES 3
 #define PILZDAMO_COUNTS_CHOICES 4
 #define PILZDAMO_COUNTS_ROWS 5
+#define PILZDAMO_COUNTS_NOTICES 6
 /* The tag of a reason in which none belongs. */
 #define PILZDAMO_NO_TAG 9
 
@@ -146,6 +147,16 @@ typedef struct {
     uint16_t place;
     uint16_t length;
 } pilzdamo_written;
+
+/* A refusal, or 0 and 0 with the notice that is in force, 1 or 2; and where the part
+ * of it stands that is its file. With a refusal it is the first notice's empty part. */
+typedef struct {
+    uint16_t number;
+    uint16_t place;
+    uint16_t notice;
+    uint16_t at;     /* bytes of the notice before the part */
+    uint16_t length; /* bytes of the part */
+} pilzdamo_notice_in_force;
 
 /* A thread's record in a lent list. */
 typedef struct {
@@ -294,10 +305,11 @@ uint16_t pilzdamo_total(const uint16_t *beside, size_t words, uint16_t kind);
  * what its place counts, the place, and, for 9 to 15 at a node, that node's tag. Its
  * length in bytes is answered, 1 to PILZDAMO_SENTENCE, and nothing past it is written.
  *
- * What a number's place counts: nothing for 1 to 5, 16, 17, 22 and 25; words for 6 and 21;
- * sessions for 7; nodes for 8 to 10, 15 and 24; nodes or choices for 11 to 13; nodes or
- * nothing for 14; nothing or choices for 18; choices for 19 and 20; rows for 23;
- * sessions or choices for 26. The place is 0 exactly where nothing is counted. The tag is 0 to 8 for 9 to 15 at a
+ * What a number's place counts: nothing for 1 to 5, 16, 17, 22, 25 and 28; words for 6
+ * and 21; sessions for 7; nodes for 8 to 10, 15 and 24; nodes or choices for 11 to 13;
+ * nodes or nothing for 14; nothing or choices for 18; choices for 19 and 20; rows for
+ * 23; sessions or choices for 26; notices for 27. The place is 0 exactly where nothing
+ * is counted. The tag is 0 to 8 for 9 to 15 at a
  * node, and PILZDAMO_NO_TAG else. What is against this, and an out_len under
  * PILZDAMO_SENTENCE, is answered with 0, and nothing is written.
  */
@@ -375,6 +387,21 @@ pilzdamo_written pilzdamo_to_columns(const uint8_t *file, size_t file_len, uint8
                                      size_t out_len);
 pilzdamo_written pilzdamo_to_rows(const uint8_t *file, size_t file_len, uint8_t *out,
                                   size_t out_len);
+
+/*
+ * Which of two notices is in force on a day, in days since 1 January 2000. A notice is
+ * a word with its first day, a word with its file's length in bytes, and the file. Of
+ * those that have begun the one with the later first day is in force; with equal first
+ * days, the second. Its file is the part of that notice, of the length answered, that
+ * begins at the byte answered: nothing is copied.
+ *
+ * Refusals 27, at place 1 or 2, for a notice under 4 bytes, whose length word isn't the
+ * number of bytes behind it, or whose file is refused by 1 to 10, the first before the
+ * second and before any day is looked at; then 28 where neither has begun.
+ */
+pilzdamo_notice_in_force pilzdamo_in_force(const uint8_t *first, size_t first_len,
+                                           const uint8_t *second, size_t second_len,
+                                           uint16_t day);
 
 #ifdef __cplusplus
 }

@@ -1,14 +1,14 @@
 -- What the engine promises, each promise under a sentence of the paper (01), of the demands or of a request (K1 ..); nothing else stands here. Where "1 to 8" or "1 to 10" is written, 21 is among them.
 -- What a caller gets is in the contracts of the exported functions (src/lib.rt): of any bytes handed over `pilzdamo_read` answers `readingNames`, the refusals 1 to 10,
 -- `pilzdamo_check` `checking`, the refusals 1 to 13, `pilzdamo_place` `placing`, with `placedOver` in the output, for a minute of the week `pilzdamo_check_at` `checkingAt`
--- and `pilzdamo_place_at` `placingAt`, with `placedOverAt`, of two files `pilzdamo_merge` `merging`, with `mergedOver` in the output, `pilzdamo_to_columns` `turning` of version 2 and `pilzdamo_to_rows` of version 3, with `turnedOver`, `pilzdamo_run`
+-- and `pilzdamo_place_at` `placingAt`, with `placedOverAt`, of two files `pilzdamo_merge` `merging`, with `mergedOver` in the output, of two notices `pilzdamo_in_force` `planInForce`, `pilzdamo_to_columns` `turning` of version 2 and `pilzdamo_to_rows` of version 3, with `turnedOver`, `pilzdamo_run`
 -- `running`, with `runOver` in the output, `pilzdamo_ready` `ready`, `pilzdamo_round` `rounding`, with `roundOver` in the output, with a table of seats
 -- `pilzdamo_run_seated` `seatedRunning` and the length `seatedLength`, with `seatedOver` in the output, `pilzdamo_round_seated` `seatedRounding`, with `seatedRoundOver`, and `pilzdamo_seats` `seatsAfter`, `pilzdamo_totals` `totalsAfter`, `pilzdamo_total` `totalIn`,
 -- `pilzdamo_start` `starting`, with `recordsStarted` in the lent list and
 -- `besideStarted` beside it, `pilzdamo_choose` `choosing`, with `recordsOver` and `besideOver`, and of a refusal's numbers `pilzdamo_reason` `reasonLength`, with `reasonOver` in the output,
 -- `pilzdamo_phrase` `meaningLength`, with `meaningOver`, and of a sentence `pilzdamo_read_reason` `understood`.
 use Prim.Native.Nat.{ℕ, suc, _+_, _*_, _-_, _/_, _%_, _^_, _≤_, _<_}
-use mathlib.Core.Path.{_≡_, refl, sym, _∙_}
+use mathlib.Core.Path.{_≡_, refl, sym, _∙_, ap, subst}
 use mathlib.Core.Logic.{_↔_, _≢_, _⊎_}
 use mathlib.Core.Bool.{true, false, cond}
 use mathlib.Core.List.{List, [], _∷_, _++_, map}
@@ -188,6 +188,13 @@ use Rattle.seating_exact.proofs.SeatedRoundAnswers.{seated-round-seventeen, sea
 use Rattle.seating_exact.proofs.SeatsAnswers.{seats-seventeen, seats-names, seats-start, seats-none, seats-verdict, seats-told, taken-within}
 use Rattle.seating_exact.proofs.SeatedSafe.{placed-file-safe}
 use Rattle.seating_exact.proofs.SeatsShown.{seats-shown}
+use Rattle.notices.specs.Notices.{planInForce, ofNotice, partOf, placeOf}
+use Rattle.notices.specs.declared.InForce.{InForce}
+use Rattle.notices_exact.specs.Supersedes.{Sound, Unsound, Supersedes}
+use Rattle.notices_exact.specs.Supersedes.{Answers as Notice·Answers}
+use Rattle.notices_exact.specs.NoticeCases.{NoticeShown, noticeCases}
+use Rattle.notices_exact.proofs.NoticeAnswers.{answered as notices-answered, one-answer, first-refused, second-refused, none-in-force, first-in-force, second-in-force, Held, in-force-held, file-part, file-place, empty-part, file-reads}
+use Rattle.notices_exact.proofs.NoticesShown.{notices-shown}
 use Rattle.engine.proofs.LongInputs.{kept-alike}
 use Rattle.engine.proofs.NothingPlanned.{nothing-alike, nothing-checked, nothing-measured, nothing-placed, nothing-short, nothing-over, nothing-run, nothing-chosen, short-one, short-second}
 use Rattle.reading_exact.proofs.Bytes.{length-bytesOf, word-back, small-bytes}
@@ -929,7 +936,7 @@ sentence-to-120 = sentence-length
 pub sentence-says-why : (r : Reason) → IsReason r → (rest : List ℕ) × (sentence r ≡ meaning (r .number) ++ rest)
 sentence-says-why = meaning-first
 
-pub meaning-says-its-number : (n : ℕ) → 1 ≤ n → n ≤ 26 → (rest : List ℕ) × (meaning n ≡ (spelled "Refused " ++ (digitsOf 5 n ++ spelled ": ")) ++ rest)
+pub meaning-says-its-number : (n : ℕ) → 1 ≤ n → n ≤ 28 → (rest : List ℕ) × (meaning n ≡ (spelled "Refused " ++ (digitsOf 5 n ++ spelled ": ")) ++ rest)
 meaning-says-its-number = number-said
 
 -- It has four parts: the meaning, what is counted, the place's digits, the tag's ending, each of the last by its row in the table (`reasons-in-words` has each of them in words) ..
@@ -964,12 +971,12 @@ reader-says-no = no-exactly
 pub one-sentence-each : (r q : Reason) → IsReason r → IsReason q → sentence r ≡ sentence q → r ≡ q
 one-sentence-each = one-reason
 
--- "The rule is shown over the whole table of phrases": none of the 42 stands at the start of another.
-pub no-phrase-begins-another : (length phrases ≡ 42) × ((i j : ℕ) → i < 42 → j < 42 → i ≢ j → (x : List ℕ) → phrase i ++ x ≢ phrase j)
+-- "The rule is shown over the whole table of phrases": none of the 45 stands at the start of another.
+pub no-phrase-begins-another : (length phrases ≡ 45) × ((i j : ℕ) → i < 45 → j < 45 → i ≢ j → (x : List ℕ) → phrase i ++ x ≢ phrase j)
 no-phrase-begins-another = (many, none-begins-another)
 
--- The meaning of a number alone is answered likewise, for the numbers 1 to 26.
-pub meaning-of-each : (n room : ℕ) → (meaningLength n room ≢ 0) ↔ ((120 ≤ room) × (1 ≤ n) × (n ≤ 26))
+-- The meaning of a number alone is answered likewise, for the numbers 1 to 28.
+pub meaning-of-each : (n room : ℕ) → (meaningLength n room ≢ 0) ↔ ((120 ≤ room) × (1 ≤ n) × (n ≤ 28))
 meaning-of-each = meaning-exactly
 
 pub meaning-written : (n : ℕ) (out : List ℕ) → 120 ≤ length out → (meaningLength n (length out) ≡ length (meaning n)) × (meaningOver n out ≡ meaning n ++ drop (length (meaning n)) out)
@@ -1422,3 +1429,63 @@ turning-in-words = booking-answered
 
 pub column-cases : All Shown columnCases
 column-cases = columned
+-- K12: "A notice is one word with the first day of validity (days since 1 January 2000), one word with the file's length in bytes, then the file, checked for 1 to 10 only. Of two lent notices and a day, the one with the later
+-- first day not after that day supersedes; with equal first days, the second": what is answered is what the request's words say (`Answers` of notices_exact), and nothing else.
+pub in-force-answers : (f g : List ℕ) (day : ℕ) (r : InForce) → Notice·Answers f g day r ↔ (r ≡ planInForce f g day)
+in-force-answers f g day r = (one-answer f g day r, λ e. subst (Notice·Answers f g day) (sym e) (notices-answered f g day))
+
+-- "27, a notice under 4 bytes, or whose length word is not the number of bytes after it, or whose file is refused, place 1 or 2 .., the lower first, before anything else" ..
+pub first-notice-refused : (f g : List ℕ) (day : ℕ) → (planInForce f g day ≡ record { number = 27; place = 1; notice = 1; at = 0; length = 0 }) ↔ Unsound f
+first-notice-refused = first-refused
+
+pub second-notice-refused : (f g : List ℕ) (day : ℕ) → (planInForce f g day ≡ record { number = 27; place = 2; notice = 1; at = 0; length = 0 }) ↔ (Sound f × Unsound g)
+second-notice-refused = second-refused
+
+-- .. "28, neither has begun, place 0, last" ..
+pub neither-has-begun : (f g : List ℕ) (day : ℕ)
+    → (planInForce f g day ≡ record { number = 28; place = 0; notice = 1; at = 0; length = 0 }) ↔ (Sound f × Sound g × (wordAt f 0 ≤ day → ⊥) × (wordAt g 0 ≤ day → ⊥))
+neither-has-begun = none-in-force
+
+-- .. else the notice that supersedes is named, with the file that it holds ..
+pub first-supersedes : (f g : List ℕ) (day : ℕ)
+    → (planInForce f g day ≡ record { number = 0; place = 0; notice = 1; at = 4; length = length (drop 4 f) }) ↔ (Sound f × Sound g × Supersedes f g day 1)
+first-supersedes = first-in-force
+
+pub second-supersedes : (f g : List ℕ) (day : ℕ)
+    → (planInForce f g day ≡ record { number = 0; place = 0; notice = 2; at = 4; length = length (drop 4 g) }) ↔ (Sound f × Sound g × Supersedes f g day 2)
+second-supersedes = second-in-force
+
+-- .. which has begun, than which no notice that has begun has a later first day, and which is the second where the first days are equal.
+pub latest-begun : (f g : List ℕ) (day : ℕ) → planInForce f g day .number ≡ 0 → (k : ℕ) → planInForce f g day .notice ≡ k
+    → (n : List ℕ) → n ≡ cond (eqb k 2) g f → (wordAt n 0 ≤ day) × (wordAt f 0 ≤ day → wordAt f 0 ≤ wordAt n 0) × (wordAt g 0 ≤ day → wordAt g 0 ≤ wordAt n 0) × (wordAt f 0 ≡ wordAt g 0 → k ≡ 2)
+latest-begun f g day done k e n is =
+    let h : Held f g day (planInForce f g day) = in-force-held f g day done in
+    let same : ofNotice (planInForce f g day) f g ≡ n = ap (λ (i : ℕ). cond (eqb i 2) g f) e ∙ sym is in (
+      subst (λ (m : List ℕ). wordAt m 0 ≤ day) same (h .begun),
+      subst (λ (m : List ℕ). wordAt f 0 ≤ day → wordAt f 0 ≤ wordAt m 0) same (h .latest .0),
+      subst (λ (m : List ℕ). wordAt g 0 ≤ day → wordAt g 0 ≤ wordAt m 0) same (h .latest .1),
+      λ tie. sym e ∙ h .tied tie,
+    )
+
+-- "Its file is handed back as a part of whichever lent notice holds it, not as a copy": `notices::in_force` hands back the bytes `partOf` at the place `placeOf` (its contract), which are cut by the very numbers answered. These are
+-- all bytes of that notice after its first 4, where they stand in it (a place is a block of memory and an offset in it) ..
+pub part-is-the-file : (f g : List ℕ) (day : ℕ) → planInForce f g day .number ≡ 0
+    → (partOf (planInForce f g day) f g ≡ drop 4 (cond (eqb (planInForce f g day .notice) 2) g f))
+    × ((p q : ℕ × ℕ) → placeOf (planInForce f g day) p q ≡ (cond (eqb (planInForce f g day .notice) 2) q p .0, 4 + cond (eqb (planInForce f g day .notice) 2) q p .1))
+part-is-the-file f g day done = (file-part f g day done, file-place f g day done)
+
+pub part-by-numbers : (r : InForce) (f g : List ℕ) (p q : ℕ × ℕ)
+    → (partOf r f g ≡ take (r .length) (drop (r .at) (cond (eqb (r .notice) 2) g f))) × (placeOf r p q ≡ (cond (eqb (r .notice) 2) q p .0, r .at + cond (eqb (r .notice) 2) q p .1))
+part-by-numbers r f g p q = (refl, refl)
+
+-- .. "A refusal hands back an empty part of the first notice", at its start.
+pub refused-part-is-empty : (f g : List ℕ) (day : ℕ) → planInForce f g day .number ≢ 0 → (partOf (planInForce f g day) f g ≡ []) × ((p q : ℕ × ℕ) → placeOf (planInForce f g day) p q ≡ p)
+refused-part-is-empty = empty-part
+
+-- The file handed back is one that 1 to 10 refuse nothing of; `names-exactly` says what that is.
+pub file-in-force-reads : (f g : List ℕ) (day : ℕ) → planInForce f g day .number ≡ 0 → readingNames (partOf (planInForce f g day) f g) ≡ fine
+file-in-force-reads = file-reads
+
+-- In literal words: the days before, at, between and after two first days, equal ones, and each refusal in its turn.
+pub notices-in-words : All NoticeShown noticeCases
+notices-in-words = notices-shown

@@ -14,6 +14,7 @@ use lending::is_refused;
 use lending::starting::begin;
 use lending::starting::sessions_of;
 use lending::verdict_of;
+use notices::InForce;
 use placing::Placed;
 use reasons::Reason;
 use running::Ready;
@@ -39,6 +40,7 @@ ghost use Rattle.lending.specs.Lent.{choosing, recordsOver, besideOver};
 ghost use Rattle.lending.specs.Starting.{starting, recordsStarted, besideStarted};
 ghost use Rattle.merging.specs.Merging.{merging, mergedOver};
 ghost use Rattle.turning.specs.Turning.{turning, turnedOver};
+ghost use Rattle.notices.specs.Notices.{planInForce};
 
 // Reads a clinic file, of any bytes and any length: the first of the refusals 1 to 10, or 0 and 0 where there is none.
 #[no_mangle]
@@ -131,6 +133,15 @@ pub extern "C" fn pilzdamo_to_rows(file: &[u8], out: &mut [u8]) -> Written
     ensures { λ r. ⌜ (r ≡ turning 3 (now (file .entry)) (length (now (out .entry)))) × (now (out .exit) ≡ turnedOver 3 2 (now (file .entry)) (now (out .entry))) ⌝ }
 {
     turning::to_rows(file, out)
+}
+
+// Which of two notices is in force on a day (since 1 January 2000), each one word with its first day, one word with the file's length in bytes, then the file: the first of
+// 27 at 1, 27 at 2 and 28, with the empty part at the start of notice 1; or 0 and 0, and the part of a notice that is its file: of notice 1 or 2, from byte 4 on, and its length.
+#[no_mangle]
+pub extern "C" fn pilzdamo_in_force(first: &[u8], second: &[u8], day: u16) -> InForce
+    ensures { λ r. ⌜ r ≡ planInForce (now (first .entry)) (now (second .entry)) day ⌝ }
+{
+    notices::plan_in_force(first, second, day)
 }
 
 // Runs a clinic file through a list of choices, two words each: thread, partner. The first of 17 and 1 to 10; or the refusal that halted the run, with
@@ -265,8 +276,8 @@ pub extern "C" fn pilzdamo_start(file: &[u8], threads: &mut [Thread], beside: &m
     verdict_of(it)
 }
 
-// The sentence of a refusal, in fixed words, at the start of the output: its number, what its place counts (0 none, 1 word, 2 session, 3 node, 4 choice, 5 row), the
-// place, and for 9 to 15 at a node that node's tag, 9 elsewhere. Its length in bytes; 0, and nothing is written, for four numbers that are no reason and for an output
+// The sentence of a refusal, in fixed words, at the start of the output: its number, what its place counts (0 none, 1 word, 2 session, 3 node, 4 choice, 5 row,
+// 6 notice), the place, and for 9 to 15 at a node that node's tag, 9 elsewhere. Its length in bytes; 0, and nothing is written, for four numbers that are no reason and for an output
 // under 120 bytes. Every other byte of the output stays.
 #[no_mangle]
 pub extern "C" fn pilzdamo_reason(

@@ -22,6 +22,7 @@ inWords =
     " at node " ∷
     " at choice " ∷
     " at row " ∷
+    " at notice " ∷
     "Refused 1: the file has 1 to 25 bytes (to 27 in versions 2 and 3), or an odd number" ∷
     "Refused 2: the version is not one that can be read here" ∷
     "Refused 3: a count is out of range" ∷
@@ -47,20 +48,22 @@ inWords =
     "Refused 23: the row names no such role, or no stretch of the week" ∷
     "Refused 24: the role put on is closed at that minute" ∷
     "Refused 25: the two files' tables of roles or kinds differ" ∷
-    "Refused 26: the role has no free seat, or other sessions are before this one in line" ∷ []
+    "Refused 26: the role has no free seat, or other sessions are before this one in line" ∷
+    "Refused 27: the notice has under 4 bytes, a wrong length word or a refused file" ∷
+    "Refused 28: neither notice has begun on that day" ∷ []
 
 -- the last of what is counted, and the last number that has a meaning; how many rows these are, and how many bytes
 abbrev pub lastCount : ℕ
-lastCount = 5
+lastCount = 6
 
 abbrev pub lastNumber : ℕ
-lastNumber = 26
+lastNumber = 28
 
 abbrev pub rowCount : ℕ
-rowCount = 42
+rowCount = 45
 
 abbrev pub byteCount : ℕ
-byteCount = 1835
+byteCount = 1973
 
 -- the row of a tag's ending (9: no tag), of what is counted (0: none), of a number's meaning
 abbrev pub endingRow : ℕ → ℕ
@@ -70,4 +73,4 @@ abbrev pub countRow : ℕ → ℕ
 countRow c = 10 + c
 
 abbrev pub meaningRow : ℕ → ℕ
-meaningRow n = 15 + n
+meaningRow n = 16 + n

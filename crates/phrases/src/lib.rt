@@ -6,7 +6,7 @@ ghost use lib.Seq.{paste, slice};
 ghost use Rattle.phrases.specs.Table.{rowCount};
 ghost use Rattle.phrases.specs.Phrases.{phrases, phrase, prefix, allText, allStarts, leading, putInto};
 
-const TEXT: [u8; 1835] = *b"\
+const TEXT: [u8; 1973] = *b"\
     , an end.\
     , a fork.\
     , a repeat.\
@@ -23,6 +23,7 @@ const TEXT: [u8; 1835] = *b"\
     \x20at node \
     \x20at choice \
     \x20at row \
+    \x20at notice \
     Refused 1: the file has 1 to 25 bytes (to 27 in versions 2 and 3), or an odd number\
     Refused 2: the version is not one that can be read here\
     Refused 3: a count is out of range\
@@ -48,9 +49,11 @@ const TEXT: [u8; 1835] = *b"\
     Refused 23: the row names no such role, or no stretch of the week\
     Refused 24: the role put on is closed at that minute\
     Refused 25: the two files' tables of roles or kinds differ\
-    Refused 26: the role has no free seat, or other sessions are before this one in line";
+    Refused 26: the role has no free seat, or other sessions are before this one in line\
+    Refused 27: the notice has under 4 bytes, a wrong length word or a refused file\
+    Refused 28: neither notice has begun on that day";
 
-const STARTS: [u16; 43] = [
+const STARTS: [u16; 46] = [
     0,
     9,
     18,
@@ -68,46 +71,49 @@ const STARTS: [u16; 43] = [
     136,
     147,
     155,
-    238,
-    293,
-    327,
-    383,
-    440,
-    506,
-    587,
-    671,
-    741,
-    802,
-    867,
-    909,
-    952,
-    1023,
-    1084,
-    1139,
-    1223,
-    1300,
-    1373,
-    1428,
-    1493,
-    1576,
-    1641,
-    1693,
-    1751,
-    1835,
+    166,
+    249,
+    304,
+    338,
+    394,
+    451,
+    517,
+    598,
+    682,
+    752,
+    813,
+    878,
+    920,
+    963,
+    1034,
+    1095,
+    1150,
+    1234,
+    1311,
+    1384,
+    1439,
+    1504,
+    1587,
+    1652,
+    1704,
+    1762,
+    1846,
+    1925,
+    1973,
 ];
 
 // How many phrases there are.
-const COUNT: usize = 42;
+const COUNT: usize = 45;
 
 // All phrases one after the other.
-pub fn phrase_text() -> [u8; 1835]
+pub fn phrase_text() -> [u8; 1973]
     ensures { λ r. ⌜ r ≡ allText ⌝ }
 {
     TEXT
 }
 
 // Where each starts, and where the last ends.
-pub fn phrase_starts() -> [u16; 43]
+pub fn phrase_starts() -> [u16; 46]
     ensures { λ r. ⌜ r ≡ allStarts ⌝ }
 {
     STARTS

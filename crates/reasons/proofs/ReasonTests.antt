@@ -7,7 +7,7 @@ use native.Mathlib.Omega.{arith}
 use lib.Dec.{eqb, leb, ltb}
 use borrow.Author.Tests.{eqb-true, eqb-false, leb-true, leb-false, ltb-true, eq-eqb, le-leb, lt-leb, lt-ltb, not-true}
 use Rattle.reasons.specs.declared.Reason.{Reason}
-use Rattle.reasons.specs.IsReason.{MayCount, of-file, of-record, of-start, of-tree, of-step, of-chosen, of-placing, of-placing-node, of-unserved, of-room, of-lent, of-thread, of-pair, of-junior, of-minute, of-row, of-closed, of-joining, of-overfull, of-seat, PlaceFits, AtNode, TagFits, some-tag, no-tag, IsReason}
+use Rattle.reasons.specs.IsReason.{MayCount, of-file, of-record, of-start, of-tree, of-step, of-chosen, of-placing, of-placing-node, of-unserved, of-room, of-lent, of-thread, of-pair, of-junior, of-minute, of-row, of-closed, of-joining, of-overfilled, of-unseated, of-notice, of-neither, PlaceFits, AtNode, TagFits, some-tag, no-tag, IsReason}
 use Rattle.reasons.specs.Reasons.{byNone, byNode, byChoice, mayCount, placeFits, atNode, tagFits, isReason}
 
 either : {C : Type 0} (a b : Bool) → (a || b) ≡ true → (a ≡ true → C) → (b ≡ true → C) → C
@@ -30,7 +30,8 @@ or-right false b h = h
 none-given : (n c : ℕ) → c ≡ 0 → byNone n ≡ true → MayCount n c
 unfolding byNone
 none-given n c e h =
-    either (leb 1 n && leb n 5 || leb 16 n && leb n 18 || eqb n 14 || eqb n 22) (eqb n 25) h
+    either (leb 1 n && leb n 5 || leb 16 n && leb n 18 || eqb n 14 || eqb n 22 || eqb n 25) (eqb n 28) h
+    (λ h. either (leb 1 n && leb n 5 || leb 16 n && leb n 18 || eqb n 14 || eqb n 22) (eqb n 25) h
     (λ h. either (leb 1 n && leb n 5 || leb 16 n && leb n 18 || eqb n 14) (eqb n 22) h
     (λ h. either (leb 1 n && leb n 5 || leb 16 n && leb n 18) (eqb n 14) h
     (λ h. either (leb 1 n && leb n 5) (leb 16 n && leb n 18) h
@@ -38,7 +39,8 @@ none-given n c e h =
     (λ h. last (leb n 17) refl (range 16 n 18 h)))
     (λ h. of-placing (eqb-true n 14 h) e))
     (λ h. of-minute (eqb-true n 22 h) e))
-    (λ h. of-joining (eqb-true n 25 h) e)
+    (λ h. of-joining (eqb-true n 25 h) e))
+    (λ h. of-neither (eqb-true n 28 h) e)
   where
     last : (b : Bool) → leb n 17 ≡ b → (16 ≤ n) × (n ≤ 18) → MayCount n c
     last true k x = of-room (x .0) (leb-true n 17 k) e
@@ -64,7 +66,7 @@ choice-given n c e h =
     (λ h. either (leb 11 n && leb n 13) (leb 18 n && leb n 20) h
     (λ h. of-chosen (range 11 n 13 h .0) (range 11 n 13 h .1) e)
     (λ h. first (leb n 18) refl (range 18 n 20 h)))
-    (λ h. of-seat (eqb-true n 26 h) e)
+    (λ h. of-unseated (eqb-true n 26 h) e)
   where
     first : (b : Bool) → leb n 18 ≡ b → (18 ≤ n) × (n ≤ 20) → MayCount n c
     first true k x = of-thread (omega (arith, leb-true n 18 k, x .0)) e
@@ -79,7 +81,9 @@ may-count n c h =
     let t3 : Bool = eqb c 3 && byNode n in
     let t4 : Bool = eqb c 4 && byChoice n in
     let t5 : Bool = eqb c 5 && eqb n 23 in
-    either (t0 || t1 || t2 || t3 || t4) t5 h
+    let t6 : Bool = eqb c 6 && eqb n 27 in
+    either (t0 || t1 || t2 || t3 || t4 || t5) t6 h
+    (λ h. either (t0 || t1 || t2 || t3 || t4) t5 h
     (λ h. either (t0 || t1 || t2 || t3) t4 h
     (λ h. either (t0 || t1 || t2) t3 h
     (λ h. either (t0 || t1) t2 h
@@ -88,10 +92,11 @@ may-count n c h =
     (λ h. let x = both (eqb c 1) (eqb n 6 || eqb n 21) h in
     either (eqb n 6) (eqb n 21) (x .1) (λ k. of-record (eqb-true n 6 k) (eqb-true c 1 (x .0))) (λ k. of-junior (eqb-true n 21 k) (eqb-true c 1 (x .0)))))
     (λ h. let x = both (eqb c 2) (eqb n 7 || eqb n 26) h in
-    either (eqb n 7) (eqb n 26) (x .1) (λ k. of-start (eqb-true n 7 k) (eqb-true c 2 (x .0))) (λ k. of-overfull (eqb-true n 26 k) (eqb-true c 2 (x .0)))))
+    either (eqb n 7) (eqb n 26) (x .1) (λ k. of-start (eqb-true n 7 k) (eqb-true c 2 (x .0))) (λ k. of-overfilled (eqb-true n 26 k) (eqb-true c 2 (x .0)))))
     (λ h. let x = both (eqb c 3) (byNode n) h in node-given n c (eqb-true c 3 (x .0)) (x .1)))
     (λ h. let x = both (eqb c 4) (byChoice n) h in choice-given n c (eqb-true c 4 (x .0)) (x .1)))
-    (λ h. let x = both (eqb c 5) (eqb n 23) h in of-row (eqb-true n 23 (x .1)) (eqb-true c 5 (x .0)))
+    (λ h. let x = both (eqb c 5) (eqb n 23) h in of-row (eqb-true n 23 (x .1)) (eqb-true c 5 (x .0))))
+    (λ h. let x = both (eqb c 6) (eqb n 27) h in of-notice (eqb-true n 27 (x .1)) (eqb-true c 6 (x .0)))
 
 by-none : (n c : ℕ) → c ≡ 0 → byNone n ≡ true → mayCount n c ≡ true
 unfolding mayCount
@@ -129,8 +134,10 @@ count-may n c (of-minute i e) = rw (i, e) refl
 count-may n c (of-row i e) = rw (i, e) refl
 count-may n c (of-closed i e) = rw (i, e) refl
 count-may n c (of-joining i e) = rw (i, e) refl
-count-may n c (of-overfull i e) = rw (i, e) refl
-count-may n c (of-seat i e) = rw (i, e) refl
+count-may n c (of-overfilled i e) = rw (i, e) refl
+count-may n c (of-unseated i e) = rw (i, e) refl
+count-may n c (of-notice i e) = rw (i, e) refl
+count-may n c (of-neither i e) = rw (i, e) refl
 
 place-fits : (c p : ℕ) → placeFits c p ≡ true → p ≤ 65535 → PlaceFits c p
 unfolding placeFits

@@ -11,7 +11,7 @@ use Rattle.phrases.specs.Table.{inWords, lastCount, lastNumber, rowCount, endin
 use Rattle.phrases.specs.Phrases.{phrases, phrase, spelled}
 use Rattle.phrases.proofs.PhraseLaws.{atEach, at-each}
 use Rattle.reasons.specs.declared.Reason.{Reason}
-use Rattle.reasons.specs.IsReason.{MayCount, of-file, of-record, of-start, of-tree, of-step, of-chosen, of-placing, of-placing-node, of-unserved, of-room, of-lent, of-thread, of-pair, of-junior, of-minute, of-row, of-closed, of-joining, of-overfull, of-seat, TagFits, some-tag, no-tag, IsReason}
+use Rattle.reasons.specs.IsReason.{MayCount, of-file, of-record, of-start, of-tree, of-step, of-chosen, of-placing, of-placing-node, of-unserved, of-room, of-lent, of-thread, of-pair, of-junior, of-minute, of-row, of-closed, of-joining, of-overfilled, of-unseated, of-notice, of-neither, TagFits, some-tag, no-tag, IsReason}
 use Rattle.reasons.specs.Reasons.{digitsOf, sentence}
 use Rattle.reasons.proofs.DigitLaws.{noDigitFirst, digits-length}
 
@@ -80,8 +80,10 @@ number-in n c (of-minute i e) = (omega (arith, i, e), omega (arith, i, e), omega
 number-in n c (of-row i e) = (omega (arith, i, e), omega (arith, i, e), omega (arith, i, e))
 number-in n c (of-closed i e) = (omega (arith, i, e), omega (arith, i, e), omega (arith, i, e))
 number-in n c (of-joining i e) = (omega (arith, i, e), omega (arith, i, e), omega (arith, i, e))
-number-in n c (of-overfull i e) = (omega (arith, i, e), omega (arith, i, e), omega (arith, i, e))
-number-in n c (of-seat i e) = (omega (arith, i, e), omega (arith, i, e), omega (arith, i, e))
+number-in n c (of-overfilled i e) = (omega (arith, i, e), omega (arith, i, e), omega (arith, i, e))
+number-in n c (of-unseated i e) = (omega (arith, i, e), omega (arith, i, e), omega (arith, i, e))
+number-in n c (of-notice i e) = (omega (arith, i, e), omega (arith, i, e), omega (arith, i, e))
+number-in n c (of-neither i e) = (omega (arith, i, e), omega (arith, i, e), omega (arith, i, e))
 
 pub tag-in : (n c t : ℕ) → TagFits n c t → t ≤ 9
 tag-in n c t (some-tag g l) = omega (arith, l)

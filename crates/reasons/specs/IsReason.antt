@@ -1,5 +1,5 @@
 -- Reasons in the words of document 02, K8: a refusal's number, "its place, what the place counts (word, session, node, choice, row or none) and, for 9 to 15 at a node,
--- that node's tag". Counted is 0 none, 1 word, 2 session, 3 node, 4 choice, 5 row; a tag is 0 to 8, and 9 where none belongs.
+-- that node's tag"; K12 "counts it as a notice". Counted is 0 none, 1 word, 2 session, 3 node, 4 choice, 5 row, 6 notice; a tag is 0 to 8, and 9 where none belongs.
 use Prim.Native.Nat.{ℕ, _+_, _-_, _*_, _≤_}
 use mathlib.Core.Path.{_≡_}
 use mathlib.Core.Logic.{_↔_}
@@ -34,9 +34,12 @@ pub data MayCount (n c : ℕ) : Type 0 where
   of-closed : n ≡ 24 → c ≡ 3 → MayCount n c
   -- K9
   of-joining : n ≡ 25 → c ≡ 0 → MayCount n c
-  -- K10: at the start, or in a choice
-  of-overfull : n ≡ 26 → c ≡ 2 → MayCount n c
-  of-seat : n ≡ 26 → c ≡ 4 → MayCount n c
+  -- K10: "session or choice"
+  of-overfilled : n ≡ 26 → c ≡ 2 → MayCount n c
+  of-unseated : n ≡ 26 → c ≡ 4 → MayCount n c
+  -- K12
+  of-notice : n ≡ 27 → c ≡ 6 → MayCount n c
+  of-neither : n ≡ 28 → c ≡ 0 → MayCount n c
 
 -- "A place is 0 exactly with none, else up to 65,535."
 abbrev pub PlaceFits : ℕ → ℕ → Type 0

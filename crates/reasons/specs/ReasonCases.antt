@@ -51,7 +51,9 @@ reasonCases =
     ∷ says 24 3 1024 9 "Refused 24: the role put on is closed at that minute at node 1024."
     ∷ says 25 0 0 9 "Refused 25: the two files' tables of roles or kinds differ; no place."
     ∷ says 26 2 3 9 "Refused 26: the role has no free seat, or other sessions are before this one in line at session 3."
-    ∷ says 26 4 65535 9 "Refused 26: the role has no free seat, or other sessions are before this one in line at choice 65535."
+    ∷ says 26 4 7 9 "Refused 26: the role has no free seat, or other sessions are before this one in line at choice 7."
+    ∷ says 27 6 2 9 "Refused 27: the notice has under 4 bytes, a wrong length word or a refused file at notice 2."
+    ∷ says 28 0 0 9 "Refused 28: neither notice has begun on that day; no place."
     -- any of the nine
     ∷ says 9 3 1 0 "Refused 9: an operand names nothing, or a role or kind is out of count at node 1, an end."
     ∷ says 10 3 99 3 "Refused 10: the step is against the rules of kinds and owners at node 99, a new channel."
@@ -81,15 +83,18 @@ reasonCases =
     ∷ unsaid 24 3 4 7
     ∷ unsaid 25 2 1 9
     ∷ unsaid 26 0 0 9
-    ∷ unsaid 26 3 1 9
     ∷ unsaid 27 0 0 9
+    ∷ unsaid 28 6 1 9
+    ∷ unsaid 29 0 0 9
     ∷ unsaid 0 0 0 0
     ∷ means 13 "Refused 13: no active role permits the step"
     ∷ means 24 "Refused 24: the role put on is closed at that minute"
     ∷ means 0 ""
     ∷ means 25 "Refused 25: the two files' tables of roles or kinds differ"
     ∷ means 26 "Refused 26: the role has no free seat, or other sessions are before this one in line"
-    ∷ means 27 ""
+    ∷ means 27 "Refused 27: the notice has under 4 bytes, a wrong length word or a refused file"
+    ∷ means 28 "Refused 28: neither notice has begun on that day"
+    ∷ means 29 ""
     -- what each number counts, and means
     ∷ counts 0 []
     ∷ counts 1 (0 ∷ [])
@@ -118,7 +123,9 @@ reasonCases =
     ∷ counts 24 (3 ∷ [])
     ∷ counts 25 (0 ∷ [])
     ∷ counts 26 (2 ∷ 4 ∷ [])
-    ∷ counts 27 []
+    ∷ counts 27 (6 ∷ [])
+    ∷ counts 28 (0 ∷ [])
+    ∷ counts 29 []
     ∷ means 1 "Refused 1: the file has 1 to 25 bytes (to 27 in versions 2 and 3), or an odd number"
     ∷ means 2 "Refused 2: the version is not one that can be read here"
     ∷ means 3 "Refused 3: a count is out of range"

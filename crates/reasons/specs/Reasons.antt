@@ -13,7 +13,7 @@ reasonOf n c p t = record { number = n; counts = c; place = p; tag = t }
 
 -- the numbers by what is counted
 unfoldable pub byNone : ℕ → Bool
-byNone n = leb 1 n && leb n 5 || leb 16 n && leb n 18 || eqb n 14 || eqb n 22 || eqb n 25
+byNone n = leb 1 n && leb n 5 || leb 16 n && leb n 18 || eqb n 14 || eqb n 22 || eqb n 25 || eqb n 28
 
 unfoldable pub byNode : ℕ → Bool
 byNode n = leb 8 n && leb n 15 || eqb n 24
@@ -24,6 +24,7 @@ byChoice n = leb 11 n && leb n 13 || leb 18 n && leb n 20 || eqb n 26
 unfoldable pub mayCount : ℕ → ℕ → Bool
 mayCount n c =
     eqb c 0 && byNone n || eqb c 1 && (eqb n 6 || eqb n 21) || eqb c 2 && (eqb n 7 || eqb n 26) || eqb c 3 && byNode n || eqb c 4 && byChoice n || eqb c 5 && eqb n 23
+    || eqb c 6 && eqb n 27
 
 unfoldable pub placeFits : ℕ → ℕ → Bool
 placeFits c p = eqb c 0 && eqb p 0 || ltb 0 c && ltb 0 p

@@ -17,7 +17,7 @@ ghost use lib.ListN.{length, drop};
 ghost use Rattle.phrases.specs.Phrases.{putInto, allText, allStarts};
 ghost use Rattle.reasons.specs.Reasons.{byNone, byNode, byChoice, mayCount, atNode, isReason, reasonOf, sentence, isSentence, noReason, understood, reasonLength, reasonOver, hasMeaning, meaningLength, meaningOver};
 
-// A refusal's number, what its place counts (0 none, 1 word, 2 session, 3 node, 4 choice, 5 row), the place, and the tag of the node there, 9 where none belongs.
+// A refusal's number, what its place counts (0 none, 1 word, 2 session, 3 node, 4 choice, 5 row, 6 notice), the place, and the tag of the node there, 9 where none belongs.
 #[repr(C)]
 pub struct Reason {
     pub number: u16,
@@ -29,14 +29,14 @@ pub struct Reason {
 // How many rows of the table stand before that of none, and one less than before that of number 1; the last number.
 const COUNTS: usize = 10;
 
-const MEANINGS: usize = 15;
+const MEANINGS: usize = 16;
 
-const LAST: u16 = 26;
+const LAST: u16 = 28;
 
 fn by_none(n: u16) -> bool
     ensures { λ r. ⌜ r ≡ byNone n ⌝ }
 {
-    (1 <= n) & (n <= 5) | (16 <= n) & (n <= 18) | (n == 14) | (n == 22) | (n == 25)
+    (1 <= n) & (n <= 5) | (16 <= n) & (n <= 18) | (n == 14) | (n == 22) | (n == 25) | (n == 28)
 }
 
 fn by_node(n: u16) -> bool
@@ -61,6 +61,7 @@ fn may_count(n: u16, c: u16) -> bool
         | (c == 3) & by_node(n)
         | (c == 4) & by_choice(n)
         | (c == 5) & (n == 23)
+        | (c == 6) & (n == 27)
 }
 
 // Whether a tag belongs there.

@@ -7,8 +7,10 @@ use crate::output;
 use crate::source::Source;
 use crate::state::State;
 use crate::turning::Turn;
-use crate::words::{At, Job};
-use crate::{explain, merging, names, reasons, refusals, report, seats, show, turning};
+use crate::words::{At, Job, Wanted};
+use crate::{
+    days, explain, merging, names, notices, reasons, refusals, report, seats, show, turning,
+};
 use crate::{Outcome, WrongUse};
 use pilzdamo::{Counts, Placed, Totals, Verdict, BEFORE_ROUND, ROOM, ROOM_1, RUN_ROOM};
 use std::path::Path;
@@ -26,6 +28,17 @@ pub fn carry_out(job: Job) -> Result<Outcome, WrongUse> {
             choices,
             seats,
         } => run(&file, &choices, seats.as_ref()),
+        Job::Notice {
+            first_day,
+            file,
+            out,
+        } => notice(first_day, &file, out.as_deref()),
+        Job::InForce {
+            day,
+            first,
+            second,
+            out,
+        } => in_force(day, [&first, &second], out),
         Job::Waiting { file, choices } => waiting(&file, &choices),
         Job::Seats {
             file,
@@ -197,6 +210,52 @@ fn turn_file(turn: Turn, file: &Source, out: Option<&Path>) -> Result<Outcome, W
     output::deliver(&room[..length.min(ROOM)], out)?;
     let into = out.map_or(String::new(), |path| format!(" in {}", path.display()));
     output::say(&format!("{name}: {}, {length} bytes{into}", turn.done()));
+    Ok(Outcome::Answer)
+}
+
+fn notice(first_day: u16, file: &Source, out: Option<&Path>) -> Result<Outcome, WrongUse> {
+    output::spare(file, out)?;
+    let bytes = file.read()?;
+    let verdict = pilzdamo::read(&bytes);
+    if !verdict.is_clean() {
+        return refusal(&report::of_file(&file.name(), &bytes, verdict));
+    }
+    let notice = notices::notice(first_day, &bytes);
+    output::deliver(&notice, out)?;
+    let (name, begins) = (file.name(), days::date(first_day));
+    let written = out.map_or(String::new(), |path| format!(" in {}", path.display()));
+    let (length, planned) = (notice.len(), names::planned(&bytes));
+    output::say(&format!(
+        "{name}: a notice from {begins} on, {length} bytes{written}{planned}"
+    ));
+    Ok(Outcome::Answer)
+}
+
+fn in_force(day: u16, sources: [&Source; 2], out: Option<Wanted>) -> Result<Outcome, WrongUse> {
+    let path = match &out {
+        Some(Wanted::File(path)) => Some(path.as_path()),
+        _ => None,
+    };
+    if out.is_some() {
+        output::spare(sources[0], path)?;
+        output::spare(sources[1], path)?;
+    }
+    let (one, other) = (sources[0].read()?, sources[1].read()?);
+    let both = [
+        (sources[0].name(), &one[..]),
+        (sources[1].name(), &other[..]),
+    ];
+    let (told, part) = pilzdamo::in_force(&one, &other, day);
+    if !told.verdict().is_clean() {
+        return refusal(&notices::refused(&both, told.verdict()));
+    }
+    let (told, planned) = (notices::told(&both, day, told), names::planned(part));
+    if out.is_none() {
+        return answer(&format!("{told}{planned}\n"));
+    }
+    output::deliver(part, path)?;
+    let written = path.map_or(String::new(), |path| format!(" in {}", path.display()));
+    output::say(&format!("{told}{written}{planned}"));
     Ok(Outcome::Answer)
 }
 

@@ -5,11 +5,13 @@
 
 mod choices;
 mod clinic;
+mod days;
 mod explain;
 mod hours;
 mod jobs;
 mod merging;
 mod names;
+mod notices;
 mod output;
 mod page;
 mod reasons;

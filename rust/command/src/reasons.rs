@@ -17,6 +17,7 @@ fn counted(reason: Reason) -> String {
         Some(Counts::Node) => "nodes",
         Some(Counts::Choice) => "choices",
         Some(Counts::Row) => "rows",
+        Some(Counts::Notice) => "notices",
         None => return reason.counts.to_string(),
     };
     words.to_string()

@@ -19,6 +19,7 @@ const WRITER: &str = "the file's writer";
 const KEEPER: &str = "the schema's keeper";
 const AUTHOR: &str = "the routine's author";
 const CALLER: &str = "the caller";
+const SENDER: &str = "the notice's sender";
 
 const NOTHING: &str = "nothing; it is 0";
 const WORD: &str = "words: the first word of the record, from 0 at the start of the file";
@@ -28,6 +29,7 @@ const NODE: &str = "nodes, from 1";
 const NODE_OR_CHOICE: &str = "nodes, from 1; in a run choices, from 1";
 const CHOICE: &str = "choices, from 1";
 const ROW: &str = "rows of the table of hours, from 1";
+const NOTICE: &str = "notices: 1 or 2, the lower where both are refused";
 
 /// The refusal of this number.
 pub fn of(number: u16) -> Option<&'static Refusal> {
@@ -44,12 +46,13 @@ pub fn counts(number: u16, place: u16, in_run: bool) -> Counts {
         8..=15 | 24 => Counts::Node,
         18..=20 => Counts::Choice,
         23 => Counts::Row,
+        27 => Counts::Notice,
         _ => Counts::Nothing,
     }
 }
 
 /// The refusals from 1 on.
-pub const ALL: [Refusal; 26] = [
+pub const ALL: [Refusal; 28] = [
     Refusal {
         place: NOTHING,
         who: WRITER,
@@ -297,5 +300,23 @@ pub const ALL: [Refusal; 26] = [
             "Give the role more seats, or let fewer sessions start with it. In a run make the \
             choice again once a seat is free and the session is the first in line: `pilzdamo \
             seats` says who has a seat and who waits.",
+    },
+    Refusal {
+        place: NOTICE,
+        who: SENDER,
+        wrong:
+            "A notice is a word with its first day, a word with its file's length in bytes, and \
+            the file. This one has under 4 bytes, another number of bytes behind these words than \
+            the second of them says, or a file that is refused with 1 to 10 or 21. Both notices \
+            are judged before any day is looked at.",
+        mend:
+            "Fetch the notice again: most often it was cut off on its way. If its file is refused, \
+            mend that, and make the notice anew (`pilzdamo notice`).",
+    },
+    Refusal {
+        place: NOTHING,
+        who: CALLER,
+        wrong: "Both notices are sound, and the first day of each is after the day asked for.",
+        mend: "Ask with the notice that was in force before them, or for a later day.",
     },
 ];

@@ -46,10 +46,15 @@ pub fn of_both(name: &str, verdict: Verdict, more: Option<String>) -> String {
     message(name, verdict, &sentence, more)
 }
 
+/// The message for notices that are refused, with what there is to say of them.
+pub fn of_notices(name: &str, verdict: Verdict, more: String) -> String {
+    let sentence = sentence_of(&Clinic::default(), verdict);
+    message(name, verdict, &sentence, Some(more))
+}
+
 /// The line that marks what a check refuses in a shown file.
 pub fn mark(clinic: &Clinic, verdict: Verdict) -> String {
-    let counts = refusals::counts(verdict.number, verdict.place, false);
-    let sentence = sentence(clinic, verdict, counts);
+    let sentence = sentence_of(clinic, verdict);
     match refusals::of(verdict.number) {
         Some(refusal) => format!("!! {sentence} ({})", refusal.who),
         None => format!("!! {sentence}"),
@@ -77,6 +82,12 @@ fn message(name: &str, verdict: Verdict, sentence: &str, more: Option<String>) -
         format!("{who} can mend it; more: pilzdamo explain {number}")
     }));
     lines.join("\n  ")
+}
+
+/// The engine's sentence for a refusal that is none of a run.
+pub fn sentence_of(clinic: &Clinic, verdict: Verdict) -> String {
+    let counts = refusals::counts(verdict.number, verdict.place, false);
+    sentence(clinic, verdict, counts)
 }
 
 /// The engine's sentence for a refusal whose place counts so.

@@ -1,5 +1,6 @@
 //! The words of the command line.
 
+use crate::days;
 use crate::hours;
 use crate::refusals;
 use crate::source::Source;
@@ -32,6 +33,17 @@ pub enum Job {
         turn: Turn,
         file: Source,
         out: Option<PathBuf>,
+    },
+    Notice {
+        first_day: u16,
+        file: Source,
+        out: Option<PathBuf>,
+    },
+    InForce {
+        day: u16,
+        first: Source,
+        second: Source,
+        out: Option<Wanted>,
     },
     Run {
         file: Source,
@@ -71,6 +83,12 @@ pub enum Job {
     Version,
 }
 
+/// Where a file is wanted that is written only if it is asked for.
+pub enum Wanted {
+    StandardOutput,
+    File(PathBuf),
+}
+
 /// A minute of the week, and where the table of hours is.
 pub struct At {
     pub minute: u16,
@@ -89,9 +107,9 @@ struct Operands {
 }
 
 /// The words that name a job.
-const WORDS: [&str; 14] = [
-    "check", "place", "measure", "merge", "columns", "rows", "run", "waiting", "seats", "round",
-    "dispatch", "show", "explain", "reason",
+const WORDS: [&str; 16] = [
+    "check", "place", "measure", "merge", "columns", "rows", "notice", "in-force", "run",
+    "waiting", "seats", "round", "dispatch", "show", "explain", "reason",
 ];
 
 /// These words in a sentence.
@@ -129,6 +147,9 @@ fn named(verb: &str, operands: Operands) -> Result<Job, WrongUse> {
         seats,
         ..
     } = operands;
+    if verb == "in-force" {
+        return day_and_notices(plain, out);
+    }
     let out = out.filter(|out| out != "-").map(PathBuf::from);
     match verb {
         "show" => one(verb, "FILE", plain).map(|file| Job::Show { file }),
@@ -143,6 +164,15 @@ fn named(verb: &str, operands: Operands) -> Result<Job, WrongUse> {
         "rows" => {
             let (turn, file) = (Turn::ToRows, one(verb, "FILE", plain)?);
             Ok(Job::Turn { turn, file, out })
+        }
+        "notice" => {
+            let [date, file] = exactly(verb, ["DATE", "FILE"], plain)?;
+            let (first_day, file) = (day(verb, "DATE", date)?, Source::named(file));
+            Ok(Job::Notice {
+                first_day,
+                file,
+                out,
+            })
         }
         "run" => {
             let ([file, choices], seats) = with_seats(verb, plain, seats)?;
@@ -223,7 +253,7 @@ fn sorted(verb: &str, mut words: impl Iterator<Item = OsString>) -> Result<Opera
         let text = word.to_string_lossy();
         match text.as_ref() {
             "-h" | "--help" => operands.help = true,
-            "-o" if matches!(verb, "place" | "merge" | "columns" | "rows") => {
+            "-o" if has_out(verb) => {
                 let name = format!("{verb}: -o");
                 let wants = format!("{name} wants the name of a file behind it");
                 keep(&name, &wants, &mut operands.out, words.next())?;
@@ -259,6 +289,14 @@ fn is_option(word: &str) -> bool {
 /// Whether what begins with a hyphen is an option of this word, and not its operand.
 fn has_options(verb: &str) -> bool {
     !matches!(verb, "explain" | "reason")
+}
+
+/// Whether a file may be written for this word.
+fn has_out(verb: &str) -> bool {
+    matches!(
+        verb,
+        "place" | "merge" | "columns" | "rows" | "notice" | "in-force"
+    )
 }
 
 /// Whether roles may have hours for this word.
@@ -321,6 +359,39 @@ fn two(verb: &str, names: [&str; 2], plain: Vec<OsString>) -> Result<[Source; 2]
         )),
         both => Ok(both),
     }
+}
+
+/// A day and two notices, not both standard input.
+fn day_and_notices(plain: Vec<OsString>, out: Option<OsString>) -> Result<Job, WrongUse> {
+    let verb = "in-force";
+    let [date, first, second] = exactly(verb, ["DAY", "NOTICE", "NOTICE"], plain)?;
+    let day = day(verb, "DAY", date)?;
+    let [first, second] = [first, second].map(Source::named);
+    if let (Source::StandardInput, Source::StandardInput) = (&first, &second) {
+        return misused(&format!("{verb}: only one NOTICE can be standard input"));
+    }
+    let out = out.map(|out| match out == "-" {
+        true => Wanted::StandardOutput,
+        false => Wanted::File(PathBuf::from(out)),
+    });
+    Ok(Job::InForce {
+        day,
+        first,
+        second,
+        out,
+    })
+}
+
+/// A day, by its date or its number.
+fn day(verb: &str, name: &str, word: OsString) -> Result<u16, WrongUse> {
+    let text = word.to_string_lossy();
+    days::day(&text).map_or_else(
+        || {
+            let due = "a date from 2000-01-01 to 2179-06-06, or a number of days from 0 to 65535";
+            misused(&format!("{verb}: {name} is {due}, not '{text}'"))
+        },
+        Ok,
+    )
 }
 
 /// ROUNDS may be left out.

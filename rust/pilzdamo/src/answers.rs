@@ -26,6 +26,8 @@ use std::fmt;
 /// | 24 | the node |
 /// | 25 | 0: the tables of two files |
 /// | 26 | the session, from 1, whose starting mask finds no seat |
+/// | 27 | the notice, 1 or 2 |
+/// | 28 | 0: neither notice has begun |
 /// | 18 to 20 | the choice; 18 at 0 for a lent list that is none of the file's, has wrong totals, or is of another length |
 ///
 /// In [`choose`](crate::choose) the choice has number 1. A [`Reason`] says all of it in
@@ -501,17 +503,20 @@ pub enum Counts {
     Choice = 4,
     /// Rows of a table of hours.
     Row = 5,
+    /// Notices, of two.
+    Notice = 6,
 }
 
 impl Counts {
     /// All of them, by their numbers.
-    pub const ALL: [Counts; 6] = [
+    pub const ALL: [Counts; 7] = [
         Counts::Nothing,
         Counts::Word,
         Counts::Session,
         Counts::Node,
         Counts::Choice,
         Counts::Row,
+        Counts::Notice,
     ];
 
     /// Its number in a [`Reason`].
@@ -535,7 +540,7 @@ pub const NO_TAG: u16 = 9;
 ///
 /// | number | counts |
 /// |---|---|
-/// | 1 to 5, 16, 17, 22, 25 | nothing |
+/// | 1 to 5, 16, 17, 22, 25, 28 | nothing |
 /// | 6, 21 | words |
 /// | 7 | sessions |
 /// | 8, 9, 10, 15, 24 | nodes |
@@ -545,6 +550,7 @@ pub const NO_TAG: u16 = 9;
 /// | 19, 20 | choices |
 /// | 23 | rows |
 /// | 26 | sessions, or choices |
+/// | 27 | notices |
 #[repr(C)]
 #[must_use]
 #[derive(Clone, Copy, Debug, PartialEq, Eq, Hash)]
@@ -653,5 +659,62 @@ impl fmt::Display for Written {
             return self.verdict().fmt(out);
         }
         write!(out, "written in {} bytes", self.length)
+    }
+}
+
+/// What [`in_force`](crate::in_force) answers beside the part: a refusal's number and
+/// place, and which of the two notices holds the part, and where. Where there is a
+/// refusal it is the empty part at the first notice's start.
+#[repr(C)]
+#[must_use]
+#[derive(Clone, Copy, Debug, PartialEq, Eq, Hash)]
+pub struct InForce {
+    /// The refusal's number, 27 or 28, or 0 if there is none.
+    pub number: u16,
+    /// Where it stands: the notice, 1 or 2, for 27; else 0.
+    pub place: u16,
+    /// The notice that holds the part, 1 or 2.
+    pub notice: u16,
+    /// How many bytes of the notice stand before the part.
+    pub at: u16,
+    /// How many bytes the part has.
+    pub length: u16,
+}
+
+impl InForce {
+    /// The refusal's number and place alone.
+    ///
+    /// ```
+    /// let (told, _) = pilzdamo::in_force(&[], &[], 0);
+    /// assert_eq!((told.verdict().number, told.verdict().place), (27, 1));
+    /// ```
+    pub fn verdict(self) -> Verdict {
+        let InForce { number, place, .. } = self;
+        Verdict { number, place }
+    }
+}
+
+/// `notice N is in force, L bytes from byte A on`, or `refused N P` with number and
+/// place.
+///
+/// ```
+/// // Notices of a clinic with nothing planned, from days 7 and 9 on.
+/// let (one, other) = ([7, 0, 0, 0], [9, 0, 0, 0]);
+/// let told = |day| pilzdamo::in_force(&one, &other, day).0.to_string();
+/// assert_eq!(told(6), "refused 28 0");
+/// assert_eq!(told(8), "notice 1 is in force, 0 bytes from byte 4 on");
+/// ```
+impl fmt::Display for InForce {
+    fn fmt(&self, out: &mut fmt::Formatter<'_>) -> fmt::Result {
+        if !self.verdict().is_clean() {
+            return self.verdict().fmt(out);
+        }
+        let InForce {
+            notice, at, length, ..
+        } = self;
+        write!(
+            out,
+            "notice {notice} is in force, {length} bytes from byte {at} on"
+        )
     }
 }

@@ -1,7 +1,7 @@
 //! The engine's functions for Rust.
 
 use crate::raw;
-use crate::{Placed, Ready, Reason, Round, Seats, Thread, Totals, Verdict, Written};
+use crate::{InForce, Placed, Ready, Reason, Round, Seats, Thread, Totals, Verdict, Written};
 
 /// As many bytes as [`place`] wants of its output for any file, and [`to_columns`] and
 /// [`to_rows`] for every one: those of the largest file of versions 2 and 3. What
@@ -957,4 +957,61 @@ fn cut(written: Written, mut out: Vec<u8>) -> Result<Vec<u8>, Verdict> {
     written.verdict().result()?;
     out.truncate(written.length.into());
     Ok(out)
+}
+
+/// Which of two notices is in force on a day, and the part of it that is its file: of
+/// that very notice, not a copy.
+///
+/// A notice is a word with the first day of validity, in days since 1 January 2000, a
+/// word with the file's length in bytes, and the file. Of those that have begun the one
+/// with the later first day supersedes; with equal first days, the second.
+///
+/// Any bytes will do, of any length. Refusal 27, at place 1 or 2, is for a notice under
+/// 4 bytes, whose length word isn't the number of bytes behind it, or whose file
+/// [`read`] refuses; both notices are judged, the first before the second, before any
+/// day is looked at. Then comes 28, where neither has begun. With a refusal the part is
+/// the empty one at the first notice's start. [`file_in_force`] has the part alone.
+///
+/// ```
+/// let file = std::fs::read("../../examples/booking.clinic")?;
+/// let notice = |day: u16| {
+///     let length = file.len() as u16;
+///     [&day.to_le_bytes()[..], &length.to_le_bytes(), &file].concat()
+/// };
+/// // From 1 November and from 1 December 2026 on.
+/// let (november, december) = (notice(9_801), notice(9_831));
+/// let (told, part) = pilzdamo::in_force(&november, &december, 9_816);
+/// assert_eq!((told.number, told.notice, told.at, told.length), (0, 1, 4, 82));
+/// assert!(std::ptr::eq(part, &november[4..]));
+/// let (told, part) = pilzdamo::in_force(&november, &december, 9_831);
+/// assert_eq!(told.notice, 2);
+/// assert!(std::ptr::eq(part, &december[4..]));
+///
+/// // In October there was none.
+/// let (told, part) = pilzdamo::in_force(&november, &december, 9_800);
+/// assert_eq!(told.to_string(), "refused 28 0");
+/// assert!(std::ptr::eq(part, &november[..0]));
+/// # Ok::<(), std::io::Error>(())
+/// ```
+#[inline]
+pub fn in_force<'a>(first: &'a [u8], second: &'a [u8], day: u16) -> (InForce, &'a [u8]) {
+    let told = raw::in_force(first, second, day);
+    let notice = if told.notice == 2 { second } else { first };
+    let at = usize::from(told.at);
+    (told, &notice[at..at + usize::from(told.length)])
+}
+
+/// The part of [`in_force`], or the refusal.
+///
+/// ```
+/// // Nothing is planned from day 7 on; the second notice has a byte too few.
+/// let sound = [7, 0, 0, 0];
+/// assert_eq!(pilzdamo::file_in_force(&sound, &sound, 7), Ok(&[][..]));
+/// let refusal = pilzdamo::file_in_force(&sound, &sound[..3], 7).unwrap_err();
+/// assert_eq!(refusal.to_string(), "refused 27 2");
+/// ```
+pub fn file_in_force<'a>(first: &'a [u8], second: &'a [u8], day: u16) -> Result<&'a [u8], Verdict> {
+    let (told, part) = in_force(first, second, day);
+    told.verdict().result()?;
+    Ok(part)
 }

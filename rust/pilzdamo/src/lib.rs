@@ -25,6 +25,7 @@
 //! | go on choice by choice | [`Desk`]; [`start`] and [`choose`] in a list of one's own |
 //! | make one file of two | [`merge`], [`merged`] |
 //! | have the nodes by column, and by row again | [`to_columns`], [`in_columns`], [`to_rows`], [`in_rows`] |
+//! | find the plan that is in force on a day | [`in_force`], [`file_in_force`] |
 //!
 //! The examples below read files of the project's folder `examples`, and are run as
 //! tests.
@@ -152,6 +153,21 @@
 //! // The placed column file is the placed row file, by column.
 //! let (placed_rows, on_steps) = pilzdamo::placed(&rows)?;
 //! assert_eq!(pilzdamo::placed(&columns)?, (pilzdamo::in_columns(&placed_rows)?, on_steps));
+//! # The plan in force
+//!
+//! A group sends next month's file early, as a notice: the first day of validity (in
+//! days since 1 January 2000), the file's length, the file. Of two notices the one that
+//! is in force on a day hands its file back, as a part of itself.
+//!
+//! ```
+//! let november = std::fs::read("../../examples/notices/november.notice")?;
+//! let december = std::fs::read("../../examples/notices/december.notice")?;
+//! let november_15 = 9_815;
+//! let file = pilzdamo::file_in_force(&november, &december, november_15)?;
+//! assert!(std::ptr::eq(file, &november[4..]));
+//! assert!(pilzdamo::read(file).is_clean());
+//! let file = pilzdamo::file_in_force(&november, &december, november_15 + 16)?;
+//! assert!(std::ptr::eq(file, &december[4..]));
 //! # Ok::<(), Box<dyn std::error::Error>>(())
 //! ```
 //!
@@ -358,8 +374,8 @@
 //! The engine's functions are: what they answer, every byte that they write, and
 //! that they ask nothing of their caller but memory that is there. This crate adds
 //! plain Rust: each slice is handed over with its own length, [`State`] names the
-//! words that a run wrote, and a [`Desk`] begins with what the engine started or
-//! wrote. The only unsafe code is in those calls; users need none.
+//! words that a run wrote, a [`Desk`] begins with what the engine started or wrote, and
+//! [`in_force`] cuts the part that the engine named out of the notice. The only unsafe code is in those calls; users need none.
 //!
 //! For C there is the header `pilzdamo.h` beside this crate's `Cargo.toml`.
 
@@ -373,9 +389,9 @@ mod raw;
 mod state;
 
 pub use answers::NO_TAG;
-pub use answers::{Counts, Placed, Ready, Reason, Round, Seats, Totals, Verdict, Written};
+pub use answers::{Counts, InForce, Placed, Ready, Reason, Round, Seats, Totals, Verdict, Written};
 pub use calls::{check, check_at, choose, measure, measure_at, merge, merged};
-pub use calls::{in_columns, in_rows, to_columns, to_rows};
+pub use calls::{file_in_force, in_columns, in_force, in_rows, to_columns, to_rows};
 pub use calls::{meaning, phrase, read_reason, reason};
 pub use calls::{place, place_at, placed, placed_at, read, ready, room, round, run, start};
 pub use calls::{round_seated, run_seated, seats, total, totals};

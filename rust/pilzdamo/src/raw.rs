@@ -5,7 +5,7 @@
 //! pointers and lengths name, writes only what is lent by a pointer to `mut`, and
 //! ends; it keeps no pointer.
 
-use crate::{Placed, Ready, Reason, Round, Seats, Thread, Totals, Verdict, Written};
+use crate::{InForce, Placed, Ready, Reason, Round, Seats, Thread, Totals, Verdict, Written};
 
 extern "C" {
     fn pilzdamo_read(file: *const u8, len: usize) -> Verdict;
@@ -120,6 +120,13 @@ extern "C" {
         out: *mut u8,
         out_len: usize,
     ) -> Written;
+    fn pilzdamo_in_force(
+        first: *const u8,
+        first_len: usize,
+        second: *const u8,
+        second_len: usize,
+        day: u16,
+    ) -> InForce;
 }
 
 // Words and nothing between them: what is answered, and a record that is lent.
@@ -132,6 +139,7 @@ const _: () = {
     assert!(size_of::<Reason>() == 2 * 4);
     assert!(size_of::<Written>() == 2 * 3);
     assert!(size_of::<Seats>() == 2 * 580);
+    assert!(size_of::<InForce>() == 2 * 5);
     assert!(size_of::<Thread>() == 2 * 11);
 };
 
@@ -418,4 +426,18 @@ pub fn to_columns(file: &[u8], out: &mut [u8]) -> Written {
 pub fn to_rows(file: &[u8], out: &mut [u8]) -> Written {
     // SAFETY: as in `to_columns`.
     unsafe { pilzdamo_to_rows(file.as_ptr(), file.len(), out.as_mut_ptr(), out.len()) }
+}
+
+pub fn in_force(first: &[u8], second: &[u8], day: u16) -> InForce {
+    // SAFETY: the engine only reads the `first_len` bytes from `first` on and the
+    // `second_len` bytes from `second` on, during the call; the slices vouch for them.
+    unsafe {
+        pilzdamo_in_force(
+            first.as_ptr(),
+            first.len(),
+            second.as_ptr(),
+            second.len(),
+            day,
+        )
+    }
 }

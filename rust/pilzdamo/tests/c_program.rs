@@ -1,6 +1,8 @@
 //! The header, tried by a C program: what it prints.
 
-use pilzdamo::{Counts, Placed, Ready, Reason, Round, Seats, Thread, Totals, Verdict, Written};
+use pilzdamo::{
+    Counts, InForce, Placed, Ready, Reason, Round, Seats, Thread, Totals, Verdict, Written,
+};
 use pilzdamo::{BEFORE_ROUND, BESIDE, RECORDS, ROOM, ROOM_1, ROUND_WORDS, ROWS, RUN_ROOM};
 use pilzdamo::{LINE_WORDS, NO_TAG, ROLES, SEATS, SENTENCE, SESSIONS, TOTALS, WEEK};
 use std::process::{Command, Output};
@@ -124,6 +126,13 @@ to rows: refusal 0 0, 168 bytes
 as before: 1
 to rows again: refusal 2 0, 0 bytes
 in less: refusal 17 0, 0 bytes
+in November: refusal 0 0, notice 1, 82 bytes from byte 4 on
+read its file: clean
+in December: refusal 0 0, notice 2, 150 bytes from byte 4 on
+read its file: clean
+in October: refusal 28 0, notice 1, 0 bytes from byte 0 on
+cut: refusal 27 2, notice 1, 0 bytes from byte 0 on
+two days alone: refusal 27 1, notice 1, 0 bytes from byte 0 on
 record: refused 6 27
 role: refused 13 4
 no bytes: clean
@@ -142,6 +151,8 @@ said: Refused 3: a count is out of range; no place.
 read: 3 0 0 9
 said: Refused 23: the row names no such role, or no stretch of the week at row 64.
 read: 23 5 64 9
+said: Refused 27: the notice has under 4 bytes, a wrong length word or a refused file at notice 2.
+read: 27 6 2 9
 said: 
 read: 0 0 0 0
 phrase: Refused 20: it would be the 65th thread or made channel
@@ -177,6 +188,7 @@ fn a_c_program_calls_the_engine() {
         size_of::<Written>(),
         size_of::<Seats>(),
         size_of::<Thread>(),
+        size_of::<InForce>(),
     ];
     let line = |name: &str, numbers: &[usize]| {
         let numbers: Vec<String> = numbers.iter().map(usize::to_string).collect();

@@ -145,8 +145,8 @@ impl Totals {
 }
 
 /// A refusal as a sentence says it: its number, what its place counts (0 nothing, 1
-/// words, 2 sessions, 3 nodes, 4 choices, 5 rows), the place, and the node's tag, 9
-/// where none belongs. All are 0 for bytes that are no sentence.
+/// words, 2 sessions, 3 nodes, 4 choices, 5 rows, 6 notices), the place, and the node's
+/// tag, 9 where none belongs. All are 0 for bytes that are no sentence.
 #[derive(Clone, Copy, Debug, PartialEq, Eq, PartialOrd, Ord)]
 pub struct Reason {
     pub number: u16,
@@ -223,6 +223,41 @@ impl Seats {
             waiting: [0; ROLES],
             line: [0; LINE_WORDS],
             totals: [0; TOTALS],
+        }
+    }
+}
+
+/// Which of two notices is in force: 1 or 2, and where its file stands in it, in bytes.
+/// Refused, it is the first notice's empty part at 0.
+#[derive(Clone, Copy, Debug, PartialEq, Eq)]
+pub struct InForce {
+    pub number: u16,
+    pub place: u16,
+    pub notice: u16,
+    pub at: u16,
+    pub length: u16,
+}
+
+impl InForce {
+    /// The answer where there is none.
+    pub const fn refused(number: u16, place: u16) -> InForce {
+        InForce {
+            number,
+            place,
+            notice: 1,
+            at: 0,
+            length: 0,
+        }
+    }
+
+    /// The answer where it is this notice's file.
+    pub const fn part(notice: u16, at: u16, length: u16) -> InForce {
+        InForce {
+            number: 0,
+            place: 0,
+            notice,
+            at,
+            length,
         }
     }
 }

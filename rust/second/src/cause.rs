@@ -121,6 +121,14 @@ pub enum Cause {
     SeatsAbove,
     /// A starting mask that overfills a role.
     StartOverfills,
+    /// A notice that ends within its two words.
+    NoticeShort,
+    /// A notice whose length word isn't the number of bytes behind it.
+    NoticeLength,
+    /// A notice whose file is refused with this number.
+    NoticeFile(u16),
+    /// Neither notice has begun.
+    NotBegun,
 }
 
 /// The fields that a tag leaves unused, tag by tag.
@@ -196,6 +204,8 @@ impl Cause {
             Lent(_) => 18,
             Choice(halt) => halt.number(),
             RoleCounts | KindCounts | RolesDiffer | KindsDiffer => 25,
+            NoticeShort | NoticeLength | NoticeFile(_) => 27,
+            NotBegun => 28,
         }
     }
 
@@ -276,6 +286,14 @@ impl Cause {
         all.retain(|cause| cause.is_of(Version::One));
         all.push(Cause::ShortForSecond);
         all.extend([Version::Two, Version::Three].map(Cause::OtherVersion));
+        all
+    }
+
+    /// The causes for which a notice is unsound, in the order in which they are judged.
+    pub fn of_notices() -> Vec<Cause> {
+        let mut all = vec![Cause::NoticeShort, Cause::NoticeLength];
+        let numbers = (1..=28).filter(|&number| is_of_file(number));
+        all.extend(numbers.map(Cause::NoticeFile));
         all
     }
 

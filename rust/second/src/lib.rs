@@ -5,9 +5,9 @@
 //! are spoken of, 21 is among them. The timed functions, [`read`], [`read_names`],
 //! [`check`], [`check_at`], [`place`], [`place_at`], [`measure`], [`measure_at`],
 //! [`run`], [`round`], [`ready`], [`totals`], [`run_seated`], [`round_seated`],
-//! [`seats`], [`start`], [`choose`], [`merge`], [`to_columns`] and [`to_rows`], go over
-//! the file a few times, in place, and allocate nothing; nor do [`reason`],
-//! [`read_reason`] and [`phrase`].
+//! [`seats`], [`start`], [`choose`], [`merge`], [`to_columns`], [`to_rows`] and
+//! [`in_force`], go over the file a few times, in place, and allocate nothing; nor do
+//! [`reason`], [`read_reason`] and [`phrase`].
 
 #![forbid(unsafe_code)]
 
@@ -20,6 +20,7 @@ mod hours;
 mod merging;
 mod names;
 mod nodes;
+mod notices;
 mod placing;
 mod reasons;
 mod roles;
@@ -28,7 +29,7 @@ mod schema;
 mod tree;
 mod turning;
 
-pub use answers::{Placed, Ready, Reason, Round, Seats, Totals, Verdict, Written};
+pub use answers::{InForce, Placed, Ready, Reason, Round, Seats, Totals, Verdict, Written};
 pub use cause::{is_of_file, is_of_reading, Cause, Refusal};
 pub use file::{Section, Version};
 pub use merging::MERGED_ROOM;
@@ -41,6 +42,7 @@ pub use turning::TURNED_ROOM;
 
 use file::File;
 use hours::{Hours, ALWAYS};
+use notices::Notice;
 use placing::Plan;
 use roles::Grants;
 use running::{Choices, Lent, Scopes, State};
@@ -283,9 +285,9 @@ pub fn choose(
 }
 
 /// A refusal as a sentence in `out`, and its length: what `number` means, what its
-/// place counts (0 nothing, 1 words, 2 sessions, 3 nodes, 4 choices, 5 rows), the
-/// place, and, for 9 to 15 at a node, that node's tag; `tag` is 9 in all others. What
-/// is against this, or an output under [`SENTENCE`] bytes, gives 0.
+/// place counts (0 nothing, 1 words, 2 sessions, 3 nodes, 4 choices, 5 rows, 6
+/// notices), the place, and, for 9 to 15 at a node, that node's tag; `tag` is 9 in all
+/// others. What is against this, or an output under [`SENTENCE`] bytes, gives 0.
 pub fn reason(number: u16, counts: u16, place: u16, tag: u16, out: &mut [u8]) -> u16 {
     let reason = Reason {
         number,
@@ -344,6 +346,19 @@ fn turn([from, to]: [Version; 2], file: &[u8], out: &mut [u8]) -> Written {
         Err(refusal) => {
             let Verdict { number, place } = refusal.verdict();
             Written::refused(number, place)
+        }
+    }
+}
+
+/// Of two notices the one that is in force on a day, in days since 1 January 2000: 27
+/// for an unsound one, the first before the second, and then 28 where neither has
+/// begun. A notice is its first day, its file's length in bytes, and the file.
+pub fn in_force(first: &[u8], second: &[u8], day: u16) -> InForce {
+    match judge_notices(first, second, day) {
+        Ok(found) => notices::answer(found),
+        Err(refusal) => {
+            let Verdict { number, place } = refusal.verdict();
+            InForce::refused(number, place)
         }
     }
 }
@@ -440,6 +455,16 @@ pub fn cause_to_be_merged(file: &[u8]) -> Option<Refusal> {
 /// where the output has this many bytes, if it isn't.
 pub fn cause_in_turning(from: Version, file: &[u8], room: usize) -> Option<Refusal> {
     turning::judge(file, from, room).err()
+}
+
+/// Why [`in_force`] refuses, if it does.
+pub fn cause_in_notices(first: &[u8], second: &[u8], day: u16) -> Option<Refusal> {
+    judge_notices(first, second, day).err()
+}
+
+/// Why a notice is unsound whatever the other is, if it is.
+pub fn cause_in_notice(notice: &[u8]) -> Option<Cause> {
+    Notice::of(notice, cause_in_file).err()
 }
 
 /// Why [`check_at`] refuses, if it does.
@@ -586,6 +611,25 @@ fn judge_merging<'a>(
     let second = judge_to_be_merged(second)?;
     merging::judge(&first, &second)?;
     Ok((first, second))
+}
+
+/// Why 1 to 10 refuse a file, if they do.
+fn cause_in_file(file: &[u8]) -> Option<Refusal> {
+    let judged = judge_reading(file).and_then(|file| names::judge(&file));
+    judged.err()
+}
+
+fn judge_notices<'a>(
+    first: &'a [u8],
+    second: &'a [u8],
+    day: u16,
+) -> Result<(u16, Notice<'a>), Refusal> {
+    let sound = |place, notice| {
+        let judged = Notice::of(notice, cause_in_file);
+        judged.map_err(|cause| Refusal { cause, place })
+    };
+    let both = [sound(1, first)?, sound(2, second)?];
+    notices::superseding(both, day)
 }
 
 #[cfg(test)]

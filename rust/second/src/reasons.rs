@@ -10,7 +10,7 @@ use crate::answers::Reason;
 pub const SENTENCE: usize = 120;
 
 /// What each number means, from 1 on.
-const MEANINGS: [&[u8]; 26] = [
+const MEANINGS: [&[u8]; 28] = [
     b"Refused 1: the file has 1 to 25 bytes (to 27 in versions 2 and 3), or an odd number",
     b"Refused 2: the version is not one that can be read here",
     b"Refused 3: a count is out of range",
@@ -37,6 +37,8 @@ const MEANINGS: [&[u8]; 26] = [
     b"Refused 24: the role put on is closed at that minute",
     b"Refused 25: the two files' tables of roles or kinds differ",
     b"Refused 26: the role has no free seat, or other sessions are before this one in line",
+    b"Refused 27: the notice has under 4 bytes, a wrong length word or a refused file",
+    b"Refused 28: neither notice has begun on that day",
 ];
 
 /// The endings by tag; the last is that of a sentence without one.
@@ -65,12 +67,13 @@ enum Counts {
     Node,
     Choice,
     Row,
+    Notice,
 }
 
-use Counts::{Choice, Node, Nothing, Row, Session, Word};
+use Counts::{Choice, Node, Nothing, Notice, Row, Session, Word};
 
 impl Counts {
-    const ALL: [Counts; 6] = [Nothing, Word, Session, Node, Choice, Row];
+    const ALL: [Counts; 7] = [Nothing, Word, Session, Node, Choice, Row, Notice];
 
     /// The words before the place.
     fn words(self) -> &'static [u8] {
@@ -81,6 +84,7 @@ impl Counts {
             Node => b" at node ",
             Choice => b" at choice ",
             Row => b" at row ",
+            Notice => b" at notice ",
         }
     }
 }
@@ -125,7 +129,7 @@ impl Unsaid {
 /// What the places of a number count, none for a number that no refusal has.
 fn counts_of(number: u16) -> &'static [Counts] {
     match number {
-        1..=5 | 16 | 17 | 22 | 25 => &[Nothing],
+        1..=5 | 16 | 17 | 22 | 25 | 28 => &[Nothing],
         6 | 21 => &[Word],
         7 => &[Session],
         8..=10 | 15 | 24 => &[Node],
@@ -135,6 +139,7 @@ fn counts_of(number: u16) -> &'static [Counts] {
         19 | 20 => &[Choice],
         23 => &[Row],
         26 => &[Session, Choice],
+        27 => &[Notice],
         _ => &[],
     }
 }
@@ -163,7 +168,7 @@ fn judge(reason: Reason) -> Result<Counts, Unsaid> {
     }
     match (counts, place) {
         (Nothing, 1..) => return Err(Unsaid::PlaceOfNothing),
-        (Word | Session | Node | Choice | Row, 0) => return Err(Unsaid::NoPlace),
+        (Word | Session | Node | Choice | Row | Notice, 0) => return Err(Unsaid::NoPlace),
         _ => {}
     }
     match (has_tag(number, counts), tag) {

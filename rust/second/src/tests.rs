@@ -1,11 +1,14 @@
 use crate::cases::{booking, cases, choose_cases, place_cases, placed_booking, run_cases};
 use crate::cases::{check_at_cases, place_at_cases, round_cases, start_cases, totals_cases};
-use crate::cases::{merge_cases, reason_cases, Due, DueOfBoth, BOOKING, NO_SENTENCES};
-use crate::cases::{seat_cases, seated_round_cases, turn_cases, Turn};
+use crate::cases::{
+    merge_cases, notice_cases, reason_cases, seat_cases, seated_round_cases, turn_cases, Due,
+    DueOfBoth, Turn, BOOKING, NO_SENTENCES,
+};
 use crate::draft::{set_word, to_bytes};
 use crate::{begin, merge, resume, total, totals};
 use crate::{cause, cause_in_choosing, cause_in_placing, cause_in_run, cause_in_starting};
 use crate::{cause_at, cause_in_merging, cause_in_placing_at, cause_in_round, check_at};
+use crate::{cause_in_notice, cause_in_notices, in_force};
 use crate::{cause_in_reason, phrase, read_reason, reason};
 use crate::{cause_in_seated_run, round_seated, run_seated, seats};
 use crate::{cause_in_turning, to_columns, to_rows, TURNED_ROOM};
@@ -415,8 +418,8 @@ fn every_reason_has_its_own_sentence() {
             }
         }
     }
-    // Eleven of no place; of each place 14 without a tag, and seven numbers with nine tags.
-    assert_eq!((sentences.len(), count), (count, 11 + 10 * (14 + 7 * 9)));
+    // Twelve of no place; of each place 15 without a tag, and seven numbers with nine tags.
+    assert_eq!((sentences.len(), count), (count, 12 + 10 * (15 + 7 * 9)));
 }
 
 #[test]
@@ -425,7 +428,7 @@ fn phrases_of_numbers() {
         for room in [0, 119, 120, 121] {
             let mut out = vec![0xa5; room];
             let length = usize::from(phrase(number, &mut out));
-            let due = (1..=26).contains(&number) && room >= 120;
+            let due = (1..=28).contains(&number) && room >= 120;
             assert_eq!(length > 0, due, "{number} in {room} bytes");
             assert!(out[length..].iter().all(|byte| *byte == 0xa5));
         }
@@ -567,4 +570,21 @@ fn column_files_are_answered_as_their_rows() {
         }
     }
     assert!(checked > 50 && placings > 5 && runs > 5);
+}
+#[test]
+fn named_cases_of_notices() {
+    let mut causes = BTreeSet::new();
+    for case in notice_cases() {
+        case.demand("second", in_force);
+        let refusal = cause_in_notices(&case.first, &case.second, case.day);
+        let told = refusal.map_or(Verdict::CLEAN, |refusal| refusal.verdict());
+        let due = verdict((case.due.number, case.due.place));
+        assert_eq!(told, due, "{}", case.name);
+        let unsound = [&case.first, &case.second].map(|notice| cause_in_notice(notice));
+        assert_eq!(unsound != [None; 2], due.number == 27, "{}", case.name);
+        causes.extend(refusal.map(|refusal| refusal.cause));
+    }
+    for cause in [Cause::of_notices(), vec![Cause::NotBegun]].concat() {
+        assert!(causes.contains(&cause), "no case of {cause:?}");
+    }
 }

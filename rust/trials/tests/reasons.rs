@@ -44,7 +44,7 @@ fn sentences() -> BTreeSet<Vec<u8>> {
     let mut all = BTreeSet::new();
     let (mut any, mut given) = (0, 0);
     for number in numbers() {
-        for counts in 0..=7 {
+        for counts in 0..=8 {
             for tag in 0..=10 {
                 for place in PLACES.into_iter().chain([rng.word(), rng.word()]) {
                     let reason = Reason {
@@ -72,8 +72,8 @@ fn sentences() -> BTreeSet<Vec<u8>> {
 
 #[test]
 fn every_combination() {
-    // Eleven of no place, and of each other place 75.
-    assert_eq!(sentences().len(), 11 + 6 * 75);
+    // Twelve of no place, and of each other place 78.
+    assert_eq!(sentences().len(), 12 + 6 * 78);
 }
 
 #[test]
@@ -81,7 +81,7 @@ fn phrases() {
     for number in numbers() {
         for room in [0, 1, 119, 120, 121, 1_000] {
             let phrase = agreed_phrase(number, &vec![0xa5; room]);
-            let due = room >= SENTENCE && (1..=25).contains(&number);
+            let due = room >= SENTENCE && (1..=28).contains(&number);
             assert_eq!(!phrase.is_empty(), due, "{number} in {room} bytes");
             // A phrase is no sentence.
             assert_eq!(agreed_read(&phrase), Reason::NONE);

@@ -71,15 +71,15 @@ fn typed(line: &str) -> Option<Typed> {
 #[test]
 fn the_readme_names_every_example() {
     let commands: String = commands().into_iter().map(|typed| typed.command).collect();
-    for folder in [
-        "",
+    let folders = [
         "head-nurse/",
         "hours/",
         "house/",
+        "notices/",
         "spring/",
         "seats/",
-        "refused/",
-    ] {
+    ];
+    for folder in folders.into_iter().chain(["", "refused/"]) {
         for entry in fs::read_dir(example(folder)).expect("a folder") {
             let entry = entry.expect("an entry");
             let name = entry.file_name().display().to_string();

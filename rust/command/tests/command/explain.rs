@@ -8,6 +8,7 @@ fn every_refusal_is_explained() {
         1..=5 => "the file's writer",
         6 | 21 | 25 => "the schema's keeper",
         7..=16 | 24 => "the routine's author",
+        27 => "the notice's sender",
         _ => "the caller",
     };
     let counts = |number| match number {
@@ -16,9 +17,10 @@ fn every_refusal_is_explained() {
         8..=15 | 24 => "nodes",
         18..=20 => "choices",
         23 => "rows",
+        27 => "notices",
         _ => "nothing",
     };
-    for number in 1..=26 {
+    for number in 1..=28 {
         let answer = call(&["explain", &number.to_string()]);
         assert_eq!((answer.status, answer.err.as_str()), (0, ""));
         let text = answer.text();
@@ -38,11 +40,11 @@ fn every_refusal_is_explained() {
 
 #[test]
 fn no_other_number() {
-    for word in ["0", "27", "-", "-1", "x", "13 ", "65536", "1.0"] {
+    for word in ["0", "29", "-", "-1", "x", "13 ", "65536", "1.0"] {
         let answer = call(&["explain", word]);
         assert_eq!((answer.status, answer.text()), (2, ""), "{word}");
         assert!(
-            answer.err.contains("the refusals have the numbers 1 to 26"),
+            answer.err.contains("the refusals have the numbers 1 to 28"),
             "{word}"
         );
     }

@@ -18,6 +18,8 @@ pub fn all() -> Vec<(&'static str, Vec<u8>)> {
         ("head-nurse/columns.clinic", by_columns().bytes()),
         ("house/north.clinic", north().bytes()),
         ("house/south.clinic", south().bytes()),
+        ("notices/november.notice", november()),
+        ("notices/december.notice", december()),
         ("hours/desk.clinic", hours_desk(&BOTH_SENDS).bytes()),
         ("hours/by-day.clinic", hours_desk_in(1).bytes()),
         ("spring/bare.clinic", spring(&READ_AND_WRITE, false).bytes()),
@@ -29,7 +31,7 @@ pub fn all() -> Vec<(&'static str, Vec<u8>)> {
 }
 
 /// Those that can be placed.
-pub const BARE: [&str; 11] = [
+pub const BARE: [&str; 12] = [
     "booking.clinic",
     "overlap.clinic",
     "theatre.clinic",
@@ -238,6 +240,29 @@ fn desks() -> Draft {
         .role(&[], &[1, 2])
         .session(1, &BOTH_SENDS)
         .session(2, &[&takes[..], &takes, &[END]].concat())
+}
+
+/// A notice of a file: its first day, its length, its bytes.
+fn notice(first_day: u16, file: &[u8]) -> Vec<u8> {
+    let length = file.len() as u16;
+    [&first_day.to_le_bytes()[..], &length.to_le_bytes(), file].concat()
+}
+
+/// The booking, from 1 November 2026 on.
+pub fn november() -> Vec<u8> {
+    notice(9_801, &booking().bytes())
+}
+
+/// Two bookings and the desk that takes them, from 1 December 2026 on.
+pub fn december() -> Vec<u8> {
+    notice(9_831, &desks().bytes())
+}
+
+/// December's notice, cut off by a byte.
+fn cut_notice() -> Vec<u8> {
+    let mut cut = december();
+    cut.pop();
+    cut
 }
 
 /// A ward: the head nurse (user 1, role 2), a nurse (user 2, role 1) and the
@@ -477,6 +502,7 @@ fn refused() -> Vec<(&'static str, Vec<u8>)> {
         ]
         .map(|(name, draft)| (name, draft.bytes())),
     );
+    all.push(("refused/27-cut.notice", cut_notice()));
     all
 }
 

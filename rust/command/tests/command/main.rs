@@ -13,6 +13,7 @@ mod hours;
 mod measure;
 mod merge;
 mod nothing;
+mod notices;
 mod place;
 mod reason;
 mod refused;

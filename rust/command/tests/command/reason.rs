@@ -37,6 +37,7 @@ fn sentences() {
         (23, "row 6", "rows"),
         (26, "session 2", "sessions"),
         (26, "choice 7", "choices"),
+        (27, "notice 2", "notices"),
     ];
     for (number, place, counts) in others {
         let text = read(&sentence(number, place));

@@ -27,7 +27,7 @@ fn help_and_version() {
 
 #[test]
 fn words() {
-    let wrong: [(&[&str], &str); 73] = [
+    let wrong: [(&[&str], &str); 88] = [
         (&[], "what to do?"),
         (&[""], "there is no word ''"),
         (&["judge", "a"], "there is no word 'judge'"),
@@ -109,6 +109,52 @@ fn words() {
         (
             &["merge", "a", "b", "--at", "Mon 07:30"],
             "merge has no option '--at'",
+        ),
+        (&["notice"], "notice: DATE is missing"),
+        (&["notice", "0"], "notice: FILE is missing"),
+        (&["notice", "0", "a", "b"], "notice: 'b' is too many"),
+        (
+            &["notice", "0", "a", "-o"],
+            "notice: -o wants the name of a file",
+        ),
+        (
+            &["notice", "1999-12-31", "a"],
+            "notice: DATE is a date from 2000-01-01 to 2179-06-06, or a number of days from 0 to \
+             65535, not '1999-12-31'",
+        ),
+        (
+            &["notice", "2026-02-29", "a"],
+            "notice: DATE is a date from 2000-01-01 to 2179-06-06, or a number of days from 0 to \
+             65535, not '2026-02-29'",
+        ),
+        (&["in-force"], "in-force: DAY is missing"),
+        (&["in-force", "0"], "in-force: NOTICE is missing"),
+        (&["in-force", "0", "a"], "in-force: NOTICE is missing"),
+        (
+            &["in-force", "0", "a", "b", "c"],
+            "in-force: 'c' is too many",
+        ),
+        (
+            &["in-force", "2179-06-07", "a", "b"],
+            "in-force: DAY is a date from 2000-01-01 to 2179-06-06, or a number of days from 0 to \
+             65535, not '2179-06-07'",
+        ),
+        (
+            &["in-force", "65536", "a", "b"],
+            "in-force: DAY is a date from 2000-01-01 to 2179-06-06, or a number of days from 0 to \
+             65535, not '65536'",
+        ),
+        (
+            &["in-force", "0", "-", "-"],
+            "in-force: only one NOTICE can be standard input",
+        ),
+        (
+            &["in-force", "0", "a", "b", "-o"],
+            "in-force: -o wants the name of a file",
+        ),
+        (
+            &["in-force", "0", "a", "b", "--at", "Mon 07:30"],
+            "in-force has no option '--at'",
         ),
         (&["run"], "run: FILE is missing"),
         (&["run", "a"], "run: CHOICES is missing"),
@@ -224,7 +270,7 @@ fn files_that_cannot_be_read() {
         (&here, "it is a folder"),
     ] {
         let due = format!("pilzdamo: {file}: can't be read: {why}\n");
-        let uses: [&[&str]; 20] = [
+        let uses: [&[&str]; 23] = [
             &["check", file],
             &["place", file],
             &["measure", file],
@@ -233,6 +279,9 @@ fn files_that_cannot_be_read() {
             &["show", file],
             &["merge", file, &sound],
             &["merge", &sound, file],
+            &["notice", "0", file],
+            &["in-force", "0", file, &sound],
+            &["in-force", "0", &sound, file],
             &["run", file, &sound],
             &["run", &sound, file],
             &["waiting", file, &sound],

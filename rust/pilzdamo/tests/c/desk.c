@@ -363,6 +363,34 @@ static void turns(const char *folder) {
     print_written("in less", pilzdamo_to_rows(columns, 1, out, sizeof out - 1));
 }
 
+static void print_in_force(const char *call, pilzdamo_notice_in_force told) {
+    printf("%s: refusal %d %d, notice %d, %d bytes from byte %d on\n", call, told.number,
+           told.place, told.notice, told.length, told.at);
+}
+
+/* November's plan and December's, which was sent early. */
+static void notices(const char *folder) {
+    clinic november = example(folder, "notices/november.notice");
+    clinic december = example(folder, "notices/december.notice");
+    const uint16_t october_31 = 9800, november_15 = 9815, december_1 = 9831;
+    pilzdamo_notice_in_force told =
+        pilzdamo_in_force(november.bytes, november.len, december.bytes, december.len,
+                          november_15);
+    print_in_force("in November", told);
+    print("read its file", pilzdamo_read(november.bytes + told.at, told.length));
+    told = pilzdamo_in_force(november.bytes, november.len, december.bytes, december.len,
+                             december_1);
+    print_in_force("in December", told);
+    print("read its file", pilzdamo_read(december.bytes + told.at, told.length));
+    print_in_force("in October", pilzdamo_in_force(november.bytes, november.len,
+                                                   december.bytes, december.len,
+                                                   october_31));
+    print_in_force("cut", pilzdamo_in_force(november.bytes, november.len, december.bytes,
+                                            december.len - 1, november_15));
+    print_in_force("two days alone", pilzdamo_in_force(november.bytes, 2, december.bytes, 2,
+                                                       november_15));
+}
+
 /* Refusals with their places. */
 static void refusals(const char *folder) {
     static const uint16_t odd[] = {2, 0, 2}, unequal[] = {2, 0, 1, 0};
@@ -396,6 +424,7 @@ static void reasons(void) {
     print_reason(13, PILZDAMO_COUNTS_NODES, 4, 6);
     print_reason(3, PILZDAMO_COUNTS_NOTHING, 0, PILZDAMO_NO_TAG);
     print_reason(23, PILZDAMO_COUNTS_ROWS, 64, PILZDAMO_NO_TAG);
+    print_reason(27, PILZDAMO_COUNTS_NOTICES, 2, PILZDAMO_NO_TAG);
     print_reason(13, PILZDAMO_COUNTS_NODES, 4, PILZDAMO_NO_TAG);
     length = pilzdamo_phrase(20, out, sizeof out);
     printf("phrase: %.*s\n", (int)length, (const char *)out);
@@ -412,7 +441,8 @@ int main(int argc, char **argv) {
            (int)sizeof(pilzdamo_placed), (int)sizeof(pilzdamo_ready_pair),
            (int)sizeof(pilzdamo_round_choices), (int)sizeof(pilzdamo_kind_totals),
            (int)sizeof(pilzdamo_said), (int)sizeof(pilzdamo_written),
-           (int)sizeof(pilzdamo_role_seats), (int)sizeof(pilzdamo_thread));
+           (int)sizeof(pilzdamo_role_seats), (int)sizeof(pilzdamo_thread),
+           (int)sizeof(pilzdamo_notice_in_force));
     printf("rooms: %d %d %d %d %d\n", PILZDAMO_ROOM, PILZDAMO_ROOM_1, PILZDAMO_RUN_ROOM,
            PILZDAMO_RECORDS, PILZDAMO_BESIDE);
     printf("hours: %d %d\n", PILZDAMO_WEEK, PILZDAMO_ROWS);
@@ -420,9 +450,10 @@ int main(int argc, char **argv) {
     printf("totals: %d\n", PILZDAMO_TOTALS);
     printf("seats: %d %d %d %d\n", PILZDAMO_ROLES, PILZDAMO_SESSIONS, PILZDAMO_LINE_WORDS,
            PILZDAMO_SEATS);
-    printf("reasons: %d %d %d %d %d %d %d %d\n", PILZDAMO_SENTENCE, PILZDAMO_NO_TAG,
+    printf("reasons: %d %d %d %d %d %d %d %d %d\n", PILZDAMO_SENTENCE, PILZDAMO_NO_TAG,
            PILZDAMO_COUNTS_NOTHING, PILZDAMO_COUNTS_WORDS, PILZDAMO_COUNTS_SESSIONS,
-           PILZDAMO_COUNTS_NODES, PILZDAMO_COUNTS_CHOICES, PILZDAMO_COUNTS_ROWS);
+           PILZDAMO_COUNTS_NODES, PILZDAMO_COUNTS_CHOICES, PILZDAMO_COUNTS_ROWS,
+           PILZDAMO_COUNTS_NOTICES);
     booking(argv[1]);
     head_nurse(argv[1]);
     hours(argv[1]);
@@ -432,6 +463,7 @@ int main(int argc, char **argv) {
     seats(argv[1]);
     house(argv[1]);
     turns(argv[1]);
+    notices(argv[1]);
     refusals(argv[1]);
     reasons();
     return 0;

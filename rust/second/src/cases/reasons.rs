@@ -55,7 +55,7 @@ pub fn cases() -> Vec<ReasonCase> {
 }
 
 /// Number, what is counted, place and tag, and the sentence.
-const SAID: [([u16; 4], &str); 45] = [
+const SAID: [([u16; 4], &str); 49] = [
     (
         [1, 0, 0, 9],
         "Refused 1: the file has 1 to 25 bytes (to 27 in versions 2 and 3), or an odd number; no place.",
@@ -202,6 +202,22 @@ const SAID: [([u16; 4], &str); 45] = [
         "Refused 26: the role has no free seat, or other sessions are before this one in line at choice 65535.",
     ),
     (
+        [27, 6, 1, 9],
+        "Refused 27: the notice has under 4 bytes, a wrong length word or a refused file at notice 1.",
+    ),
+    (
+        [27, 6, 2, 9],
+        "Refused 27: the notice has under 4 bytes, a wrong length word or a refused file at notice 2.",
+    ),
+    (
+        [27, 6, 65_535, 9],
+        "Refused 27: the notice has under 4 bytes, a wrong length word or a refused file at notice 65535.",
+    ),
+    (
+        [28, 0, 0, 9],
+        "Refused 28: neither notice has begun on that day; no place.",
+    ),
+    (
         [9, 3, 65_535, 3],
         "Refused 9: an operand names nothing, or a role or kind is out of count at node 65535, a new channel.",
     ),
@@ -236,12 +252,11 @@ const SAID: [([u16; 4], &str); 45] = [
 ];
 
 /// Against what the paper and the requests give a number.
-const UNSAID: [[u16; 4]; 32] = [
+const UNSAID: [[u16; 4]; 36] = [
     // No such number.
     [0, 0, 0, 9],
     [0, 0, 0, 0],
-    [27, 6, 1, 9],
-    [28, 0, 0, 9],
+    [29, 0, 0, 9],
     [65_535, 0, 0, 9],
     [256 + 13, 3, 4, 6],
     // Another count.
@@ -260,18 +275,23 @@ const UNSAID: [[u16; 4]; 32] = [
     [13, 0, 0, 9],
     [23, 6, 1, 9],
     [23, 65_535, 1, 9],
+    [27, 0, 0, 9],
+    [27, 7, 1, 9],
+    [28, 6, 1, 9],
     // A place against it.
     [3, 0, 1, 9],
     [14, 0, 1, 9],
     [14, 3, 0, 7],
     [18, 4, 0, 9],
     [26, 2, 0, 9],
+    [27, 6, 0, 9],
     // A tag against it.
     [13, 3, 4, 9],
     [13, 3, 4, 10],
     [13, 4, 4, 6],
     [8, 3, 1, 0],
     [24, 3, 1, 7],
+    [27, 6, 1, 6],
     [3, 0, 0, 0],
 ];
 

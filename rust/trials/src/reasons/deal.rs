@@ -7,13 +7,14 @@ use second::{Reason, SENTENCE};
 
 /// Words that a sentence begins with, has before its place, and ends in, for changes
 /// of one part; and some that none has.
-const COUNTS: [&str; 8] = [
+const COUNTS: [&str; 9] = [
     "; no place",
     " at word ",
     " at session ",
     " at node ",
     " at choice ",
     " at row ",
+    " at notice ",
     " at place ",
     " at",
 ];
@@ -34,9 +35,9 @@ const ENDINGS: [&str; 12] = [
 
 /// A reason that has a sentence: the number first, all as likely.
 pub fn given_reason(rng: &mut Rng) -> Reason {
-    let number = rng.from(1, 25);
+    let number = rng.from(1, 28);
     loop {
-        let counts = rng.from(0, 5);
+        let counts = rng.from(0, 6);
         let place = match counts {
             0 => 0,
             _ => any_place(rng),
@@ -69,10 +70,10 @@ pub fn deal_reason(seed: u64, index: u64) -> (Reason, Vec<u8>) {
     let mut reason = given_reason(rng);
     let any = rng.word();
     match rng.below(12) {
-        0 => reason.number = *rng.of(&[0, 26, 27, 28, 29, 30, 256, any]),
-        1 => reason.number = rng.from(0, 30),
-        2 => reason.counts = *rng.of(&[6, 6, 7, 8, 256, any]),
-        3 => reason.counts = rng.from(0, 7),
+        0 => reason.number = *rng.of(&[0, 29, 30, 31, 32, 33, 256, any]),
+        1 => reason.number = rng.from(0, 33),
+        2 => reason.counts = *rng.of(&[7, 7, 8, 9, 256, any]),
+        3 => reason.counts = rng.from(0, 8),
         4 => reason.place = *rng.of(&[0, 1, any]),
         5 => reason.tag = rng.from(0, 10),
         6 => reason.tag = *rng.of(&[9, 10, 256, any]),
@@ -198,7 +199,7 @@ fn change_parts(rng: &mut Rng, change: Change, parts: &mut Parts) {
             let number = *rng.of(&[parts.number + 1, parts.number - 1, parts.number + 10]);
             parts.meaning = format!("Refused {number}:{words}");
         }
-        Change::OtherMeaning => parts.meaning = meaning(rng.from(1, 25)),
+        Change::OtherMeaning => parts.meaning = meaning(rng.from(1, 28)),
         Change::OtherCounts => {
             parts.counts = rng.of(&COUNTS).to_string();
             if rng.once_in(2) {

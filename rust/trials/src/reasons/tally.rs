@@ -36,8 +36,8 @@ impl ReasonTally {
     /// Prints the table, and fails if something came up too seldom.
     pub fn demand(&self) {
         demand("no sentence", &self.unsaid, Unsaid::ALL);
-        demand("number", &self.numbers, 1..=25);
-        demand("counts", &self.counts, 0..=5);
+        demand("number", &self.numbers, 1..=28);
+        demand("counts", &self.counts, 0..=6);
         demand("tag", &self.tags, 0..=9);
         demand("digits", &self.digits, 0..=5);
     }

@@ -138,7 +138,7 @@ impl SeatTally {
         assert!(rare.is_empty(), "under {LEAST} of {rare:?}");
         let of_version = match self.version {
             Version::One => &[2][..],
-            Version::Two => &[21],
+            Version::Two | Version::Three => &[21],
         };
         let numbers = [
             0, 1, 3, 4, 5, 6, 7, 8, 9, 10, 11, 12, 13, 17, 18, 19, 20, 26,

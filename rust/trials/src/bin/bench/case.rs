@@ -5,7 +5,7 @@ use second::cases::Turn;
 use second::{Ready, Reason, Verdict, SENTENCE};
 use second::{BEFORE_TOTALS, MERGED_ROOM, ROOM, RUN_ROOM};
 use std::hint::black_box;
-use trials::{At, Dealt, Lent, Lists, Pair, Seated, Turned};
+use trials::{At, Dealt, Lent, Lists, Notices, Pair, Seated, Turned};
 
 /// A question and what it is asked of.
 #[derive(Clone)]
@@ -67,6 +67,8 @@ pub enum Input {
         turn: Turn,
         file: Vec<u8>,
     },
+    /// Two notices of which one is in force on the day.
+    InForce(Notices),
 }
 
 /// A row of a table.
@@ -83,7 +85,7 @@ impl Case {
         Case { name, input, calls }
     }
 
-    /// The file, or the sentence; the first of two files.
+    /// The file, or the sentence; the first of two files or notices.
     pub fn bytes(&self) -> &[u8] {
         match &self.input {
             Input::Read(file) | Input::Check(file) | Input::Measure(file) => file,
@@ -96,13 +98,15 @@ impl Case {
             Input::Merge([file, _]) | Input::Turn { file, .. } => file,
             Input::RunSeated(seated) | Input::RoundSeated(seated) => &seated.dealt.file,
             Input::Seats(seated) => &seated.dealt.file,
+            Input::InForce(Notices { first, .. }) => first,
         }
     }
 
-    /// How many bytes it has, or both files.
+    /// How many bytes it has, or both files or notices.
     pub fn length(&self) -> usize {
         match &self.input {
             Input::Merge(files) => files.iter().map(Vec::len).sum(),
+            Input::InForce(Notices { first, second, .. }) => first.len() + second.len(),
             _ => self.bytes().len(),
         }
     }
@@ -193,6 +197,10 @@ impl Case {
                 assert_eq!(written.number, 0, "{name}");
                 out.truncate(written.length.into());
                 out
+            }
+            Input::InForce(notices) => {
+                assert_eq!(trials::agreed_in_force(notices, name).number, 0, "{name}");
+                Vec::new()
             }
             Input::Choose(Lent {
                 file,
@@ -320,6 +328,11 @@ impl Case {
                     || trials::second_turn(*turn, black_box(file), black_box(&mut of_second)),
                 );
             }
+            Input::InForce(Notices { first, second, day }) => samples.take(
+                self.calls,
+                || pilzdamo::in_force(black_box(first), black_box(second), *day),
+                || second::in_force(black_box(first), black_box(second), *day),
+            ),
         }
     }
 }

@@ -4,7 +4,7 @@ use crate::case::{dealt, Case, Input};
 use second::cases::{run_cases, Turn};
 use second::draft::Draft;
 use second::{Version, RUN_ROOM};
-use trials::{juniors, At, Lent, Seated};
+use trials::{juniors, At, Lent, Notices, Seated};
 
 /// A file, and a list of choices.
 pub type Run = (Vec<u8>, Vec<u16>);
@@ -50,6 +50,8 @@ pub struct Inputs {
     /// of 40 nodes.
     pub largest_pair: [Vec<u8>; 2],
     pub typical_pair: [Vec<u8>; 2],
+    /// Notices of two files of 40 nodes.
+    pub notices: Notices,
 }
 
 impl Inputs {
@@ -90,6 +92,7 @@ impl Inputs {
             typical_seated: seated(trials::typical_seated(seed)),
             largest_pair: trials::largest_pair(seed),
             typical_pair: trials::typical_pair(seed),
+            notices: trials::typical_notices(seed),
         }
     }
 
@@ -209,6 +212,7 @@ impl Inputs {
             ),
             Case::new("rows largest", turn(Turn::ToRows, &self.largest_3), 50),
             Case::new("rows typical", turn(Turn::ToRows, &self.typical_3), 300),
+            Case::new("in force", Input::InForce(self.notices.clone()), 300),
         ]
     }
 
@@ -251,7 +255,8 @@ impl Inputs {
              40 nodes each.\n\
              Seated, a run with seats: free has run largest's list and 32 seats in each role, so\n\
              that every on of a session without a seat gets one; largest has {};\n\
-             typical has {}. Its round, and what is read of its seats.\n",
+             typical has {}. Its round, and what is read of its seats.\n\
+             In force, of two notices; the bytes are those of both, whose files have 40 nodes each.\n",
             run(&self.largest_run),
             run(&self.typical_run),
             run(&self.short_run),

@@ -1,0 +1,2 @@
+pub mod Supersedes
+pub mod NoticeCases
