@@ -79,6 +79,10 @@ extern "C" {
 #define PILZDAMO_COUNTS_CHOICES 4
 #define PILZDAMO_COUNTS_ROWS 5
 #define PILZDAMO_COUNTS_NOTICES 6
+/* The numbers that a refusal can have: 1 to this. */
+#define PILZDAMO_NUMBERS 28
+/* The most files that a sheet reads. */
+#define PILZDAMO_SHEET_FILES 1000
 /* The tag of a reason in which none belongs. */
 #define PILZDAMO_NO_TAG 9
 
@@ -157,6 +161,17 @@ typedef struct {
     uint16_t at;     /* bytes of the notice before the part */
     uint16_t length; /* bytes of the part */
 } pilzdamo_notice_in_force;
+
+/* The figures of many files. */
+typedef struct {
+    uint32_t files;                     /* those that were read */
+    uint32_t refused[PILZDAMO_NUMBERS]; /* at each number, from 1 on */
+    uint32_t sessions;                  /* of those that are placed */
+    uint32_t on_steps;                  /* of these in all */
+    uint32_t most;                      /* the most in one session */
+    uint32_t quotient;                  /* on steps per 1,000 sessions; 0 without any */
+    uint32_t remainder;                 /* what that leaves over */
+} pilzdamo_figures;
 
 /* A thread's record in a lent list. */
 typedef struct {
@@ -402,6 +417,14 @@ pilzdamo_written pilzdamo_to_rows(const uint8_t *file, size_t file_len, uint8_t 
 pilzdamo_notice_in_force pilzdamo_in_force(const uint8_t *first, size_t first_len,
                                            const uint8_t *second, size_t second_len,
                                            uint16_t day);
+
+/*
+ * The figures of files in a row, each behind a word with its length in bytes: what
+ * pilzdamo_place gives each of them by itself, added up. A refused file adds to the
+ * files and to its refusal only. The sheet ends behind PILZDAMO_SHEET_FILES files, or
+ * at the first record that isn't whole, which is not counted.
+ */
+pilzdamo_figures pilzdamo_sheet(const uint8_t *input, size_t input_len);
 
 #ifdef __cplusplus
 }

@@ -34,6 +34,8 @@ use Rattle.lending.specs.Lent.{lending, choosing, recordsOver, besideOver}
 use Rattle.lending.specs.Starting.{starting, recordsStarted, besideStarted}
 use Rattle.merging.specs.Merging.{ownAnswer}
 use Rattle.merging_exact.proofs.OwnAnswers.{own-fine}
+use Rattle.sheets.specs.Entries.{refusedAt, entryOf}
+use Rattle.sheets_exact.proofs.EntryPlaced.{entry-head}
 use Rattle.merging_exact.proofs.SameMerging.{MergedAlike, same-own, merged-alike}
 use Rattle.engine.specs.Alike.{Alike}
 use Rattle.engine.proofs.LongSeats as seats
@@ -127,6 +129,7 @@ kept-alike f = record {
           let same = stands-measured-at t m kept f stands in
           (ap (λ (a : Placed). a .number) same, ap (λ (a : Placed). a .place) same, ap (λ (a : Placed). a .«on_steps») same);
       check-at = λ t m. stands-check-at t m kept f stands;
+      adds = judged refusedAt entryOf entry-head f;
       run = λ ws room. stands-run ws room kept f stands;
       ran = λ ws out. stands-ran ws out kept f stands;
       pair = λ ws. judged (λ n. noPair (cond (listed (length ws)) (refused n 0) (refused 17 0))) (λ g. ready g ws) (λ g n e. pair-refused g n e ws) f;

@@ -1,7 +1,7 @@
 -- What the engine promises, each promise under a sentence of the paper (01), of the demands or of a request (K1 ..); nothing else stands here. Where "1 to 8" or "1 to 10" is written, 21 is among them.
 -- What a caller gets is in the contracts of the exported functions (src/lib.rt): of any bytes handed over `pilzdamo_read` answers `readingNames`, the refusals 1 to 10,
 -- `pilzdamo_check` `checking`, the refusals 1 to 13, `pilzdamo_place` `placing`, with `placedOver` in the output, for a minute of the week `pilzdamo_check_at` `checkingAt`
--- and `pilzdamo_place_at` `placingAt`, with `placedOverAt`, of two files `pilzdamo_merge` `merging`, with `mergedOver` in the output, of two notices `pilzdamo_in_force` `planInForce`, `pilzdamo_to_columns` `turning` of version 2 and `pilzdamo_to_rows` of version 3, with `turnedOver`, `pilzdamo_run`
+-- and `pilzdamo_place_at` `placingAt`, with `placedOverAt`, of two files `pilzdamo_merge` `merging`, with `mergedOver` in the output, of many in a row `pilzdamo_sheet` `sheetOf entryOf`, of two notices `pilzdamo_in_force` `planInForce`, `pilzdamo_to_columns` `turning` of version 2 and `pilzdamo_to_rows` of version 3, with `turnedOver`, `pilzdamo_run`
 -- `running`, with `runOver` in the output, `pilzdamo_ready` `ready`, `pilzdamo_round` `rounding`, with `roundOver` in the output, with a table of seats
 -- `pilzdamo_run_seated` `seatedRunning` and the length `seatedLength`, with `seatedOver` in the output, `pilzdamo_round_seated` `seatedRounding`, with `seatedRoundOver`, and `pilzdamo_seats` `seatsAfter`, `pilzdamo_totals` `totalsAfter`, `pilzdamo_total` `totalIn`,
 -- `pilzdamo_start` `starting`, with `recordsStarted` in the lent list and
@@ -11,7 +11,7 @@ use Prim.Native.Nat.{ℕ, suc, _+_, _*_, _-_, _/_, _%_, _^_, _≤_, _<_}
 use mathlib.Core.Path.{_≡_, refl, sym, _∙_, ap, subst}
 use mathlib.Core.Logic.{_↔_, _≢_, _⊎_}
 use mathlib.Core.Bool.{true, false, cond}
-use mathlib.Core.List.{List, [], _∷_, _++_, map}
+use mathlib.Core.List.{List, [], _∷_, _++_, map, Perm}
 use native.Mathlib.Omega.{arith}
 use lib.Dec.{eqb}
 use lib.ListN.{length, getD, take, drop, replicate}
@@ -20,7 +20,7 @@ use Rattle.format.specs.Words.{wordAt, bytesOf}
 use Rattle.format.specs.Contents.{Contents, item, noSession, contentsOf}
 use Rattle.format.specs.Answers.{fine, refused}
 use Rattle.format.specs.declared.Verdict.{Verdict}
-use Rattle.format.specs.Header.{Counted, versionAt, roomFor, WithJuniors, nothingPlanned, headOf}
+use Rattle.format.specs.Header.{WithJuniors, Counted, versionAt, roomFor, headOf, nothingPlanned}
 use Rattle.format.specs.Sections.{spot}
 use Rattle.format.specs.Writing.{nodeRows, fileWords}
 use Rattle.format.specs.declared.Six.{Six}
@@ -40,7 +40,7 @@ use Rattle.rules.specs.declared.Way.{Way}
 use Rattle.rules.specs.Juniors.{Granted}
 use Rattle.rules.specs.Names.{Bound}
 use Rattle.rules.specs.Schema.{Schema, schemaOf, Permitted}
-use Rattle.reading_exact.specs.Tree.{on, Tree, switch}
+use Rattle.reading_exact.specs.Tree.{on, Tree, switch, past}
 use Rattle.placing.specs.Placing.{measuring, placing, noPlace, placedBytes, placedOver}
 use Rattle.placing_exact.specs.Placement.{onSteps, onStepsOf, Placement, PlacementByRoles}
 use Rattle.checking_exact.specs.Tables.{schemaFor}
@@ -203,6 +203,15 @@ use Rattle.reading_exact.proofs.FileContents.{contents-back, contents-held, sin
 use Rattle.reading_exact.proofs.Exact.{sound, complete-read, one-read, two-read}
 use Rattle.reading_exact.proofs.EncodedBytes.{encode-bytes}
 use Rattle.reading_exact.proofs.FirstRefusal.{first-refusal, reading-fine}
+use Rattle.sheets.specs.Sheets.{sheetOf}
+use Rattle.sheets.specs.Entries.{entryOf}
+use Rattle.sheets_exact.specs.Records.{recordsOf, WholeFiles}
+use Rattle.sheets_exact.specs.Owed.{sessionsPlaced, Owed}
+use Rattle.sheets_exact.specs.SheetCases.{SheetShown, sheetCases}
+use Rattle.sheets_exact.proofs.FilesLaws.{some-files, one-split}
+use Rattle.sheets_exact.proofs.Orders.{orders, orders-of-records}
+use Rattle.sheets_exact.proofs.SheetOwed.{sheet-says, refused-alone, number-counted}
+use Rattle.sheets_exact.proofs.SheetsShown.{sheets-shown}
 
 -- "The check passes a file exactly when it obeys the format and the role and channel rules": for all bytes, none of 1 to 13 is refused exactly when they read as a
 -- well formed file in which every session's tree is well typed.
@@ -1489,3 +1498,35 @@ file-in-force-reads = file-reads
 -- In literal words: the days before, at, between and after two first days, equal ones, and each refusal in its turn.
 pub notices-in-words : All NoticeShown noticeCases
 notices-in-words = notices-shown
+
+-- Request K13, the group's quarterly sheet. "The group reads up to 1,000 files in a row, each after one word with its length in bytes"; "the sheet ends after 1,000 files or at the first record that isn't whole, which is not
+-- counted": every input is the records of its whole files and a rest, with 1,000 files or a rest that isn't whole, and in one way only.
+pub sheet-has-whole-files : (input : List ℕ) → All (λ b. b < 256) input → (fs : List (List ℕ)) × (rest : List ℕ) × WholeFiles 1000 input fs rest
+sheet-has-whole-files = some-files
+
+pub sheet-has-no-others : (input : List ℕ) → All (λ b. b < 256) input → (fs gs : List (List ℕ)) (x y : List ℕ) → WholeFiles 1000 input fs x → WholeFiles 1000 input gs y → (fs ≡ gs) × (x ≡ y)
+sheet-has-no-others = one-split
+
+-- ".. and wants: files, files refused at each number, sessions placed, on steps in all, most on steps in one session, and on steps per 1,000 sessions as whole quotient and remainder (both 0 without sessions)"; "the sums equal
+-- those of placing each whole file by itself": all of it over the whole files, each placed by itself in an output of 6,908 bytes, the most over the trees of the files so written.
+pub sheet-sums-up : (input : List ℕ) (fs : List (List ℕ)) (rest : List ℕ) → All (λ b. b < 256) input → WholeFiles 1000 input fs rest → Owed fs (sheetOf entryOf input)
+sheet-sums-up = sheet-says
+
+-- "A refused file adds to the files and to its refusal only": it has neither sessions nor on steps nor a tree in those sums, and whatever its number is, there is a place for it.
+pub refused-adds-no-more : (f : List ℕ) → placing f 6908 .number ≢ 0 → (sessionsPlaced f ≡ 0) × (placing f 6908 .«on_steps» ≡ 0)
+refused-adds-no-more = refused-alone
+
+pub refused-has-its-place : (f : List ℕ) → placing f 6908 .number ≤ 28
+refused-has-its-place = number-counted
+
+-- "And two orders of the same whole files, at most 1,000, give the same sheet": whatever rest stands after them, and none.
+pub sheet-in-any-order : (a b : List ℕ) (fs gs : List (List ℕ)) (x y : List ℕ) → All (λ n. n < 256) a → All (λ n. n < 256) b → WholeFiles 1000 a fs x → WholeFiles 1000 b gs y → Perm fs gs
+    → sheetOf entryOf a ≡ sheetOf entryOf b
+sheet-in-any-order = orders entryOf
+
+pub records-in-any-order : (fs gs : List (List ℕ)) → length fs ≤ 1000 → Perm fs gs → sheetOf entryOf (recordsOf fs) ≡ sheetOf entryOf (recordsOf gs)
+records-in-any-order = orders-of-records entryOf
+
+-- In literal words: files placed and refused, in two orders, with a record that isn't whole after them; half a length word; nothing.
+pub sheets-in-words : All SheetShown sheetCases
+sheets-in-words = sheets-shown

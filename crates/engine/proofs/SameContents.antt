@@ -39,6 +39,7 @@ use Rattle.reading_exact.proofs.FileContents.{contents-back}
 use Rattle.reading_exact.proofs.Exact.{complete}
 use Rattle.reading_exact.proofs.AsSecond.{as-second-held, as-second-read}
 use Rattle.merging_exact.proofs.SameMerging.{same-own, merged-alike}
+use Rattle.sheets_exact.proofs.EntryPlaced.{entry-same}
 use Rattle.engine.specs.Alike.{AlikeBesideForm, AlikeBesideBytes, Alike}
 
 -- how much output is wanted, by the version
@@ -93,6 +94,7 @@ module _ (f g : List ℕ) (r : reading f ≡ reading g) (c : contentsOf f ≡ co
     measured = rw (judged, c) (measured-alike (versionAt f) (versionAt g) (contentsOf g) (turnsFor (contentsOf g)) (judging g));
     measured-at = λ t m. rw (judged-at t m, c) (measured-alike (versionAt f) (versionAt g) (contentsOf g) (turnsAt g t m) (judgingAt g t m));
     check-at = λ t m. rw (r, c);
+    adds = entry-same f g c judged;
     run = λ ws room. rw (r, c);
     ran = λ ws out. rw (r, c);
     pair = λ ws. rw (r, c);

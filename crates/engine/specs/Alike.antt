@@ -20,6 +20,7 @@ use Rattle.lending.specs.Lent.{choosing, recordsOver, besideOver}
 use Rattle.lending.specs.Starting.{starting, recordsStarted, besideStarted}
 use Rattle.merging.specs.Merging.{merging, mergedOver}
 use Rattle.turning.specs.Turning.{inColumns}
+use Rattle.sheets.specs.Entries.{entryOf}
 
 -- in all but what goes by the form of a file: how much output is wanted, the placed file's length and bytes, and merging, which takes version 1 alone
 pub record AlikeBesideForm (f g : List ℕ) : Type 0 where
@@ -30,6 +31,8 @@ pub record AlikeBesideForm (f g : List ℕ) : Type 0 where
   pub measured-at : (t : List ℕ) (m : ℕ)
       → (measuringAt f t m .number ≡ measuringAt g t m .number) × (measuringAt f t m .place ≡ measuringAt g t m .place) × (measuringAt f t m .«on_steps» ≡ measuringAt g t m .«on_steps»)
   pub check-at : (t : List ℕ) (m : ℕ) → checkingAt f t m ≡ checkingAt g t m
+  -- what it adds to the group's sheet
+  pub adds : entryOf f ≡ entryOf g
   pub run : (ws : List ℕ) (room : ℕ) → running f ws room ≡ running g ws room
   pub ran : (ws out : List ℕ) → runOver f ws out ≡ runOver g ws out
   pub pair : (ws : List ℕ) → ready f ws ≡ ready g ws

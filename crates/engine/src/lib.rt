@@ -20,6 +20,7 @@ use reasons::Reason;
 use running::Ready;
 use running::Totals;
 use seating::Seats;
+use sheets::Sheet;
 use starting::start_records;
 use steps::Thread;
 ghost use mathlib.Core.Path.{_≡_};
@@ -41,6 +42,8 @@ ghost use Rattle.lending.specs.Starting.{starting, recordsStarted, besideStarte
 ghost use Rattle.merging.specs.Merging.{merging, mergedOver};
 ghost use Rattle.turning.specs.Turning.{turning, turnedOver};
 ghost use Rattle.notices.specs.Notices.{planInForce};
+ghost use Rattle.sheets.specs.Sheets.{sheetOf};
+ghost use Rattle.sheets.specs.Entries.{entryOf};
 
 // Reads a clinic file, of any bytes and any length: the first of the refusals 1 to 10, or 0 and 0 where there is none.
 #[no_mangle]
@@ -142,6 +145,16 @@ pub extern "C" fn pilzdamo_in_force(first: &[u8], second: &[u8], day: u16) -> In
     ensures { λ r. ⌜ r ≡ planInForce (now (first .entry)) (now (second .entry)) day ⌝ }
 {
     notices::plan_in_force(first, second, day)
+}
+
+// The group's quarterly sheet of up to 1,000 clinic files in a row, each after one word with its length in bytes; it ends at the first record that isn't whole. How
+// many files there are, and in place n - 1 those that placing refuses with number n; of the placed ones the sessions, the on steps, the most of these in one
+// session, and the on steps per 1,000 sessions as quotient and remainder, both 0 without sessions.
+#[no_mangle]
+pub extern "C" fn pilzdamo_sheet(input: &[u8]) -> Sheet
+    ensures { λ r. ⌜ r ≡ sheetOf entryOf (now (input .entry)) ⌝ }
+{
+    sheets::sheet_of(input)
 }
 
 // Runs a clinic file through a list of choices, two words each: thread, partner. The first of 17 and 1 to 10; or the refusal that halted the run, with

@@ -200,7 +200,7 @@ module _ (f : List ℕ) where
 
     -- where the table has each node's candidates, what is placed from it is what is placed
     module _ (roles : List ℕ) (l : Labelled (contentsAt f h) roles) where
-      seen : {A : Type 0} (g : ℕ → Contents → List Turn → Verdict → A)
+      pub seen : {A : Type 0} (g : ℕ → Contents → List Turn → Verdict → A)
           → g (h .version) (contentsAt f h) (turnsOf (labelsFrom (contentsAt f h) roles)) (placeableBy (contentsAt f h) (labelsFrom (contentsAt f h) roles)) ≡ g (versionAt f) (contentsOf f) (turnsFor (contentsOf f)) (judging f)
       unfolding placeable
       seen g =

@@ -1,6 +1,6 @@
 // Placing: the refusals 14 to 17, and the placed file.
 mod bare;
-mod decide;
+pub mod decide;
 mod served;
 
 use checking::examine;

@@ -43,7 +43,8 @@ module _ (F : File) (W : WellFormed F) (N : WellKinded F) (B : Bare F) where
   abbrev states : AllStates D (F .sessions)
   states = takingAll D (F .sessions)
 
-  turns-read : turnsFor C ≡ walkedAll D (F .sessions) states
+  -- each node has the turn that its state gives it
+  pub turns-read : turnsFor (contentsFor F) ≡ walkedAll (schemaFor F) (F .sessions) (takingAll (schemaFor F) (F .sessions))
   unfolding turnsOf
   turns-read = ap (λ (ls : List Label). turnsFrom ls []) (labels-read F W N B) ∙ all-turns D (F .sessions)
 

@@ -67,7 +67,7 @@ use Rattle.placing_exact.proofs.AnswerStages.{
 use Rattle.placing_exact.proofs.RefusedPlaces.{masks-some, masks-none, switches-none, switches-lowest, unserved-lowest}
 
 -- the trees grafted are those given
-grafted-trees : (D : Schema) (ss : List Routine) → treesOf (grafted ss (placedTrees D ss)) ≡ placedTrees D ss
+pub grafted-trees : (D : Schema) (ss : List Routine) → treesOf (grafted ss (placedTrees D ss)) ≡ placedTrees D ss
 unfolding grafted placedTrees
 grafted-trees D [] = refl
 grafted-trees D (s ∷ ss) = ap {B = List Tree} (λ l. placedTree D (s .user) (s .tree) ∷ l) (grafted-trees D ss)

@@ -9,7 +9,7 @@ use crate::state::State;
 use crate::turning::Turn;
 use crate::words::{At, Job, Wanted};
 use crate::{
-    days, explain, merging, names, notices, reasons, refusals, report, seats, show, turning,
+    days, explain, merging, names, notices, reasons, refusals, report, seats, sheets, show, turning,
 };
 use crate::{Outcome, WrongUse};
 use pilzdamo::{Counts, Placed, Totals, Verdict, BEFORE_ROUND, ROOM, ROOM_1, RUN_ROOM};
@@ -39,6 +39,7 @@ pub fn carry_out(job: Job) -> Result<Outcome, WrongUse> {
             second,
             out,
         } => in_force(day, [&first, &second], out),
+        Job::Sheet { files, json } => sheet(&files, json),
         Job::Waiting { file, choices } => waiting(&file, &choices),
         Job::Seats {
             file,
@@ -257,6 +258,24 @@ fn in_force(day: u16, sources: [&Source; 2], out: Option<Wanted>) -> Result<Outc
     let written = path.map_or(String::new(), |path| format!(" in {}", path.display()));
     output::say(&format!("{told}{written}{planned}"));
     Ok(Outcome::Answer)
+}
+
+fn sheet(files: &[Source], json: bool) -> Result<Outcome, WrongUse> {
+    let mut input = Vec::new();
+    for file in files {
+        let bytes = file.read()?;
+        let record = pilzdamo::records([&bytes]).ok_or_else(|| {
+            let (name, length) = (file.name(), bytes.len());
+            let most = "a file of a sheet has at most 65535";
+            WrongUse(format!("{name}: it has {length} bytes, and {most}"))
+        });
+        input.extend(record?);
+    }
+    let sheet = pilzdamo::sheet(&input);
+    answer(&match json {
+        true => sheets::json(&sheet),
+        false => sheets::text(&sheet),
+    })
 }
 
 fn run(file: &Source, list: &Source, table: Option<&Source>) -> Result<Outcome, WrongUse> {

@@ -19,6 +19,7 @@ mod refusals;
 mod report;
 mod seats;
 mod sessions;
+mod sheets;
 pub mod show;
 mod source;
 mod state;

@@ -6,6 +6,7 @@ use crate::refusals;
 use crate::source::Source;
 use crate::turning::Turn;
 use crate::WrongUse;
+use pilzdamo::SHEET_FILES;
 use std::ffi::OsString;
 use std::path::PathBuf;
 
@@ -44,6 +45,10 @@ pub enum Job {
         first: Source,
         second: Source,
         out: Option<Wanted>,
+    },
+    Sheet {
+        files: Vec<Source>,
+        json: bool,
     },
     Run {
         file: Source,
@@ -103,12 +108,13 @@ struct Operands {
     at: Option<OsString>,
     hours: Option<OsString>,
     seats: Option<OsString>,
+    json: bool,
     help: bool,
 }
 
 /// The words that name a job.
-const WORDS: [&str; 16] = [
-    "check", "place", "measure", "merge", "columns", "rows", "notice", "in-force", "run",
+const WORDS: [&str; 17] = [
+    "check", "place", "measure", "merge", "columns", "rows", "notice", "in-force", "sheet", "run",
     "waiting", "seats", "round", "dispatch", "show", "explain", "reason",
 ];
 
@@ -145,6 +151,7 @@ fn named(verb: &str, operands: Operands) -> Result<Job, WrongUse> {
         at,
         hours,
         seats,
+        json,
         ..
     } = operands;
     if verb == "in-force" {
@@ -165,6 +172,10 @@ fn named(verb: &str, operands: Operands) -> Result<Job, WrongUse> {
             let (turn, file) = (Turn::ToRows, one(verb, "FILE", plain)?);
             Ok(Job::Turn { turn, file, out })
         }
+        "sheet" => Ok(Job::Sheet {
+            files: several_files(verb, plain)?,
+            json,
+        }),
         "notice" => {
             let [date, file] = exactly(verb, ["DATE", "FILE"], plain)?;
             let (first_day, file) = (day(verb, "DATE", date)?, Source::named(file));
@@ -253,6 +264,7 @@ fn sorted(verb: &str, mut words: impl Iterator<Item = OsString>) -> Result<Opera
         let text = word.to_string_lossy();
         match text.as_ref() {
             "-h" | "--help" => operands.help = true,
+            "--json" if verb == "sheet" => operands.json = true,
             "-o" if has_out(verb) => {
                 let name = format!("{verb}: -o");
                 let wants = format!("{name} wants the name of a file behind it");
@@ -392,6 +404,25 @@ fn day(verb: &str, name: &str, word: OsString) -> Result<u16, WrongUse> {
         },
         Ok,
     )
+}
+
+/// One to [`SHEET_FILES`] files, at most one of them standard input.
+fn several_files(verb: &str, plain: Vec<OsString>) -> Result<Vec<Source>, WrongUse> {
+    match plain.len() {
+        0 => return misused(&format!("{verb}: FILE is missing")),
+        1..=SHEET_FILES => {}
+        more => {
+            return misused(&format!(
+                "{verb}: a sheet has at most {SHEET_FILES} files, not {more}"
+            ))
+        }
+    }
+    let files: Vec<Source> = plain.into_iter().map(Source::named).collect();
+    let fed = |file: &&Source| matches!(file, Source::StandardInput);
+    match files.iter().filter(fed).count() {
+        0 | 1 => Ok(files),
+        _ => misused(&format!("{verb}: only one FILE can be standard input")),
+    }
 }
 
 /// ROUNDS may be left out.

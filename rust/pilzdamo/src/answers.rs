@@ -1,7 +1,7 @@
 //! What the engine answers.
 
 use crate::calls::said;
-use crate::{reason, LINE_WORDS, ROLES, ROUND_WORDS, SESSIONS, TOTALS};
+use crate::{reason, LINE_WORDS, NUMBERS, ROLES, ROUND_WORDS, SESSIONS, TOTALS};
 use std::error::Error;
 use std::fmt;
 
@@ -715,6 +715,79 @@ impl fmt::Display for InForce {
         write!(
             out,
             "notice {notice} is in force, {length} bytes from byte {at} on"
+        )
+    }
+}
+
+/// What [`sheet`](crate::sheet) answers: the figures of many files. A refused file adds
+/// to [`files`](Sheet::files) and to its refusal only.
+#[repr(C)]
+#[must_use]
+#[derive(Clone, Copy, Debug, PartialEq, Eq, Hash)]
+pub struct Sheet {
+    /// How many files were read, at most 1,000.
+    pub files: u32,
+    /// How many of them are refused at each number, from 1 on.
+    pub refused: [u32; NUMBERS],
+    /// The sessions of those that are placed.
+    pub sessions: u32,
+    /// Their on steps.
+    pub on_steps: u32,
+    /// The most on steps in one session.
+    pub most: u32,
+    /// The on steps per 1,000 sessions, the whole quotient; 0 without sessions.
+    pub quotient: u32,
+    /// What that leaves over; 0 without sessions.
+    pub remainder: u32,
+}
+
+impl Sheet {
+    /// How many files are refused at this number, 0 for one outside 1 to 28.
+    ///
+    /// ```
+    /// // A record of one byte, which no file has.
+    /// let sheet = pilzdamo::sheet(&[1, 0, 7]);
+    /// assert_eq!((sheet.files, sheet.refused_at(1), sheet.refused_at(2)), (1, 1, 0));
+    /// assert_eq!((sheet.refused_at(0), sheet.refused_at(29)), (0, 0));
+    /// ```
+    pub fn refused_at(&self, number: u16) -> u32 {
+        let at = usize::from(number).checked_sub(1);
+        at.and_then(|at| self.refused.get(at)).copied().unwrap_or(0)
+    }
+
+    /// How many files are placed: all but the refused.
+    ///
+    /// ```
+    /// // Zero bytes are the file of a clinic with nothing planned; one byte is none.
+    /// assert_eq!(pilzdamo::sheet(&[0, 0, 1, 0, 7]).placed(), 1);
+    /// ```
+    pub fn placed(&self) -> u32 {
+        self.files - self.refused.iter().sum::<u32>()
+    }
+}
+
+/// `files: F, placed: P, sessions: S, on steps: O, most: M, per 1,000 sessions: Q and R`.
+///
+/// ```
+/// let told = "files: 1, placed: 1, sessions: 0, on steps: 0, most: 0, per 1,000 sessions: 0 and 0";
+/// assert_eq!(pilzdamo::sheet(&[0, 0]).to_string(), told);
+/// ```
+impl fmt::Display for Sheet {
+    fn fmt(&self, out: &mut fmt::Formatter<'_>) -> fmt::Result {
+        let Sheet {
+            files,
+            sessions,
+            on_steps,
+            most,
+            quotient,
+            remainder,
+            ..
+        } = self;
+        write!(out, "files: {files}, placed: {}, ", self.placed())?;
+        write!(out, "sessions: {sessions}, on steps: {on_steps}, ")?;
+        write!(
+            out,
+            "most: {most}, per 1,000 sessions: {quotient} and {remainder}"
         )
     }
 }

@@ -1,7 +1,9 @@
 //! The engine's functions for Rust.
 
 use crate::raw;
-use crate::{InForce, Placed, Ready, Reason, Round, Seats, Thread, Totals, Verdict, Written};
+use crate::{
+    InForce, Placed, Ready, Reason, Round, Seats, Sheet, Thread, Totals, Verdict, Written,
+};
 
 /// As many bytes as [`place`] wants of its output for any file, and [`to_columns`] and
 /// [`to_rows`] for every one: those of the largest file of versions 2 and 3. What
@@ -55,6 +57,12 @@ pub const TOTALS: usize = 32;
 /// The bytes that [`reason`] and [`phrase`] want of their output. No sentence has
 /// more.
 pub const SENTENCE: usize = 120;
+
+/// The numbers that a refusal can have: 1 to this.
+pub const NUMBERS: usize = 28;
+
+/// The most files that a [`sheet`] reads.
+pub const SHEET_FILES: usize = 1_000;
 
 /// The bytes that [`place`] wants of its output for this file: [`ROOM`] where its
 /// first word is 2 or 3, else [`ROOM_1`], also where it has no first word.
@@ -1014,4 +1022,46 @@ pub fn file_in_force<'a>(first: &'a [u8], second: &'a [u8], day: u16) -> Result<
     let (told, part) = in_force(first, second, day);
     told.verdict().result()?;
     Ok(part)
+}
+
+/// The figures of many files in a row, each behind a word with its length in bytes: what
+/// [`place`] gives each of them by itself, added up.
+///
+/// Any bytes will do, of any length. The sheet ends behind [`SHEET_FILES`] files, or at
+/// the first record that isn't whole, which is not counted. The order of the files is no
+/// matter. [`records`] makes such an input.
+///
+/// ```
+/// let read = |name: &str| std::fs::read(format!("../../examples/{name}.clinic"));
+/// let files = [read("booking")?, read("desks")?, read("refused/09-name")?];
+/// let input = pilzdamo::records(&files).unwrap();
+/// let sheet = pilzdamo::sheet(&input);
+/// assert_eq!((sheet.files, sheet.refused_at(9)), (3, 1));
+/// assert_eq!((sheet.sessions, sheet.on_steps, sheet.most), (4, 4, 1));
+/// assert_eq!((sheet.quotient, sheet.remainder), (1_000, 0));
+///
+/// // Cut off, it ends before the third file.
+/// assert_eq!(pilzdamo::sheet(&input[..input.len() - 1]).files, 2);
+/// # Ok::<(), std::io::Error>(())
+/// ```
+#[inline]
+pub fn sheet(input: &[u8]) -> Sheet {
+    raw::sheet(input)
+}
+
+/// Files in a row, each behind a word with its length in bytes; none if one of them has
+/// over 65,535 bytes, which no word can say.
+///
+/// ```
+/// assert_eq!(pilzdamo::records([&[7, 8][..], &[]]), Some(vec![2, 0, 7, 8, 0, 0]));
+/// assert_eq!(pilzdamo::records([vec![0; 65_536]]), None);
+/// ```
+pub fn records<F: AsRef<[u8]>>(files: impl IntoIterator<Item = F>) -> Option<Vec<u8>> {
+    let mut input = Vec::new();
+    for file in files {
+        let file = file.as_ref();
+        input.extend(u16::try_from(file.len()).ok()?.to_le_bytes());
+        input.extend(file);
+    }
+    Some(input)
 }

@@ -26,6 +26,7 @@
 //! | make one file of two | [`merge`], [`merged`] |
 //! | have the nodes by column, and by row again | [`to_columns`], [`in_columns`], [`to_rows`], [`in_rows`] |
 //! | find the plan that is in force on a day | [`in_force`], [`file_in_force`] |
+//! | sum up the figures of many files | [`sheet`], [`records`] |
 //!
 //! The examples below read files of the project's folder `examples`, and are run as
 //! tests.
@@ -169,6 +170,22 @@
 //! let file = pilzdamo::file_in_force(&november, &december, november_15 + 16)?;
 //! assert!(std::ptr::eq(file, &december[4..]));
 //! # Ok::<(), Box<dyn std::error::Error>>(())
+//! ```
+//!
+//! # The group's quarterly sheet
+//!
+//! A group reads up to 1,000 files in a row, each behind a word with its length.
+//!
+//! ```
+//! let read = |name: &str| std::fs::read(format!("../../examples/{name}.clinic"));
+//! let files = [read("transfer")?, read("refused/15-no-role")?, read("theatre")?];
+//! let sheet = pilzdamo::sheet(&pilzdamo::records(&files).unwrap());
+//! assert_eq!((sheet.files, sheet.placed(), sheet.refused_at(15)), (3, 2, 1));
+//!
+//! // Of the sessions placed: the on steps in all, the most in one, and per 1,000.
+//! assert_eq!((sheet.sessions, sheet.on_steps, sheet.most), (4, 5, 2));
+//! assert_eq!((sheet.quotient, sheet.remainder), (1_250, 0));
+//! # Ok::<(), std::io::Error>(())
 //! ```
 //!
 //! # A list of choices is run
@@ -388,10 +405,13 @@ mod desk;
 mod raw;
 mod state;
 
-pub use answers::NO_TAG;
-pub use answers::{Counts, InForce, Placed, Ready, Reason, Round, Seats, Totals, Verdict, Written};
+pub use answers::{Counts, InForce, Placed, Ready, Reason, Round, Seats, Sheet};
+pub use answers::{Totals, Verdict, Written, NO_TAG};
 pub use calls::{check, check_at, choose, measure, measure_at, merge, merged};
-pub use calls::{file_in_force, in_columns, in_force, in_rows, to_columns, to_rows};
+pub use calls::{
+    file_in_force, in_columns, in_force, in_rows, records, sheet, to_columns, to_rows, NUMBERS,
+    SHEET_FILES,
+};
 pub use calls::{meaning, phrase, read_reason, reason};
 pub use calls::{place, place_at, placed, placed_at, read, ready, room, round, run, start};
 pub use calls::{round_seated, run_seated, seats, total, totals};

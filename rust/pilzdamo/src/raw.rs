@@ -5,7 +5,9 @@
 //! pointers and lengths name, writes only what is lent by a pointer to `mut`, and
 //! ends; it keeps no pointer.
 
-use crate::{InForce, Placed, Ready, Reason, Round, Seats, Thread, Totals, Verdict, Written};
+use crate::{
+    InForce, Placed, Ready, Reason, Round, Seats, Sheet, Thread, Totals, Verdict, Written,
+};
 
 extern "C" {
     fn pilzdamo_read(file: *const u8, len: usize) -> Verdict;
@@ -127,6 +129,7 @@ extern "C" {
         second_len: usize,
         day: u16,
     ) -> InForce;
+    fn pilzdamo_sheet(input: *const u8, len: usize) -> Sheet;
 }
 
 // Words and nothing between them: what is answered, and a record that is lent.
@@ -140,6 +143,7 @@ const _: () = {
     assert!(size_of::<Written>() == 2 * 3);
     assert!(size_of::<Seats>() == 2 * 580);
     assert!(size_of::<InForce>() == 2 * 5);
+    assert!(size_of::<Sheet>() == 4 * 34);
     assert!(size_of::<Thread>() == 2 * 11);
 };
 
@@ -440,4 +444,10 @@ pub fn in_force(first: &[u8], second: &[u8], day: u16) -> InForce {
             day,
         )
     }
+}
+
+#[inline]
+pub fn sheet(input: &[u8]) -> Sheet {
+    // SAFETY: as in `read`, of the bytes of the input.
+    unsafe { pilzdamo_sheet(input.as_ptr(), input.len()) }
 }

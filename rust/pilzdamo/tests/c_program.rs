@@ -1,8 +1,7 @@
 //! The header, tried by a C program: what it prints.
 
-use pilzdamo::{
-    Counts, InForce, Placed, Ready, Reason, Round, Seats, Thread, Totals, Verdict, Written,
-};
+use pilzdamo::{Counts, InForce, Placed, Ready, Reason, Round, Seats, Sheet};
+use pilzdamo::{Thread, Totals, Verdict, Written, NUMBERS, SHEET_FILES};
 use pilzdamo::{BEFORE_ROUND, BESIDE, RECORDS, ROOM, ROOM_1, ROUND_WORDS, ROWS, RUN_ROOM};
 use pilzdamo::{LINE_WORDS, NO_TAG, ROLES, SEATS, SENTENCE, SESSIONS, TOTALS, WEEK};
 use std::process::{Command, Output};
@@ -133,6 +132,9 @@ read its file: clean
 in October: refusal 28 0, notice 1, 0 bytes from byte 0 on
 cut: refusal 27 2, notice 1, 0 bytes from byte 0 on
 two days alone: refusal 27 1, notice 1, 0 bytes from byte 0 on
+sheet: files 4, refused 1 at 9, sessions 4, on steps 5, most 2, per 1,000: 1250 and 0
+cut off: files 3, refused 1 at 9, sessions 3, on steps 3, most 1, per 1,000: 1000 and 0
+no files: files 0, refused sessions 0, on steps 0, most 0, per 1,000: 0 and 0
 record: refused 6 27
 role: refused 13 4
 no bytes: clean
@@ -189,6 +191,7 @@ fn a_c_program_calls_the_engine() {
         size_of::<Seats>(),
         size_of::<Thread>(),
         size_of::<InForce>(),
+        size_of::<Sheet>(),
     ];
     let line = |name: &str, numbers: &[usize]| {
         let numbers: Vec<String> = numbers.iter().map(usize::to_string).collect();
@@ -200,10 +203,11 @@ fn a_c_program_calls_the_engine() {
     let rounds = line("rounds", &[ROUND_WORDS, BEFORE_ROUND]);
     let totals = line("totals", &[TOTALS]);
     let seats = line("seats", &[ROLES, SESSIONS, LINE_WORDS, SEATS.into()]);
+    let sheets = line("sheets", &[NUMBERS, SHEET_FILES]);
     let counts = Counts::ALL.map(|counts| usize::from(counts.number()));
     let reasons = [&[SENTENCE, NO_TAG.into()][..], &counts].concat();
     let reasons = line("reasons", &reasons);
     let printed = String::from_utf8_lossy(&output.stdout);
-    let lines = sizes + &rooms + &hours + &rounds + &totals + &seats + &reasons;
+    let lines = sizes + &rooms + &hours + &rounds + &totals + &seats + &sheets + &reasons;
     assert_eq!(printed, lines + PRINTED);
 }

@@ -261,3 +261,20 @@ impl InForce {
         }
     }
 }
+
+/// The numbers that a refusal can have.
+pub const NUMBERS: usize = 28;
+
+/// What a group reads of its files: how many there are, how many are refused at each
+/// number from 1 on, and of the others the sessions, the on steps, the most on steps
+/// in one session, and the on steps per 1,000 sessions as quotient and remainder.
+#[derive(Clone, Copy, Debug, Default, PartialEq, Eq)]
+pub struct Sheet {
+    pub files: u32,
+    pub refused: [u32; NUMBERS],
+    pub sessions: u32,
+    pub on_steps: u32,
+    pub most: u32,
+    pub quotient: u32,
+    pub remainder: u32,
+}

@@ -12,6 +12,7 @@ mod placing;
 mod reading;
 mod reasons;
 mod running;
+mod sheets;
 
 pub use columns::{turn_cases, Turn, TurnCase, BY_COLUMN};
 pub use hours::{CheckAtCase, PlaceAtCase};
@@ -23,6 +24,7 @@ pub use reasons::{cases as reason_cases, ReasonCase, NO_SENTENCES};
 pub use running::{booking, choose_cases, placed_booking, round_cases, start_cases};
 pub use running::{seat_cases, seated_round_cases, SeatCase, SeatedRoundCase};
 pub use running::{totals_cases, ChooseCase, Lent, RoundCase, RunCase, StartCase, TotalsCase};
+pub use sheets::{records, sheet_cases, SheetCase};
 
 use crate::draft::Draft;
 

@@ -5,9 +5,9 @@
 //! are spoken of, 21 is among them. The timed functions, [`read`], [`read_names`],
 //! [`check`], [`check_at`], [`place`], [`place_at`], [`measure`], [`measure_at`],
 //! [`run`], [`round`], [`ready`], [`totals`], [`run_seated`], [`round_seated`],
-//! [`seats`], [`start`], [`choose`], [`merge`], [`to_columns`], [`to_rows`] and
-//! [`in_force`], go over the file a few times, in place, and allocate nothing; nor do
-//! [`reason`], [`read_reason`] and [`phrase`].
+//! [`seats`], [`start`], [`choose`], [`merge`], [`to_columns`], [`to_rows`],
+//! [`in_force`] and [`sheet`], go over the file a few times, in place, and allocate
+//! nothing; nor do [`reason`], [`read_reason`] and [`phrase`].
 
 #![forbid(unsafe_code)]
 
@@ -26,10 +26,12 @@ mod reasons;
 mod roles;
 mod running;
 mod schema;
+mod sheets;
 mod tree;
 mod turning;
 
-pub use answers::{InForce, Placed, Ready, Reason, Round, Seats, Totals, Verdict, Written};
+pub use answers::NUMBERS;
+pub use answers::{InForce, Placed, Ready, Reason, Round, Seats, Sheet, Totals, Verdict, Written};
 pub use cause::{is_of_file, is_of_reading, Cause, Refusal};
 pub use file::{Section, Version};
 pub use merging::MERGED_ROOM;
@@ -38,6 +40,7 @@ pub use reasons::{Unsaid, SENTENCE};
 pub use running::{Answer, Halt, Run, SeatedRun, Thread, Unfit};
 pub use running::{BEFORE_ROUND, BEFORE_TOTALS, BESIDE, MOST_CHOICES, RECORDS};
 pub use running::{LINE_WORDS, ROLES, ROUND_WORDS, RUN_ROOM, TOTALS};
+pub use sheets::{whole_files, MOST_FILES};
 pub use turning::TURNED_ROOM;
 
 use file::File;
@@ -361,6 +364,18 @@ pub fn in_force(first: &[u8], second: &[u8], day: u16) -> InForce {
             InForce::refused(number, place)
         }
     }
+}
+
+/// The sheet of the files in an input, each behind a word with its length in bytes. It
+/// ends behind [`MOST_FILES`] of them, or at the first that isn't there to its end.
+pub fn sheet(input: &[u8]) -> Sheet {
+    let (mut sheet, mut plan) = (Sheet::default(), Plan::new());
+    for file in whole_files(input) {
+        let judged = judge_measuring(file, &mut plan);
+        sheet.add(judged.map(|file| plan.share(&file)));
+    }
+    sheet.divide();
+    sheet
 }
 
 /// A run that has yet to make its first choice, if 1 to 10 leave the file clean.

@@ -4,9 +4,10 @@ mod needs;
 mod states;
 
 use crate::cause::{Cause, Refusal};
-use crate::draft::set_word;
+use crate::draft::{set_word, word_at};
 use crate::file::{three, word, File, Section, Version};
 use crate::nodes::{in_layout, Layout, Room, NODE};
+use crate::sheets::Share;
 use crate::Placed;
 use needs::Needs;
 use states::{Choice, Waiting};
@@ -130,6 +131,24 @@ impl Plan {
     pub fn measure(&self, file: &File) -> Placed {
         let length = file.before_nodes().len() + NODE * usize::from(self.nodes);
         Placed::written(length as u16, self.on_steps)
+    }
+
+    /// The file's sessions, all on steps, and the most in one session.
+    pub fn share(&self, file: &File) -> Share {
+        let puts_on = |before: &Before| before.on != 0;
+        let mut end = usize::from(word_at(file.bytes, Section::Nodes.count_at()));
+        let of_session = |session| {
+            let root = usize::from(word(session, 2)) - 1;
+            let tree = &self.before[root..end];
+            end = root;
+            tree.iter().copied().filter(puts_on).count() as u16
+        };
+        let each = file.sessions.iter().rev().map(of_session);
+        Share {
+            sessions: file.sessions.len(),
+            on_steps: self.on_steps,
+            most: each.max().unwrap_or(0),
+        }
     }
 
     /// Writes the placed file.

@@ -1,14 +1,13 @@
 use crate::cases::{booking, cases, choose_cases, place_cases, placed_booking, run_cases};
 use crate::cases::{check_at_cases, place_at_cases, round_cases, start_cases, totals_cases};
-use crate::cases::{
-    merge_cases, notice_cases, reason_cases, seat_cases, seated_round_cases, turn_cases, Due,
-    DueOfBoth, Turn, BOOKING, NO_SENTENCES,
-};
-use crate::draft::{set_word, to_bytes};
+use crate::cases::{merge_cases, notice_cases, reason_cases, records, sheet_cases};
+use crate::cases::{seat_cases, seated_round_cases, turn_cases, Turn};
+use crate::cases::{Due, DueOfBoth, BOOKING, NO_SENTENCES};
+use crate::draft::{set_word, to_bytes, Draft};
 use crate::{begin, merge, resume, total, totals};
 use crate::{cause, cause_in_choosing, cause_in_placing, cause_in_run, cause_in_starting};
 use crate::{cause_at, cause_in_merging, cause_in_placing_at, cause_in_round, check_at};
-use crate::{cause_in_notice, cause_in_notices, in_force};
+use crate::{cause_in_notice, cause_in_notices, in_force, sheet, whole_files, Sheet};
 use crate::{cause_in_reason, phrase, read_reason, reason};
 use crate::{cause_in_seated_run, round_seated, run_seated, seats};
 use crate::{cause_in_turning, to_columns, to_rows, TURNED_ROOM};
@@ -587,4 +586,64 @@ fn named_cases_of_notices() {
     for cause in [Cause::of_notices(), vec![Cause::NotBegun]].concat() {
         assert!(causes.contains(&cause), "no case of {cause:?}");
     }
+}
+
+#[test]
+fn named_cases_of_sheets() {
+    let mut numbers = BTreeSet::new();
+    for case in sheet_cases() {
+        case.demand("second", sheet);
+        let refused = (1..).zip(case.due.refused);
+        numbers.extend(refused.filter(|(_, count)| *count > 0).map(|(n, _)| n));
+    }
+    let due = (1..=10).chain([14, 15, 16, 21]);
+    assert_eq!(numbers, due.collect());
+}
+
+/// A sheet by placing each file by itself, and counting the on nodes of what is
+/// written, tree by tree.
+fn by_placing(input: &[u8]) -> Sheet {
+    let mut sheet = Sheet::default();
+    for file in whole_files(input) {
+        let mut out = [0; ROOM];
+        let placed = place(file, &mut out);
+        sheet.files += 1;
+        if placed.number != 0 {
+            sheet.refused[usize::from(placed.number) - 1] += 1;
+            continue;
+        }
+        let draft = Draft::of(&out[..placed.length.into()]);
+        sheet.sessions += draft.sessions.len() as u32;
+        sheet.on_steps += u32::from(placed.on_steps);
+        let ends = draft.sessions.iter().skip(1).map(|[_, _, root]| *root);
+        let ends = ends.chain([draft.nodes.len() as u16 + 1]);
+        for ([_, _, root], end) in draft.sessions.iter().zip(ends) {
+            let tree = &draft.nodes[usize::from(*root) - 1..usize::from(end) - 1];
+            let on = tree.iter().filter(|[tag, ..]| *tag == 7).count();
+            sheet.most = sheet.most.max(on as u32);
+        }
+    }
+    if sheet.sessions > 0 {
+        sheet.quotient = 1_000 * sheet.on_steps / sheet.sessions;
+        sheet.remainder = 1_000 * sheet.on_steps % sheet.sessions;
+    }
+    sheet
+}
+
+/// All the cases of placing in one sheet, in two orders.
+#[test]
+fn a_sheet_is_what_placing_gives() {
+    for case in sheet_cases() {
+        assert_eq!(sheet(&case.input), by_placing(&case.input), "{}", case.name);
+    }
+    let mut files: Vec<_> = place_cases().into_iter().map(|case| case.file).collect();
+    files.retain(|file| file.len() <= usize::from(u16::MAX));
+    let told = sheet(&records(&files));
+    assert_eq!(told, by_placing(&records(&files)));
+    assert!(
+        told.files > 50 && told.sessions > 30 && told.most > 5,
+        "{told:?}"
+    );
+    files.reverse();
+    assert_eq!(sheet(&records(&files)), told);
 }

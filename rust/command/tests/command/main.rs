@@ -21,6 +21,7 @@ mod round;
 mod run;
 mod script;
 mod seats;
+mod sheet;
 mod show;
 mod spring;
 mod streams;

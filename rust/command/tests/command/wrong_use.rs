@@ -27,7 +27,7 @@ fn help_and_version() {
 
 #[test]
 fn words() {
-    let wrong: [(&[&str], &str); 88] = [
+    let wrong: [(&[&str], &str); 93] = [
         (&[], "what to do?"),
         (&[""], "there is no word ''"),
         (&["judge", "a"], "there is no word 'judge'"),
@@ -156,6 +156,14 @@ fn words() {
             &["in-force", "0", "a", "b", "--at", "Mon 07:30"],
             "in-force has no option '--at'",
         ),
+        (&["sheet"], "sheet: FILE is missing"),
+        (&["sheet", "--json"], "sheet: FILE is missing"),
+        (
+            &["sheet", "-", "a", "-"],
+            "sheet: only one FILE can be standard input",
+        ),
+        (&["sheet", "a", "-o", "b"], "sheet has no option '-o'"),
+        (&["check", "a", "--json"], "check has no option '--json'"),
         (&["run"], "run: FILE is missing"),
         (&["run", "a"], "run: CHOICES is missing"),
         (&["run", "a", "b", "c"], "run: 'c' is too many"),
@@ -270,7 +278,7 @@ fn files_that_cannot_be_read() {
         (&here, "it is a folder"),
     ] {
         let due = format!("pilzdamo: {file}: can't be read: {why}\n");
-        let uses: [&[&str]; 23] = [
+        let uses: [&[&str]; 25] = [
             &["check", file],
             &["place", file],
             &["measure", file],
@@ -279,6 +287,8 @@ fn files_that_cannot_be_read() {
             &["show", file],
             &["merge", file, &sound],
             &["merge", &sound, file],
+            &["sheet", file],
+            &["sheet", &sound, file, &sound],
             &["notice", "0", file],
             &["in-force", "0", file, &sound],
             &["in-force", "0", &sound, file],

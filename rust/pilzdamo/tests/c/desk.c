@@ -391,6 +391,36 @@ static void notices(const char *folder) {
                                                        november_15));
 }
 
+static void print_figures(const char *call, pilzdamo_figures told) {
+    size_t number;
+    printf("%s: files %d, refused", call, (int)told.files);
+    for (number = 1; number <= PILZDAMO_NUMBERS; number++) {
+        if (told.refused[number - 1] != 0) {
+            printf(" %d at %d,", (int)told.refused[number - 1], (int)number);
+        }
+    }
+    printf(" sessions %d, on steps %d, most %d, per 1,000: %d and %d\n", (int)told.sessions,
+           (int)told.on_steps, (int)told.most, (int)told.quotient, (int)told.remainder);
+}
+
+/* Four files in a row, and the same cut off by a byte. */
+static void sheet(const char *folder) {
+    static const char *const names[] = {"transfer.clinic", "refused/09-name.clinic",
+                                        "nothing.clinic", "overlap.clinic"};
+    static uint8_t input[4 * (2 + PILZDAMO_ROOM)];
+    size_t len = 0, i;
+    for (i = 0; i < 4; i++) {
+        clinic file = example(folder, names[i]);
+        input[len++] = (uint8_t)(file.len & 0xff);
+        input[len++] = (uint8_t)(file.len >> 8);
+        memcpy(input + len, file.bytes, file.len);
+        len += file.len;
+    }
+    print_figures("sheet", pilzdamo_sheet(input, len));
+    print_figures("cut off", pilzdamo_sheet(input, len - 1));
+    print_figures("no files", pilzdamo_sheet(input, 0));
+}
+
 /* Refusals with their places. */
 static void refusals(const char *folder) {
     static const uint16_t odd[] = {2, 0, 2}, unequal[] = {2, 0, 1, 0};
@@ -437,12 +467,12 @@ int main(int argc, char **argv) {
         fprintf(stderr, "the folder of the examples is wanted\n");
         return 2;
     }
-    printf("sizes: %d %d %d %d %d %d %d %d %d\n", (int)sizeof(pilzdamo_verdict),
+    printf("sizes: %d %d %d %d %d %d %d %d %d %d\n", (int)sizeof(pilzdamo_verdict),
            (int)sizeof(pilzdamo_placed), (int)sizeof(pilzdamo_ready_pair),
            (int)sizeof(pilzdamo_round_choices), (int)sizeof(pilzdamo_kind_totals),
            (int)sizeof(pilzdamo_said), (int)sizeof(pilzdamo_written),
            (int)sizeof(pilzdamo_role_seats), (int)sizeof(pilzdamo_thread),
-           (int)sizeof(pilzdamo_notice_in_force));
+           (int)sizeof(pilzdamo_notice_in_force), (int)sizeof(pilzdamo_figures));
     printf("rooms: %d %d %d %d %d\n", PILZDAMO_ROOM, PILZDAMO_ROOM_1, PILZDAMO_RUN_ROOM,
            PILZDAMO_RECORDS, PILZDAMO_BESIDE);
     printf("hours: %d %d\n", PILZDAMO_WEEK, PILZDAMO_ROWS);
@@ -450,6 +480,7 @@ int main(int argc, char **argv) {
     printf("totals: %d\n", PILZDAMO_TOTALS);
     printf("seats: %d %d %d %d\n", PILZDAMO_ROLES, PILZDAMO_SESSIONS, PILZDAMO_LINE_WORDS,
            PILZDAMO_SEATS);
+    printf("sheets: %d %d\n", PILZDAMO_NUMBERS, PILZDAMO_SHEET_FILES);
     printf("reasons: %d %d %d %d %d %d %d %d %d\n", PILZDAMO_SENTENCE, PILZDAMO_NO_TAG,
            PILZDAMO_COUNTS_NOTHING, PILZDAMO_COUNTS_WORDS, PILZDAMO_COUNTS_SESSIONS,
            PILZDAMO_COUNTS_NODES, PILZDAMO_COUNTS_CHOICES, PILZDAMO_COUNTS_ROWS,
@@ -464,6 +495,7 @@ int main(int argc, char **argv) {
     house(argv[1]);
     turns(argv[1]);
     notices(argv[1]);
+    sheet(argv[1]);
     refusals(argv[1]);
     reasons();
     return 0;

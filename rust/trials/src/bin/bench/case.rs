@@ -69,6 +69,10 @@ pub enum Input {
     },
     /// Two notices of which one is in force on the day.
     InForce(Notices),
+    /// Files in a row.
+    Sheet(Vec<u8>),
+    /// Files that can be placed, each measured by itself.
+    MeasureEach(Vec<Vec<u8>>),
 }
 
 /// A row of a table.
@@ -85,7 +89,7 @@ impl Case {
         Case { name, input, calls }
     }
 
-    /// The file, or the sentence; the first of two files or notices.
+    /// The file, the sentence, or all records; the first of several files or notices.
     pub fn bytes(&self) -> &[u8] {
         match &self.input {
             Input::Read(file) | Input::Check(file) | Input::Measure(file) => file,
@@ -99,14 +103,17 @@ impl Case {
             Input::RunSeated(seated) | Input::RoundSeated(seated) => &seated.dealt.file,
             Input::Seats(seated) => &seated.dealt.file,
             Input::InForce(Notices { first, .. }) => first,
+            Input::Sheet(input) => input,
+            Input::MeasureEach(files) => &files[0],
         }
     }
 
-    /// How many bytes it has, or both files or notices.
+    /// How many bytes it has, or all files or notices.
     pub fn length(&self) -> usize {
         match &self.input {
             Input::Merge(files) => files.iter().map(Vec::len).sum(),
             Input::InForce(Notices { first, second, .. }) => first.len() + second.len(),
+            Input::MeasureEach(files) => files.iter().map(Vec::len).sum(),
             _ => self.bytes().len(),
         }
     }
@@ -200,6 +207,17 @@ impl Case {
             }
             Input::InForce(notices) => {
                 assert_eq!(trials::agreed_in_force(notices, name).number, 0, "{name}");
+                Vec::new()
+            }
+            Input::Sheet(input) => {
+                let sheet = trials::agreed_sheet(input, name);
+                assert_eq!((sheet.files, sheet.refused), (1_000, [0; 28]), "{name}");
+                Vec::new()
+            }
+            Input::MeasureEach(files) => {
+                for file in files {
+                    assert_eq!(trials::agreed_measure(file, name).number, 0, "{name}");
+                }
                 Vec::new()
             }
             Input::Choose(Lent {
@@ -333,6 +351,12 @@ impl Case {
                 || pilzdamo::in_force(black_box(first), black_box(second), *day),
                 || second::in_force(black_box(first), black_box(second), *day),
             ),
+            Input::Sheet(input) => samples.take(
+                self.calls,
+                || pilzdamo::sheet(black_box(input)),
+                || second::sheet(black_box(input)),
+            ),
+            Input::MeasureEach(files) => measure_each(files, self.calls, samples),
         }
     }
 }
@@ -413,6 +437,20 @@ fn merge([first, second]: &[Vec<u8>; 2], calls: u32, samples: &mut Samples) {
         second::merge(first, second, black_box(&mut of_second))
     };
     samples.take(calls, engine, of_second);
+}
+
+fn measure_each(files: &[Vec<u8>], calls: u32, samples: &mut Samples) {
+    let engine = || {
+        for file in black_box(files) {
+            let _ = black_box(pilzdamo::measure(file));
+        }
+    };
+    let second = || {
+        for file in black_box(files) {
+            let _ = black_box(second::measure(file));
+        }
+    };
+    samples.take(calls, engine, second);
 }
 
 /// A start writes the same each time.

@@ -52,6 +52,8 @@ pub struct Inputs {
     pub typical_pair: [Vec<u8>; 2],
     /// Notices of two files of 40 nodes.
     pub notices: Notices,
+    /// 1,000 files of 40 nodes, and their records.
+    pub typical_sheet: (Vec<Vec<u8>>, Vec<u8>),
 }
 
 impl Inputs {
@@ -93,6 +95,7 @@ impl Inputs {
             largest_pair: trials::largest_pair(seed),
             typical_pair: trials::typical_pair(seed),
             notices: trials::typical_notices(seed),
+            typical_sheet: trials::typical_sheet(seed),
         }
     }
 
@@ -213,6 +216,12 @@ impl Inputs {
             Case::new("rows largest", turn(Turn::ToRows, &self.largest_3), 50),
             Case::new("rows typical", turn(Turn::ToRows, &self.typical_3), 300),
             Case::new("in force", Input::InForce(self.notices.clone()), 300),
+            Case::new("sheet", Input::Sheet(self.typical_sheet.1.clone()), 1),
+            Case::new(
+                "measure each",
+                Input::MeasureEach(self.typical_sheet.0.clone()),
+                1,
+            ),
         ]
     }
 
@@ -256,7 +265,9 @@ impl Inputs {
              Seated, a run with seats: free has run largest's list and 32 seats in each role, so\n\
              that every on of a session without a seat gets one; largest has {};\n\
              typical has {}. Its round, and what is read of its seats.\n\
-             In force, of two notices; the bytes are those of both, whose files have 40 nodes each.\n",
+             In force, of two notices; the bytes are those of both, whose files have 40 nodes each.\n\
+             Sheet: the records of 1,000 files of 40 nodes, half of them in version 2. Measure each:\n\
+             1,000 calls of measure for the same files.\n",
             run(&self.largest_run),
             run(&self.typical_run),
             run(&self.short_run),

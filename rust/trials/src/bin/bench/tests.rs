@@ -158,6 +158,21 @@ fn what_is_merged_is_as_large_as_can_be() {
     assert_eq!(nodes(&merged(&inputs.typical_pair)), 80);
 }
 
+#[test]
+fn the_sheet_has_1_000_typical_files() {
+    let (files, input) = Inputs::new(seed()).typical_sheet;
+    assert_eq!(files.len(), 1_000);
+    assert_eq!(input.len(), files.iter().map(|file| 2 + file.len()).sum());
+    assert!(files
+        .iter()
+        .all(|file| (nodes(file), roles(file)) == (40, 4)));
+    let sheet = second::sheet(&input);
+    assert!(
+        sheet.on_steps >= 1_000 && sheet.sessions == 4_000,
+        "{sheet:?}"
+    );
+}
+
 /// Each sender of the crowded round goes past all that receive before its own.
 #[test]
 fn the_crowded_round_meets_the_last_first() {

@@ -1,0 +1,92 @@
+use mathlib.Core.Path.{_≡_, sym, ap, _∙_, subst}
+use native.Mathlib.Omega.{arith}
+use lib.ListN.{length, replicate}
+use Rattle.format.specs.Contents.{contentsAt}
+use Rattle.format.specs.declared.Verdict.{Verdict}
+use Rattle.format.proofs.ContentsLaws.{nodes-held}
+use Rattle.reading.specs.declared.Opened.the-variants.{Fine}
+use Rattle.checking.specs.Check.{entered}
+use Rattle.checking.specs.declared.Examined.{Examined}
+use Rattle.checking.proofs.CheckLaws.{entered-fine}
+use Rattle.placing.specs.Placing.{Labelled}
+use Rattle.placing.proofs.PlaceLaws.{names-loud, surveyed-labels}
+use Rattle.sheets.specs.Entries.{entryOf}
+use Rattle.sheets.specs.Sheets.{Within}
+use Rattle.sheets.proofs.EntryLaws.{entry-from, entry-refused, entry-within}
+use borrow.Author.Needs.{needs}
+use Rattle.sheets.proofs.entries.entry_of.Statement.{statement}
+use Rattle.sheets.proofs.entries.entry_of.Tie as tie
+use Rattle.sheets.proofs.entries.entry_of.Reads as reads
+use Rattle.sheets.proofs.entries.entry_of.Lts as lts
+use Rattle.checking.proofs.examine.Reads as examine-reads
+use Rattle.sheets.proofs.entries.entry_body.Reads as entry-body-reads
+use Rattle.sheets.proofs.entries.refused.Reads as refused-reads
+
+-- the head that was read, and each node's candidates in the table
+told : (c : tie.After-known-told2) → entered (c .before .before .before .before .before .before .before .args .file .now) ≡ Fine (c .before .names2 .given .0 .0)
+told c = sym (ap (λ (x : Examined). x .names) (c .before .before .before .before .examine .ensures .0)) ∙ c .before .names2 .given .1
+
+labels : (c : tie.After-known-told2) → Labelled (contentsAt (c .before .before .before .before .before .before .before .args .file .now) (c .before .names2 .given .0 .0)) (c .before .before .before .before .examine .last .1 .0) × (length (c .before .before .before .before .examine .last .1 .0) ≡ 1025)
+labels c =
+    let f = c .before .before .before .before .before .before .before .args .file .now in
+    let h = c .before .names2 .given .0 .0 in
+    surveyed-labels f h (told c) (replicate 1025 0) _ (c .before .before .before .before .examine .ensures .1) (omega (arith, nodes-held f h, entered-fine f h (told c) .0 .nodes))
+
+-- src/entries.rt:53:31
+slice-aggregate-examine : tie.Need-slice-aggregate-examine
+slice-aggregate-examine c = search needs
+
+-- src/entries.rt:53:9
+examine-requires : tie.Need-examine-requires
+examine-requires c κs = search needs
+
+-- src/entries.rt:56:25
+enum-known-names : tie.Need-enum-known-names
+enum-known-names c = search needs
+
+-- src/entries.rt:56:35
+refused-requires : tie.Need-refused-requires
+refused-requires c κs = search needs
+
+-- src/entries.rt:57:22
+enum-known-names-2 : tie.Need-enum-known-names-2
+enum-known-names-2 c = search needs
+
+-- src/entries.rt:57:54
+slice-aggregate-entry-body : tie.Need-slice-aggregate-entry-body
+slice-aggregate-entry-body c = search needs
+
+-- src/entries.rt:57:31
+entry-body-requires : tie.Need-entry-body-requires
+entry-body-requires c κs = (told (c .before), labels (c .before) .1)
+
+-- src/entries.rt:49:1
+returns : tie.Need-returns
+returns c =
+    let f = c .before .before .before .before .before .before .before .before .args .file .now in
+    let w : Verdict = c .before .before .names .given .0 .0 in
+    let (e, loud) = names-loud f w (sym (ap (λ (x : Examined). x .names) (c .before .before .before .before .before .examine .ensures .0)) ∙ c .before .before .names .given .1) in
+    let same : c .refused .result ≡ entryOf f = c .refused .ensures ∙ sym (entry-refused f w e loud) in
+    (same, subst Within (sym same) (entry-within f))
+
+-- src/entries.rt:49:1
+returns-2 : tie.Need-returns-2
+returns-2 c =
+    let f = c .before .before .before .before .before .before .before .before .before .args .file .now in
+    let at = c .before .before in
+    let same : c .entry-body .result ≡ entryOf f = c .entry-body .ensures ∙ entry-from f (at .before .names2 .given .0 .0) (told at) (at .before .before .before .before .examine .last .1 .0) (labels at .0) in
+    (same, subst Within (sym same) (entry-within f))
+
+pub entry-of-spec : {M : Type 1} → statement M
+entry-of-spec =
+    tie.close
+    (tie.spec
+    slice-aggregate-examine
+    examine-requires
+    enum-known-names
+    refused-requires
+    enum-known-names-2
+    slice-aggregate-entry-body
+    entry-body-requires
+    returns
+    returns-2)

@@ -1,0 +1,3 @@
+pub mod Files
+pub mod Sheets
+pub mod Entries
