@@ -280,9 +280,9 @@ pilzdamo_kind_totals pilzdamo_totals(const uint8_t *file, size_t file_len,
  * pilzdamo_run and pilzdamo_round with seats: a table gives each role its seats, one
  * word a role, 0 for no limit, else 1 to PILZDAMO_SEATS. A session has a seat in a role
  * while any of its threads has the role active. An on by a session without one gets a
- * seat exactly if one is free and nobody is in the role's line, or the session is the
- * first there, which then leaves it. An on that gets none is answered 26: its session
- * joins the line at the end, if it isn't in it, and nothing else changes. The choice
+ * seat exactly if one is free, and nobody is in the role's line or the session is the
+ * first there; it leaves the line as it takes the seat. An on that gets none is
+ * answered 26: its session joins the line at the end, if it isn't in it, and nothing else changes. The choice
  * counts as done, and is in a round's list.
  *
  * Behind 1 to 10 comes 17 for another number of words than roles and for a word above
@@ -302,7 +302,8 @@ pilzdamo_round_choices pilzdamo_round_seated(const uint8_t *file, size_t file_le
 /*
  * Who has a role and who waits for a seat, in the state to which a list of choices
  * leads with a table of seats, or in which it stops. The refusals are those of
- * pilzdamo_run_seated; for those before the first choice all else is 0.
+ * pilzdamo_run_seated but for an output that is too short; for those before the first
+ * choice all else is 0.
  */
 pilzdamo_role_seats pilzdamo_seats(const uint8_t *file, size_t file_len,
                                    const uint16_t *choices, size_t words,

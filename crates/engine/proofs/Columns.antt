@@ -3,13 +3,15 @@ use Prim.Native.Nat.{ℕ, _<_}
 use mathlib.Core.Path.{_≡_, refl, sym, ap, _∙_, subst}
 use mathlib.Core.Logic.{_⊎_, inl, inr}
 use mathlib.Core.Bool.{Bool, true, false, true≢false}
-use mathlib.Core.List.{List}
+use mathlib.Core.List.{List, [], _∷_}
 use lib.ListN.{length}
 use Rattle.format.specs.Header.{hasJuniors, headAt, versionAt, roomFor}
 use Rattle.format.specs.Contents.{Contents, contentsOf}
 use Rattle.format.specs.Writing.{encoded}
 use Rattle.format.proofs.HeadLaws.{Headed}
 use Rattle.format.proofs.ContentsLaws.{roles-held, juniors-held}
+use Rattle.checking.specs.Check.{readingNames}
+use Rattle.notices.specs.Notices.{isSound, planInForce}
 use Rattle.states.specs.declared.Turn.{Turn}
 use Rattle.groups.specs.Groups.{startsOf, placedContents}
 use Rattle.placing.specs.Placing.{turnsFor, bytesBy, placing, placedBytes, placedOver}
@@ -18,7 +20,7 @@ use Rattle.placing_at.specs.PlaceAt.{openContents, placingAt, placedBytesAt, pl
 use Rattle.reading_exact.specs.Lists.{All}
 use Rattle.reading_exact.proofs.Places.{encoded-back}
 use Rattle.turning.specs.Turning.{turnedTo, inColumns, inRows, turning}
-use Rattle.turning_exact.proofs.Turned.{turned-holds, turned-version, turned-headed, turned-read, turned-clean, there-and-back}
+use Rattle.turning_exact.proofs.Turned.{turned-holds, turned-length, turned-version, turned-headed, turned-read, turned-clean, there-and-back}
 use Rattle.engine.specs.Alike.{AlikeBesideBytes, ColumnsOf}
 use Rattle.engine.proofs.SameContents.{wanted, over-alike, alike-beside-bytes}
 
@@ -82,3 +84,15 @@ rows-alike c bytes room zero =
     let (l, d, three) = turned-clean 3 c room zero in
     subst (λ (g : List ℕ). ColumnsOf g (inRows c)) (there-and-back 3 2 refl refl c bytes room zero .1)
     (columns-of (inRows c) (turned-headed c 2 d (ap hasJuniors three) refl) (turned-version c 2))
+
+-- a notice is answered alike with a file that is as long and is read alike
+notice-alike : (g f : List ℕ) → length g ≡ length f → readingNames g ≡ readingNames f → (a b c d : ℕ) (n : List ℕ) (day : ℕ)
+    → (planInForce (a ∷ b ∷ c ∷ d ∷ g) n day ≡ planInForce (a ∷ b ∷ c ∷ d ∷ f) n day) × (planInForce n (a ∷ b ∷ c ∷ d ∷ g) day ≡ planInForce n (a ∷ b ∷ c ∷ d ∷ f) day)
+unfolding planInForce isSound
+notice-alike g f long read a b c d n day = (rw (long, read), rw (long, read))
+
+pub notices-alike : (f : List ℕ) (room : ℕ) → turning 2 f room .number ≡ 0 → (a b c d : ℕ) (n : List ℕ) (day : ℕ)
+    → (planInForce (a ∷ b ∷ c ∷ d ∷ inColumns f) n day ≡ planInForce (a ∷ b ∷ c ∷ d ∷ f) n day) × (planInForce n (a ∷ b ∷ c ∷ d ∷ inColumns f) day ≡ planInForce n (a ∷ b ∷ c ∷ d ∷ f) day)
+notices-alike f room zero =
+    let (l, d, two) = turned-clean 2 f room zero in
+    notice-alike (inColumns f) f (turned-length f 3 d (ap hasJuniors two) refl) (columns-alike f room zero .answers .answers .read)

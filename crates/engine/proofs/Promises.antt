@@ -17,13 +17,14 @@ use lib.Dec.{eqb}
 use lib.ListN.{length, getD, take, drop, replicate}
 use Rattle.masks.specs.Mask.{has, with, without}
 use Rattle.format.specs.Words.{wordAt, bytesOf}
-use Rattle.format.specs.Contents.{Contents, item, noSession, contentsOf}
+use Rattle.format.specs.Contents.{Contents, item, noSession, noNode, contentsOf, inCount, contentsAt}
 use Rattle.format.specs.Answers.{fine, refused}
 use Rattle.format.specs.declared.Verdict.{Verdict}
-use Rattle.format.specs.Header.{WithJuniors, Counted, versionAt, roomFor, headOf, nothingPlanned}
-use Rattle.format.specs.Sections.{spot}
+use Rattle.format.specs.Header.{WithJuniors, Counted, headAt, versionAt, roomFor, headOf, nothingPlanned}
+use Rattle.format.specs.Sections.{spot, nodeSpot, nodeOf}
 use Rattle.format.specs.Writing.{nodeRows, fileWords}
 use Rattle.format.specs.declared.Six.{Six}
+use Rattle.format.proofs.ContentsLaws.{item-there}
 use Rattle.reading.specs.Reading.{reading}
 use Rattle.reading_exact.specs.Lists.{All}
 use Rattle.reading_exact.specs.File.{InCount, rolesOf, File, WellFormed, asSecond, nodesOf, contentsFor, encode, unplanned, ReadsAs}
@@ -40,7 +41,7 @@ use Rattle.rules.specs.declared.Way.{Way}
 use Rattle.rules.specs.Juniors.{Granted}
 use Rattle.rules.specs.Names.{Bound}
 use Rattle.rules.specs.Schema.{Schema, schemaOf, Permitted}
-use Rattle.reading_exact.specs.Tree.{on, Tree, switch, past}
+use Rattle.reading_exact.specs.Tree.{on, Tree, switch, past, write}
 use Rattle.placing.specs.Placing.{measuring, placing, noPlace, placedBytes, placedOver}
 use Rattle.placing_exact.specs.Placement.{onSteps, onStepsOf, Placement, PlacementByRoles}
 use Rattle.checking_exact.specs.Tables.{schemaFor}
@@ -124,8 +125,8 @@ use Rattle.hours_exact.proofs.EmptyTable.{check-empty, place-empty, over-empty}
 use Rattle.hours_exact.proofs.CasesShown.{hours-shown}
 use Rattle.engine.specs.Alike.{AlikeBesideForm, AlikeBesideBytes, Alike, ColumnsOf}
 use Rattle.engine.proofs.SameContents.{alike-beside-form, alike-beside-bytes, alike, second-alike}
-use Rattle.engine.proofs.Columns.{columns-alike, rows-alike}
-use Rattle.rounds.specs.Rounds.{Midway, Here}
+use Rattle.engine.proofs.Columns.{columns-alike, rows-alike, notices-alike}
+use Rattle.rounds.specs.Rounds.{Midway, Here, Path}
 use Rattle.dispatching.specs.Dispatch.{rounding, roundOver}
 use Rattle.dispatching_exact.specs.IsRound.{IsRound, VisitsOf}
 use Rattle.dispatching_exact.specs.Answered.{RoundUnfit, RoundFit, noRoundAt, Answered, Stopped}
@@ -147,7 +148,7 @@ use Rattle.reasons.proofs.ReasonsShown.{reasons-shown}
 use Rattle.merging.specs.Merged.{shifted}
 use Rattle.merging.specs.Merging.{merging, mergedBytes, mergedOver}
 use Rattle.format.specs.declared.Written.{Written as Merge·Written}
-use Rattle.format.proofs.SpotLaws.{spot-within, spot-one, Spotted, spot-found}
+use Rattle.format.proofs.SpotLaws.{spot-within, spot-one, spot-found}
 use Rattle.turning.specs.Turning.{headNumber, inColumns, inRows, turning, turnedOver}
 use Rattle.turning_exact.specs.TurnCauses.{TurnAnswers}
 use Rattle.turning_exact.specs.ColumnWords.{rowBooking, columnBooking}
@@ -169,12 +170,12 @@ use Rattle.seats.specs.Seats.{Limited, limitedOf, seatsIn, SeatedState, sits, s
 use Rattle.seats.specs.SeatOrder.{AsksSeat, GetsSeat, SeatedStep, Distinct, ahead, LineStep, HasRole, StandsAtOn, InTreeOf, Always, Between, NoMoreBefore}
 use Rattle.seats.proofs.SeatedTold.{seated-agrees, goes-iff, waits-iff, waits-only-line, halts-iff}
 use Rattle.seats.proofs.SeatedMoves.{waits-joins, steps-lines, owners-follow}
-use Rattle.seats.proofs.SeatedPlain.{SameRun, run-alike}
+use Rattle.seats.proofs.SeatedPlain.{run-alike}
 use Rattle.seats.proofs.SeatedStart.{start-sits}
 use Rattle.seats.proofs.OwnerTrees.{owners-descend}
 use Rattle.seating.specs.SeatedRunning.{seatedRunning, seatedLength, seatedOver}
 use Rattle.seating.specs.SeatsRead.{seatedStepsOf, seatsAfter}
-use Rattle.seating.specs.SeatedRound.{seatedRounding, seatedRoundOver}
+use Rattle.seating.specs.SeatedRound.{seatedThreads, seatedRounding, seatedRoundOver}
 use Rattle.seating_exact.specs.SeatTable.{SeatTableFits, SeatTableMisfits, OverfullAt, StartFits, SeatsBar}
 use Rattle.seating_exact.specs.SeatsTold.{SeatsTold, ReadsPlainly, noSeatsAt}
 use Rattle.seating_exact.specs.IsSeatedRound.{GoesOn, GetsNone, IsSeatedRound, SeatedVisits, SeatedRoundTold, SeatedRoundStopped}
@@ -183,7 +184,7 @@ use Rattle.seating_exact.proofs.SeatedFiles.{table-word, wait-is-done, not-its-
 use Rattle.seating_exact.proofs.SeatedAnswers.{seated-seventeen, seated-names, seated-start, seated-through, seated-halted, seated-unwritten, seated-written}
 use Rattle.seating_exact.proofs.SeatedZeros.{zeros-answer, zeros-output, zeros-length}
 use Rattle.seating_exact.proofs.ZeroRounds.{zeros-round, zeros-round-output, zeros-read}
-use Rattle.seating_exact.proofs.SeatedRounds.{SeatedPath, some-seated-round, one-seated-round, seated-path, seated-lone-of, seated-idle-of}
+use Rattle.seating_exact.proofs.SeatedRounds.{some-seated-round, one-seated-round, seated-path, seated-lone-of, seated-idle-of}
 use Rattle.seating_exact.proofs.SeatedRoundAnswers.{seated-round-seventeen, seated-round-names, seated-round-start, seated-round-none, seated-round-unwritten, seated-round-stopped, seated-round-answered}
 use Rattle.seating_exact.proofs.SeatsAnswers.{seats-seventeen, seats-names, seats-start, seats-none, seats-verdict, seats-told, taken-within}
 use Rattle.seating_exact.proofs.SeatedSafe.{placed-file-safe}
@@ -195,6 +196,11 @@ use Rattle.notices_exact.specs.Supersedes.{Answers as Notice·Answers}
 use Rattle.notices_exact.specs.NoticeCases.{NoticeShown, noticeCases}
 use Rattle.notices_exact.proofs.NoticeAnswers.{answered as notices-answered, one-answer, first-refused, second-refused, none-in-force, first-in-force, second-in-force, Held, in-force-held, file-part, file-place, empty-part, file-reads}
 use Rattle.notices_exact.proofs.NoticesShown.{notices-shown}
+use Rattle.wards.specs.Ward.{SameWard, fromRoot}
+use Rattle.wards.specs.WardCases.{alone, aloneFile, alonePlaced, beside, besideFile, besidePlaced, WardShown}
+use Rattle.wards.proofs.Wards.{isolated, isolated-at}
+use Rattle.wards.proofs.WardNodes.{from-root, isolated-words, isolated-words-at}
+use Rattle.wards.proofs.WardsShown.{wards-agree, wards-shown}
 use Rattle.engine.proofs.LongInputs.{kept-alike}
 use Rattle.engine.proofs.NothingPlanned.{nothing-alike, nothing-checked, nothing-measured, nothing-placed, nothing-short, nothing-over, nothing-run, nothing-chosen, short-one, short-second}
 use Rattle.reading_exact.proofs.Bytes.{length-bytesOf, word-back, small-bytes}
@@ -1191,8 +1197,9 @@ never-its-refusal-word = not-its-word
 
 -- .. so that with the choices answered 26 left out the run of the paper gives the same state and halts alike, with so many choices less done.
 pub alike-without-the-waits : (f table ws : List ℕ)
-    → SameRun (ranOf f (seatedStepsOf f table ws)) (seatedRanOf f table ws) (waitsIn (limitedOf (contentsOf f) table) (seatedStart (contentsOf f)) ws)
-alike-without-the-waits f table ws = run-alike (limitedOf (contentsOf f) table) ws (seatedStart (contentsOf f))
+    → (ranOf f (seatedStepsOf f table ws) .state ≡ seatedRanOf f table ws .seating .state) × (ranOf f (seatedStepsOf f table ws) .refusal ≡ seatedRanOf f table ws .refusal)
+    × (seatedRanOf f table ws .count ≡ ranOf f (seatedStepsOf f table ws) .count + waitsIn (limitedOf (contentsOf f) table) (seatedStart (contentsOf f)) ws)
+alike-without-the-waits f table ws = let same = run-alike (limitedOf (contentsOf f) table) ws (seatedStart (contentsOf f)) in (same .state, same .refusal, same .count)
 
 -- "Seats taken, those of a role without limit too, and the line of each role are read separately": each is a field of `SeatsTold`, with how many were answered 26, what the last one done was answered, and K6's totals; number
 -- and place are the run's.
@@ -1250,6 +1257,14 @@ pub placed-file-still-safe : (f : List ℕ) → All (λ b. b < 256) f → (room 
     × ((seatsAfter (placedBytes f) ws table .number ≢ 11) × (seatsAfter (placedBytes f) ws table .number ≢ 12) × (seatsAfter (placedBytes f) ws table .number ≢ 13))
 placed-file-still-safe = placed-file-safe
 
+-- .. also of a file placed for a minute.
+pub placed-at-still-safe : (f : List ℕ) → All (λ b. b < 256) f → (t : List ℕ) (m room : ℕ) → placingAt f t m room .number ≡ 0 → (table ws : List ℕ)
+    → (seatedRanOf (placedBytesAt f t m) table ws .refusal ≢ 11) × (seatedRanOf (placedBytesAt f t m) table ws .refusal ≢ 12) × (seatedRanOf (placedBytesAt f t m) table ws .refusal ≢ 13)
+placed-at-still-safe f bytes t m room placed table ws =
+    let g : List ℕ = placedBytesAt f t m in
+    subst (λ (n : ℕ). (n ≢ 11) × (n ≢ 12) × (n ≢ 13)) (run-alike (limitedOf (contentsOf g) table) ws (seatedStart (contentsOf g)) .refusal)
+    (never-for-a-role-at f bytes t m room placed (seatedStepsOf g table ws))
+
 -- "A dispatcher visit that gets no seat is in the round's list and excuses its thread from doing its step": `IsSeatedRound` is K5's round with that case, and every state has one and no other. Its choices go on or get no seat,
 -- one after the other.
 pub some-seated-round-exists : (L : Limited) (S : SeatedState) → (rs : List ℕ) × (S′ : SeatedState) × IsSeatedRound L S rs S′
@@ -1258,13 +1273,13 @@ some-seated-round-exists = some-seated-round
 pub only-one-seated-round : (L : Limited) (S : SeatedState) (rs xs : List ℕ) (S′ S″ : SeatedState) → IsSeatedRound L S rs S′ → IsSeatedRound L S xs S″ → (rs ≡ xs) × (S′ ≡ S″)
 only-one-seated-round = one-seated-round
 
-pub seated-round-goes-on : (L : Limited) (S : SeatedState) (rs : List ℕ) (S′ : SeatedState) → IsSeatedRound L S rs S′ → SeatedPath L S rs S′
+pub seated-round-goes-on : (L : Limited) (S : SeatedState) (rs : List ℕ) (S′ : SeatedState) → IsSeatedRound L S rs S′ → Path seatedThreads (GoesOn L) (GetsNone L) S rs S′
 seated-round-goes-on = seated-path
 
 -- .. of each thread that could do a lone step at the round's start: the visits before its own leave it as it was; then its lone choice comes and goes on, or comes and gets no seat, or is refused with 20.
 pub seated-lone-step-done : (L : Limited) (S : SeatedState) (v : ℕ) (S₁ : SeatedState) → GoesOn L S v 0 S₁ → (rs : List ℕ) (S′ : SeatedState) → IsSeatedRound L S rs S′
     → (xs ys : List ℕ) × (g : Midway SeatedState) × (i : ℕ) × (rs ≡ xs ++ ys)
-    × SeatedVisits L S (v - 1) xs g × SeatedPath L S xs (g .state) × Here g v i × (threadAt (g .state .state) i ≡ threadAt (S .state) v)
+    × SeatedVisits L S (v - 1) xs g × Path seatedThreads (GoesOn L) (GetsNone L) S xs (g .state) × Here g v i × (threadAt (g .state .state) i ≡ threadAt (S .state) v)
     × (((zs : List ℕ) × (S″ : SeatedState) × (ys ≡ i ∷ 0 ∷ zs) × GoesOn L (g .state) i 0 S″)
     ⊎ (((zs : List ℕ) × (S″ : SeatedState) × (ys ≡ i ∷ 0 ∷ zs) × GetsNone L (g .state) i S″) ⊎ (choice (L .clinic) (g .state .state) i 0 ≡ halts 20)))
 seated-lone-step-done = seated-lone-of
@@ -1354,7 +1369,8 @@ seated-run-written = seated-written
 -- In literal words: a line of two, a free seat that goes to the head alone, a refused choice after one answered 26, the start, each wrong table, and rounds.
 pub seats-in-words : All SeatShown seatCases
 seats-in-words = seats-shown
--- K11: "Version 3 holds the node section as all tags, then all f1, then all f2; the rest is version 2": what is held, in words of version 2 and of version 3. Where a word of
+
+-- Request K11, nodes by column. "Version 3 holds the node section as all tags, then all f1, then all f2; the rest is version 2": what is held, in words of version 2 and of version 3. Where a word of
 -- a record is read stands in `records-by-words`, and the encodings of all three versions are read exactly (`reads-exactly`, `checks-exactly`).
 pub columns-in-words : (C : Contents) → (rest : List ℕ) × (fileWords 2 C ≡ 2 ∷ (rest ++ nodeRows (C .nodes)))
     × (fileWords 3 C ≡ 3 ∷ (rest ++ (map (λ (n : Node). n .tag) (C .nodes) ++ (map (λ (n : Node). n .f1) (C .nodes) ++ map (λ (n : Node). n .f2) (C .nodes)))))
@@ -1368,8 +1384,14 @@ words-within = spot-within
 pub no-two-alike : (version nodes n m i j : ℕ) → 1 ≤ n → n ≤ nodes → 1 ≤ m → m ≤ nodes → i < 3 → j < 3 → spot version nodes n i ≡ spot version nodes m j → (n ≡ m) × (i ≡ j)
 no-two-alike = spot-one
 
-pub no-place-left : (version nodes place : ℕ) → place < 3 * nodes → Spotted version nodes place
-no-place-left = spot-found
+pub no-place-left : (version nodes place : ℕ) → place < 3 * nodes → (n : ℕ) × (j : ℕ) × (1 ≤ n) × (n ≤ nodes) × (j < 3) × (spot version nodes n j ≡ place)
+no-place-left version nodes place h = let it = spot-found version nodes place h in (it .node, it .word, it .from-one, it .in-count, it .few, it .here)
+
+-- Each word of a node is read at its spot.
+pub words-at-their-spots : (f : List ℕ) (n : ℕ) → inCount (headAt f .count .nodes) n ≡ true
+    → item noNode (contentsOf f .nodes) n ≡ record { tag = wordAt f (nodeSpot (headAt f) n 0); f1 = wordAt f (nodeSpot (headAt f) n 1); f2 = wordAt f (nodeSpot (headAt f) n 2) }
+unfolding contentsAt
+words-at-their-spots f n there = item-there noNode (nodeOf f (headAt f)) (headAt f .count .nodes) n there
 
 -- "Turning a version 2 file to columns and back restores it, and a version 3 file to rows and back": all bytes that 1 to 5 leave clean; what is turned is taken back, with the same answer.
 pub columns-and-back : (f : List ℕ) → All (λ b. b < 256) f → (room : ℕ) → turning 2 f room .number ≡ 0 → (turning 3 (inColumns f) room ≡ turning 2 f room) × (inRows (inColumns f) ≡ f)
@@ -1408,12 +1430,18 @@ pub rows-written-nothing : (f out : List ℕ) → turning 3 f (length out) .numb
 rows-written-nothing = refused-writes-nothing 3 2 refl refl
 
 -- "Every other answer on the column file is the one on its row file; a file placed or handed back keeps the form it came in": reading, check, hours, placing and measuring with length and on
--- steps, runs, ready pairs, rounds, totals, lent lists and merging; and the placed column file is the columns of the placed row file. Of a version 2 file that turning takes, and of a version 3 file.
+-- steps, what a file adds to a sheet, runs, ready pairs, rounds, totals, runs and rounds with seats and the seats read, lent lists and merging; and the placed column file is the columns of the placed row
+-- file. Of a version 2 file that turning takes, and of a version 3 file.
 pub column-answers : (f : List ℕ) (room : ℕ) → turning 2 f room .number ≡ 0 → ColumnsOf (inColumns f) f
 column-answers = columns-alike
 
 pub row-answers : (c : List ℕ) → All (λ b. b < 256) c → (room : ℕ) → turning 3 c room .number ≡ 0 → ColumnsOf c (inRows c)
 row-answers = rows-alike
+
+-- .. and a notice that holds the column file is answered as one that holds its row file; the part handed back is of the notice lent (`part-is-the-file`).
+pub column-notices : (f : List ℕ) (room : ℕ) → turning 2 f room .number ≡ 0 → (a b c d : ℕ) (n : List ℕ) (day : ℕ)
+    → (planInForce (a ∷ b ∷ c ∷ d ∷ inColumns f) n day ≡ planInForce (a ∷ b ∷ c ∷ d ∷ f) n day) × (planInForce n (a ∷ b ∷ c ∷ d ∷ inColumns f) day ≡ planInForce n (a ∷ b ∷ c ∷ d ∷ f) day)
+column-notices = notices-alike
 
 -- Where turning does not take a file for 1 to 5, bytes of version 3 are refused as the same bytes of version 2.
 pub heads-alike : (bs : List ℕ) → headNumber (headOf (3 ∷ 0 ∷ bs)) ≡ headNumber (headOf (2 ∷ 0 ∷ bs))
@@ -1438,7 +1466,8 @@ turning-in-words = booking-answered
 
 pub column-cases : All Shown columnCases
 column-cases = columned
--- K12: "A notice is one word with the first day of validity (days since 1 January 2000), one word with the file's length in bytes, then the file, checked for 1 to 10 only. Of two lent notices and a day, the one with the later
+
+-- Request K12, the plan in force. "A notice is one word with the first day of validity (days since 1 January 2000), one word with the file's length in bytes, then the file, checked for 1 to 10 only. Of two lent notices and a day, the one with the later
 -- first day not after that day supersedes; with equal first days, the second": what is answered is what the request's words say (`Answers` of notices_exact), and nothing else.
 pub in-force-answers : (f g : List ℕ) (day : ℕ) (r : InForce) → Notice·Answers f g day r ↔ (r ≡ planInForce f g day)
 in-force-answers f g day r = (one-answer f g day r, λ e. subst (Notice·Answers f g day) (sym e) (notices-answered f g day))
@@ -1530,3 +1559,40 @@ records-in-any-order = orders-of-records entryOf
 -- In literal words: files placed and refused, in two orders, with a record that isn't whole after them; half a length word; nothing.
 pub sheets-in-words : All SheetShown sheetCases
 sheets-in-words = sheets-shown
+
+-- Request K14, what another ward can change in mine. "Two files of document 01's version that both place agree on roles, kinds, channels, and one session's user number, that user's mask, and its tree counted from its own root. Other users' masks and other sessions differ
+-- freely" (`SameWard`; where roles agree with their juniors, files of version 2 do as well). "That session's placed tree, counted so, is then the same in both, and so is its number of on steps": F and G are the two files, the session
+-- is number i in F and number j in G, P and Q are the placed files as they are written, in whatever room. "Show it for K4's tie rule": placing takes no other (`places-well`).
+pub ward-is-isolated : (f g : List ℕ) → All (λ b. b < 256) f → All (λ b. b < 256) g → (room space : ℕ) → placing f room .number ≡ 0 → placing g space .number ≡ 0
+    → (F G : File) → ReadsAs f F → ReadsAs g G → (i j : ℕ) → SameWard F G i j → (P Q : File) → encode P ≡ placedBytes f → encode Q ≡ placedBytes g
+    → (session P i .tree ≡ session Q j .tree) × (onSteps (session P i .tree) ≡ onSteps (session Q j .tree))
+ward-is-isolated f g F-bytes G-bytes room space p q F G d e i j S P Q = isolated f g F-bytes G-bytes F G d e i j S P Q room space p q
+
+-- .. "cover hours too, for one minute and one table": t is the table and m the minute.
+pub ward-is-isolated-at : (f g : List ℕ) → All (λ b. b < 256) f → All (λ b. b < 256) g → (t : List ℕ) (m room space : ℕ) → placingAt f t m room .number ≡ 0 → placingAt g t m space .number ≡ 0
+    → (F G : File) → ReadsAs f F → ReadsAs g G → (i j : ℕ) → SameWard F G i j → (P Q : File) → encode P ≡ placedBytesAt f t m → encode Q ≡ placedBytesAt g t m
+    → (session P i .tree ≡ session Q j .tree) × (onSteps (session P i .tree) ≡ onSteps (session Q j .tree))
+ward-is-isolated-at f g F-bytes G-bytes t m room space p q F G d e i j S P Q = isolated-at f g F-bytes G-bytes F G d e i j S P Q t m room space p q
+
+-- The same of the words written: from the session's root on stand as many nodes as its tree has, and counted from that root (a fork's f1 less the root's number, every other word as it is) they are the same in both.
+pub ward-in-bytes : (f g : List ℕ) → All (λ b. b < 256) f → All (λ b. b < 256) g → (room space : ℕ) → placing f room .number ≡ 0 → placing g space .number ≡ 0
+    → (F G : File) → ReadsAs f F → ReadsAs g G → (i j : ℕ) → SameWard F G i j → (P Q : File) → encode P ≡ placedBytes f → encode Q ≡ placedBytes g
+    → fromRoot (contentsOf (placedBytes f)) i (past 0 (session P i .tree)) ≡ fromRoot (contentsOf (placedBytes g)) j (past 0 (session P i .tree))
+ward-in-bytes f g F-bytes G-bytes room space p q F G d e i j S P Q = isolated-words f g F-bytes G-bytes F G d e i j S P Q room space p q
+
+pub ward-in-bytes-at : (f g : List ℕ) → All (λ b. b < 256) f → All (λ b. b < 256) g → (t : List ℕ) (m room space : ℕ) → placingAt f t m room .number ≡ 0 → placingAt g t m space .number ≡ 0
+    → (F G : File) → ReadsAs f F → ReadsAs g G → (i j : ℕ) → SameWard F G i j → (P Q : File) → encode P ≡ placedBytesAt f t m → encode Q ≡ placedBytesAt g t m
+    → fromRoot (contentsOf (placedBytesAt f t m)) i (past 0 (session P i .tree)) ≡ fromRoot (contentsOf (placedBytesAt g t m)) j (past 0 (session P i .tree))
+ward-in-bytes-at f g F-bytes G-bytes t m room space p q F G d e i j S P Q = isolated-words-at f g F-bytes G-bytes F G d e i j S P Q t m room space p q
+
+-- From the session's root on stand as many nodes as its tree has, and they are the tree as it is written.
+pub ward-words-are-its-tree : (P : File) (g : List ℕ) → encode P ≡ g → (i : ℕ) → InCount (length (P .sessions)) i
+    → fromRoot (contentsOf g) i (past 0 (session P i .tree)) ≡ write 0 (session P i .tree) []
+ward-words-are-its-tree = from-root
+
+-- In literal words: a session alone in its file, and second in another with other users; what the two files hold, that they agree on the session, and both placed.
+pub wards-in-words-agree : ReadsAs (bytesOf alone) aloneFile × ReadsAs (bytesOf beside) besideFile × SameWard aloneFile besideFile 1 2
+wards-in-words-agree = wards-agree
+
+pub wards-in-words : WardShown alone alonePlaced 1 × WardShown beside besidePlaced 2
+wards-in-words = wards-shown

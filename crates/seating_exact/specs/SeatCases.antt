@@ -57,10 +57,32 @@ oneSeat = 1 ∷ 0 ∷ []
 abbrev pub fourth : List ℕ
 fourth = shows 1 10 0 0 0
 
+-- two users with roles 1 and 2; the first user's session forks, and both of its threads and the second's session put role 2 on and off
+abbrev pub twins : List ℕ
+twins =
+    1 ∷ 2 ∷ 2 ∷ 0 ∷ 0 ∷ 2 ∷ 10 ∷ 13 ∷ 15 ∷ 23 ∷ 23 ∷ 23 ∷ 29
+    ∷ 3 ∷ 3
+    ∷ 0 ∷ 0 ∷ 0 ∷ 0 ∷ 0 ∷ 0 ∷ 0 ∷ 0
+    ∷ 1 ∷ 0 ∷ 1 ∷ 2 ∷ 0 ∷ 8
+    ∷ 1 ∷ 5 ∷ 0 ∷ 7 ∷ 2 ∷ 0 ∷ 8 ∷ 2 ∷ 0 ∷ 0 ∷ 0 ∷ 0 ∷ 7 ∷ 2 ∷ 0 ∷ 8 ∷ 2 ∷ 0 ∷ 0 ∷ 0 ∷ 0
+    ∷ 7 ∷ 2 ∷ 0 ∷ 8 ∷ 2 ∷ 0 ∷ 0 ∷ 0 ∷ 0 ∷ []
+
 abbrev pub seatCases : List SeatCase
 seatCases =
+    -- session 1 forks into threads 1 and 3; 3 takes the one seat in role 2, session 2 waits, and 1, 3's twin, puts the role on without asking; 3's off leaves the seat taken
+    runsSeated twins (0 ∷ 1 ∷ []) (1 ∷ 0 ∷ 3 ∷ 0 ∷ 2 ∷ 0 ∷ 1 ∷ 0 ∷ 3 ∷ 0 ∷ 2 ∷ 0 ∷ []) fine (6 ∷ 0 ∷ 3 ∷ 0 ∷ shows 1 3 2 1 0 ++ shows 2 8 0 0 0 ++ shows 1 7 0 0 0)
+    ∷ readsSeats twins (0 ∷ 1 ∷ []) (1 ∷ 0 ∷ 3 ∷ 0 ∷ 2 ∷ 0 ∷ 1 ∷ 0 ∷ 3 ∷ 0 ∷ 2 ∷ 0 ∷ []) (record {
+      number = 0;
+      place = 0;
+      waited = 2;
+      last = 26;
+      taken = 0 ∷ 1 ∷ replicate 14 0;
+      waiting = 0 ∷ 1 ∷ replicate 14 0;
+      line = replicate 32 0 ++ (2 ∷ replicate 479 0);
+      totals = replicate 32 0;
+    })
     -- session 1 takes the seat; 2 and 3 are answered 26, and only the line changes
-    runsSeated holders oneSeat (1 ∷ 0 ∷ 2 ∷ 0 ∷ 3 ∷ 0 ∷ []) fine (3 ∷ 0 ∷ 4 ∷ 0 ∷ shows 1 2 3 2 0 ++ shows 2 4 0 0 0 ++ shows 3 7 0 0 0 ++ fourth)
+    ∷ runsSeated holders oneSeat (1 ∷ 0 ∷ 2 ∷ 0 ∷ 3 ∷ 0 ∷ []) fine (3 ∷ 0 ∷ 4 ∷ 0 ∷ shows 1 2 3 2 0 ++ shows 2 4 0 0 0 ++ shows 3 7 0 0 0 ++ fourth)
     -- a line of two, 2 before 3; role 2, without limit, has one session; one thread waits for kind 1
     ∷ readsSeats holders oneSeat (1 ∷ 0 ∷ 2 ∷ 0 ∷ 3 ∷ 0 ∷ []) (record {
       number = 0;

@@ -20,7 +20,7 @@ use Rattle.seats.specs.Seats.{Limited, limitedOf, seatsIn, SeatedState, 
 use Rattle.seats.specs.SeatOrder.{AsksSeat, GetsSeat, SeatedStep, gotNone, tookSeat, askedNone, refusedPlainly}
 use Rattle.seats.proofs.SeatedTold.{choice-seated}
 
--- a run and one with seats agree, where so many choices of the latter were seatedBy 26
+-- a run and one with seats agree, where so many choices of the latter were answered 26
 pub record SameRun (R : Ran) (T : SeatedRan) (gotNone : ℕ) : Type 0 where
   pub state : R .state ≡ T .seating .state
   pub refusal : R .refusal ≡ T .refusal
@@ -31,7 +31,7 @@ same-ran : {a b c d : ℕ} {s t : State} → a ≡ b → c ≡ d → s ≡ t
 same-ran x y z = cc (x, y, z)
 
 module _ (L : Limited) where
-  -- The choices seatedBy 26 left out, the run without seats gives the same state and refuses alike.
+  -- The choices answered 26 left out, the run without seats gives the same state and refuses alike.
   pub run-alike : (ws : List ℕ) (S : SeatedState) → SameRun (run (L .clinic) (S .state) (stepsOnly L S ws)) (seatedRun L S ws) (waitsIn L S ws)
   unfolding run seatedRun stepsOnly waitsIn
   run-alike [] S = record { state = refl; refusal = refl; count = refl }
@@ -58,7 +58,7 @@ module _ (L : Limited) where
           subst (λ (o : Chosen). SameRun (follow (S .state) o (λ s. run (L .clinic) s ws)) (followSeated S (refuses n) (λ T. seatedRun L T ws)) 0) (sym h)
           (record { state = refl; refusal = refl; count = refl })
 
-  -- No limit: no choice is seatedBy 26.
+  -- No limit: no choice is answered 26.
   module _ (free : (r : ℕ) → L .seats r ≡ 0) where
     none-asks : (S : SeatedState) (i p : ℕ) → AsksSeat L S i p → ⊥
     none-asks S i p A = omega (arith, A .limited, free (threadNode L S i .f1))

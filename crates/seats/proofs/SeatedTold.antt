@@ -156,7 +156,7 @@ module _ (L : Limited) (S : SeatedState) (i p : ℕ) where
       back st f (inl A) = (_, seated-choice _ (tookSeat A (f A) s st), refl)
       back st f (inr A) = (_, seated-choice _ (askedNone A s st), refl)
 
-  -- It is seatedBy 26 exactly where it asks for a seat and does not get one.
+  -- It is answered 26 exactly where it asks for a seat and does not get one.
   pub waits-iff : ((S′ : SeatedState) × (seatedChoice L S i p ≡ waits S′)) ↔ (AsksSeat L S i p × (GetsSeat L S i → ⊥))
   waits-iff = (λ (S′, e). let (A, G, x, y, z) = told (waits S′) e in (A, G), λ (A, G). (standInLine L S i, seated-choice _ (gotNone A G)))
 

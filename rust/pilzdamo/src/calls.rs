@@ -464,9 +464,9 @@ pub fn totals(file: &[u8], choices: &[u16]) -> Totals {
 /// 0 for no limit, else 1 to [`SEATS`].
 ///
 /// A session has a seat in a role while any of its threads has the role active. An on by
-/// a session without one gets a seat exactly if one is free and nobody is in the role's
-/// line, or the session is the first there, and then leaves it. An on that gets none is
-/// answered 26: its session joins the line at the end, if it isn't in it, and nothing
+/// a session without one gets a seat exactly if one is free, and nobody is in the role's
+/// line or the session is the first there; it leaves the line as it takes the seat. An
+/// on that gets none is answered 26: its session joins the line at the end, if it isn't in it, and nothing
 /// else changes. That halts nothing: the choice counts as done, and is to be made again
 /// when a seat may be free. [`seats`] says who has a seat and who waits.
 ///

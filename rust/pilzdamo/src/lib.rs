@@ -154,6 +154,9 @@
 //! // The placed column file is the placed row file, by column.
 //! let (placed_rows, on_steps) = pilzdamo::placed(&rows)?;
 //! assert_eq!(pilzdamo::placed(&columns)?, (pilzdamo::in_columns(&placed_rows)?, on_steps));
+//! # Ok::<(), Box<dyn std::error::Error>>(())
+//! ```
+//!
 //! # The plan in force
 //!
 //! A group sends next month's file early, as a notice: the first day of validity (in

@@ -36,6 +36,7 @@ pub mod states;
 mod tally;
 mod totals;
 mod trees;
+mod wards;
 mod wild;
 
 pub use answers::{agreed, engine_check, engine_read, second_check, second_read, Answer};
@@ -79,6 +80,7 @@ pub use starting::{engine_start, StartTally};
 pub use tally::{compare, Tally};
 pub use totals::{agreed_totals, compare_totals, deal_totals, engine_totals, TotalsTally};
 pub use trees::Trees;
+pub use wards::{compare_wards, deal_wards, OwnTree, Wards, WardsTally};
 
 /// A sound file with bytes behind it, to several lengths, and the number that each
 /// is refused with.

@@ -12,6 +12,7 @@ pub use tally::SeatTally;
 pub use timed::{largest_seated, typical_seated};
 pub use witness::{Came, Witness};
 
+use crate::columns::row_file;
 use crate::rounds::{choices_of, engine_round};
 use crate::running::{agreed, engine_run, is_halted, Dealt};
 use crate::totals::engine_totals;
@@ -220,6 +221,26 @@ fn assert_alike(dealt: &Dealt, told: &Told, witness: &Witness, origin: &str) {
     assert_eq!(done, word_at(&told.out, 0), "{origin}: its choices done");
 }
 
+/// The engine answers and writes for a column file what it does for its rows.
+fn assert_as_by_row(seated: &Seated, rows: Vec<u8>, told: &Told, origin: &str) {
+    let (choices, table) = (&seated.dealt.choices, &seated.seats);
+    let mut out = seated.dealt.before.clone();
+    let mut after_round = seated.dealt.before.clone();
+    let run = engine_run_seated(&rows, choices, table, &mut out);
+    let round = engine_round_seated(&rows, choices, table, &mut after_round);
+    let seats = engine_seats(&rows, choices, table);
+    assert_eq!(
+        (told.run, told.round, told.seats),
+        (run, round, seats),
+        "by row: {origin}"
+    );
+    assert!(told.out == out, "another output by row: {origin}");
+    assert!(
+        told.after_round == after_round,
+        "a round's by row: {origin}"
+    );
+}
+
 /// Deals `inputs` inputs for files of a version to both and panics at the first
 /// difference.
 pub fn compare_seats(version: Version, seed: u64, inputs: u64) -> SeatTally {
@@ -228,6 +249,9 @@ pub fn compare_seats(version: Version, seed: u64, inputs: u64) -> SeatTally {
         let seated = deal_seated(version, seed, index);
         let origin = format!("trials::deal_seated(Version::{version:?}, {seed}, {index})");
         let told = agreed_seated(&seated, &origin);
+        if let Some(rows) = row_file(&seated.dealt.file) {
+            assert_as_by_row(&seated, rows, &told, &origin);
+        }
         let no_limits = seated.seats.iter().all(|&seats| seats == 0);
         let refused_table = told.run.number == 17;
         if no_limits && !refused_table {

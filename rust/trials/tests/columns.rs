@@ -6,7 +6,9 @@ use second::draft::Draft;
 use second::{Placed, Version, ROOM, TURNED_ROOM};
 use trials::{agreed, agreed_placing, agreed_turn, column_file, compare, compare_checking_at};
 use trials::{compare_choosing, compare_placing, compare_placing_at, compare_rounds};
-use trials::{compare_running, compare_starting, compare_totals, compare_turning, engine_turn};
+use trials::{
+    compare_running, compare_seats, compare_starting, compare_totals, compare_turning, engine_turn,
+};
 use trials::{files, largest, largest_bare, lengthened, row_file, second_turn, seed, typical};
 use trials::{typical_bare, Turned};
 
@@ -51,6 +53,11 @@ fn random_totals() {
 fn random_starts_and_choices() {
     compare_starting(VERSION, seed(), files() / 4).demand();
     compare_choosing(VERSION, seed(), files() / 32).demand();
+}
+
+#[test]
+fn random_seats() {
+    compare_seats(VERSION, seed(), files() / 8).demand();
 }
 
 #[test]

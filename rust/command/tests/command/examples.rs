@@ -78,6 +78,7 @@ fn the_readme_names_every_example() {
         "notices/",
         "spring/",
         "seats/",
+        "wards/",
     ];
     for folder in folders.into_iter().chain(["", "refused/"]) {
         for entry in fs::read_dir(example(folder)).expect("a folder") {
@@ -115,7 +116,7 @@ fn the_readmes_commands() {
             printed += 1;
         }
     }
-    assert_eq!(printed, 11);
+    assert_eq!(printed, 15);
 }
 
 /// The refusal that a line begins with, `- 6 at word 27: ` or `- 3: `: its sentence, up

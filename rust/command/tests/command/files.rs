@@ -16,6 +16,8 @@ pub fn all() -> Vec<(&'static str, Vec<u8>)> {
         ("head-nurse/copied.clinic", copied_grants().bytes()),
         ("head-nurse/juniors.clinic", by_juniors().bytes()),
         ("head-nurse/columns.clinic", by_columns().bytes()),
+        ("wards/before.clinic", before().bytes()),
+        ("wards/after.clinic", after().bytes()),
         ("house/north.clinic", north().bytes()),
         ("house/south.clinic", south().bytes()),
         ("notices/november.notice", november()),
@@ -31,7 +33,7 @@ pub fn all() -> Vec<(&'static str, Vec<u8>)> {
 }
 
 /// Those that can be placed.
-pub const BARE: [&str; 12] = [
+pub const BARE: [&str; 14] = [
     "booking.clinic",
     "overlap.clinic",
     "theatre.clinic",
@@ -39,6 +41,8 @@ pub const BARE: [&str; 12] = [
     "desks.clinic",
     "head-nurse/juniors.clinic",
     "head-nurse/columns.clinic",
+    "wards/before.clinic",
+    "wards/after.clinic",
     "house/north.clinic",
     "house/south.clinic",
     "spring/bare.clinic",
@@ -303,6 +307,58 @@ pub fn by_juniors() -> Draft {
 /// The same with its nodes by column.
 pub fn by_columns() -> Draft {
     by_juniors().in_columns()
+}
+
+/// The tables of the surgeon's house: role 1 asks on kind 1, role 2 asks and books on
+/// kinds 1 and 2, role 3 is the desk's, which has both channels. Her number and roles,
+/// and the desk's number, are those of every file here.
+fn surgery(desk: &[u16]) -> Draft {
+    Draft::default()
+        .user(&[1, 2])
+        .user(desk)
+        .role(&[1], &[])
+        .role(&[1, 2], &[])
+        .role(&[], &[1, 2])
+        .kind(0)
+        .kind(0)
+        .channel(2, 1)
+        .channel(2, 2)
+}
+
+/// The surgeon's steps where they stand from a root on: she asks for a bed and books
+/// it, and besides asks once more.
+fn surgeon(root: u16) -> [[u16; 3]; 7] {
+    let [ask, book] = [1, 2].map(channel);
+    [
+        fork(root + 4),
+        send(ask, 1),
+        send(book, 1),
+        END,
+        compare(1, 1),
+        send(ask, 1),
+        END,
+    ]
+}
+
+/// The surgeon and the desk.
+fn before() -> Draft {
+    let [ask, book] = [1, 2].map(channel);
+    surgery(&[3])
+        .session(1, &surgeon(1))
+        .session(2, &[receive(ask), receive(book), END])
+}
+
+/// Another ward has moved in: a nurse with two sessions before the surgeon's, a bed, and
+/// a desk with a role and steps more.
+fn after() -> Draft {
+    let [ask, book] = [1, 2].map(channel);
+    surgery(&[1, 3])
+        .user(&[2])
+        .user(&[])
+        .session(3, &[send(book, 4), END])
+        .session(3, &[compare(4, 4), send(ask, 4), END])
+        .session(1, &surgeon(6))
+        .session(2, &[receive(book), receive(ask), receive(ask), END])
 }
 
 /// The sends of the booking.

@@ -26,4 +26,5 @@ mod show;
 mod spring;
 mod streams;
 mod waiting;
+mod wards;
 mod wrong_use;

@@ -467,7 +467,7 @@ int main(int argc, char **argv) {
         fprintf(stderr, "the folder of the examples is wanted\n");
         return 2;
     }
-    printf("sizes: %d %d %d %d %d %d %d %d %d %d\n", (int)sizeof(pilzdamo_verdict),
+    printf("sizes: %d %d %d %d %d %d %d %d %d %d %d\n", (int)sizeof(pilzdamo_verdict),
            (int)sizeof(pilzdamo_placed), (int)sizeof(pilzdamo_ready_pair),
            (int)sizeof(pilzdamo_round_choices), (int)sizeof(pilzdamo_kind_totals),
            (int)sizeof(pilzdamo_said), (int)sizeof(pilzdamo_written),

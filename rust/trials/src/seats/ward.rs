@@ -69,7 +69,10 @@ fn tables(rng: &mut Rng, version: Version, roles: u16) -> Draft {
     Draft {
         users: vec![[all], [other], [0]],
         roles: vec![[3, 0, 3, 0]; roles.into()],
-        juniors: (version == Version::Two).then(|| juniors::masks(rng, roles.into())),
+        juniors: version
+            .has_juniors()
+            .then(|| juniors::masks(rng, roles.into())),
+        by_column: version == Version::Three,
         kinds: vec![[0], [0]],
         channels: vec![[1, 1], [2, 2]],
         ..Draft::default()

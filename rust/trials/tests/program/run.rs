@@ -29,7 +29,7 @@ impl Program {
     }
 
     /// Hands the pieces over one by one, with a pause after each.
-    fn run(&self, pieces: &[&[u8]]) -> Output {
+    pub fn run(&self, pieces: &[&[u8]]) -> Output {
         let mut running = self.with(Stdio::piped()).spawn().expect("it starts");
         let mut pipe = running.stdin.take().expect("its input is a pipe");
         for piece in pieces {

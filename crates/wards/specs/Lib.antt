@@ -1,0 +1,2 @@
+pub mod Ward
+pub mod WardCases
