@@ -1,15 +1,19 @@
 //! What each word of the command does.
 
-use crate::choices::{self, Flaw};
+use crate::choices;
 use crate::clinic::{Clinic, KINDS};
 use crate::hours;
+use crate::input::Input;
+use crate::lists::{self, List};
 use crate::output;
+use crate::seats::{self, Table};
 use crate::source::Source;
 use crate::state::State;
 use crate::turning::Turn;
 use crate::words::{At, Job, Wanted};
 use crate::{
-    days, explain, merging, names, notices, reasons, refusals, report, seats, sheets, show, turning,
+    days, explain, merging, names, notices, packing, reasons, refusals, report, runs, sheets,
+    shown, turning,
 };
 use crate::{Outcome, WrongUse};
 use pilzdamo::{Counts, Placed, Totals, Verdict, BEFORE_ROUND, ROOM, ROOM_1, RUN_ROOM};
@@ -19,7 +23,15 @@ use std::path::Path;
 pub fn carry_out(job: Job) -> Result<Outcome, WrongUse> {
     match job {
         Job::Check { file, at } => check(&file, at.as_ref()),
-        Job::Place { file, at, out } => place(&file, at.as_ref(), out.as_deref()),
+        Job::Place {
+            file,
+            at,
+            out,
+            bytes,
+        } => place(&file, at.as_ref(), out.as_deref(), bytes),
+        Job::Pack { text, out, names } => packing::pack(&text, out.as_deref(), names.as_deref()),
+        Job::Unpack { file, out, names } => packing::unpack(&file, out.as_deref(), names.as_ref()),
+        Job::Strip { file, out } => packing::strip(&file, out.as_deref()),
         Job::Measure { file, at } => measure(&file, at.as_ref()),
         Job::Merge { first, second, out } => merge(&first, &second, out.as_deref()),
         Job::Turn { turn, file, out } => turn_file(turn, &file, out.as_deref()),
@@ -52,7 +64,7 @@ pub fn carry_out(job: Job) -> Result<Outcome, WrongUse> {
             seats,
         } => round(&file, &choices, seats.as_ref()),
         Job::Dispatch { file, rounds } => dispatch(&file, rounds),
-        Job::Show { file } => answer(&show::text(&file.read()?)),
+        Job::Show { file } => answer(&shown::page(&file.clinic()?)),
         Job::Explain { number } => explain(number),
         Job::Reason { sentence } => reason(&sentence),
         Job::Help => answer(include_str!("help.txt")),
@@ -94,10 +106,10 @@ impl Hours {
     }
 
     /// The message for what is refused of a file or of these hours.
-    fn report(&self, file: &Source, bytes: &[u8], verdict: Verdict) -> String {
+    fn report(&self, input: &Input, verdict: Verdict) -> String {
         match verdict.number {
             22 | 23 => report::of_hours(&self.name, &self.table.lines, verdict),
-            _ => report::of_file(&file.name(), bytes, verdict),
+            _ => input.refused(verdict),
         }
     }
 
@@ -108,7 +120,7 @@ impl Hours {
 }
 
 fn check(file: &Source, at: Option<&At>) -> Result<Outcome, WrongUse> {
-    let bytes = file.read()?;
+    let bytes = file.clinic()?;
     let hours = at.map(Hours::read).transpose()?;
     let verdict = match &hours {
         None => pilzdamo::check(&bytes),
@@ -119,7 +131,7 @@ fn check(file: &Source, at: Option<&At>) -> Result<Outcome, WrongUse> {
         let planned = names::planned(&bytes);
         return answer(&format!("{}: passes{when}{planned}\n", file.name()));
     }
-    let mut message = refused(file, &bytes, hours.as_ref(), verdict);
+    let mut message = refused(&bytes, hours.as_ref(), verdict);
     if verdict.number == 13 && Clinic::of(&bytes).is_bare() {
         message += "\n  the routine has no on or off yet: pilzdamo place puts them in";
     }
@@ -127,15 +139,20 @@ fn check(file: &Source, at: Option<&At>) -> Result<Outcome, WrongUse> {
 }
 
 /// The message for what check or placing refuses.
-fn refused(file: &Source, bytes: &[u8], hours: Option<&Hours>, verdict: Verdict) -> String {
+fn refused(input: &Input, hours: Option<&Hours>, verdict: Verdict) -> String {
     match hours {
-        None => report::of_file(&file.name(), bytes, verdict),
-        Some(hours) => hours.report(file, bytes, verdict),
+        None => input.refused(verdict),
+        Some(hours) => hours.report(input, verdict),
     }
 }
 
-fn place(file: &Source, at: Option<&At>, out: Option<&Path>) -> Result<Outcome, WrongUse> {
-    let bytes = file.read()?;
+fn place(
+    file: &Source,
+    at: Option<&At>,
+    out: Option<&Path>,
+    as_bytes: bool,
+) -> Result<Outcome, WrongUse> {
+    let bytes = file.clinic()?;
     let hours = at.map(Hours::read).transpose()?;
     let mut room = [0; ROOM];
     let placed = match &hours {
@@ -143,27 +160,37 @@ fn place(file: &Source, at: Option<&At>, out: Option<&Path>) -> Result<Outcome, 
         Some(hours) => pilzdamo::place_at(&bytes, &hours.table.words, hours.minute, &mut room),
     };
     if !placed.is_placed() {
-        return refusal(&refused(file, &bytes, hours.as_ref(), placed.verdict()));
+        return refusal(&refused(&bytes, hours.as_ref(), placed.verdict()));
     }
     let length = usize::from(placed.length);
-    output::deliver(&room[..length.min(ROOM)], out)?;
-    let (name, told) = (file.name(), size(placed));
+    let written = &room[..length.min(ROOM)];
+    let (packed, there) = match &bytes.text {
+        Some(text) if !as_bytes => {
+            packing::deliver_placed(text, written, out)?;
+            (" when packed", "; the text is in")
+        }
+        _ => {
+            output::deliver(written, out)?;
+            ("", " in")
+        }
+    };
+    let (name, told) = (file.name(), size(placed) + packed);
     let when = hours.map_or(String::new(), |hours| hours.when("for"));
-    let written = out.map_or(String::new(), |path| format!(" in {}", path.display()));
+    let written = out.map_or(String::new(), |path| format!("{there} {}", path.display()));
     let planned = names::planned(&bytes);
     output::say(&format!("{name}: placed{when}, {told}{written}{planned}"));
     Ok(Outcome::Answer)
 }
 
 fn measure(file: &Source, at: Option<&At>) -> Result<Outcome, WrongUse> {
-    let bytes = file.read()?;
+    let bytes = file.clinic()?;
     let hours = at.map(Hours::read).transpose()?;
     let placed = match &hours {
         None => pilzdamo::measure(&bytes),
         Some(hours) => pilzdamo::measure_at(&bytes, &hours.table.words, hours.minute),
     };
     if !placed.is_placed() {
-        return refusal(&refused(file, &bytes, hours.as_ref(), placed.verdict()));
+        return refusal(&refused(&bytes, hours.as_ref(), placed.verdict()));
     }
     let when = hours.map_or(String::new(), |hours| hours.when("for"));
     let (told, planned) = (size(placed), names::planned(&bytes));
@@ -182,7 +209,7 @@ fn size(placed: Placed) -> String {
 fn merge(first: &Source, second: &Source, out: Option<&Path>) -> Result<Outcome, WrongUse> {
     output::spare(first, out)?;
     output::spare(second, out)?;
-    let (one, other) = (first.read()?, second.read()?);
+    let (one, other) = (first.clinic()?, second.clinic()?);
     let files = [(first.name(), &one[..]), (second.name(), &other[..])];
     let mut room = [0; ROOM_1];
     let written = pilzdamo::merge(&one, &other, &mut room);
@@ -199,13 +226,12 @@ fn merge(first: &Source, second: &Source, out: Option<&Path>) -> Result<Outcome,
 
 fn turn_file(turn: Turn, file: &Source, out: Option<&Path>) -> Result<Outcome, WrongUse> {
     output::spare(file, out)?;
-    let bytes = file.read()?;
+    let bytes = file.clinic()?;
     let mut room = [0; ROOM];
     let written = turn.call(&bytes, &mut room);
     let name = file.name();
     if !written.is_written() {
-        let verdict = written.verdict();
-        return refusal(&turning::refused(turn, &name, &bytes, verdict));
+        return refusal(&turning::refused(turn, &bytes, written.verdict()));
     }
     let length = usize::from(written.length);
     output::deliver(&room[..length.min(ROOM)], out)?;
@@ -216,10 +242,10 @@ fn turn_file(turn: Turn, file: &Source, out: Option<&Path>) -> Result<Outcome, W
 
 fn notice(first_day: u16, file: &Source, out: Option<&Path>) -> Result<Outcome, WrongUse> {
     output::spare(file, out)?;
-    let bytes = file.read()?;
+    let bytes = file.clinic()?;
     let verdict = pilzdamo::read(&bytes);
     if !verdict.is_clean() {
-        return refusal(&report::of_file(&file.name(), &bytes, verdict));
+        return refusal(&bytes.refused(verdict));
     }
     let notice = notices::notice(first_day, &bytes);
     output::deliver(&notice, out)?;
@@ -263,8 +289,8 @@ fn in_force(day: u16, sources: [&Source; 2], out: Option<Wanted>) -> Result<Outc
 fn sheet(files: &[Source], json: bool) -> Result<Outcome, WrongUse> {
     let mut input = Vec::new();
     for file in files {
-        let bytes = file.read()?;
-        let record = pilzdamo::records([&bytes]).ok_or_else(|| {
+        let bytes = file.clinic()?;
+        let record = pilzdamo::records([&bytes[..]]).ok_or_else(|| {
             let (name, length) = (file.name(), bytes.len());
             let most = "a file of a sheet has at most 65535";
             WrongUse(format!("{name}: it has {length} bytes, and {most}"))
@@ -279,98 +305,79 @@ fn sheet(files: &[Source], json: bool) -> Result<Outcome, WrongUse> {
 }
 
 fn run(file: &Source, list: &Source, table: Option<&Source>) -> Result<Outcome, WrongUse> {
-    let bytes = file.read()?;
-    let choices = read_choices(list)?;
+    let bytes = file.clinic()?;
+    let choices = list.read()?;
     let table = table.map(Table::read).transpose()?;
+    let list = List::of(list.name(), &choices, &bytes, table.as_ref())?;
     let mut room = [0; RUN_ROOM];
-    let verdict = match &table {
-        None => pilzdamo::run(&bytes, &choices, &mut room),
-        Some(table) => pilzdamo::run_seated(&bytes, &choices, &table.words, &mut room).verdict(),
+    let verdict = seats::run(&bytes, &list.words, table.as_ref(), &mut room);
+    let state = || {
+        let seated = seated(table.as_ref(), &bytes, &list.words);
+        runs::told(&bytes, &room, &list.followed.threads) + &seated
     };
-    let state = || State::of(&room).text(&Clinic::of(&bytes)) + &seated(&table, &bytes, &choices);
     if verdict.is_clean() {
         return answer(&state());
     }
-    stopped(
-        (file, &bytes),
-        (list, &choices),
-        table.as_ref(),
-        verdict,
-        state,
-    )
+    stopped(&bytes, &list, table.as_ref(), verdict, state)
 }
 
 /// What there is to say of the seats, if there are any.
-fn seated(table: &Option<Table>, bytes: &[u8], choices: &[u16]) -> String {
-    table.as_ref().map_or(String::new(), |table| {
-        let told = pilzdamo::seats(bytes, choices, &table.words);
-        seats::text(&table.words, &told)
+fn seated(table: Option<&Table>, input: &Input, choices: &[u16]) -> String {
+    table.map_or(String::new(), |table| {
+        let told = pilzdamo::seats(input, choices, &table.words);
+        seats::text(input, table, &told)
     })
 }
 
 fn seats_after(file: &Source, list: &Source, table: &Source) -> Result<Outcome, WrongUse> {
-    let bytes = file.read()?;
-    let choices = read_choices(list)?;
+    let bytes = file.clinic()?;
+    let choices = list.read()?;
     let table = Table::read(table)?;
-    let told = pilzdamo::seats(&bytes, &choices, &table.words);
-    let lines = || seats::text(&table.words, &told);
+    let list = List::of(list.name(), &choices, &bytes, Some(&table))?;
+    let told = pilzdamo::seats(&bytes, &list.words, &table.words);
+    let lines = || seats::text(&bytes, &table, &told);
     if told.verdict().is_clean() {
         return answer(&lines());
     }
-    let verdict = told.verdict();
-    stopped(
-        (file, &bytes),
-        (list, &choices),
-        Some(&table),
-        verdict,
-        lines,
-    )
+    stopped(&bytes, &list, Some(&table), told.verdict(), lines)
 }
 
 fn waiting(file: &Source, list: &Source) -> Result<Outcome, WrongUse> {
-    let bytes = file.read()?;
-    let choices = read_choices(list)?;
-    let totals = pilzdamo::totals(&bytes, &choices);
-    let lines = || by_kind(&Clinic::of(&bytes), &totals);
+    let bytes = file.clinic()?;
+    let list = List::of(list.name(), &list.read()?, &bytes, None)?;
+    let totals = pilzdamo::totals(&bytes, &list.words);
+    let lines = || by_kind(&bytes, &totals);
     if totals.verdict().is_clean() {
         return answer(&lines());
     }
-    stopped(
-        (file, &bytes),
-        (list, &choices),
-        None,
-        totals.verdict(),
-        lines,
-    )
+    stopped(&bytes, &list, None, totals.verdict(), lines)
 }
 
 /// A line for each kind of a file.
-fn by_kind(clinic: &Clinic, totals: &Totals) -> String {
-    let kinds = 1..=clinic.count(KINDS) as u16;
-    let line = |kind| format!("kind {kind}: {} waiting\n", totals.of(kind));
+fn by_kind(input: &Input, totals: &Totals) -> String {
+    let kinds = 1..=Clinic::of(input).count(KINDS) as u16;
+    let line = |kind| format!("kind {}: {} waiting\n", input.kind(kind), totals.of(kind));
     kinds.map(line).collect()
 }
 
 fn round(file: &Source, list: &Source, table: Option<&Source>) -> Result<Outcome, WrongUse> {
-    let bytes = file.read()?;
-    let choices = read_choices(list)?;
+    let bytes = file.clinic()?;
+    let choices = list.read()?;
     let table = table.map(Table::read).transpose()?;
+    let table = table.as_ref();
+    let list = List::of(list.name(), &choices, &bytes, table)?;
     let mut room = [0; RUN_ROOM];
-    let round = match &table {
-        None => pilzdamo::round(&bytes, &choices, &mut room),
-        Some(table) => pilzdamo::round_seated(&bytes, &choices, &table.words, &mut room),
+    let round = match table {
+        None => pilzdamo::round(&bytes, &list.words, &mut room),
+        Some(table) => pilzdamo::round_seated(&bytes, &list.words, &table.words, &mut room),
     };
-    let both = [&choices, round.choices()].concat();
-    let state = || State::of(&room).text(&Clinic::of(&bytes)) + &seated(&table, &bytes, &both);
-    let verdict = round.verdict();
-    if !verdict.is_clean() {
-        return stopped(
-            (file, &bytes),
-            (list, &choices),
-            table.as_ref(),
-            verdict,
-            state,
-        );
+    let both = [&list.words, round.choices()].concat();
+    let state = || {
+        let threads = lists::threads(&bytes, &both, table);
+        runs::told(&bytes, &room, &threads) + &seated(table, &bytes, &both)
+    };
+    if !round.verdict().is_clean() {
+        return stopped(&bytes, &list, table, round.verdict(), state);
     }
     let told = match round.choices() {
         [] => "no choice can be done".to_string(),
@@ -382,30 +389,31 @@ fn round(file: &Source, list: &Source, table: Option<&Source>) -> Result<Outcome
 /// The refusal of a file, a list or a table of seats, behind what there is to say of a run
 /// that halted.
 fn stopped(
-    (file, bytes): (&Source, &[u8]),
-    (list, choices): (&Source, &[u16]),
+    input: &Input,
+    list: &List,
     table: Option<&Table>,
     verdict: Verdict,
     state: impl FnOnce() -> String,
 ) -> Result<Outcome, WrongUse> {
-    let clinic = Clinic::of(bytes);
-    if let Some(table) = table.filter(|table| table.is_refused(&clinic, verdict)) {
-        let more = seats::length(&clinic, &table.words);
-        return refusal(&report::of_both(&table.name, verdict, Some(more)));
+    if let Some(table) = table.filter(|table| table.is_refused(input, verdict)) {
+        return refusal(&table.refused(input, verdict));
     }
     let name = match verdict.number {
-        17 => list.name(),
+        17 => list.name.clone(),
         _ if is_halt(verdict) => {
             output::print(state().as_bytes())?;
-            format!("{}, {}", file.name(), list.name())
+            if let Some(message) = runs::refused(input, list, table, verdict) {
+                return refusal(&message);
+            }
+            format!("{}, {}", input.name, list.name)
         }
-        _ => file.name(),
+        _ => return refusal(&input.refused(verdict)),
     };
-    refusal(&report::of_run(&name, bytes, choices, verdict))
+    refusal(&report::of_run(&name, input, &list.words, verdict))
 }
 
 fn dispatch(file: &Source, most: Option<u16>) -> Result<Outcome, WrongUse> {
-    let bytes = file.read()?;
+    let bytes = file.clinic()?;
     let mut room = [0; RUN_ROOM];
     let (mut choices, mut lines) = (Vec::new(), Vec::new());
     let why = loop {
@@ -417,7 +425,7 @@ fn dispatch(file: &Source, most: Option<u16>) -> Result<Outcome, WrongUse> {
         }
         let round = pilzdamo::round(&bytes, &choices, &mut room);
         if !round.verdict().is_clean() {
-            return refusal(&report::of_file(&file.name(), &bytes, round.verdict()));
+            return refusal(&bytes.refused(round.verdict()));
         }
         if round.choices().is_empty() {
             let threads = names::several(State::of(&room).threads(), "thread");
@@ -436,42 +444,6 @@ fn dispatch(file: &Source, most: Option<u16>) -> Result<Outcome, WrongUse> {
 /// Whether a run's refusal came at a choice, so that there is a state.
 fn is_halt(verdict: Verdict) -> bool {
     refusals::counts(verdict.number, verdict.place, true) == Counts::Choice
-}
-
-fn read_choices(list: &Source) -> Result<Vec<u16>, WrongUse> {
-    let form = "a list of choices is text, two numbers for each choice: thread, partner";
-    read_numbers(list, form)
-}
-
-/// The numbers of a text, which has this form.
-fn read_numbers(text: &Source, form: &str) -> Result<Vec<u16>, WrongUse> {
-    choices::numbers(&text.read()?).map_err(|Flaw { line, word }| {
-        let name = text.name();
-        WrongUse(format!(
-            "{name}: line {line}: '{word}' is no number from 0 to 65535\n  {form}"
-        ))
-    })
-}
-
-/// A table of seats with the name of its source.
-struct Table {
-    name: String,
-    words: Vec<u16>,
-}
-
-impl Table {
-    fn read(seats: &Source) -> Result<Table, WrongUse> {
-        let form = "seats are text, a number for each role: 0 for no limit, else 1 to 32";
-        Ok(Table {
-            name: seats.name(),
-            words: read_numbers(seats, form)?,
-        })
-    }
-
-    /// Whether it is this table that is refused, and not the list.
-    fn is_refused(&self, clinic: &Clinic, verdict: Verdict) -> bool {
-        verdict.number == 17 && !seats::fits(clinic, &self.words)
-    }
 }
 
 fn explain(number: u16) -> Result<Outcome, WrongUse> {

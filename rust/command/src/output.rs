@@ -44,14 +44,19 @@ pub fn spare(input: &Source, out: Option<&Path>) -> Result<(), WrongUse> {
 /// Writes a clinic's file where it is wanted.
 pub fn deliver(bytes: &[u8], out: Option<&Path>) -> Result<(), WrongUse> {
     match out {
-        Some(path) => fs::write(path, bytes).map_err(|error| {
-            let (name, why) = (path.display(), reason(&error));
-            WrongUse(format!("{name}: can't be written: {why}"))
-        }),
+        Some(path) => write(bytes, path),
         None if io::stdout().is_terminal() => Err(WrongUse(
             "a clinic's file is binary and is not written to a terminal; name a file with -o"
                 .to_string(),
         )),
         None => print(bytes),
     }
+}
+
+/// Writes a file.
+pub fn write(bytes: &[u8], path: &Path) -> Result<(), WrongUse> {
+    fs::write(path, bytes).map_err(|error| {
+        let (name, why) = (path.display(), reason(&error));
+        WrongUse(format!("{name}: can't be written: {why}"))
+    })
 }

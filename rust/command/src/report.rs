@@ -2,6 +2,7 @@
 
 use crate::clinic::Clinic;
 use crate::names::{self, Above};
+use crate::records;
 use crate::refusals;
 use crate::tree;
 use pilzdamo::{Counts, Verdict, NO_TAG};
@@ -61,7 +62,8 @@ pub fn mark(clinic: &Clinic, verdict: Verdict) -> String {
     }
 }
 
-/// A message with the step of a node, where a node is refused.
+/// A message with the step of a node, where a node is refused, or what is wrong with a
+/// record.
 fn in_file(name: &str, clinic: &Clinic, verdict: Verdict, counts: Counts) -> String {
     let place = verdict.place;
     let step = match counts {
@@ -69,18 +71,40 @@ fn in_file(name: &str, clinic: &Clinic, verdict: Verdict, counts: Counts) -> Str
         _ => None,
     };
     let step = step.map(|step| format!("node {place}: {step}"));
-    message(name, verdict, &sentence(clinic, verdict, counts), step)
+    let more = step.or_else(|| records::told(clinic, verdict));
+    message(name, verdict, &sentence(clinic, verdict, counts), more)
+}
+
+/// What stands below a refusal in a text: the engine's sentence, and who can mend it.
+pub fn below(bytes: &[u8], verdict: Verdict) -> String {
+    let counts = refusals::counts(verdict.number, verdict.place, false);
+    let sentence = sentence(&Clinic::of(bytes), verdict, counts);
+    let mut lines = vec![sentence];
+    lines.extend(mend(verdict));
+    lines.join("\n  ")
+}
+
+/// What stands below a refused choice: the engine's sentence, and who can mend it.
+pub fn below_choice(verdict: Verdict) -> String {
+    let mut lines = vec![sentence(&Clinic::default(), verdict, Counts::Choice)];
+    lines.extend(mend(verdict));
+    lines.join("\n  ")
+}
+
+/// Who can mend it.
+fn mend(verdict: Verdict) -> Option<String> {
+    let number = verdict.number;
+    refusals::of(number).map(|refusal| {
+        let who = refusal.who;
+        format!("{who} can mend it; more: pilzdamo explain {number}")
+    })
 }
 
 /// The sentence, what more there is to say of the place, and who can mend it.
 fn message(name: &str, verdict: Verdict, sentence: &str, more: Option<String>) -> String {
     let mut lines = vec![format!("pilzdamo: {name}: {sentence}")];
     lines.extend(more);
-    let number = verdict.number;
-    lines.extend(refusals::of(number).map(|refusal| {
-        let who = refusal.who;
-        format!("{who} can mend it; more: pilzdamo explain {number}")
-    }));
+    lines.extend(mend(verdict));
     lines.join("\n  ")
 }
 

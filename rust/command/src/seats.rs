@@ -1,14 +1,72 @@
 //! Seats in words.
 
+use crate::choices::{self, Flaw};
 use crate::clinic::{Clinic, ROLES};
+use crate::input::Input;
 use crate::names;
-use pilzdamo::{Seats, SEATS};
+use crate::report;
+use crate::source::Source;
+use crate::WrongUse;
+use pilzdamo::{Seats, Verdict, SEATS};
+
+/// A table of seats with the name of its source.
+pub struct Table {
+    name: String,
+    pub words: Vec<u16>,
+}
+
+impl Table {
+    pub fn read(seats: &Source) -> Result<Table, WrongUse> {
+        let (name, form) = (
+            seats.name(),
+            "seats are text, a number for each role: 0 for no limit, else 1 to 32",
+        );
+        let words = choices::numbers(&seats.read()?).map_err(|Flaw { line, word }| {
+            WrongUse(format!(
+                "{name}: line {line}: '{word}' is no number from 0 to 65535\n  {form}"
+            ))
+        })?;
+        Ok(Table { name, words })
+    }
+
+    /// Whether it is this table that is refused, and not the list.
+    pub fn is_refused(&self, input: &Input, verdict: Verdict) -> bool {
+        verdict.number == 17 && !fits(&Clinic::of(input), &self.words)
+    }
+
+    /// The message for this table, which can't be one of this file's.
+    pub fn refused(&self, input: &Input, verdict: Verdict) -> String {
+        let more = length(&Clinic::of(input), &self.words);
+        report::of_both(&self.name, verdict, Some(more))
+    }
+
+    /// Whether a role has a limit.
+    pub fn limits(&self, role: u16) -> bool {
+        let at = usize::from(role).checked_sub(1);
+        at.and_then(|at| self.words.get(at))
+            .is_some_and(|&seats| seats != 0)
+    }
+
+    /// Whether the last of these choices gets no seat.
+    pub fn waits(&self, input: &Input, choices: &[u16]) -> bool {
+        let told = pilzdamo::seats(input, choices, &self.words);
+        told.verdict().is_clean() && told.last == 26
+    }
+}
+
+/// A run, with seats if there is a table of them.
+pub fn run(input: &Input, choices: &[u16], table: Option<&Table>, out: &mut [u8]) -> Verdict {
+    match table {
+        None => pilzdamo::run(input, choices, out),
+        Some(table) => pilzdamo::run_seated(input, choices, &table.words, out).verdict(),
+    }
+}
 
 /// A line for each role, and how many choices got no seat.
-pub fn text(table: &[u16], told: &Seats) -> String {
+pub fn text(input: &Input, table: &Table, told: &Seats) -> String {
     let mut lines: Vec<String> = (1..)
-        .zip(table)
-        .map(|(role, &seats)| of_role(role, seats, told))
+        .zip(&table.words)
+        .map(|(role, &seats)| of_role(input, role, seats, told))
         .collect();
     lines.push(format!("choices that got no seat: {}", told.waited));
     lines.extend(last(told));
@@ -16,19 +74,20 @@ pub fn text(table: &[u16], told: &Seats) -> String {
 }
 
 /// A role's seats, how many sessions have it, and who waits for it.
-fn of_role(role: u16, seats: u16, told: &Seats) -> String {
+fn of_role(input: &Input, role: u16, seats: u16, told: &Seats) -> String {
     let seats = match seats {
         0 => "no limit".to_string(),
         seats => names::several(usize::from(seats), "seat"),
     };
     let taken = names::several(usize::from(told.in_role(role)), "session");
-    let line: Vec<String> = told.line_of(role).iter().map(u16::to_string).collect();
+    let line = told.line_of(role).iter();
+    let line: Vec<String> = line.map(|&session| input.session(session)).collect();
     let line = match line.as_slice() {
         [] => String::new(),
         [session] => format!(", in line: session {session}"),
         _ => format!(", in line: sessions {}", line.join(", ")),
     };
-    format!("role {role}: {seats}, taken by {taken}{line}")
+    format!("role {}: {seats}, taken by {taken}{line}", input.role(role))
 }
 
 /// What the last choice done was answered, if that is 26.
@@ -38,12 +97,12 @@ fn last(told: &Seats) -> Option<String> {
 }
 
 /// Whether a table has a word for each role, none of them too high.
-pub fn fits(clinic: &Clinic, table: &[u16]) -> bool {
+fn fits(clinic: &Clinic, table: &[u16]) -> bool {
     table.len() == clinic.count(ROLES) && table.iter().all(|&seats| seats <= SEATS)
 }
 
 /// What is wrong with a table that can't be one.
-pub fn length(clinic: &Clinic, table: &[u16]) -> String {
+fn length(clinic: &Clinic, table: &[u16]) -> String {
     let numbers = names::several(table.len(), "number");
     let roles = names::several(clinic.count(ROLES), "role");
     format!("the table has {numbers}, the file {roles}: one for each, 0 for no limit, else 1 to 32")

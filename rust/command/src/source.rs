@@ -1,5 +1,6 @@
 //! Where a file comes from.
 
+use crate::input::Input;
 use crate::WrongUse;
 use std::ffi::OsString;
 use std::fs::{self, File, Metadata};
@@ -38,6 +39,11 @@ impl Source {
             Source::StandardInput => Identity::of_open(io::stdin()),
             Source::File(path) => Identity::of_path(path),
         }
+    }
+
+    /// The clinic's file that it is, or that its text says.
+    pub fn clinic(&self) -> Result<Input, WrongUse> {
+        Input::of(self.name(), self.read()?)
     }
 
     /// All its bytes.

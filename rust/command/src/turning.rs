@@ -1,7 +1,7 @@
 //! Nodes by column, and by row again.
 
 use crate::clinic::Clinic;
-use crate::report;
+use crate::input::Input;
 use pilzdamo::{Verdict, Written};
 
 /// Which way a file is turned.
@@ -42,10 +42,10 @@ impl Turn {
 }
 
 /// The message for a file that isn't turned.
-pub fn refused(turn: Turn, name: &str, bytes: &[u8], verdict: Verdict) -> String {
-    let message = report::of_file(name, bytes, verdict);
+pub fn refused(turn: Turn, input: &Input, verdict: Verdict) -> String {
+    let message = input.refused(verdict);
     let more = match verdict.number {
-        2 => turn.other(Clinic::of(bytes).version()),
+        2 => turn.other(Clinic::of(input).version()),
         _ => None,
     };
     match more {

@@ -20,6 +20,8 @@ pub enum Job {
         file: Source,
         at: Option<At>,
         out: Option<PathBuf>,
+        /// Whether a text is to be answered with bytes.
+        bytes: bool,
     },
     Measure {
         file: Source,
@@ -78,6 +80,20 @@ pub enum Job {
     Show {
         file: Source,
     },
+    Pack {
+        text: Source,
+        out: Option<PathBuf>,
+        names: Option<PathBuf>,
+    },
+    Unpack {
+        file: Source,
+        out: Option<PathBuf>,
+        names: Option<Source>,
+    },
+    Strip {
+        file: Source,
+        out: Option<PathBuf>,
+    },
     Explain {
         number: u16,
     },
@@ -109,13 +125,16 @@ struct Operands {
     hours: Option<OsString>,
     seats: Option<OsString>,
     json: bool,
+    names: Option<OsString>,
+    bytes: bool,
     help: bool,
 }
 
 /// The words that name a job.
-const WORDS: [&str; 17] = [
+const WORDS: [&str; 20] = [
     "check", "place", "measure", "merge", "columns", "rows", "notice", "in-force", "sheet", "run",
-    "waiting", "seats", "round", "dispatch", "show", "explain", "reason",
+    "waiting", "seats", "round", "dispatch", "show", "pack", "unpack", "strip", "explain",
+    "reason",
 ];
 
 /// These words in a sentence.
@@ -152,6 +171,8 @@ fn named(verb: &str, operands: Operands) -> Result<Job, WrongUse> {
         hours,
         seats,
         json,
+        names,
+        bytes,
         ..
     } = operands;
     if verb == "in-force" {
@@ -160,6 +181,16 @@ fn named(verb: &str, operands: Operands) -> Result<Job, WrongUse> {
     let out = out.filter(|out| out != "-").map(PathBuf::from);
     match verb {
         "show" => one(verb, "FILE", plain).map(|file| Job::Show { file }),
+        "pack" => {
+            let text = one(verb, "TEXT", plain)?;
+            let names = names.map(PathBuf::from);
+            Ok(Job::Pack { text, out, names })
+        }
+        "unpack" => {
+            let (file, names) = file_and_names(verb, plain, names)?;
+            Ok(Job::Unpack { file, out, names })
+        }
+        "strip" => one(verb, "FILE", plain).map(|file| Job::Strip { file, out }),
         "merge" => {
             let [first, second] = two(verb, ["A", "B"], plain)?;
             Ok(Job::Merge { first, second, out })
@@ -226,7 +257,12 @@ fn named(verb: &str, operands: Operands) -> Result<Job, WrongUse> {
             Ok(match verb {
                 "check" => Job::Check { file, at },
                 "measure" => Job::Measure { file, at },
-                _ => Job::Place { file, at, out },
+                _ => Job::Place {
+                    file,
+                    at,
+                    out,
+                    bytes,
+                },
             })
         }
     }
@@ -270,6 +306,12 @@ fn sorted(verb: &str, mut words: impl Iterator<Item = OsString>) -> Result<Opera
                 let wants = format!("{name} wants the name of a file behind it");
                 keep(&name, &wants, &mut operands.out, words.next())?;
             }
+            "--names" if matches!(verb, "pack" | "unpack") => {
+                let name = format!("{verb}: --names");
+                let wants = format!("{name} wants the name of a file behind it");
+                keep(&name, &wants, &mut operands.names, words.next())?;
+            }
+            "--bytes" if verb == "place" => operands.bytes = true,
             "--at" if has_hours(verb) => {
                 let name = format!("{verb}: --at");
                 let wants = format!("{name} wants a day and a time behind it");
@@ -307,7 +349,15 @@ fn has_options(verb: &str) -> bool {
 fn has_out(verb: &str) -> bool {
     matches!(
         verb,
-        "place" | "merge" | "columns" | "rows" | "notice" | "in-force"
+        "place"
+            | "merge"
+            | "columns"
+            | "rows"
+            | "notice"
+            | "in-force"
+            | "pack"
+            | "unpack"
+            | "strip"
     )
 }
 
@@ -422,6 +472,21 @@ fn several_files(verb: &str, plain: Vec<OsString>) -> Result<Vec<Source>, WrongU
     match files.iter().filter(fed).count() {
         0 | 1 => Ok(files),
         _ => misused(&format!("{verb}: only one FILE can be standard input")),
+    }
+}
+
+/// FILE, and NAMES if they are given; not both standard input.
+fn file_and_names(
+    verb: &str,
+    plain: Vec<OsString>,
+    names: Option<OsString>,
+) -> Result<(Source, Option<Source>), WrongUse> {
+    let file = one(verb, "FILE", plain)?;
+    match (file, names.map(Source::named)) {
+        (Source::StandardInput, Some(Source::StandardInput)) => misused(&format!(
+            "{verb}: only one of FILE and NAMES can be standard input"
+        )),
+        both => Ok(both),
     }
 }
 

@@ -1,17 +1,43 @@
 //! One example for each refusal.
 
-use crate::common::{example, pilzdamo, sentence};
+use crate::common::{example, pilzdamo, pilzdamo_fed, sentence};
+use crate::draft::Draft;
+use crate::files;
 
 /// The example, what is asked of it, the refusal, its place in the sentence, and what
 /// more is said of it.
 const FILES: [(&str, &str, u16, &str, &str); 17] = [
-    ("01-odd", "check", 1, "", ""),
-    ("02-version", "check", 2, "", ""),
-    ("03-count", "check", 3, "", ""),
-    ("04-offset", "check", 4, "", ""),
-    ("05-length", "check", 5, "", ""),
-    ("06-record", "check", 6, "word 27", ""),
-    ("07-session", "check", 7, "session 2", ""),
+    ("01-odd", "check", 1, "", "it has 83 bytes"),
+    ("02-version", "check", 2, "", "it has version 9"),
+    ("03-count", "check", 3, "", "it has 33 users (at most 32)"),
+    (
+        "04-offset",
+        "check",
+        4,
+        "",
+        "the offset of the kinds is 24, and 23 is due",
+    ),
+    (
+        "05-length",
+        "check",
+        5,
+        "",
+        "it has 84 bytes, and its counts give 82",
+    ),
+    (
+        "06-record",
+        "check",
+        6,
+        "word 27",
+        "channel 2's kind is 3, and there are 2 kinds",
+    ),
+    (
+        "07-session",
+        "check",
+        7,
+        "session 2",
+        "session 2 starts with role 1, and user 2 has no role",
+    ),
     (
         "08-tree",
         "check",
@@ -63,7 +89,13 @@ const FILES: [(&str, &str, u16, &str, &str); 17] = [
         "node 4: send user 1 on channel 1",
     ),
     ("16-too-long", "place", 16, "", ""),
-    ("21-junior", "check", 21, "word 24", ""),
+    (
+        "21-junior",
+        "check",
+        21,
+        "word 24",
+        "role 1's junior is role 2, which isn't a lower one",
+    ),
 ];
 
 /// The line of a shown file behind which the refusal of a check is marked.
@@ -141,6 +173,68 @@ fn files() {
         assert_eq!(answer.err, due);
         assert_read_back(&answer.err, &file, number, place);
     }
+}
+
+/// Makes a record wrong.
+type Change = fn(&mut Draft);
+
+/// Each sort of record is told in words.
+#[test]
+fn records_in_words() {
+    let mut counts = files::booking().words();
+    (counts[2], counts[3]) = (17, 40);
+    let bytes: Vec<u8> = counts.into_iter().flat_map(u16::to_le_bytes).collect();
+    let due = "it has 17 roles (at most 16); it has 40 kinds (at most 32)";
+    assert_told(&bytes, due);
+    let cases: [(Change, &str); 8] = [
+        (
+            |draft| draft.users[1] = [8],
+            "user 2 has role 4, and there are 2 roles",
+        ),
+        (
+            |draft| draft.roles[0][1] = 1,
+            "role 1 may send on kind 17, and there are 2 kinds",
+        ),
+        (
+            |draft| draft.roles[1][2] = 4,
+            "role 2 may receive on kind 3, and there are 2 kinds",
+        ),
+        (
+            |draft| draft.kinds[1] = [7],
+            "kind 2 carries kind 7, and there are 2 kinds",
+        ),
+        (
+            |draft| draft.channels[0] = [0, 1],
+            "channel 1's owner is user 0, and there are 2 users",
+        ),
+        (
+            |draft| draft.channels[1] = [1, 0],
+            "channel 2's kind is 0, and there are 2 kinds",
+        ),
+        (
+            |draft| draft.sessions[0][0] = 3,
+            "session 1's user is 3, and there are 2 users",
+        ),
+        (
+            |draft| draft.sessions[0] = [2, 2, 1],
+            "session 1 starts with role 2, and user 2 has no role",
+        ),
+    ];
+    for (change, due) in cases {
+        let mut draft = files::booking();
+        change(&mut draft);
+        assert_told(&draft.bytes(), due);
+    }
+}
+
+fn assert_told(file: &[u8], due: &str) {
+    let answer = pilzdamo_fed(&["check", "-"], file);
+    assert_eq!(answer.status, 1);
+    assert!(
+        answer.err.contains(&format!("\n  {due}\n")),
+        "{}",
+        answer.err
+    );
 }
 
 #[test]

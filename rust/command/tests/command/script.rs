@@ -70,6 +70,8 @@ impl Place {
             "rust/pilzdamo/Cargo.toml",
             "rust/pilzdamo/build.rs",
             "rust/pilzdamo/src/lib.rs",
+            "rust/text/Cargo.toml",
+            "rust/text/src/lib.rs",
             "rust/command/Cargo.toml",
             "rust/command/src/main.rs",
         ];
@@ -178,10 +180,12 @@ fn builds_again_what_has_changed() {
     let place = Place::new("changed").with(&[("rt", RT), ("cargo", CARGO)]);
     place.call(&["--version"]);
     wait();
-    place.write("rust/command/src/main.rs", "changed");
-    let err = place.call(&["--version"]).err;
-    assert!(err.starts_with("pilzdamo: building the command"), "{err}");
-    wait();
+    for file in ["rust/command/src/main.rs", "rust/text/src/lib.rs"] {
+        place.write(file, "changed");
+        let err = place.call(&["--version"]).err;
+        assert!(err.starts_with("pilzdamo: building the command"), "{err}");
+        wait();
+    }
     place.write("crates/masks/src/lib.rt", "changed");
     let err = place.call(&["--version"]).err;
     assert!(err.starts_with("pilzdamo: proving and building"), "{err}");

@@ -1,0 +1,110 @@
+//! Text to bytes and back, and texts that are answered with texts.
+
+use crate::input::{decoded, flawed, Input, Text};
+use crate::names;
+use crate::output;
+use crate::source::Source;
+use crate::{Outcome, WrongUse};
+use std::path::Path;
+use text::{Names, Records};
+
+/// `pack TEXT`: writes the file that a text says, and its names if that is wanted.
+pub fn pack(
+    source: &Source,
+    out: Option<&Path>,
+    names: Option<&Path>,
+) -> Result<Outcome, WrongUse> {
+    output::spare(source, out)?;
+    if names.is_some() {
+        output::spare(source, names)?;
+    }
+    let input = Input::of_text(source.name(), &source.read()?)?;
+    if let (Some(path), Some(Text { packed, .. })) = (names, &input.text) {
+        output::write(packed.names.text().as_bytes(), path)?;
+    }
+    output::deliver(&input, out)?;
+    let into = out.map_or(String::new(), |path| format!(" in {}", path.display()));
+    let bytes = names::several(input.len(), "byte");
+    output::say(&format!("{}: packed, {bytes}{into}", input.name));
+    Ok(Outcome::Answer)
+}
+
+/// `unpack FILE`: writes the text of a file.
+pub fn unpack(
+    source: &Source,
+    out: Option<&Path>,
+    names: Option<&Source>,
+) -> Result<Outcome, WrongUse> {
+    output::spare(source, out)?;
+    let input = source.clinic()?;
+    let verdict = pilzdamo::read(&input);
+    if !verdict.is_clean() {
+        output::say(&input.refused(verdict));
+        return Ok(Outcome::Refusal);
+    }
+    let names = match (names, &input.text) {
+        (Some(names), _) => Some((names.name(), read_names(names)?)),
+        (None, Some(Text { packed, .. })) => Some((input.name.clone(), packed.names.clone())),
+        (None, None) => None,
+    };
+    let text = match &names {
+        None => text::unpack(&input).ok_or_else(|| WrongUse(format!("{}: has no text", input.name)))?,
+        Some((from, names)) => text::unpack_named(&input, names).ok_or_else(|| {
+            let why = "there is one for each user, role, kind, channel, session and variable, in the file's order";
+            WrongUse(format!("{from}: these names don't fit {}\n  {why}", input.name))
+        })?,
+    };
+    deliver(&text, out)?;
+    Ok(Outcome::Answer)
+}
+
+/// Names from a file of their own, or from a text.
+fn read_names(source: &Source) -> Result<Names, WrongUse> {
+    let (name, bytes) = (source.name(), source.read()?);
+    if text::is_text(&bytes) {
+        let input = Input::of_text(name, &bytes)?;
+        return Ok(input.text.map(|text| text.packed.names).unwrap_or_default());
+    }
+    let text = decoded(&name, &bytes)?;
+    Names::read(text).map_err(|flaws| flawed(&name, text, &flaws))
+}
+
+/// `strip FILE`: takes on and off out again, of a text as of bytes.
+pub fn strip(source: &Source, out: Option<&Path>) -> Result<Outcome, WrongUse> {
+    let input = source.clinic()?;
+    let verdict = pilzdamo::read(&input);
+    if !verdict.is_clean() {
+        output::say(&input.refused(verdict));
+        return Ok(Outcome::Refusal);
+    }
+    if let Some(Text { text, packed }) = &input.text {
+        deliver(&text::stripped(text, packed), out)?;
+        return Ok(Outcome::Answer);
+    }
+    let stripped = text::unpack(&input).and_then(|text| {
+        let packed = text::pack(&text).ok()?;
+        text::pack(&text::stripped(&text, &packed)).ok()
+    });
+    let Some(stripped) = stripped else {
+        return Err(WrongUse(format!("{}: has no text", input.name)));
+    };
+    output::deliver(&stripped.bytes(), out)?;
+    Ok(Outcome::Answer)
+}
+
+/// Writes a placed file as the text that it came from, with on and off put in.
+pub fn deliver_placed(from: &Text, placed: &[u8], out: Option<&Path>) -> Result<(), WrongUse> {
+    let Text { text, packed } = from;
+    let records = Records::of(placed);
+    let placed = records.and_then(|records| text::placed(text, packed, &records));
+    let why = "what was placed is not this text with on and off put in";
+    deliver(&placed.ok_or_else(|| WrongUse(why.to_string()))?, out)
+}
+
+/// Writes a text where it is wanted.
+fn deliver(text: &str, out: Option<&Path>) -> Result<(), WrongUse> {
+    match out {
+        Some(path) => output::write(text.as_bytes(), path),
+        None => output::print(text.as_bytes()),
+    }
+}

@@ -1,0 +1,172 @@
+//! A run of a text, told in its names.
+
+use crate::clinic::Clinic;
+use crate::input::{Input, Text};
+use crate::lists::List;
+use crate::report;
+use crate::seats::{self, Table};
+use crate::state;
+use crate::threads::Thread;
+use pilzdamo::{State, Verdict, RUN_ROOM};
+
+/// The state in the output of a run, in lines: of a text in its names.
+pub fn told(input: &Input, output: &[u8], threads: &[Thread]) -> String {
+    match (&input.text, State::of(output)) {
+        (Some(text), Some(found)) => state(text, &found, threads),
+        _ => state::State::of(output).text(&Clinic::of(input)),
+    }
+}
+
+/// The state that a run of a text comes to.
+fn state(text: &Text, state: &State, threads: &[Thread]) -> String {
+    let told = Told { text };
+    let mut lines = vec![match state.refusal {
+        0 => format!("choices done: {}", state.done),
+        refusal => format!(
+            "choices done: {}, the next refused with {refusal}",
+            state.done
+        ),
+    }];
+    lines.push(format!("threads: {}", state.threads.len()));
+    for (i, thread) in state.threads.iter().enumerate() {
+        let name = threads
+            .get(i)
+            .map_or(String::new(), |&thread| told.thread(thread));
+        let user = told.name(&text.packed.names.users, thread.user);
+        let (stands, roles) = (told.stands(thread.node), told.roles(thread.mask));
+        let variables = told.variables(thread);
+        lines.push(format!(
+            "  {} {name}: {user}, {stands}, {roles}{variables}",
+            i + 1
+        ));
+    }
+    lines.push(format!("made channels: {}", state.made.len()));
+    for (i, channel) in state.made.iter().enumerate() {
+        let owner = told.name(&text.packed.names.users, channel.owner);
+        let kind = told.name(&text.packed.names.kinds, channel.kind);
+        lines.push(format!("  made channel {}: {kind}, owner {owner}", i + 1));
+    }
+    lines.join("\n") + "\n"
+}
+
+/// The message for a choice that is refused, at its place in the list. None where
+/// neither the file is a text nor the list has names.
+pub fn refused(
+    input: &Input,
+    list: &List,
+    table: Option<&Table>,
+    verdict: Verdict,
+) -> Option<String> {
+    let why = match list.followed.missing {
+        Some(missing) => not_there(&input.sessions(), list, missing),
+        None => stand(input, list, table, verdict)?,
+    };
+    let what = format!("refused {}: {why}", verdict.number);
+    let message = list.told(verdict.place, &what)?;
+    Some(format!("{message}\n  {}", report::below_choice(verdict)))
+}
+
+/// A named thread that isn't there, and those that are.
+fn not_there(sessions: &[String], list: &List, missing: Thread) -> String {
+    let threads = list.followed.threads.iter();
+    let threads: Vec<String> = threads.map(|thread| thread.name(sessions)).collect();
+    let there = match &threads[..] {
+        [] => "no thread is left".to_string(),
+        threads => format!("threads: {}", threads.join(", ")),
+    };
+    let missing = missing.name(sessions);
+    format!("there is no thread {missing} here ({there})")
+}
+
+/// Where the threads of a choice stand in a text.
+fn stand(input: &Input, list: &List, table: Option<&Table>, verdict: Verdict) -> Option<String> {
+    let text = input.text.as_ref()?;
+    let mut room = [0; RUN_ROOM];
+    let halted = seats::run(input, &list.words, table, &mut room) == verdict;
+    let state = &State::of(&room).filter(|_| halted)?;
+    let told = Told { text };
+    let threads = list.choice(verdict.place)?.into_iter();
+    let stands = threads
+        .filter(|&number| number != 0)
+        .map(|number| told.numbered(number, list, state));
+    Some(stands.collect::<Vec<_>>().join(", and "))
+}
+
+struct Told<'a> {
+    text: &'a Text,
+}
+
+impl Told<'_> {
+    fn name<'b>(&self, names: &'b [String], number: u16) -> &'b str {
+        let index = usize::from(number).checked_sub(1);
+        index
+            .and_then(|index| names.get(index))
+            .map_or("?", String::as_str)
+    }
+
+    fn thread(&self, thread: Thread) -> String {
+        thread.name(&self.text.sessions())
+    }
+
+    /// A thread by its number, and where it stands.
+    fn numbered(&self, number: u16, list: &List, state: &State) -> String {
+        let index = usize::from(number) - 1;
+        let Some(thread) = state.threads.get(index) else {
+            return format!("there is no thread {number}");
+        };
+        let name = list.followed.threads.get(index);
+        let name = name.map_or(format!("thread {number}"), |&name| self.thread(name));
+        format!("{name} stands at {}", self.stands(thread.node))
+    }
+
+    /// A node's step and line.
+    fn stands(&self, node: u16) -> String {
+        let place = usize::from(node).checked_sub(1);
+        let place = place.and_then(|at| self.text.packed.source.nodes.get(at));
+        let Some(place) = place else {
+            return format!("node {node}");
+        };
+        let line = place.at.line;
+        if place.behind {
+            return format!("the end behind line {line}");
+        }
+        let whole = self.text.text.split('\n').nth(line - 1).unwrap_or("");
+        let step: String = whole
+            .chars()
+            .skip(place.at.column - 1)
+            .take(place.at.width)
+            .collect();
+        format!("line {line} ({step})")
+    }
+
+    fn roles(&self, mask: u16) -> String {
+        let roles: Vec<&str> = crate::names::items(mask.into())
+            .map(|role| self.name(&self.text.packed.names.roles, role as u16))
+            .collect();
+        match &roles[..] {
+            [] => "no role".to_string(),
+            roles => format!("as {}", roles.join(", ")),
+        }
+    }
+
+    fn variables(&self, thread: &pilzdamo::Thread) -> String {
+        let names = text::variables_at(&self.text.packed, thread.node);
+        let bound = names.iter().zip(&thread.vars);
+        let texts: Vec<String> = bound
+            .map(|(name, &value)| format!("{name} = {}", self.value(value)))
+            .collect();
+        match &texts[..] {
+            [] => String::new(),
+            texts => format!("; {}", texts.join(", ")),
+        }
+    }
+
+    fn value(&self, value: u16) -> String {
+        let names = &self.text.packed.names;
+        match value {
+            1..=32 => self.name(&names.users, value).to_string(),
+            257..=320 => self.name(&names.channels, value - 256).to_string(),
+            _ => crate::names::value(value),
+        }
+    }
+}

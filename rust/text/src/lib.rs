@@ -1,0 +1,38 @@
+//! The text form of a clinic's file: text to bytes and back. `docs/FORMAT.md` has its
+//! grammar. Nothing is judged here that the engine judges.
+//!
+//! ```
+//! let text = "clinic 1\nkind note\nuser desk\nchannel notes: note, owner desk\n";
+//! let packed = text::pack(text).unwrap();
+//! let file = packed.bytes();
+//! assert_eq!(file.len(), 34);
+//! assert_eq!(text::unpack_named(&file, &packed.names).unwrap(), text);
+//! assert!(text::unpack(&file).unwrap().ends_with("channel c1: k1, owner u1\n"));
+//!
+//! let flaws = text::pack("clinic 1\nuser desk: clerk").unwrap_err();
+//! assert_eq!(flaws[0].what, "there is no role 'clerk' (there are no roles)");
+//! ```
+
+#![forbid(unsafe_code)]
+
+mod blocks;
+mod edit;
+mod line;
+mod mark;
+mod names;
+mod pack;
+mod records;
+mod tables;
+mod tree;
+mod unpack;
+mod why;
+mod words;
+
+pub use edit::{placed, stripped};
+pub use line::{tokens, At, Flaw, Token};
+pub use mark::{decoded, is_text, told};
+pub use names::{Names, SessionNames};
+pub use pack::{pack, NodeAt, Packed, Source};
+pub use records::{Channel, Node, Records, Role, Session, Version};
+pub use unpack::{canonical, unpack, unpack_named};
+pub use why::{held, variables_at, why, Culprit};
