@@ -2,56 +2,70 @@
 
 use crate::choices;
 use crate::clinic::{Clinic, KINDS};
-use crate::hours;
 use crate::input::Input;
 use crate::lists::{self, List};
-use crate::output;
+use crate::output::{self, Out};
 use crate::seats::{self, Table};
-use crate::source::Source;
+use crate::source::{NamedFile, Source};
 use crate::state::State;
 use crate::turning::Turn;
-use crate::words::{At, Job, Wanted};
+use crate::words::{Form, Job};
 use crate::{
-    days, explain, merging, names, notices, packing, reasons, refusals, report, runs, sheets,
-    shown, turning,
+    checking, days, explain, merging, names, notices, packing, placing, reasons, refusals, report,
+    runs, sheets, shown, turning,
 };
 use crate::{Outcome, WrongUse};
-use pilzdamo::{Counts, Placed, Totals, Verdict, BEFORE_ROUND, ROOM, ROOM_1, RUN_ROOM};
-use std::path::Path;
+use pilzdamo::{Counts, Totals, Verdict, BEFORE_ROUND, ROOM, ROOM_1, RUN_ROOM};
 
 /// Does a job.
 pub fn carry_out(job: Job) -> Result<Outcome, WrongUse> {
     match job {
-        Job::Check { file, at } => check(&file, at.as_ref()),
+        Job::Check { files, at, json } => checking::check(&files, at.as_ref(), json),
         Job::Place {
             file,
             at,
             out,
             bytes,
-        } => place(&file, at.as_ref(), out.as_deref(), bytes),
-        Job::Pack { text, out, names } => packing::pack(&text, out.as_deref(), names.as_deref()),
-        Job::Unpack { file, out, names } => packing::unpack(&file, out.as_deref(), names.as_ref()),
-        Job::Strip { file, out } => packing::strip(&file, out.as_deref()),
-        Job::Measure { file, at } => measure(&file, at.as_ref()),
-        Job::Merge { first, second, out } => merge(&first, &second, out.as_deref()),
-        Job::Turn { turn, file, out } => turn_file(turn, &file, out.as_deref()),
-        Job::Run {
-            file,
-            choices,
-            seats,
-        } => run(&file, &choices, seats.as_ref()),
+            json,
+        } => placing::place(&file, at.as_ref(), &out, bytes, json),
+        Job::Measure { file, at, json } => placing::measure(&file, at.as_ref(), json),
+        Job::Merge { first, second, out } => merge(&first, &second, &out),
+        Job::Turn { turn, file, out } => turn_file(turn, &file, &out),
         Job::Notice {
             first_day,
             file,
             out,
-        } => notice(first_day, &file, out.as_deref()),
+        } => notice(first_day, &file, &out),
         Job::InForce {
             day,
             first,
             second,
             out,
-        } => in_force(day, [&first, &second], out),
+        } => in_force(day, [&first, &second], out.as_ref()),
         Job::Sheet { files, json } => sheet(&files, json),
+        Job::Show { file, form, out } => show(&file, form, &out),
+        Job::Pack { text, out, names } => packing::pack(&text, &out, names.as_ref()),
+        Job::Unpack { file, out, names } => packing::unpack(&file, &out, names.as_ref()),
+        Job::Strip { file, out } => packing::strip(&file, &out),
+        Job::Explain { number, json } => explain(number, json),
+        Job::Reason { sentence } => reason(&sentence),
+        Job::Help(None) => answer(include_str!("help.txt")),
+        Job::Help(Some(word)) => answer(word.help),
+        Job::Version => answer(concat!("pilzdamo ", env!("CARGO_PKG_VERSION"), "\n")),
+        Job::Run {
+            file,
+            choices,
+            seats,
+            trace,
+            json,
+        } => run(&file, &choices, seats.as_ref(), trace, json),
+        Job::Interactive { file, choices } => interactive(&file, choices.as_ref()),
+        Job::Choices { file, choices } => choices_next(&file, &choices),
+        Job::Ready {
+            file,
+            choices,
+            json,
+        } => ready(&file, &choices, json),
         Job::Waiting { file, choices } => waiting(&file, &choices),
         Job::Seats {
             file,
@@ -64,149 +78,20 @@ pub fn carry_out(job: Job) -> Result<Outcome, WrongUse> {
             seats,
         } => round(&file, &choices, seats.as_ref()),
         Job::Dispatch { file, rounds } => dispatch(&file, rounds),
-        Job::Show { file } => answer(&shown::page(&file.clinic()?)),
-        Job::Explain { number } => explain(number),
-        Job::Reason { sentence } => reason(&sentence),
-        Job::Help => answer(include_str!("help.txt")),
-        Job::Version => answer(concat!("pilzdamo ", env!("CARGO_PKG_VERSION"), "\n")),
     }
 }
 
-fn answer(text: &str) -> Result<Outcome, WrongUse> {
+pub fn answer(text: &str) -> Result<Outcome, WrongUse> {
     output::print(text.as_bytes())?;
     Ok(Outcome::Answer)
 }
 
-fn refusal(message: &str) -> Result<Outcome, WrongUse> {
+pub fn refusal(message: &str) -> Result<Outcome, WrongUse> {
     output::say(message);
     Ok(Outcome::Refusal)
 }
 
-/// A table of hours with its source, and the minute that is asked for.
-struct Hours {
-    name: String,
-    table: hours::Table,
-    minute: u16,
-}
-
-impl Hours {
-    fn read(at: &At) -> Result<Hours, WrongUse> {
-        let name = at.hours.name();
-        let table = hours::Table::of(&at.hours.read()?).map_err(|flaw| {
-            let hours::Flaw { line, what } = flaw;
-            let form =
-                "opening hours are text, a line for each stretch: role 2 Mon-Fri 07:00-15:00";
-            WrongUse(format!("{name}: line {line}: {what}\n  {form}"))
-        })?;
-        Ok(Hours {
-            name,
-            table,
-            minute: at.minute,
-        })
-    }
-
-    /// The message for what is refused of a file or of these hours.
-    fn report(&self, input: &Input, verdict: Verdict) -> String {
-        match verdict.number {
-            22 | 23 => report::of_hours(&self.name, &self.table.lines, verdict),
-            _ => input.refused(verdict),
-        }
-    }
-
-    /// The minute in an answer.
-    fn when(&self, word: &str) -> String {
-        format!(" {word} {}", hours::clock(self.minute))
-    }
-}
-
-fn check(file: &Source, at: Option<&At>) -> Result<Outcome, WrongUse> {
-    let bytes = file.clinic()?;
-    let hours = at.map(Hours::read).transpose()?;
-    let verdict = match &hours {
-        None => pilzdamo::check(&bytes),
-        Some(hours) => pilzdamo::check_at(&bytes, &hours.table.words, hours.minute),
-    };
-    if verdict.is_clean() {
-        let when = hours.map_or(String::new(), |hours| hours.when("at"));
-        let planned = names::planned(&bytes);
-        return answer(&format!("{}: passes{when}{planned}\n", file.name()));
-    }
-    let mut message = refused(&bytes, hours.as_ref(), verdict);
-    if verdict.number == 13 && Clinic::of(&bytes).is_bare() {
-        message += "\n  the routine has no on or off yet: pilzdamo place puts them in";
-    }
-    refusal(&message)
-}
-
-/// The message for what check or placing refuses.
-fn refused(input: &Input, hours: Option<&Hours>, verdict: Verdict) -> String {
-    match hours {
-        None => input.refused(verdict),
-        Some(hours) => hours.report(input, verdict),
-    }
-}
-
-fn place(
-    file: &Source,
-    at: Option<&At>,
-    out: Option<&Path>,
-    as_bytes: bool,
-) -> Result<Outcome, WrongUse> {
-    let bytes = file.clinic()?;
-    let hours = at.map(Hours::read).transpose()?;
-    let mut room = [0; ROOM];
-    let placed = match &hours {
-        None => pilzdamo::place(&bytes, &mut room),
-        Some(hours) => pilzdamo::place_at(&bytes, &hours.table.words, hours.minute, &mut room),
-    };
-    if !placed.is_placed() {
-        return refusal(&refused(&bytes, hours.as_ref(), placed.verdict()));
-    }
-    let length = usize::from(placed.length);
-    let written = &room[..length.min(ROOM)];
-    let (packed, there) = match &bytes.text {
-        Some(text) if !as_bytes => {
-            packing::deliver_placed(text, written, out)?;
-            (" when packed", "; the text is in")
-        }
-        _ => {
-            output::deliver(written, out)?;
-            ("", " in")
-        }
-    };
-    let (name, told) = (file.name(), size(placed) + packed);
-    let when = hours.map_or(String::new(), |hours| hours.when("for"));
-    let written = out.map_or(String::new(), |path| format!("{there} {}", path.display()));
-    let planned = names::planned(&bytes);
-    output::say(&format!("{name}: placed{when}, {told}{written}{planned}"));
-    Ok(Outcome::Answer)
-}
-
-fn measure(file: &Source, at: Option<&At>) -> Result<Outcome, WrongUse> {
-    let bytes = file.clinic()?;
-    let hours = at.map(Hours::read).transpose()?;
-    let placed = match &hours {
-        None => pilzdamo::measure(&bytes),
-        Some(hours) => pilzdamo::measure_at(&bytes, &hours.table.words, hours.minute),
-    };
-    if !placed.is_placed() {
-        return refusal(&refused(&bytes, hours.as_ref(), placed.verdict()));
-    }
-    let when = hours.map_or(String::new(), |hours| hours.when("for"));
-    let (told, planned) = (size(placed), names::planned(&bytes));
-    answer(&format!(
-        "{}: can be placed{when}, {told}{planned}\n",
-        file.name()
-    ))
-}
-
-/// The on steps and the length of a placed file.
-fn size(placed: Placed) -> String {
-    let on_steps = names::several(usize::from(placed.on_steps), "on step");
-    format!("{on_steps}, {} bytes", placed.length)
-}
-
-fn merge(first: &Source, second: &Source, out: Option<&Path>) -> Result<Outcome, WrongUse> {
+fn merge(first: &Source, second: &Source, out: &Out) -> Result<Outcome, WrongUse> {
     output::spare(first, out)?;
     output::spare(second, out)?;
     let (one, other) = (first.clinic()?, second.clinic()?);
@@ -219,12 +104,12 @@ fn merge(first: &Source, second: &Source, out: Option<&Path>) -> Result<Outcome,
     let merged = &room[..usize::from(written.length).min(ROOM_1)];
     output::deliver(merged, out)?;
     let (names, told) = (merging::names(&files), merging::size(merged));
-    let into = out.map_or(String::new(), |path| format!(" in {}", path.display()));
+    let into = out.told(" in");
     output::say(&format!("{names}: merged, {told}{into}"));
     Ok(Outcome::Answer)
 }
 
-fn turn_file(turn: Turn, file: &Source, out: Option<&Path>) -> Result<Outcome, WrongUse> {
+fn turn_file(turn: Turn, file: &Source, out: &Out) -> Result<Outcome, WrongUse> {
     output::spare(file, out)?;
     let bytes = file.clinic()?;
     let mut room = [0; ROOM];
@@ -235,12 +120,12 @@ fn turn_file(turn: Turn, file: &Source, out: Option<&Path>) -> Result<Outcome, W
     }
     let length = usize::from(written.length);
     output::deliver(&room[..length.min(ROOM)], out)?;
-    let into = out.map_or(String::new(), |path| format!(" in {}", path.display()));
+    let into = out.told(" in");
     output::say(&format!("{name}: {}, {length} bytes{into}", turn.done()));
     Ok(Outcome::Answer)
 }
 
-fn notice(first_day: u16, file: &Source, out: Option<&Path>) -> Result<Outcome, WrongUse> {
+fn notice(first_day: u16, file: &Source, out: &Out) -> Result<Outcome, WrongUse> {
     output::spare(file, out)?;
     let bytes = file.clinic()?;
     let verdict = pilzdamo::read(&bytes);
@@ -250,7 +135,7 @@ fn notice(first_day: u16, file: &Source, out: Option<&Path>) -> Result<Outcome, 
     let notice = notices::notice(first_day, &bytes);
     output::deliver(&notice, out)?;
     let (name, begins) = (file.name(), days::date(first_day));
-    let written = out.map_or(String::new(), |path| format!(" in {}", path.display()));
+    let written = out.told(" in");
     let (length, planned) = (notice.len(), names::planned(&bytes));
     output::say(&format!(
         "{name}: a notice from {begins} on, {length} bytes{written}{planned}"
@@ -258,14 +143,10 @@ fn notice(first_day: u16, file: &Source, out: Option<&Path>) -> Result<Outcome, 
     Ok(Outcome::Answer)
 }
 
-fn in_force(day: u16, sources: [&Source; 2], out: Option<Wanted>) -> Result<Outcome, WrongUse> {
-    let path = match &out {
-        Some(Wanted::File(path)) => Some(path.as_path()),
-        _ => None,
-    };
-    if out.is_some() {
-        output::spare(sources[0], path)?;
-        output::spare(sources[1], path)?;
+fn in_force(day: u16, sources: [&Source; 2], out: Option<&Out>) -> Result<Outcome, WrongUse> {
+    if let Some(out) = out {
+        output::spare(sources[0], out)?;
+        output::spare(sources[1], out)?;
     }
     let (one, other) = (sources[0].read()?, sources[1].read()?);
     let both = [
@@ -277,11 +158,11 @@ fn in_force(day: u16, sources: [&Source; 2], out: Option<Wanted>) -> Result<Outc
         return refusal(&notices::refused(&both, told.verdict()));
     }
     let (told, planned) = (notices::told(&both, day, told), names::planned(part));
-    if out.is_none() {
+    let Some(out) = out else {
         return answer(&format!("{told}{planned}\n"));
-    }
-    output::deliver(part, path)?;
-    let written = path.map_or(String::new(), |path| format!(" in {}", path.display()));
+    };
+    output::deliver(part, out)?;
+    let written = out.told(" in");
     output::say(&format!("{told}{written}{planned}"));
     Ok(Outcome::Answer)
 }
@@ -304,7 +185,13 @@ fn sheet(files: &[Source], json: bool) -> Result<Outcome, WrongUse> {
     })
 }
 
-fn run(file: &Source, list: &Source, table: Option<&Source>) -> Result<Outcome, WrongUse> {
+fn run(
+    file: &NamedFile,
+    list: &Source,
+    table: Option<&Source>,
+    _trace: bool,
+    _json: bool,
+) -> Result<Outcome, WrongUse> {
     let bytes = file.clinic()?;
     let choices = list.read()?;
     let table = table.map(Table::read).transpose()?;
@@ -321,6 +208,18 @@ fn run(file: &Source, list: &Source, table: Option<&Source>) -> Result<Outcome, 
     stopped(&bytes, &list, table.as_ref(), verdict, state)
 }
 
+fn interactive(_file: &NamedFile, _choices: Option<&Source>) -> Result<Outcome, WrongUse> {
+    Err(WrongUse("run -i is not there yet".to_string()))
+}
+
+fn choices_next(_file: &NamedFile, _choices: &Source) -> Result<Outcome, WrongUse> {
+    Err(WrongUse("choices is not there yet".to_string()))
+}
+
+fn ready(_file: &NamedFile, _choices: &Source, _json: bool) -> Result<Outcome, WrongUse> {
+    Err(WrongUse("ready is not there yet".to_string()))
+}
+
 /// What there is to say of the seats, if there are any.
 fn seated(table: Option<&Table>, input: &Input, choices: &[u16]) -> String {
     table.map_or(String::new(), |table| {
@@ -329,7 +228,7 @@ fn seated(table: Option<&Table>, input: &Input, choices: &[u16]) -> String {
     })
 }
 
-fn seats_after(file: &Source, list: &Source, table: &Source) -> Result<Outcome, WrongUse> {
+fn seats_after(file: &NamedFile, list: &Source, table: &Source) -> Result<Outcome, WrongUse> {
     let bytes = file.clinic()?;
     let choices = list.read()?;
     let table = Table::read(table)?;
@@ -342,7 +241,7 @@ fn seats_after(file: &Source, list: &Source, table: &Source) -> Result<Outcome, 
     stopped(&bytes, &list, Some(&table), told.verdict(), lines)
 }
 
-fn waiting(file: &Source, list: &Source) -> Result<Outcome, WrongUse> {
+fn waiting(file: &NamedFile, list: &Source) -> Result<Outcome, WrongUse> {
     let bytes = file.clinic()?;
     let list = List::of(list.name(), &list.read()?, &bytes, None)?;
     let totals = pilzdamo::totals(&bytes, &list.words);
@@ -360,7 +259,7 @@ fn by_kind(input: &Input, totals: &Totals) -> String {
     kinds.map(line).collect()
 }
 
-fn round(file: &Source, list: &Source, table: Option<&Source>) -> Result<Outcome, WrongUse> {
+fn round(file: &NamedFile, list: &Source, table: Option<&Source>) -> Result<Outcome, WrongUse> {
     let bytes = file.clinic()?;
     let choices = list.read()?;
     let table = table.map(Table::read).transpose()?;
@@ -412,7 +311,7 @@ fn stopped(
     refusal(&report::of_run(&name, input, &list.words, verdict))
 }
 
-fn dispatch(file: &Source, most: Option<u16>) -> Result<Outcome, WrongUse> {
+fn dispatch(file: &NamedFile, most: Option<u16>) -> Result<Outcome, WrongUse> {
     let bytes = file.clinic()?;
     let mut room = [0; RUN_ROOM];
     let (mut choices, mut lines) = (Vec::new(), Vec::new());
@@ -446,7 +345,11 @@ fn is_halt(verdict: Verdict) -> bool {
     refusals::counts(verdict.number, verdict.place, true) == Counts::Choice
 }
 
-fn explain(number: u16) -> Result<Outcome, WrongUse> {
+fn show(file: &NamedFile, _form: Form, _out: &Out) -> Result<Outcome, WrongUse> {
+    answer(&shown::page(&file.clinic()?))
+}
+
+fn explain(number: u16, _json: bool) -> Result<Outcome, WrongUse> {
     match refusals::of(number) {
         Some(refusal) => answer(&explain::text(number, refusal)),
         None => Err(WrongUse(format!("there is no refusal {number}"))),

@@ -3,6 +3,8 @@
 
 #![forbid(unsafe_code)]
 
+mod asked;
+mod checking;
 mod choices;
 mod clinic;
 mod days;
@@ -17,6 +19,7 @@ mod notices;
 mod output;
 mod packing;
 mod page;
+mod placing;
 mod reasons;
 mod records;
 mod refusals;
@@ -36,15 +39,24 @@ mod words;
 
 use std::ffi::OsString;
 
-/// What a job came to.
+/// What a job came to, the worst last.
+#[derive(Clone, Copy, PartialEq, Eq, PartialOrd, Ord)]
 enum Outcome {
     Answer,
     Refusal,
+    /// There was wrong use, which has been told.
+    Unanswered,
 }
 
 /// Why there is neither an answer nor a refusal: words that can't be
 /// understood, or a file that can't be read or written.
 struct WrongUse(String);
+
+impl WrongUse {
+    fn tell(&self) {
+        output::say(&format!("pilzdamo: {}", self.0));
+    }
+}
 
 /// Does what the words ask for. The exit status: 0 for an answer, 1 for a
 /// refusal, 2 for wrong use.
@@ -52,8 +64,9 @@ pub fn go(words: impl Iterator<Item = OsString>) -> u8 {
     match words::job(words).and_then(jobs::carry_out) {
         Ok(Outcome::Answer) => 0,
         Ok(Outcome::Refusal) => 1,
-        Err(WrongUse(why)) => {
-            output::say(&format!("pilzdamo: {why}"));
+        Ok(Outcome::Unanswered) => 2,
+        Err(wrong) => {
+            wrong.tell();
             2
         }
     }

@@ -2,39 +2,30 @@
 
 use crate::input::{decoded, flawed, Input, Text};
 use crate::names;
-use crate::output;
+use crate::output::{self, Out};
 use crate::source::Source;
 use crate::{Outcome, WrongUse};
-use std::path::Path;
 use text::{Names, Records};
 
 /// `pack TEXT`: writes the file that a text says, and its names if that is wanted.
-pub fn pack(
-    source: &Source,
-    out: Option<&Path>,
-    names: Option<&Path>,
-) -> Result<Outcome, WrongUse> {
+pub fn pack(source: &Source, out: &Out, names: Option<&Out>) -> Result<Outcome, WrongUse> {
     output::spare(source, out)?;
-    if names.is_some() {
+    if let Some(names) = names {
         output::spare(source, names)?;
     }
     let input = Input::of_text(source.name(), &source.read()?)?;
-    if let (Some(path), Some(Text { packed, .. })) = (names, &input.text) {
-        output::write(packed.names.text().as_bytes(), path)?;
+    if let (Some(names), Some(Text { packed, .. })) = (names, &input.text) {
+        output::deliver_text(packed.names.text().as_bytes(), names)?;
     }
     output::deliver(&input, out)?;
-    let into = out.map_or(String::new(), |path| format!(" in {}", path.display()));
+    let into = out.told(" in");
     let bytes = names::several(input.len(), "byte");
     output::say(&format!("{}: packed, {bytes}{into}", input.name));
     Ok(Outcome::Answer)
 }
 
 /// `unpack FILE`: writes the text of a file.
-pub fn unpack(
-    source: &Source,
-    out: Option<&Path>,
-    names: Option<&Source>,
-) -> Result<Outcome, WrongUse> {
+pub fn unpack(source: &Source, out: &Out, names: Option<&Source>) -> Result<Outcome, WrongUse> {
     output::spare(source, out)?;
     let input = source.clinic()?;
     let verdict = pilzdamo::read(&input);
@@ -54,7 +45,7 @@ pub fn unpack(
             WrongUse(format!("{from}: these names don't fit {}\n  {why}", input.name))
         })?,
     };
-    deliver(&text, out)?;
+    output::deliver_text(text.as_bytes(), out)?;
     Ok(Outcome::Answer)
 }
 
@@ -70,7 +61,7 @@ fn read_names(source: &Source) -> Result<Names, WrongUse> {
 }
 
 /// `strip FILE`: takes on and off out again, of a text as of bytes.
-pub fn strip(source: &Source, out: Option<&Path>) -> Result<Outcome, WrongUse> {
+pub fn strip(source: &Source, out: &Out) -> Result<Outcome, WrongUse> {
     let input = source.clinic()?;
     let verdict = pilzdamo::read(&input);
     if !verdict.is_clean() {
@@ -78,7 +69,7 @@ pub fn strip(source: &Source, out: Option<&Path>) -> Result<Outcome, WrongUse> {
         return Ok(Outcome::Refusal);
     }
     if let Some(Text { text, packed }) = &input.text {
-        deliver(&text::stripped(text, packed), out)?;
+        output::deliver_text(text::stripped(text, packed).as_bytes(), out)?;
         return Ok(Outcome::Answer);
     }
     let stripped = text::unpack(&input).and_then(|text| {
@@ -93,18 +84,11 @@ pub fn strip(source: &Source, out: Option<&Path>) -> Result<Outcome, WrongUse> {
 }
 
 /// Writes a placed file as the text that it came from, with on and off put in.
-pub fn deliver_placed(from: &Text, placed: &[u8], out: Option<&Path>) -> Result<(), WrongUse> {
+pub fn deliver_placed(from: &Text, placed: &[u8], out: &Out) -> Result<(), WrongUse> {
     let Text { text, packed } = from;
     let records = Records::of(placed);
     let placed = records.and_then(|records| text::placed(text, packed, &records));
     let why = "what was placed is not this text with on and off put in";
-    deliver(&placed.ok_or_else(|| WrongUse(why.to_string()))?, out)
-}
-
-/// Writes a text where it is wanted.
-fn deliver(text: &str, out: Option<&Path>) -> Result<(), WrongUse> {
-    match out {
-        Some(path) => output::write(text.as_bytes(), path),
-        None => output::print(text.as_bytes()),
-    }
+    let placed = placed.ok_or_else(|| WrongUse(why.to_string()))?;
+    output::deliver_text(placed.as_bytes(), out)
 }

@@ -10,6 +10,7 @@ use std::os::unix::fs::MetadataExt;
 use std::path::{Path, PathBuf};
 
 /// A file by its name, or standard input.
+#[derive(PartialEq)]
 pub enum Source {
     StandardInput,
     File(PathBuf),
@@ -56,6 +57,25 @@ impl Source {
             let why = reason(&error);
             WrongUse(format!("{}: can't be read: {why}", self.name()))
         })
+    }
+}
+
+/// A clinic's file, and where the names for it are, if that is said.
+pub struct NamedFile {
+    pub file: Source,
+    #[expect(dead_code)]
+    pub names: Option<Source>,
+}
+
+impl NamedFile {
+    /// How messages name the file.
+    pub fn name(&self) -> String {
+        self.file.name()
+    }
+
+    /// The clinic's file that it is, or that its text says.
+    pub fn clinic(&self) -> Result<Input, WrongUse> {
+        self.file.clinic()
     }
 }
 

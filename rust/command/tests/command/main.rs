@@ -1,7 +1,9 @@
 //! The built command and its examples.
 
 mod any_bytes;
+mod arguments;
 mod check;
+mod check_several;
 mod columns;
 mod common;
 mod dispatch;
@@ -10,6 +12,7 @@ mod examples;
 mod explain;
 mod files;
 mod format;
+mod help;
 mod hours;
 mod measure;
 mod merge;

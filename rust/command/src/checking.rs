@@ -1,0 +1,57 @@
+//! `check FILE...`.
+
+use crate::asked::{refused, Hours};
+use crate::clinic::Clinic;
+use crate::names;
+use crate::output;
+use crate::source::NamedFile;
+use crate::words::At;
+use crate::{Outcome, WrongUse};
+
+/// What there is to say of a file.
+enum Told {
+    Passes(String),
+    Refused(String),
+}
+
+/// Answers for each file, also where another can't be read.
+pub fn check(files: &[NamedFile], at: Option<&At>, _json: bool) -> Result<Outcome, WrongUse> {
+    let hours = at.map(Hours::read).transpose()?;
+    let mut outcome = Outcome::Answer;
+    for file in files {
+        outcome = outcome.max(match told(file, hours.as_ref()) {
+            Ok(Told::Passes(line)) => {
+                output::print(line.as_bytes())?;
+                Outcome::Answer
+            }
+            Ok(Told::Refused(message)) => {
+                output::say(&message);
+                Outcome::Refusal
+            }
+            Err(wrong) => {
+                wrong.tell();
+                Outcome::Unanswered
+            }
+        });
+    }
+    Ok(outcome)
+}
+
+fn told(file: &NamedFile, hours: Option<&Hours>) -> Result<Told, WrongUse> {
+    let bytes = file.clinic()?;
+    let verdict = match hours {
+        None => pilzdamo::check(&bytes),
+        Some(hours) => pilzdamo::check_at(&bytes, &hours.table.words, hours.minute),
+    };
+    if verdict.is_clean() {
+        let when = hours.map_or(String::new(), |hours| hours.when("at"));
+        let planned = names::planned(&bytes);
+        let line = format!("{}: passes{when}{planned}\n", file.name());
+        return Ok(Told::Passes(line));
+    }
+    let mut message = refused(&bytes, hours, verdict);
+    if verdict.number == 13 && Clinic::of(&bytes).is_bare() {
+        message += "\n  the routine has no on or off yet: pilzdamo place puts them in";
+    }
+    Ok(Told::Refused(message))
+}

@@ -1,0 +1,72 @@
+//! `place FILE` and `measure FILE`.
+
+use crate::asked::{refused, Hours};
+use crate::jobs::{answer, refusal};
+use crate::names;
+use crate::output::{self, Out};
+use crate::packing;
+use crate::source::NamedFile;
+use crate::words::At;
+use crate::{Outcome, WrongUse};
+use pilzdamo::{Placed, ROOM};
+
+pub fn place(
+    file: &NamedFile,
+    at: Option<&At>,
+    out: &Out,
+    as_bytes: bool,
+    _json: bool,
+) -> Result<Outcome, WrongUse> {
+    let bytes = file.clinic()?;
+    let hours = at.map(Hours::read).transpose()?;
+    let mut room = [0; ROOM];
+    let placed = match &hours {
+        None => pilzdamo::place(&bytes, &mut room),
+        Some(hours) => pilzdamo::place_at(&bytes, &hours.table.words, hours.minute, &mut room),
+    };
+    if !placed.is_placed() {
+        return refusal(&refused(&bytes, hours.as_ref(), placed.verdict()));
+    }
+    let length = usize::from(placed.length);
+    let written = &room[..length.min(ROOM)];
+    let (packed, there) = match &bytes.text {
+        Some(text) if !as_bytes => {
+            packing::deliver_placed(text, written, out)?;
+            (" when packed", "; the text is in")
+        }
+        _ => {
+            output::deliver(written, out)?;
+            ("", " in")
+        }
+    };
+    let (name, told) = (file.name(), size(placed) + packed);
+    let when = hours.map_or(String::new(), |hours| hours.when("for"));
+    let written = out.told(there);
+    let planned = names::planned(&bytes);
+    output::say(&format!("{name}: placed{when}, {told}{written}{planned}"));
+    Ok(Outcome::Answer)
+}
+
+pub fn measure(file: &NamedFile, at: Option<&At>, _json: bool) -> Result<Outcome, WrongUse> {
+    let bytes = file.clinic()?;
+    let hours = at.map(Hours::read).transpose()?;
+    let placed = match &hours {
+        None => pilzdamo::measure(&bytes),
+        Some(hours) => pilzdamo::measure_at(&bytes, &hours.table.words, hours.minute),
+    };
+    if !placed.is_placed() {
+        return refusal(&refused(&bytes, hours.as_ref(), placed.verdict()));
+    }
+    let when = hours.map_or(String::new(), |hours| hours.when("for"));
+    let (told, planned) = (size(placed), names::planned(&bytes));
+    answer(&format!(
+        "{}: can be placed{when}, {told}{planned}\n",
+        file.name()
+    ))
+}
+
+/// The on steps and the length of a placed file.
+fn size(placed: Placed) -> String {
+    let on_steps = names::several(usize::from(placed.on_steps), "on step");
+    format!("{on_steps}, {} bytes", placed.length)
+}

@@ -1,0 +1,177 @@
+//! What stands behind a word: operands and options.
+
+use super::misused;
+use super::near;
+use super::options::Opt;
+use super::table::Word;
+use crate::output::Out;
+use crate::source::{NamedFile, Source};
+use crate::WrongUse;
+use std::ffi::{OsStr, OsString};
+use std::os::unix::ffi::OsStrExt;
+use std::path::PathBuf;
+
+/// The words behind the first, sorted.
+pub struct Given {
+    pub word: &'static Word,
+    pub plain: Vec<OsString>,
+    /// Each with what stands behind it, if it wants that.
+    options: Vec<(Opt, Option<OsString>)>,
+    pub help: bool,
+}
+
+impl Given {
+    /// Tells the operands from the options. Behind `--` all are operands.
+    pub fn sorted(
+        word: &'static Word,
+        mut words: impl Iterator<Item = OsString>,
+    ) -> Result<Given, WrongUse> {
+        let mut given = Given {
+            word,
+            plain: Vec::new(),
+            options: Vec::new(),
+            help: false,
+        };
+        while let Some(next) = words.next() {
+            match next.as_bytes() {
+                b"--" => given.plain.extend(words.by_ref()),
+                b"-h" | b"--help" => given.help = true,
+                text => match Opt::begun(text, word.options) {
+                    Some((option, within)) => {
+                        let within = within.map(|it| OsStr::from_bytes(it).to_os_string());
+                        given.keep(&next, option, within, &mut words)?;
+                    }
+                    None => given.operand(next)?,
+                },
+            }
+        }
+        Ok(given)
+    }
+
+    /// Keeps an option, with the word behind it if it wants one that isn't in it.
+    fn keep(
+        &mut self,
+        typed: &OsStr,
+        option: Opt,
+        within: Option<OsString>,
+        words: &mut impl Iterator<Item = OsString>,
+    ) -> Result<(), WrongUse> {
+        let verb = self.word.name;
+        let value = match (option.wants(), within) {
+            (None, None) => None,
+            (None, Some(_)) => {
+                let typed = typed.to_string_lossy();
+                return misused(&format!(
+                    "{verb}: {} stands by itself, not as '{typed}'",
+                    option.long()
+                ));
+            }
+            (Some(_), Some(value)) => Some(value),
+            (Some(wants), None) => match words.next() {
+                Some(value) => Some(value),
+                None => {
+                    let typed = typed.to_string_lossy();
+                    return misused(&format!("{verb}: {typed} wants {wants} behind it"));
+                }
+            },
+        };
+        if value.is_some() && self.has(option) {
+            return misused(&format!("{verb}: {} stands there twice", option.name()));
+        }
+        self.options.push((option, value));
+        Ok(())
+    }
+
+    fn operand(&mut self, word: OsString) -> Result<(), WrongUse> {
+        let text = word.to_string_lossy();
+        if text.starts_with('-') && text != "-" && !self.word.hyphens {
+            let hint = near::hint(&text, self.word.options.iter().map(|option| option.long()));
+            return misused(&format!("{} has no option '{text}'{hint}", self.word.name));
+        }
+        self.plain.push(word);
+        Ok(())
+    }
+
+    pub fn has(&self, option: Opt) -> bool {
+        self.options.iter().any(|(given, _)| *given == option)
+    }
+
+    /// What stands behind an option.
+    pub fn value(&self, option: Opt) -> Option<&OsString> {
+        let mut given = self.options.iter().filter(|(given, _)| *given == option);
+        given.next().and_then(|(_, value)| value.as_ref())
+    }
+
+    /// The file behind an option that is read.
+    pub fn source(&self, option: Opt) -> Option<Source> {
+        self.value(option).cloned().map(Source::named)
+    }
+
+    /// Where what is made is to go.
+    pub fn out(&self) -> Out {
+        self.out_behind(Opt::Out).unwrap_or(Out {
+            path: None,
+            force: self.has(Opt::Force),
+        })
+    }
+
+    /// Where an option says that something is to go.
+    pub fn out_behind(&self, option: Opt) -> Option<Out> {
+        let value = self.value(option)?;
+        Some(Out {
+            path: (value != "-").then(|| PathBuf::from(value)),
+            force: self.has(Opt::Force),
+        })
+    }
+
+    /// A file, with the names that are given.
+    pub fn named(&self, file: OsString) -> NamedFile {
+        NamedFile {
+            file: Source::named(file),
+            names: self.source(Opt::Names),
+        }
+    }
+
+    /// Fails if more than one of the files that are read is standard input.
+    pub fn one_standard_input(&self) -> Result<(), WrongUse> {
+        let operands = self.plain.iter().zip(self.word.names());
+        let operands = operands.filter(|(_, name)| is_source(name));
+        let options = self.options.iter().filter_map(|(option, value)| {
+            let name = option.source()?;
+            Some((value.as_ref()?, name))
+        });
+        let (words, mut names): (Vec<&OsString>, Vec<&str>) = operands.chain(options).unzip();
+        if words.iter().filter(|word| **word == "-").count() < 2 {
+            return Ok(());
+        }
+        names.dedup();
+        let which = match &names[..] {
+            [name] => format!("one {name}"),
+            [others @ .., last] => format!("one of {} and {last}", others.join(", ")),
+            [] => return Ok(()),
+        };
+        let verb = self.word.name;
+        misused(&format!("{verb}: only {which} can be standard input"))
+    }
+
+    /// As many operands as there are to be, the first of those that the word has.
+    pub fn exactly<const N: usize>(&mut self) -> Result<[OsString; N], WrongUse> {
+        let plain = std::mem::take(&mut self.plain);
+        let verb = self.word.name;
+        plain.try_into().or_else(|plain: Vec<OsString>| {
+            let missing = self.word.names().nth(plain.len());
+            misused(&match missing.filter(|_| plain.len() < N) {
+                Some(missing) => format!("{verb}: {missing} is missing"),
+                None => format!("{verb}: '{}' is too many", plain[N].to_string_lossy()),
+            })
+        })
+    }
+}
+
+/// Whether an operand of this name is a file that is read.
+fn is_source(operand: &str) -> bool {
+    matches!(
+        operand,
+        "FILE" | "A" | "B" | "NOTICE" | "TEXT" | "CHOICES" | "SEATS"
+    )
+}

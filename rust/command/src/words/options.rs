@@ -1,0 +1,94 @@
+//! The options of the words.
+
+/// An option.
+#[derive(Clone, Copy, PartialEq)]
+pub enum Opt {
+    Out,
+    Force,
+    At,
+    Hours,
+    Seats,
+    Names,
+    /// `--names` of a word that writes them.
+    NamesOut,
+    Json,
+    Bytes,
+    Trace,
+    Interactive,
+    Svg,
+}
+
+impl Opt {
+    pub fn long(self) -> &'static str {
+        match self {
+            Opt::Out => "--output",
+            Opt::Force => "--force",
+            Opt::At => "--at",
+            Opt::Hours => "--hours",
+            Opt::Seats => "--seats",
+            Opt::Names | Opt::NamesOut => "--names",
+            Opt::Json => "--json",
+            Opt::Bytes => "--bytes",
+            Opt::Trace => "--trace",
+            Opt::Interactive => "--interactive",
+            Opt::Svg => "--svg",
+        }
+    }
+
+    pub fn short(self) -> Option<&'static str> {
+        match self {
+            Opt::Out => Some("-o"),
+            Opt::Interactive => Some("-i"),
+            _ => None,
+        }
+    }
+
+    /// How messages name it.
+    pub fn name(self) -> &'static str {
+        self.short().unwrap_or(self.long())
+    }
+
+    /// What stands behind it, if anything does.
+    pub fn wants(self) -> Option<&'static str> {
+        match self {
+            Opt::At => Some("a day and a time"),
+            Opt::Out | Opt::Hours | Opt::Seats | Opt::Names | Opt::NamesOut => {
+                Some("the name of a file")
+            }
+            _ => None,
+        }
+    }
+
+    /// What the file behind it is called, if it is one that is read.
+    pub fn source(self) -> Option<&'static str> {
+        match self {
+            Opt::Hours => Some("HOURS"),
+            Opt::Seats => Some("SEATS"),
+            Opt::Names => Some("NAMES"),
+            _ => None,
+        }
+    }
+
+    /// The option that a word begins, with what stands behind it in the same word.
+    pub fn begun<'a>(word: &'a [u8], among: &[Opt]) -> Option<(Opt, Option<&'a [u8]>)> {
+        among.iter().find_map(|&option| {
+            let behind = option.behind(word)?;
+            Some((option, behind))
+        })
+    }
+
+    /// What stands behind this option in a word; outermost nothing if the word is another.
+    fn behind(self, word: &[u8]) -> Option<Option<&[u8]>> {
+        if let Some(rest) = word.strip_prefix(self.long().as_bytes()) {
+            return match rest {
+                [] => Some(None),
+                [b'=', value @ ..] => Some(Some(value)),
+                _ => None,
+            };
+        }
+        match word.strip_prefix(self.short()?.as_bytes())? {
+            [] => Some(None),
+            value => self.wants().map(|_| Some(value)),
+        }
+    }
+}

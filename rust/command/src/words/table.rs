@@ -1,0 +1,144 @@
+//! All words, each with its operands, its options, its help and what makes a job of them.
+
+use super::given::Given;
+use super::jobs;
+use super::options::Opt::{self, *};
+use super::Job;
+use crate::WrongUse;
+
+/// A word that names a job.
+pub struct Word {
+    pub name: &'static str,
+    /// As they stand in its usage: in brackets what may be left out, with dots what may
+    /// stand there several times.
+    pub operands: &'static [&'static str],
+    pub options: &'static [Opt],
+    /// Whether what begins with a hyphen, and is none of its options, is an operand.
+    pub hyphens: bool,
+    pub help: &'static str,
+    pub job: fn(Given) -> Result<Job, WrongUse>,
+}
+
+impl Word {
+    /// The names of its operands, in order; the last goes on if there may be several.
+    pub fn names(&self) -> impl Iterator<Item = &'static str> {
+        let bare = |operand: &&'static str| operand.trim_matches(['[', ']', '.']);
+        let last = self.operands.last().filter(|last| last.ends_with("..."));
+        let more = last.into_iter().cycle().map(bare);
+        self.operands.iter().map(bare).chain(more)
+    }
+}
+
+macro_rules! word {
+    ($name:literal, [$($operand:literal),*], [$($option:expr),*], $job:path) => {
+        Word {
+            name: $name,
+            operands: &[$($operand),*],
+            options: &[$($option),*],
+            hyphens: false,
+            help: include_str!(concat!("../help/", $name, ".txt")),
+            job: $job,
+        }
+    };
+}
+
+#[rustfmt::skip]
+pub const ALL: [Word; 23] = [
+    word!("check", ["FILE..."], [At, Hours, Names, Json], jobs::check),
+    word!("place", ["FILE"], [Out, Force, At, Hours, Names, Bytes, Json], jobs::place),
+    word!("measure", ["FILE"], [At, Hours, Names, Json], jobs::measure),
+    word!("merge", ["A", "B"], [Out, Force], jobs::merge),
+    word!("columns", ["FILE"], [Out, Force], jobs::columns),
+    word!("rows", ["FILE"], [Out, Force], jobs::rows),
+    word!("notice", ["DATE", "FILE"], [Out, Force], jobs::notice),
+    word!("in-force", ["DAY", "NOTICE", "NOTICE"], [Out, Force], jobs::in_force),
+    word!("sheet", ["FILE..."], [Json], jobs::sheet),
+    word!("run", ["FILE", "CHOICES"], [Seats, Names, Trace, Interactive, Json], jobs::run),
+    word!("choices", ["FILE", "CHOICES"], [Names], jobs::choices),
+    word!("ready", ["FILE", "CHOICES"], [Names, Json], jobs::ready),
+    word!("waiting", ["FILE", "CHOICES"], [Names], jobs::waiting),
+    word!("seats", ["FILE", "CHOICES", "SEATS"], [Names], jobs::seats),
+    word!("round", ["FILE", "CHOICES"], [Seats, Names], jobs::round),
+    word!("dispatch", ["FILE", "[ROUNDS]"], [Names], jobs::dispatch),
+    word!("show", ["FILE"], [Names, Svg, Json, Out, Force], jobs::show),
+    word!("pack", ["TEXT"], [Out, NamesOut, Force], jobs::pack),
+    word!("unpack", ["FILE"], [Out, Names, Force], jobs::unpack),
+    word!("strip", ["FILE"], [Out, Force], jobs::strip),
+    Word { hyphens: true, ..word!("explain", ["N"], [Json], jobs::explain) },
+    Word { hyphens: true, ..word!("reason", ["SENTENCE"], [], jobs::reason) },
+    word!("help", ["[WORD]"], [], jobs::help),
+];
+
+/// The words in a sentence.
+pub fn all_words() -> String {
+    let names = ALL.each_ref().map(|word| word.name);
+    let (last, others) = names.split_last().expect("there are words");
+    format!("{} and {last}", others.join(", "))
+}
+
+#[cfg(test)]
+mod tests {
+    use super::ALL;
+    use std::collections::BTreeSet;
+
+    const PAGE: &str = include_str!("../help.txt");
+
+    #[test]
+    fn every_word_stands_in_the_page_and_has_a_help() {
+        for word in &ALL {
+            let usage = format!("pilzdamo {} {}", word.name, word.operands.join(" "));
+            let line = |line: &str| line.starts_with(&format!("  {}", usage.trim_end()));
+            assert!(PAGE.lines().any(line), "{usage}");
+            assert!(word.help.starts_with(&usage), "{usage}");
+            for part in ["\nOptions", "\nRefusals", "\nExample:\n  pilzdamo "] {
+                assert!(word.help.contains(part), "{}: {part:?}", word.name);
+            }
+        }
+    }
+
+    #[test]
+    fn every_option_stands_in_the_help_of_its_word_and_in_the_page() {
+        for word in &ALL {
+            let usage = word.help.split("\n\n").next().unwrap_or_default();
+            for option in word.options {
+                let (long, name) = (option.long(), option.name());
+                let described = format!("\n  {name}");
+                assert!(usage.contains(name), "{}: usage: {name}", word.name);
+                assert!(word.help.contains(&described), "{}: {name}", word.name);
+                assert!(word.help.contains(long), "{}: {long}", word.name);
+                assert!(PAGE.contains(long), "the page: {long}");
+            }
+        }
+    }
+
+    #[test]
+    fn no_help_speaks_of_an_option_that_its_word_has_not() {
+        for word in &ALL {
+            let known: BTreeSet<&str> = word.options.iter().map(|option| option.long()).collect();
+            let described = word.help.lines().filter_map(|line| {
+                let (_, behind) = line.strip_prefix("  -")?.split_once("--")?;
+                behind.split([' ', ',']).next()
+            });
+            for option in described {
+                assert!(
+                    known.contains(&*format!("--{option}")),
+                    "{}: {option}",
+                    word.name
+                );
+            }
+        }
+    }
+
+    #[test]
+    fn pages_fit_a_terminal() {
+        for page in ALL.iter().map(|word| word.help).chain([PAGE]) {
+            assert!(page.ends_with('\n'));
+            for line in page.lines() {
+                assert!(
+                    line.chars().count() <= 80 && line == line.trim_end(),
+                    "{line}"
+                );
+            }
+        }
+    }
+}
