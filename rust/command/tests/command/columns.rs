@@ -69,8 +69,10 @@ fn never_over_the_input() {
     let file = folder.file("a.clinic", &bytes);
     let answer = pilzdamo(&["columns", &file, "-o", &file]);
     assert_eq!((answer.status, answer.out.len()), (2, 0));
-    let due =
-        format!("pilzdamo: {file} is the same file as {file}, and an input is not written over\n");
+    let due = format!(
+        "pilzdamo: {file} is the same file as {file}, and an input is not written over \
+         without --force\n"
+    );
     assert_eq!(answer.err, due);
     assert_eq!(fs::read(&file).unwrap(), bytes);
 }

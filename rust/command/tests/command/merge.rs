@@ -93,7 +93,8 @@ fn on_steps_add_up() {
 fn assert_spared(answer: Answer, written: &str, input: &str, kept: &[u8]) {
     assert_eq!((answer.status, answer.out.len()), (2, 0));
     let due = format!(
-        "pilzdamo: {written} is the same file as {input}, and an input is not written over\n"
+        "pilzdamo: {written} is the same file as {input}, and an input is not written over \
+         without --force\n"
     );
     assert_eq!(answer.err, due);
     assert_eq!(fs::read(input).unwrap(), kept);
