@@ -92,8 +92,7 @@ pub fn refusal(message: &str) -> Result<Outcome, WrongUse> {
 }
 
 fn merge(first: &Source, second: &Source, out: &Out) -> Result<Outcome, WrongUse> {
-    output::spare(first, out)?;
-    output::spare(second, out)?;
+    output::spare(&[first, second], out)?;
     let (one, other) = (first.clinic()?, second.clinic()?);
     let files = [(first.name(), &one[..]), (second.name(), &other[..])];
     let mut room = [0; ROOM_1];
@@ -110,7 +109,7 @@ fn merge(first: &Source, second: &Source, out: &Out) -> Result<Outcome, WrongUse
 }
 
 fn turn_file(turn: Turn, file: &Source, out: &Out) -> Result<Outcome, WrongUse> {
-    output::spare(file, out)?;
+    output::spare(&[file], out)?;
     let bytes = file.clinic()?;
     let mut room = [0; ROOM];
     let written = turn.call(&bytes, &mut room);
@@ -126,7 +125,7 @@ fn turn_file(turn: Turn, file: &Source, out: &Out) -> Result<Outcome, WrongUse> 
 }
 
 fn notice(first_day: u16, file: &Source, out: &Out) -> Result<Outcome, WrongUse> {
-    output::spare(file, out)?;
+    output::spare(&[file], out)?;
     let bytes = file.clinic()?;
     let verdict = pilzdamo::read(&bytes);
     if !verdict.is_clean() {
@@ -145,8 +144,7 @@ fn notice(first_day: u16, file: &Source, out: &Out) -> Result<Outcome, WrongUse>
 
 fn in_force(day: u16, sources: [&Source; 2], out: Option<&Out>) -> Result<Outcome, WrongUse> {
     if let Some(out) = out {
-        output::spare(sources[0], out)?;
-        output::spare(sources[1], out)?;
+        output::spare(&sources, out)?;
     }
     let (one, other) = (sources[0].read()?, sources[1].read()?);
     let both = [
@@ -345,7 +343,8 @@ fn is_halt(verdict: Verdict) -> bool {
     refusals::counts(verdict.number, verdict.place, true) == Counts::Choice
 }
 
-fn show(file: &NamedFile, _form: Form, _out: &Out) -> Result<Outcome, WrongUse> {
+fn show(file: &NamedFile, _form: Form, out: &Out) -> Result<Outcome, WrongUse> {
+    output::spare(&file.sources(), out)?;
     answer(&shown::page(&file.clinic()?))
 }
 

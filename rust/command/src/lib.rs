@@ -36,6 +36,7 @@ mod threads;
 mod tree;
 mod turning;
 mod words;
+mod writing;
 
 use std::ffi::OsString;
 

@@ -1,10 +1,10 @@
-//! Standard output and standard error.
+//! Standard output, standard error, and where else what is made may go.
 
 use crate::source::{reason, Identity, Source};
+use crate::writing::Written;
 use crate::WrongUse;
-use std::fs;
 use std::io::{self, ErrorKind, IsTerminal, Write};
-use std::path::{Path, PathBuf};
+use std::path::PathBuf;
 
 /// Where what is made is to go.
 pub struct Out {
@@ -15,24 +15,34 @@ pub struct Out {
 }
 
 impl Out {
+    /// How messages name it.
+    fn name(&self) -> String {
+        match &self.path {
+            Some(path) => path.display().to_string(),
+            None => "standard output".to_string(),
+        }
+    }
+
     /// Behind what was done: where it went, if that is a file. The word before its name.
     pub fn told(&self, word: &str) -> String {
-        self.path
-            .as_ref()
-            .map_or(String::new(), |path| format!("{word} {}", path.display()))
+        match &self.path {
+            Some(_) => format!("{word} {}", self.name()),
+            None => String::new(),
+        }
     }
 }
 
-/// Writes to standard output. A reader that has left is no fault.
+/// Writes to standard output. A reader that has left is told as any other failure.
 pub fn print(bytes: &[u8]) -> Result<(), WrongUse> {
     let mut out = io::stdout().lock();
-    match out.write_all(bytes).and_then(|()| out.flush()) {
-        Err(error) if error.kind() != ErrorKind::BrokenPipe => Err(WrongUse(format!(
-            "standard output can't be written: {}",
-            reason(&error)
-        ))),
-        _ => Ok(()),
-    }
+    let printed = out.write_all(bytes).and_then(|()| out.flush());
+    printed.map_err(|error| {
+        let why = match error.kind() {
+            ErrorKind::BrokenPipe => "nobody reads it any more".to_string(),
+            _ => reason(&error),
+        };
+        WrongUse(format!("standard output can't be written: {why}"))
+    })
 }
 
 /// Writes a line to standard error, if it can be written.
@@ -40,47 +50,79 @@ pub fn say(line: &str) {
     let _ = writeln!(io::stderr().lock(), "{line}");
 }
 
-/// Fails if what is written would go over an input, by whatever name or link.
-pub fn spare(input: &Source, out: &Out) -> Result<(), WrongUse> {
-    let (name, written) = match &out.path {
-        Some(path) => (path.display().to_string(), Identity::of_path(path)),
-        None => (
-            "standard output".to_string(),
-            Identity::of_open(io::stdout()),
-        ),
+/// Fails if what is written would go over one of the inputs, by whatever name or link.
+pub fn spare(inputs: &[&Source], out: &Out) -> Result<(), WrongUse> {
+    let written = match &out.path {
+        Some(path) => Identity::of_path(path),
+        None => Identity::of_open(io::stdout()),
     };
-    if !out.force && written.is_some() && written == input.identity() {
-        let input = input.name();
-        return Err(WrongUse(format!(
-            "{name} is the same file as {input}, and an input is not written over without --force"
-        )));
+    let mut inputs = inputs.iter();
+    let over = inputs.find(|input| written.is_some() && written == input.identity());
+    match over {
+        Some(input) if !out.force => {
+            let (name, input) = (out.name(), input.name());
+            let why = "an input is not written over without --force";
+            Err(WrongUse(format!(
+                "{name} is the same file as {input}, and {why}"
+            )))
+        }
+        _ => Ok(()),
     }
-    Ok(())
 }
 
 /// Writes a clinic's file where it is wanted.
 pub fn deliver(bytes: &[u8], out: &Out) -> Result<(), WrongUse> {
-    match &out.path {
-        None if io::stdout().is_terminal() => Err(WrongUse(
-            "a clinic's file is binary and is not written to a terminal; name a file with -o"
-                .to_string(),
-        )),
-        _ => deliver_text(bytes, out),
-    }
+    Ready::bytes(bytes, out)?.put()
 }
 
 /// Writes what may go to a terminal where it is wanted.
 pub fn deliver_text(bytes: &[u8], out: &Out) -> Result<(), WrongUse> {
-    match &out.path {
-        Some(path) => write(bytes, path),
-        None => print(bytes),
+    Ready::text(bytes, out)?.put()
+}
+
+/// What is to go somewhere, as far as that can be done without its being there.
+pub struct Ready<'a> {
+    out: &'a Out,
+    bytes: &'a [u8],
+    written: Option<Written>,
+}
+
+impl<'a> Ready<'a> {
+    /// A clinic's file.
+    pub fn bytes(bytes: &'a [u8], out: &'a Out) -> Result<Ready<'a>, WrongUse> {
+        match &out.path {
+            None if io::stdout().is_terminal() => Err(WrongUse(
+                "a clinic's file is binary and is not written to a terminal; name a file with -o"
+                    .to_string(),
+            )),
+            _ => Ready::text(bytes, out),
+        }
+    }
+
+    /// What may go to a terminal.
+    pub fn text(bytes: &'a [u8], out: &'a Out) -> Result<Ready<'a>, WrongUse> {
+        let path = out.path.as_ref();
+        let written = path.map(|path| Written::new(bytes, path));
+        let written = written
+            .transpose()
+            .map_err(|error| unwritten(out, &error))?;
+        Ok(Ready {
+            out,
+            bytes,
+            written,
+        })
+    }
+
+    /// Puts it there.
+    pub fn put(self) -> Result<(), WrongUse> {
+        match self.written {
+            Some(written) => written.put().map_err(|error| unwritten(self.out, &error)),
+            None => print(self.bytes),
+        }
     }
 }
 
-/// Writes a file.
-fn write(bytes: &[u8], path: &Path) -> Result<(), WrongUse> {
-    fs::write(path, bytes).map_err(|error| {
-        let (name, why) = (path.display(), reason(&error));
-        WrongUse(format!("{name}: can't be written: {why}"))
-    })
+fn unwritten(out: &Out, error: &io::Error) -> WrongUse {
+    let (name, why) = (out.name(), reason(error));
+    WrongUse(format!("{name}: can't be written: {why}"))
 }

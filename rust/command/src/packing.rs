@@ -2,22 +2,24 @@
 
 use crate::input::{decoded, flawed, Input, Text};
 use crate::names;
-use crate::output::{self, Out};
+use crate::output::{self, Out, Ready};
 use crate::source::Source;
 use crate::{Outcome, WrongUse};
 use text::{Names, Records};
 
 /// `pack TEXT`: writes the file that a text says, and its names if that is wanted.
 pub fn pack(source: &Source, out: &Out, names: Option<&Out>) -> Result<Outcome, WrongUse> {
-    output::spare(source, out)?;
-    if let Some(names) = names {
-        output::spare(source, names)?;
+    for out in [Some(out), names].into_iter().flatten() {
+        output::spare(&[source], out)?;
     }
     let input = Input::of_text(source.name(), &source.read()?)?;
-    if let (Some(names), Some(Text { packed, .. })) = (names, &input.text) {
-        output::deliver_text(packed.names.text().as_bytes(), names)?;
-    }
-    output::deliver(&input, out)?;
+    let kept = input.text.as_ref().map(|text| text.packed.names.text());
+    let kept = kept.as_ref().zip(names);
+    // Neither is put in its place before both are written.
+    let kept = kept.map(|(kept, names)| Ready::text(kept.as_bytes(), names));
+    let (kept, file) = (kept.transpose()?, Ready::bytes(&input, out)?);
+    kept.map_or(Ok(()), Ready::put)?;
+    file.put()?;
     let into = out.told(" in");
     let bytes = names::several(input.len(), "byte");
     output::say(&format!("{}: packed, {bytes}{into}", input.name));
@@ -26,7 +28,7 @@ pub fn pack(source: &Source, out: &Out, names: Option<&Out>) -> Result<Outcome, 
 
 /// `unpack FILE`: writes the text of a file.
 pub fn unpack(source: &Source, out: &Out, names: Option<&Source>) -> Result<Outcome, WrongUse> {
-    output::spare(source, out)?;
+    output::spare(&[source].into_iter().chain(names).collect::<Vec<_>>(), out)?;
     let input = source.clinic()?;
     let verdict = pilzdamo::read(&input);
     if !verdict.is_clean() {
@@ -62,6 +64,7 @@ fn read_names(source: &Source) -> Result<Names, WrongUse> {
 
 /// `strip FILE`: takes on and off out again, of a text as of bytes.
 pub fn strip(source: &Source, out: &Out) -> Result<Outcome, WrongUse> {
+    output::spare(&[source], out)?;
     let input = source.clinic()?;
     let verdict = pilzdamo::read(&input);
     if !verdict.is_clean() {

@@ -17,6 +17,11 @@ pub fn place(
     as_bytes: bool,
     _json: bool,
 ) -> Result<Outcome, WrongUse> {
+    let hours = at.map(|at| &at.hours);
+    output::spare(
+        &file.sources().into_iter().chain(hours).collect::<Vec<_>>(),
+        out,
+    )?;
     let bytes = file.clinic()?;
     let hours = at.map(Hours::read).transpose()?;
     let mut room = [0; ROOM];

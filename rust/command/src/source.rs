@@ -63,7 +63,6 @@ impl Source {
 /// A clinic's file, and where the names for it are, if that is said.
 pub struct NamedFile {
     pub file: Source,
-    #[expect(dead_code)]
     pub names: Option<Source>,
 }
 
@@ -71,6 +70,11 @@ impl NamedFile {
     /// How messages name the file.
     pub fn name(&self) -> String {
         self.file.name()
+    }
+
+    /// All that is read.
+    pub fn sources(&self) -> Vec<&Source> {
+        std::iter::once(&self.file).chain(&self.names).collect()
     }
 
     /// The clinic's file that it is, or that its text says.

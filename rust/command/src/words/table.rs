@@ -115,16 +115,14 @@ mod tests {
     fn no_help_speaks_of_an_option_that_its_word_has_not() {
         for word in &ALL {
             let known: BTreeSet<&str> = word.options.iter().map(|option| option.long()).collect();
-            let described = word.help.lines().filter_map(|line| {
-                let (_, behind) = line.strip_prefix("  -")?.split_once("--")?;
-                behind.split([' ', ',']).next()
+            let lines = word.help.lines().filter(|line| line.starts_with("  -"));
+            let described = lines.flat_map(|line| {
+                let names = line.trim_start().split("  ").next().unwrap_or_default();
+                let names = names.split([' ', ',']);
+                names.filter(|name| name.starts_with("--"))
             });
             for option in described {
-                assert!(
-                    known.contains(&*format!("--{option}")),
-                    "{}: {option}",
-                    word.name
-                );
+                assert!(known.contains(option), "{}: {option}", word.name);
             }
         }
     }

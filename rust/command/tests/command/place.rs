@@ -47,7 +47,12 @@ fn to_a_file() {
 fn onto_itself() {
     let folder = Folder::new("itself");
     let file = folder.file("a.clinic", example_bytes("booking.clinic"));
-    assert_eq!(pilzdamo(&["place", &file, "-o", &file]).status, 0);
+    let answer = pilzdamo(&["place", &file, "-o", &file]);
+    assert_eq!(answer.status, 2);
+    assert!(answer.err.contains("not written over without --force"));
+    assert_eq!(fs::read(&file).unwrap(), example_bytes("booking.clinic"));
+    let answer = pilzdamo(&["place", &file, "--force", "-o", &file]);
+    assert_eq!(answer.status, 0);
     assert_eq!(fs::read(&file).unwrap(), placed_booking());
 }
 

@@ -24,18 +24,27 @@ fn fed(words: &[&str], file: &str, out: Stdio) -> Output {
 
 #[test]
 fn a_reader_that_has_left() {
-    for words in [["show", "-"], ["check", "-"]] {
+    let due = b"pilzdamo: standard output can't be written: nobody reads it any more\n";
+    for words in [["show", "-"], ["check", "-"], ["dispatch", "-"]] {
         let output = fed(&words, "spring/cut.clinic", Stdio::piped());
-        assert_eq!(output.status.code(), Some(0));
-        assert_eq!(output.stderr, b"");
+        assert_eq!(output.status.code(), Some(2));
+        assert_eq!(output.stderr, due);
     }
+    let output = fed(&["place", "-"], "booking.clinic", Stdio::piped());
+    assert_eq!(
+        (output.status.code(), output.stderr),
+        (Some(2), due.to_vec())
+    );
     let list = example("refused/19-unequal.choices");
     let output = fed(
         &["run", "-", &list],
         "refused/choices.clinic",
         Stdio::piped(),
     );
-    assert_eq!(output.status.code(), Some(1));
+    assert_eq!(
+        (output.status.code(), output.stderr),
+        (Some(2), due.to_vec())
+    );
 }
 
 #[test]
