@@ -44,8 +44,7 @@ fn number(word: &[u8]) -> Option<u16> {
 }
 
 fn flaw(line: usize, word: &[u8]) -> Flaw {
-    let text = String::from_utf8_lossy(word);
-    let word = text.chars().take(30).flat_map(char::escape_debug).collect();
+    let word = text::shown(word);
     Flaw { line, word }
 }
 
@@ -83,7 +82,7 @@ mod tests {
         ] {
             assert_eq!(flawed(word.as_bytes()).word, word);
         }
-        assert_eq!(flawed(b"\x00\xff").word, "\\0\u{fffd}");
-        assert_eq!(flawed(&[b'x'; 100]).word, "x".repeat(30));
+        assert_eq!(flawed(b"\x00\xff").word, "\\x00\\xff");
+        assert_eq!(flawed(&[b'x'; 100]).word, "x".repeat(40));
     }
 }

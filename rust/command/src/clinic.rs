@@ -1,5 +1,7 @@
 //! A file's records, as far as they can be told apart. Nothing is judged here.
 
+use crate::length::{Bytes, Length};
+
 /// What a section is called, the words of a record, the most records, and which
 /// of the head's counts is that of its records.
 #[derive(Clone, Copy)]
@@ -66,8 +68,8 @@ const NOTHING_PLANNED: [u16; 13] = [1, 0, 0, 0, 0, 0, 0, 13, 13, 13, 13, 13, 13]
 /// A file taken apart.
 #[derive(Default)]
 pub struct Clinic {
-    /// Its length in bytes; 0 where nothing is planned.
-    pub length: usize,
+    /// Its length; 0 where nothing is planned.
+    pub length: Length,
     /// The words of its head, or as many as there are. Of zero bytes, the head that
     /// they are read as.
     pub head: Vec<u16>,
@@ -87,7 +89,8 @@ pub struct Clinic {
 impl Clinic {
     /// Takes any bytes apart: records stand where the counts put them, up to
     /// the end of the file.
-    pub fn of(bytes: &[u8]) -> Clinic {
+    pub fn of<B: Bytes + ?Sized>(file: &B) -> Clinic {
+        let bytes = file.start();
         let words: Vec<u16> = match bytes {
             [] => NOTHING_PLANNED.to_vec(),
             _ => bytes.chunks_exact(2).map(word).collect(),
@@ -95,7 +98,7 @@ impl Clinic {
         let version = words.first().copied().unwrap_or(0);
         let (head, mut rest) = words.split_at(head_words(version).min(words.len()));
         let mut clinic = Clinic {
-            length: bytes.len(),
+            length: file.length(),
             head: head.to_vec(),
             ..Clinic::default()
         };

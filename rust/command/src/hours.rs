@@ -1,5 +1,7 @@
 //! Opening hours as text, and minutes of the week.
 
+use text::shown;
+
 const DAYS: [&str; 7] = ["Mon", "Tue", "Wed", "Thu", "Fri", "Sat", "Sun"];
 
 /// The minutes of a day.
@@ -27,15 +29,14 @@ impl Table {
     /// and two where it goes over midnight, also over that of the week's end. `#`
     /// starts a comment.
     pub fn of(text: &[u8]) -> Result<Table, Flaw> {
-        let text = String::from_utf8_lossy(text);
         let mut table = Table::default();
-        for (line, text) in (1..).zip(text.lines()) {
-            let words: Vec<&str> = text
-                .split('#')
-                .next()
-                .unwrap_or("")
-                .split_whitespace()
-                .collect();
+        for (line, text) in (1..).zip(text.split(|&byte| byte == b'\n')) {
+            let text = text.split(|&byte| byte == b'#').next().unwrap_or_default();
+            let Ok(text) = std::str::from_utf8(text) else {
+                let what = format!("'{}' is not written in UTF-8", shown(text));
+                return Err(Flaw { line, what });
+            };
+            let words: Vec<&str> = text.split_whitespace().collect();
             if !words.is_empty() {
                 let rows = rows(&words).map_err(|what| Flaw { line, what })?;
                 table.lines.extend(rows.iter().map(|_| line));
@@ -49,7 +50,7 @@ impl Table {
 /// The rows of a line that isn't empty.
 fn rows(words: &[&str]) -> Result<Vec<[u16; 3]>, String> {
     let &[start, role, days, times] = words else {
-        return Err(format!("'{}' has not four words", shown(&words.join(" "))));
+        return Err(format!("'{}' has not four words", shown(words.join(" "))));
     };
     if !start.eq_ignore_ascii_case("role") {
         return Err(format!("'{}' is not the word 'role'", shown(start)));
@@ -135,11 +136,6 @@ fn time(text: &str) -> Option<u16> {
 fn number(text: &str) -> Option<u16> {
     let digits = text.bytes().all(|byte| byte.is_ascii_digit());
     text.parse().ok().filter(|_| digits)
-}
-
-/// A word of the text, or its start if it is long.
-fn shown(word: &str) -> String {
-    word.chars().take(30).flat_map(char::escape_debug).collect()
 }
 
 #[cfg(test)]

@@ -1,8 +1,11 @@
 //! A clinic's file, which may come as text.
 
 use crate::clinic::{Clinic, SESSIONS};
+use crate::length::{Bytes, Length};
 use crate::output;
+use crate::reading::{Start, LONGEST};
 use crate::report;
+use crate::source::too_long;
 use crate::WrongUse;
 use pilzdamo::Verdict;
 use std::ops::Deref;
@@ -11,7 +14,7 @@ use text::{At, Flaw, Packed};
 /// A file's bytes, and the text that says them, if it came as one.
 pub struct Input {
     pub name: String,
-    bytes: Vec<u8>,
+    bytes: Start,
     pub text: Option<Text>,
 }
 
@@ -37,10 +40,21 @@ impl Deref for Input {
     }
 }
 
+impl Bytes for Input {
+    fn start(&self) -> &[u8] {
+        &self.bytes
+    }
+
+    fn length(&self) -> Length {
+        self.bytes.length()
+    }
+}
+
 impl Input {
     /// Text and bytes are told apart by the first word.
-    pub fn of(name: String, bytes: Vec<u8>) -> Result<Input, WrongUse> {
+    pub fn of(name: String, bytes: Start) -> Result<Input, WrongUse> {
         match text::is_text(&bytes) {
+            true if !bytes.is_whole() => Err(too_long(&name, LONGEST)),
             true => Input::of_text(name, &bytes),
             false => Ok(Input {
                 name,
@@ -56,7 +70,7 @@ impl Input {
         let packed = text::pack(text).map_err(|flaws| flawed(&name, text, &flaws))?;
         Ok(Input {
             name,
-            bytes: packed.bytes(),
+            bytes: Start::whole(packed.bytes()),
             text: Some(Text {
                 text: text.to_string(),
                 packed,
@@ -136,19 +150,16 @@ impl Input {
 
 /// The characters of a text.
 pub fn decoded<'a>(name: &str, bytes: &'a [u8]) -> Result<&'a str, WrongUse> {
-    text::decoded(bytes).map_err(|flaw| {
-        let lossy = String::from_utf8_lossy(bytes);
-        flawed(name, &lossy, &[flaw])
-    })
+    text::decoded(bytes).map_err(|flaw| flawed(name, bytes, &[flaw]))
 }
 
 /// How many flaws are told at once.
 const TOLD: usize = 20;
 
 /// Tells what can't be understood in a text.
-pub fn flawed(name: &str, text: &str, flaws: &[Flaw]) -> WrongUse {
+pub fn flawed(name: &str, text: impl AsRef<[u8]>, flaws: &[Flaw]) -> WrongUse {
     for flaw in flaws.iter().take(TOLD) {
-        output::say(&text::told(name, text, flaw.at, &flaw.what));
+        output::say(&text::told(name, &text, flaw.at, &flaw.what));
     }
     let more = match flaws.len().checked_sub(TOLD) {
         Some(more @ 1..) => format!(" ({more} more)"),

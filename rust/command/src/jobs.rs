@@ -3,6 +3,7 @@
 use crate::choices;
 use crate::clinic::{Clinic, KINDS};
 use crate::input::Input;
+use crate::length::Bytes;
 use crate::lists::{self, List};
 use crate::output::{self, Out};
 use crate::seats::{self, Table};
@@ -94,7 +95,7 @@ pub fn refusal(message: &str) -> Result<Outcome, WrongUse> {
 fn merge(first: &Source, second: &Source, out: &Out) -> Result<Outcome, WrongUse> {
     output::spare(&[first, second], out)?;
     let (one, other) = (first.clinic()?, second.clinic()?);
-    let files = [(first.name(), &one[..]), (second.name(), &other[..])];
+    let files = [(first.name(), &one), (second.name(), &other)];
     let mut room = [0; ROOM_1];
     let written = pilzdamo::merge(&one, &other, &mut room);
     if !written.is_written() {
@@ -146,11 +147,8 @@ fn in_force(day: u16, sources: [&Source; 2], out: Option<&Out>) -> Result<Outcom
     if let Some(out) = out {
         output::spare(&sources, out)?;
     }
-    let (one, other) = (sources[0].read()?, sources[1].read()?);
-    let both = [
-        (sources[0].name(), &one[..]),
-        (sources[1].name(), &other[..]),
-    ];
+    let (one, other) = (sources[0].start()?, sources[1].start()?);
+    let both = [(sources[0].name(), &one), (sources[1].name(), &other)];
     let (told, part) = pilzdamo::in_force(&one, &other, day);
     if !told.verdict().is_clean() {
         return refusal(&notices::refused(&both, told.verdict()));
@@ -170,9 +168,9 @@ fn sheet(files: &[Source], json: bool) -> Result<Outcome, WrongUse> {
     for file in files {
         let bytes = file.clinic()?;
         let record = pilzdamo::records([&bytes[..]]).ok_or_else(|| {
-            let (name, length) = (file.name(), bytes.len());
+            let (name, length) = (file.name(), bytes.length());
             let most = "a file of a sheet has at most 65535";
-            WrongUse(format!("{name}: it has {length} bytes, and {most}"))
+            WrongUse(format!("{name}: it has {length}, and {most}"))
         });
         input.extend(record?);
     }
@@ -191,7 +189,7 @@ fn run(
     _json: bool,
 ) -> Result<Outcome, WrongUse> {
     let bytes = file.clinic()?;
-    let choices = list.read()?;
+    let choices = list.choices()?;
     let table = table.map(Table::read).transpose()?;
     let list = List::of(list.name(), &choices, &bytes, table.as_ref())?;
     let mut room = [0; RUN_ROOM];
@@ -228,7 +226,7 @@ fn seated(table: Option<&Table>, input: &Input, choices: &[u16]) -> String {
 
 fn seats_after(file: &NamedFile, list: &Source, table: &Source) -> Result<Outcome, WrongUse> {
     let bytes = file.clinic()?;
-    let choices = list.read()?;
+    let choices = list.choices()?;
     let table = Table::read(table)?;
     let list = List::of(list.name(), &choices, &bytes, Some(&table))?;
     let told = pilzdamo::seats(&bytes, &list.words, &table.words);
@@ -241,7 +239,7 @@ fn seats_after(file: &NamedFile, list: &Source, table: &Source) -> Result<Outcom
 
 fn waiting(file: &NamedFile, list: &Source) -> Result<Outcome, WrongUse> {
     let bytes = file.clinic()?;
-    let list = List::of(list.name(), &list.read()?, &bytes, None)?;
+    let list = List::of(list.name(), &list.choices()?, &bytes, None)?;
     let totals = pilzdamo::totals(&bytes, &list.words);
     let lines = || by_kind(&bytes, &totals);
     if totals.verdict().is_clean() {
@@ -259,7 +257,7 @@ fn by_kind(input: &Input, totals: &Totals) -> String {
 
 fn round(file: &NamedFile, list: &Source, table: Option<&Source>) -> Result<Outcome, WrongUse> {
     let bytes = file.clinic()?;
-    let choices = list.read()?;
+    let choices = list.choices()?;
     let table = table.map(Table::read).transpose()?;
     let table = table.as_ref();
     let list = List::of(list.name(), &choices, &bytes, table)?;
@@ -360,7 +358,7 @@ fn reason(sentence: &[u8]) -> Result<Outcome, WrongUse> {
     if told.is_one() {
         return answer(&reasons::text(told, sentence));
     }
-    let shown = String::from_utf8_lossy(sentence);
+    let shown = text::printable(sentence);
     let form = "give it as it was printed, from \"Refused\" to the full stop, in quotes";
     refusal(&format!(
         "pilzdamo: no refusal has this sentence: '{shown}'\n  {form}"

@@ -16,7 +16,7 @@ const MOST: usize = 65_535;
 /// A list, in the engine's words.
 pub struct List {
     pub name: String,
-    text: String,
+    text: Vec<u8>,
     /// Two for each choice. Behind a named choice that is refused there are none.
     pub words: Vec<u16>,
     places: Vec<At>,
@@ -54,8 +54,7 @@ impl List {
         input: &Input,
         table: Option<&Table>,
     ) -> List {
-        let text = String::from_utf8_lossy(bytes).to_string();
-        let tokens = tokens(&text);
+        let tokens = tokens(&String::from_utf8_lossy(bytes));
         let pairs = words.as_chunks().0.iter().zip(tokens.chunks(2));
         let choice = |(&[thread, partner], tokens): (&[u16; 2], &[Token])| Choice {
             at: over(tokens),
@@ -69,7 +68,7 @@ impl List {
         };
         List {
             name,
-            text,
+            text: bytes.to_vec(),
             words,
             places: choices.iter().map(|choice| choice.at).collect(),
             followed,
@@ -83,16 +82,16 @@ impl List {
         table: Option<&Table>,
         flaw: choices::Flaw,
     ) -> Result<List, WrongUse> {
-        let text = decoded(&name, bytes)?.to_string();
-        let choices = named(&tokens(&text), &input.sessions());
+        let text = decoded(&name, bytes)?;
+        let choices = named(&tokens(text), &input.sessions());
         let choices = choices.map_err(|flaws| match input.text {
-            Some(_) => flawed(&name, &text, &flaws),
+            Some(_) => flawed(&name, text, &flaws),
             None => no_number(&name, flaw),
         })?;
         let mut followed = follow(input, &choices, table);
         Ok(List {
             name,
-            text,
+            text: bytes.to_vec(),
             words: std::mem::take(&mut followed.words),
             places: choices.iter().map(|choice| choice.at).collect(),
             followed,

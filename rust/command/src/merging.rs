@@ -2,12 +2,13 @@
 
 use crate::clinic::{Clinic, Section};
 use crate::clinic::{CHANNELS, KINDS, NODES, ROLES, SESSIONS, USERS};
+use crate::input::Input;
 use crate::names::{carries, grants, planned, several};
 use crate::report;
 use pilzdamo::{Verdict, ROOM_1};
 
 /// The two files, with their names.
-pub type Files<'a> = [(String, &'a [u8]); 2];
+pub type Files<'a> = [(String, &'a Input); 2];
 
 /// The sections that both files fill.
 const FILLED: [Section; 4] = [USERS, CHANNELS, SESSIONS, NODES];
@@ -34,7 +35,7 @@ pub fn refused(files: &Files, verdict: Verdict) -> String {
             return of_one(name, bytes, verdict);
         }
     }
-    let clinics = files.each_ref().map(|(_, bytes)| Clinic::of(bytes));
+    let clinics = files.each_ref().map(|(_, bytes)| Clinic::of(*bytes));
     let lines = match verdict.number {
         25 => difference(files, &clinics),
         _ => too_many(files, &clinics),
@@ -52,7 +53,7 @@ fn own(bytes: &[u8]) -> Option<Verdict> {
         .then(|| written.verdict())
 }
 
-fn of_one(name: &str, bytes: &[u8], verdict: Verdict) -> String {
+fn of_one(name: &str, bytes: &Input, verdict: Verdict) -> String {
     let message = report::of_file(name, bytes, verdict);
     match (verdict.number, Clinic::of(bytes).version()) {
         (2, version @ (2 | 3)) => {

@@ -2,12 +2,14 @@
 
 use crate::clinic::Clinic;
 use crate::days::date;
+use crate::length::{Bytes, Length};
 use crate::names::several;
+use crate::reading::Start;
 use crate::report;
 use pilzdamo::{InForce, Verdict};
 
 /// The two notices, with their names.
-pub type Notices<'a> = [(String, &'a [u8]); 2];
+pub type Notices<'a> = [(String, &'a Start); 2];
 
 /// A notice of a file that 1 to 10 leave clean: its first day, its length, its bytes.
 pub fn notice(first_day: u16, file: &[u8]) -> Vec<u8> {
@@ -33,7 +35,7 @@ pub fn refused(notices: &Notices, verdict: Verdict) -> String {
         Some((name, bytes)) => report::of_notices(name, verdict, unsound(bytes)),
         None => {
             let names = notices.each_ref().map(|(name, _)| name.as_str());
-            let begins = |(at, (_, bytes)): (usize, &(String, &[u8]))| {
+            let begins = |(at, (_, bytes)): (usize, &(String, &Start))| {
                 let [first_day, _] = words(bytes)?;
                 Some(format!("notice {at} begins on {}", date(first_day)))
             };
@@ -44,15 +46,18 @@ pub fn refused(notices: &Notices, verdict: Verdict) -> String {
 }
 
 /// Why a notice is refused.
-fn unsound(notice: &[u8]) -> String {
+fn unsound(notice: &Start) -> String {
     let Some([_, length]) = words(notice) else {
-        let bytes = several(notice.len(), "byte");
+        let bytes = notice.length();
         return format!("it has {bytes}, and its first day and length alone have 4");
     };
     let file = &notice[4..];
-    if usize::from(length) != file.len() {
-        let bytes = file.len();
-        return format!("its length word is {length}, and the bytes behind it are {bytes}");
+    let behind = match notice.length() {
+        Length::Exactly(bytes) => (bytes - 4).to_string(),
+        Length::MoreThan(bytes) => format!("more than {}", bytes - 4),
+    };
+    if length.to_string() != behind {
+        return format!("its length word is {length}, and the bytes behind it are {behind}");
     }
     let sentence = report::sentence_of(&Clinic::of(file), pilzdamo::read(file));
     format!("its file: {sentence}")

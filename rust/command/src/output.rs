@@ -1,7 +1,7 @@
 //! Standard output, standard error, and where else what is made may go.
 
-use crate::source::{reason, Identity, Source};
-use crate::writing::Written;
+use crate::source::{reason, shown, Identity, Source};
+use crate::writing::{self, Written};
 use crate::WrongUse;
 use std::io::{self, ErrorKind, IsTerminal, Write};
 use std::path::PathBuf;
@@ -18,9 +18,21 @@ impl Out {
     /// How messages name it.
     fn name(&self) -> String {
         match &self.path {
-            Some(path) => path.display().to_string(),
+            Some(path) => shown(path),
             None => "standard output".to_string(),
         }
+    }
+
+    /// Whether both lead to one file, which need not be there yet.
+    pub fn is_same(&self, other: &Out) -> bool {
+        let [one, other] = [self, other].map(|out| out.path.as_deref());
+        let [Some(one), Some(other)] = [one, other] else {
+            return false;
+        };
+        let identity = Identity::of_path(one);
+        let there = identity.is_some() && identity == Identity::of_path(other);
+        let place = writing::place(one);
+        there || (place.is_some() && place == writing::place(other))
     }
 
     /// Behind what was done: where it went, if that is a file. The word before its name.

@@ -12,6 +12,10 @@ pub fn pack(source: &Source, out: &Out, names: Option<&Out>) -> Result<Outcome, 
     for out in [Some(out), names].into_iter().flatten() {
         output::spare(&[source], out)?;
     }
+    if names.is_some_and(|names| names.is_same(out)) {
+        let why = "FILE and NAMES are the same file";
+        return Err(WrongUse(format!("pack: {why}")));
+    }
     let input = Input::of_text(source.name(), &source.read()?)?;
     let kept = input.text.as_ref().map(|text| text.packed.names.text());
     let kept = kept.as_ref().zip(names);

@@ -9,12 +9,12 @@ use pilzdamo::Verdict;
 pub fn told(clinic: &Clinic, verdict: Verdict) -> Option<String> {
     let place = usize::from(verdict.place);
     match verdict.number {
-        1 => Some(format!("it has {}", several(clinic.length, "byte"))),
+        1 => Some(format!("it has {}", clinic.length)),
         2 => Some(format!("it has version {}", clinic.version())),
         3 => counts(clinic),
         4 => offset(clinic),
         5 => {
-            let (there, due) = (several(clinic.length, "byte"), 2 * clinic.words());
+            let (there, due) = (clinic.length, 2 * clinic.words());
             Some(format!("it has {there}, and its counts give {due}"))
         }
         6 => record(clinic, place),

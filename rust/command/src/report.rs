@@ -1,6 +1,7 @@
 //! Refusals in messages. What a refusal is is said by the engine's own sentence.
 
 use crate::clinic::Clinic;
+use crate::input::Input;
 use crate::names::{self, Above};
 use crate::records;
 use crate::refusals;
@@ -8,9 +9,9 @@ use crate::tree;
 use pilzdamo::{Counts, Verdict, NO_TAG};
 
 /// The message for a refused file, by check or placing.
-pub fn of_file(name: &str, bytes: &[u8], verdict: Verdict) -> String {
+pub fn of_file(name: &str, input: &Input, verdict: Verdict) -> String {
     let counts = refusals::counts(verdict.number, verdict.place, false);
-    in_file(name, &Clinic::of(bytes), verdict, counts)
+    in_file(name, &Clinic::of(input), verdict, counts)
 }
 
 /// The message for a refused run.

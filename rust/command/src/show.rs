@@ -2,6 +2,7 @@
 
 use crate::clinic::{Clinic, Section};
 use crate::clinic::{CHANNELS, COUNTED, JUNIORS, KINDS, ROLES, USERS};
+use crate::length::{Bytes, Length};
 use crate::names::{carries, grants, juniors, list, record, several};
 use crate::page::{Page, Spot};
 use crate::sessions;
@@ -10,8 +11,13 @@ use pilzdamo::Verdict;
 /// Any bytes whatever, as far as they can be followed as a clinic's file. What
 /// the engine's check refuses is marked at its place.
 pub fn text(bytes: &[u8]) -> String {
-    let verdict = pilzdamo::check(bytes);
-    let clinic = Clinic::of(bytes);
+    of(bytes)
+}
+
+/// The same where perhaps only the start was read.
+pub(crate) fn of<B: Bytes + ?Sized>(file: &B) -> String {
+    let verdict = pilzdamo::check(file.start());
+    let clinic = Clinic::of(file);
     let mut page = Page::new(&clinic, verdict);
     head(&mut page, &clinic, verdict);
     if clinic.counts.is_some() {
@@ -60,13 +66,14 @@ fn judged(clinic: &Clinic, verdict: Verdict) -> String {
 
 /// The length, and the one that the counts give, if it is another.
 fn length(clinic: &Clinic) -> String {
-    let due = 2 * clinic.words();
+    let due = Length::Exactly(2 * clinic.words() as u64);
     match clinic.length {
-        0 => "length: 0 bytes: nothing is planned; read as these 26".to_string(),
+        Length::Exactly(0) => "length: 0 bytes: nothing is planned; read as these 26".to_string(),
         length if clinic.counts.is_some() && length != due => {
-            format!("length: {length} bytes ({due} by the counts)")
+            let due = 2 * clinic.words();
+            format!("length: {length} ({due} by the counts)")
         }
-        length => format!("length: {}", several(length, "byte")),
+        length => format!("length: {length}"),
     }
 }
 

@@ -9,7 +9,7 @@ use pilzdamo::Verdict;
 pub fn page(input: &Input) -> String {
     match &input.text {
         Some(text) => of_text(input, text),
-        None => show::text(input),
+        None => show::of(input),
     }
 }
 

@@ -1,11 +1,13 @@
 //! Where a file comes from.
 
 use crate::input::Input;
+use crate::reading::{self, Start, LONGEST, LONGEST_LIST};
 use crate::WrongUse;
 use std::ffi::OsString;
 use std::fs::{self, File, Metadata};
-use std::io::{self, ErrorKind, Read};
+use std::io::{self, ErrorKind};
 use std::os::fd::AsFd;
+use std::os::unix::ffi::OsStrExt;
 use std::os::unix::fs::MetadataExt;
 use std::path::{Path, PathBuf};
 
@@ -30,7 +32,7 @@ impl Source {
     pub fn name(&self) -> String {
         match self {
             Source::StandardInput => "standard input".to_string(),
-            Source::File(path) => path.display().to_string(),
+            Source::File(path) => shown(path),
         }
     }
 
@@ -44,19 +46,46 @@ impl Source {
 
     /// The clinic's file that it is, or that its text says.
     pub fn clinic(&self) -> Result<Input, WrongUse> {
-        Input::of(self.name(), self.read()?)
+        Input::of(self.name(), self.start()?)
     }
 
-    /// All its bytes.
+    /// Its bytes, or the start of them that any longer file is answered by.
+    pub fn start(&self) -> Result<Start, WrongUse> {
+        self.open()
+            .and_then(Start::read)
+            .map_err(|error| self.unread(&error))
+    }
+
+    /// All its bytes, if a text can have as many.
     pub fn read(&self) -> Result<Vec<u8>, WrongUse> {
-        let read = match self {
-            Source::StandardInput => all_of_standard_input(),
-            Source::File(path) => fs::read(path),
-        };
-        read.map_err(|error| {
-            let why = reason(&error);
-            WrongUse(format!("{}: can't be read: {why}", self.name()))
-        })
+        self.read_up_to(LONGEST)
+    }
+
+    /// All its bytes, if a list of choices can have as many.
+    pub fn choices(&self) -> Result<Vec<u8>, WrongUse> {
+        self.read_up_to(LONGEST_LIST)
+    }
+
+    /// All its bytes, at most so many.
+    fn read_up_to(&self, most: u64) -> Result<Vec<u8>, WrongUse> {
+        let read = self.open().and_then(|file| reading::up_to(most, file));
+        match read.map_err(|error| self.unread(&error))? {
+            Some(bytes) => Ok(bytes),
+            None => Err(too_long(&self.name(), most)),
+        }
+    }
+
+    fn open(&self) -> io::Result<File> {
+        match self {
+            // Past the library's own buffer, so that the file's position is known.
+            Source::StandardInput => Ok(File::from(io::stdin().as_fd().try_clone_to_owned()?)),
+            Source::File(path) => File::open(path),
+        }
+    }
+
+    fn unread(&self, error: &io::Error) -> WrongUse {
+        let why = reason(error);
+        WrongUse(format!("{}: can't be read: {why}", self.name()))
     }
 }
 
@@ -81,6 +110,11 @@ impl NamedFile {
     pub fn clinic(&self) -> Result<Input, WrongUse> {
         self.file.clinic()
     }
+}
+
+/// A path in a message.
+pub fn shown(path: &Path) -> String {
+    text::printable(path.as_os_str().as_bytes())
 }
 
 /// What a file has under all its names and links, and no other has. Pipes and devices
@@ -111,10 +145,11 @@ impl Identity {
     }
 }
 
-fn all_of_standard_input() -> io::Result<Vec<u8>> {
-    let mut bytes = Vec::new();
-    io::stdin().lock().read_to_end(&mut bytes)?;
-    Ok(bytes)
+/// Said of a text that is longer than any.
+pub fn too_long(name: &str, most: u64) -> WrongUse {
+    WrongUse(format!(
+        "{name}: it has more than {most} bytes, and no text of its sort is read beyond them"
+    ))
 }
 
 /// Why a file can't be read or written, in plain words where there are some.

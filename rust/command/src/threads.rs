@@ -160,12 +160,7 @@ impl Reader<'_> {
     fn expected<T>(&self, what: &str) -> Result<T, Flaw> {
         Err(match (self.tokens.get(self.next), self.tokens.last()) {
             (Some(token), _) => {
-                let found: String = token
-                    .text
-                    .chars()
-                    .take(40)
-                    .flat_map(char::escape_debug)
-                    .collect();
+                let found = text::shown(&token.text);
                 let what = format!("expected {what}, not '{found}'");
                 Flaw { at: token.at, what }
             }

@@ -168,7 +168,7 @@ pub fn job(mut words: impl Iterator<Item = OsString>) -> Result<Job, WrongUse> {
 
 /// The word of this name.
 fn known(name: &OsStr) -> Result<&'static Word, WrongUse> {
-    let text = name.to_string_lossy();
+    let text = shown(name);
     table::ALL
         .iter()
         .find(|word| word.name == text)
@@ -180,6 +180,11 @@ fn known(name: &OsStr) -> Result<&'static Word, WrongUse> {
             },
             Ok,
         )
+}
+
+/// A word of the command line in a message.
+fn shown(word: &OsStr) -> String {
+    text::printable(word.as_encoded_bytes())
 }
 
 fn misused<T>(why: &str) -> Result<T, WrongUse> {

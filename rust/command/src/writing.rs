@@ -86,6 +86,14 @@ fn target(path: &Path) -> io::Result<PathBuf> {
     Err(io::Error::other("its links lead nowhere"))
 }
 
+/// Where the file that a path leads to is or would be, if its folder is there and it is no
+/// stream.
+pub fn place(path: &Path) -> Option<PathBuf> {
+    let target = target(path).ok().filter(|target| !is_stream(target))?;
+    let folder = fs::canonicalize(folder(&target)).ok()?;
+    Some(folder.join(target.file_name()?))
+}
+
 /// Whether a path names an open stream or a device, such as /dev/stdout, whatever it
 /// leads to.
 fn is_stream(path: &Path) -> bool {
@@ -111,6 +119,9 @@ fn create(folder: &Path, replaces: bool) -> io::Result<(File, PathBuf)> {
         let path = folder.join(format!(".pilzdamo-{}-{number}", std::process::id()));
         match options.open(&path) {
             Err(error) if error.kind() == ErrorKind::AlreadyExists => (),
+            Err(error) if error.kind() == ErrorKind::PermissionDenied => {
+                return Err(io::Error::other("no file can be made in its folder"))
+            }
             file => return Ok((file?, path)),
         }
     }

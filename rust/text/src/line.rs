@@ -1,5 +1,7 @@
 //! The lines of a text, and the words in them.
 
+use crate::printable::units;
+
 /// A stretch of a line.
 #[derive(Clone, Copy, Debug, Default, PartialEq, Eq)]
 pub struct At {
@@ -131,7 +133,10 @@ fn is_of_word(c: char) -> bool {
     c.is_alphanumeric() || c == '_' || c == '-'
 }
 
-/// A word of the text in a message, without control characters and not too long.
-pub fn shown(text: &str) -> String {
-    text.chars().take(40).flat_map(char::escape_debug).collect()
+/// The most characters of a word that a message shows.
+const SHOWN: usize = 40;
+
+/// A word of a text in a message, as it can be printed and not too long.
+pub fn shown(word: impl AsRef<[u8]>) -> String {
+    units(word.as_ref()).take(SHOWN).collect()
 }

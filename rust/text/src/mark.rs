@@ -1,6 +1,7 @@
 //! Texts told from bytes, and places in them shown.
 
 use crate::line::{At, Flaw};
+use crate::printable::units;
 
 /// Whether these bytes are a text by its first word, `clinic`; comments and blank lines
 /// may stand before it. No binary file begins so: its second byte is 0.
@@ -10,7 +11,7 @@ pub fn is_text(bytes: &[u8]) -> bool {
 
 /// The first word of a text, or of bytes taken for one.
 fn first_word(bytes: &[u8]) -> &[u8] {
-    let bytes = bytes.strip_prefix(b"\xef\xbb\xbf").unwrap_or(bytes);
+    let bytes = without_mark(bytes);
     for line in bytes.split(|&byte| byte == b'\n') {
         let line = line.trim_ascii();
         if !line.is_empty() && line[0] != b'#' {
@@ -21,9 +22,14 @@ fn first_word(bytes: &[u8]) -> &[u8] {
     &[]
 }
 
+/// Without a mark of the byte order.
+fn without_mark(bytes: &[u8]) -> &[u8] {
+    bytes.strip_prefix(b"\xef\xbb\xbf").unwrap_or(bytes)
+}
+
 /// The characters of a text, without a mark of the byte order.
 pub fn decoded(bytes: &[u8]) -> Result<&str, Flaw> {
-    let bytes = bytes.strip_prefix(b"\xef\xbb\xbf").unwrap_or(bytes);
+    let bytes = without_mark(bytes);
     std::str::from_utf8(bytes).map_err(|error| {
         let before = String::from_utf8_lossy(&bytes[..error.valid_up_to()]);
         let (line, last) = (1..).zip(before.split('\n')).last().unwrap_or((1, ""));
@@ -46,26 +52,38 @@ const SHOWN: usize = 100;
 
 /// A message about a place in a text: the file's name, line and column, what there is
 /// to say, and the line itself with a mark below it.
-pub fn told(file: &str, text: &str, at: At, what: &str) -> String {
+pub fn told(file: &str, text: impl AsRef<[u8]>, at: At, what: &str) -> String {
     let At {
         line,
         column,
         width,
     } = at;
-    let whole = text.split('\n').nth(line.saturating_sub(1)).unwrap_or("");
+    let text = without_mark(text.as_ref());
+    let mut lines = text.split(|&byte| byte == b'\n');
+    let whole = lines.nth(line.saturating_sub(1)).unwrap_or_default();
     let skipped = match column > BEFORE {
         true => column - 1 - BEFORE / 3,
         false => 0,
     };
-    // One character for each, so that the mark stands where it should.
-    let plain = |c: char| if c.is_control() { ' ' } else { c };
-    let shown: String = whole.chars().skip(skipped).take(SHOWN).map(plain).collect();
+    let shown = units(whole.trim_ascii_end()).skip(skipped).take(SHOWN);
+    let shown: Vec<String> = shown.collect();
     let lead = if skipped > 0 { "... " } else { "" };
-    let before = " ".repeat(lead.len() + column - 1 - skipped);
-    let room = SHOWN.saturating_sub(column - 1 - skipped).max(1);
-    let mark = "^".repeat(width.clamp(1, room));
+    let first = column.saturating_sub(1) - skipped;
+    let (before, behind) = shown.split_at(first.min(shown.len()));
+    let marked = &behind[..width.min(behind.len())];
+    // The mark may stand behind the end of the line.
+    let room = width.clamp(1, SHOWN.saturating_sub(first).max(1));
+    let before = lead.len() + wide(before) + first - before.len();
+    let mark = wide(marked) + room.saturating_sub(marked.len());
     format!(
-        "{file}:{line}:{column}: {what}\n{line:6} | {lead}{}\n       | {before}{mark}",
-        shown.trim_end()
+        "{file}:{line}:{column}: {what}\n{line:6} | {lead}{}\n       | {}{}",
+        shown.concat(),
+        " ".repeat(before),
+        "^".repeat(mark)
     )
+}
+
+/// How many characters are printed for these.
+fn wide(units: &[String]) -> usize {
+    units.iter().map(|unit| unit.chars().count()).sum()
 }

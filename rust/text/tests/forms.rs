@@ -409,7 +409,7 @@ fn the_line_with_a_mark() {
     let at = pack(text).expect_err("flaws")[0].at;
     assert_eq!(
         told("a.txt", text, at, "what"),
-        "a.txt:2:1: what\n     2 |  user  x ...\n       | ^"
+        "a.txt:2:1: what\n     2 | \\tuser \\x07x ...\n       | ^^"
     );
     let deep = format!("clinic 1\n{}strange words", " ".repeat(500));
     let told = told(

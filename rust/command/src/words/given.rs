@@ -1,9 +1,9 @@
 //! What stands behind a word: operands and options.
 
-use super::misused;
 use super::near;
 use super::options::Opt;
 use super::table::Word;
+use super::{misused, shown};
 use crate::output::Out;
 use crate::source::{NamedFile, Source};
 use crate::WrongUse;
@@ -60,7 +60,7 @@ impl Given {
         let value = match (option.wants(), within) {
             (None, None) => None,
             (None, Some(_)) => {
-                let typed = typed.to_string_lossy();
+                let typed = shown(typed);
                 return misused(&format!(
                     "{verb}: {} stands by itself, not as '{typed}'",
                     option.long()
@@ -70,7 +70,7 @@ impl Given {
             (Some(wants), None) => match words.next() {
                 Some(value) => Some(value),
                 None => {
-                    let typed = typed.to_string_lossy();
+                    let typed = shown(typed);
                     return misused(&format!("{verb}: {typed} wants {wants} behind it"));
                 }
             },
@@ -83,7 +83,7 @@ impl Given {
     }
 
     fn operand(&mut self, word: OsString) -> Result<(), WrongUse> {
-        let text = word.to_string_lossy();
+        let text = shown(&word);
         if text.starts_with('-') && text != "-" && !self.word.hyphens {
             let hint = near::hint(&text, self.word.options.iter().map(|option| option.long()));
             return misused(&format!("{} has no option '{text}'{hint}", self.word.name));
@@ -162,7 +162,7 @@ impl Given {
             let missing = self.word.names().nth(plain.len());
             misused(&match missing.filter(|_| plain.len() < N) {
                 Some(missing) => format!("{verb}: {missing} is missing"),
-                None => format!("{verb}: '{}' is too many", plain[N].to_string_lossy()),
+                None => format!("{verb}: '{}' is too many", shown(&plain[N])),
             })
         })
     }

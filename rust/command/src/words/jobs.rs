@@ -2,7 +2,7 @@
 
 use super::given::Given;
 use super::options::Opt;
-use super::{known, misused, At, Form, Job};
+use super::{known, misused, shown, At, Form, Job};
 use crate::days;
 use crate::hours;
 use crate::refusals;
@@ -227,7 +227,7 @@ pub fn strip(mut given: Given) -> Result<Job, WrongUse> {
 /// The number of a refusal.
 pub fn explain(mut given: Given) -> Result<Job, WrongUse> {
     let [word] = given.exactly()?;
-    let word = word.to_string_lossy();
+    let word = shown(&word);
     match word.parse() {
         Ok(number) if refusals::of(number).is_some() => Ok(Job::Explain {
             number,
@@ -287,17 +287,16 @@ fn minute_and_hours(given: &Given) -> Result<Option<At>, WrongUse> {
         (Some(at), Some(hours)) => (at, hours),
         _ => return misused(&format!("{verb}: --at and --hours go together")),
     };
-    let text = at.to_string_lossy();
-    let Some(minute) = hours::minute(&text) else {
-        let due = "a day and a time such as \"Mon 07:30\"";
-        return misused(&format!("{verb}: --at wants {due}, not '{text}'"));
+    let Some(minute) = hours::minute(&at.to_string_lossy()) else {
+        let (due, at) = ("a day and a time such as \"Mon 07:30\"", shown(at));
+        return misused(&format!("{verb}: --at wants {due}, not '{at}'"));
     };
     Ok(Some(At { minute, hours }))
 }
 
 /// A day, by its date or its number.
 fn day(name: &str, word: OsString) -> Result<u16, WrongUse> {
-    let text = word.to_string_lossy();
+    let text = shown(&word);
     days::day(&text).map_or_else(
         || {
             let due = "a date from 2000-01-01 to 2179-06-06, or a number of days from 0 to 65535";
@@ -309,7 +308,7 @@ fn day(name: &str, word: OsString) -> Result<u16, WrongUse> {
 
 /// A number of rounds.
 fn rounds(word: OsString) -> Result<u16, WrongUse> {
-    let text = word.to_string_lossy();
+    let text = shown(&word);
     let digits = text.bytes().all(|byte| byte.is_ascii_digit());
     match text.parse() {
         Ok(rounds @ 1..) if digits => Ok(rounds),

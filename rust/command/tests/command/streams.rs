@@ -1,6 +1,6 @@
 //! Standard output that is gone, full or a terminal.
 
-use crate::common::{example, example_bytes};
+use crate::common::{example, example_bytes, Folder};
 use std::fs::File;
 use std::io::Write;
 use std::process::{Command, Output, Stdio};
@@ -45,6 +45,25 @@ fn a_reader_that_has_left() {
         (output.status.code(), output.stderr),
         (Some(2), due.to_vec())
     );
+}
+
+/// The script tells it, before it builds anything.
+#[test]
+fn a_closed_output() {
+    let folder = Folder::new("closed");
+    let script = concat!(env!("CARGO_MANIFEST_DIR"), "/../../pilzdamo");
+    std::fs::copy(script, folder.at("pilzdamo")).expect("the script");
+    for words in ["check a", "--help", ""] {
+        let call = format!("exec ./pilzdamo {words} >&-");
+        let output = Command::new("sh")
+            .args(["-c", &call])
+            .current_dir(folder.path())
+            .env("PATH", "/usr/bin:/bin")
+            .output()
+            .expect("a shell");
+        assert_eq!(output.status.code(), Some(2), "{words}");
+        assert_eq!(output.stderr, b"pilzdamo: standard output is closed\n");
+    }
 }
 
 #[test]

@@ -1,0 +1,160 @@
+//! Names and words that don't show are written out in messages.
+
+use crate::common::{example, example_bytes, pilzdamo, pilzdamo_fed, Folder};
+use std::ffi::{OsStr, OsString};
+use std::os::unix::ffi::{OsStrExt, OsStringExt};
+
+/// A name that clears a terminal, turns its line round and is no text, and how it is told.
+const NAME: &[u8] = b"a\x1b[2J\n\xe2\x80\xaeb\xff";
+const TOLD: &str = "a\\x1b[2J\\n\\u{202e}b\\xff";
+
+fn call(words: &[&OsStr]) -> (i32, String, String) {
+    let answer = pilzdamo(words);
+    let told = [answer.text(), &answer.err].concat();
+    let hidden = |c: char| (c.is_control() && c != '\n') || c == '\u{202e}';
+    assert!(!told.contains(hidden), "{told:?}");
+    (answer.status, answer.text().to_string(), answer.err)
+}
+
+#[test]
+fn in_the_names_of_files() {
+    let folder = Folder::new("hidden");
+    let path = folder.path().join(OsStr::from_bytes(NAME));
+    let name = format!("{}/{TOLD}", folder.path().display());
+    let path = path.as_os_str();
+    let (status, _, err) = call(&[OsStr::new("check"), path]);
+    let due = format!("pilzdamo: {name}: can't be read: there is no such file or folder\n");
+    assert_eq!((status, err), (2, due));
+    let booking = example("booking.clinic");
+    let (status, _, err) = call(
+        &["place", &booking, "-o"]
+            .map(OsStr::new)
+            .into_iter()
+            .chain([path])
+            .collect::<Vec<_>>(),
+    );
+    assert_eq!(status, 0);
+    assert!(err.ends_with(&format!(" in {name}\n")), "{err}");
+    let (status, out, _) = call(&[OsStr::new("check"), path]);
+    assert_eq!((status, out), (0, format!("{name}: passes\n")));
+    std::fs::write(path, "clinic 1\nuser \x1b").expect("it can be written");
+    let (status, _, err) = call(&[OsStr::new("check"), path]);
+    assert_eq!(status, 2);
+    assert!(err.starts_with(&format!("{name}:2:6: ")), "{err}");
+}
+
+#[test]
+fn in_the_words_of_the_command_line() {
+    let word = OsString::from_vec(NAME.to_vec());
+    let option = OsString::from_vec([b"--", NAME].concat());
+    let calls: [(&[&str], &OsStr, String); 8] = [
+        (&[], &word, format!("there is no word '{TOLD}'")),
+        (&["help"], &word, format!("there is no word '{TOLD}'")),
+        (
+            &["place"],
+            &option,
+            format!("place has no option '--{TOLD}'"),
+        ),
+        (
+            &["place", "a"],
+            &word,
+            format!("place: '{TOLD}' is too many"),
+        ),
+        (
+            &["explain"],
+            &word,
+            format!("explain: the refusals have the numbers 1 to 28, not '{TOLD}'"),
+        ),
+        (
+            &["dispatch", "a"],
+            &word,
+            format!("dispatch: ROUNDS is a number from 1 to 65535, not '{TOLD}'"),
+        ),
+        (
+            &["check", "a", "--hours=b", "--at"],
+            &word,
+            format!("check: --at wants a day and a time such as \"Mon 07:30\", not '{TOLD}'"),
+        ),
+        (
+            &["reason"],
+            &word,
+            format!("no refusal has this sentence: '{TOLD}'"),
+        ),
+    ];
+    for (words, last, due) in calls {
+        let words: Vec<&OsStr> = words.iter().map(OsStr::new).chain([last]).collect();
+        let (status, _, err) = call(&words);
+        assert!(status > 0);
+        let told = err.lines().next().unwrap_or_default();
+        assert!(told.starts_with(&format!("pilzdamo: {due}")), "{err}");
+    }
+}
+
+/// The mark stands below what it marks, however wide that is written.
+#[test]
+fn in_a_line_with_its_mark() {
+    let answer = pilzdamo_fed(
+        &["check", "-"],
+        b"clinic 1\nuser\x1b \x07 \xe2\x80\xae desk: clerk\r\n",
+    );
+    assert_eq!(answer.status, 2);
+    let due = "     2 | user\\x1b \\x07 \\u{202e} desk: clerk\n";
+    assert!(answer.err.contains(due), "{}", answer.err);
+    let lines: Vec<&str> = answer.err.lines().collect();
+    for (above, below) in lines.iter().zip(&lines[1..]) {
+        if let Some(mark) = below.find('^') {
+            let width = below.len() - mark;
+            let marked = &above[mark..mark + width];
+            assert!(
+                ["\\x1b", "\\x07", "\\u{202e}", "clerk", "desk"].contains(&marked),
+                "{}",
+                answer.err
+            );
+        }
+    }
+}
+
+#[test]
+fn bytes_that_are_no_characters() {
+    let answer = pilzdamo_fed(&["check", "-"], b"clinic 1\nuser d\xffsk \xc3\x28\n");
+    assert_eq!(answer.status, 2);
+    let due = "standard input:2:7: a byte that is no character: a text is written in UTF-8\n     \
+               2 | user d\\xffsk \\xc3(\n       |       ^^^^\n";
+    assert!(answer.err.starts_with(due), "{}", answer.err);
+    let folder = Folder::new("no characters");
+    let file = example("desks.clinic");
+    let list = folder.file("list", b"1 0\n\xff\x1b 0");
+    let answer = pilzdamo(&["run", &file, &list]);
+    assert!(
+        answer.err.contains("'\\xff\\x1b'") || answer.err.contains("\n     2 | \\xff\\x1b 0\n"),
+        "{}",
+        answer.err
+    );
+    let hours = folder.file("hours", b"# \xff is no matter\nrole 1 M\xffn 07:00-15:00");
+    let answer = pilzdamo(&["check", &file, "--at=Mon 07:30", "--hours", &hours]);
+    assert!(
+        answer
+            .err
+            .contains("line 2: 'role 1 M\\xffn 07:00-15:00' is not written in UTF-8"),
+        "{}",
+        answer.err
+    );
+    let seats = folder.file("seats", b"1 \x9b");
+    let answer = pilzdamo(&["seats", &file, &example("desks.choices"), &seats]);
+    assert!(
+        answer.err.contains("line 1: '\\x9b' is no number"),
+        "{}",
+        answer.err
+    );
+}
+
+#[test]
+fn example_names_are_told_as_they_are() {
+    let folder = Folder::new("plain");
+    let name = folder.file(
+        "Ana's \"n\u{fc}rse\" e\u{301} \u{65e5}.clinic",
+        example_bytes("spring/cut.clinic"),
+    );
+    let answer = pilzdamo(&["check", &name]);
+    assert_eq!(answer.text(), format!("{name}: passes\n"));
+}
