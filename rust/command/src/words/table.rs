@@ -78,7 +78,7 @@ pub fn all_words() -> String {
 
 #[cfg(test)]
 mod tests {
-    use super::ALL;
+    use super::{Force, Out, ALL};
     use std::collections::BTreeSet;
 
     const PAGE: &str = include_str!("../help.txt");
@@ -124,6 +124,14 @@ mod tests {
             for option in described {
                 assert!(known.contains(option), "{}: {option}", word.name);
             }
+        }
+    }
+
+    #[test]
+    fn what_writes_can_be_forced() {
+        for word in &ALL {
+            let [out, force] = [Out, Force].map(|option| word.options.contains(&option));
+            assert_eq!(out, force, "{}", word.name);
         }
     }
 

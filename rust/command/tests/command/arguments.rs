@@ -56,6 +56,8 @@ fn every_form_of_the_others() {
     assert_eq!(pilzdamo(&["pack", &text, &joined]).status, 0);
     let answer = pilzdamo(&["unpack", &example("booking.clinic"), &joined]);
     assert!(answer.text().contains("scheduler"), "{}", answer.text());
+    let answer = pilzdamo(&["pack", &text, "-o", &folder.at("bytes"), "--names=-"]);
+    assert_eq!(answer.out, fs::read(&names).expect("names"));
 }
 
 #[test]
