@@ -1,7 +1,7 @@
 //! A minute of the week that is asked for, with a table of opening hours.
 
 use crate::hours;
-use crate::input::Input;
+use crate::input::{flawed, Input};
 use crate::report;
 use crate::words::At;
 use crate::WrongUse;
@@ -17,11 +17,12 @@ pub struct Hours {
 impl Hours {
     pub fn read(at: &At) -> Result<Hours, WrongUse> {
         let name = at.hours.name();
-        let table = hours::Table::of(&at.hours.read()?).map_err(|flaw| {
-            let hours::Flaw { line, what } = flaw;
+        let bytes = at.hours.read()?;
+        let table = hours::Table::of(&bytes).map_err(|flaws| {
+            let WrongUse(why) = flawed(&name, &bytes, &flaws);
             let form =
                 "opening hours are text, a line for each stretch: role 2 Mon-Fri 07:00-15:00";
-            WrongUse(format!("{name}: line {line}: {what}\n  {form}"))
+            WrongUse(format!("{why}\n  {form}"))
         })?;
         Ok(Hours {
             name,
@@ -33,7 +34,7 @@ impl Hours {
     /// The message for what is refused of a file or of these hours.
     fn report(&self, input: &Input, verdict: Verdict) -> String {
         match verdict.number {
-            22 | 23 => report::of_hours(&self.name, &self.table.lines, verdict),
+            22 | 23 => report::of_hours(&self.name, &self.table, input, verdict),
             _ => input.refused(verdict),
         }
     }

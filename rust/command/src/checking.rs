@@ -2,24 +2,28 @@
 
 use crate::asked::{refused, Hours};
 use crate::clinic::Clinic;
+use crate::json::Json;
 use crate::names;
+use crate::objects::{self, Asked};
 use crate::output;
 use crate::source::NamedFile;
 use crate::words::At;
 use crate::{Outcome, WrongUse};
+use pilzdamo::Verdict;
 
 /// What there is to say of a file.
 enum Told {
     Passes(String),
     Refused(String),
+    Object(Json, Verdict),
 }
 
 /// Answers for each file, also where another can't be read.
-pub fn check(files: &[NamedFile], at: Option<&At>, _json: bool) -> Result<Outcome, WrongUse> {
+pub fn check(files: &[NamedFile], at: Option<&At>, json: bool) -> Result<Outcome, WrongUse> {
     let hours = at.map(Hours::read).transpose()?;
     let mut outcome = Outcome::Answer;
     for file in files {
-        outcome = outcome.max(match told(file, hours.as_ref()) {
+        outcome = outcome.max(match told(file, hours.as_ref(), json) {
             Ok(Told::Passes(line)) => {
                 output::print(line.as_bytes())?;
                 Outcome::Answer
@@ -28,6 +32,7 @@ pub fn check(files: &[NamedFile], at: Option<&At>, _json: bool) -> Result<Outcom
                 output::say(&message);
                 Outcome::Refusal
             }
+            Ok(Told::Object(object, verdict)) => objects::print(&object, verdict)?,
             Err(wrong) => {
                 wrong.tell();
                 Outcome::Unanswered
@@ -37,12 +42,16 @@ pub fn check(files: &[NamedFile], at: Option<&At>, _json: bool) -> Result<Outcom
     Ok(outcome)
 }
 
-fn told(file: &NamedFile, hours: Option<&Hours>) -> Result<Told, WrongUse> {
+fn told(file: &NamedFile, hours: Option<&Hours>, json: bool) -> Result<Told, WrongUse> {
     let bytes = file.clinic()?;
     let verdict = match hours {
         None => pilzdamo::check(&bytes),
         Some(hours) => pilzdamo::check_at(&bytes, &hours.table.words, hours.minute),
     };
+    if json {
+        let asked = Asked::of(file, &bytes, hours);
+        return Ok(Told::Object(objects::checked(&asked, verdict), verdict));
+    }
     if verdict.is_clean() {
         let when = hours.map_or(String::new(), |hours| hours.when("at"));
         let planned = names::planned(&bytes);

@@ -1,23 +1,27 @@
-//! A list of choices as text.
+//! A list of numbers as text.
 
-/// A word of the text that is no number from 0 to 65,535.
-#[derive(Debug, PartialEq)]
-pub struct Flaw {
-    /// Its line, from 1.
-    pub line: usize,
-    /// The word, or its start if it is long.
-    pub word: String,
-}
+use crate::spaced;
+use text::{shown, Flaw};
 
-/// The numbers of the text, two for each choice. `#` starts a comment.
-pub fn numbers(text: &[u8]) -> Result<Vec<u16>, Flaw> {
-    let mut numbers = Vec::new();
+/// The numbers of the text, or each word that is none from 0 to 65,535. `#` starts a
+/// comment.
+pub fn numbers(text: &[u8]) -> Result<Vec<u16>, Vec<Flaw>> {
+    let (mut numbers, mut flaws) = (Vec::new(), Vec::new());
     for (line, text) in (1..).zip(text.split(|&byte| byte == b'\n')) {
-        for word in words(text) {
-            numbers.push(number(word).ok_or_else(|| flaw(line, word))?);
+        for (at, word) in spaced::words(line, text) {
+            match number(word) {
+                Some(number) => numbers.push(number),
+                None => {
+                    let what = format!("'{}' is no number from 0 to 65535", shown(word));
+                    flaws.push(Flaw { at, what });
+                }
+            }
         }
     }
-    Ok(numbers)
+    match flaws.is_empty() {
+        true => Ok(numbers),
+        false => Err(flaws),
+    }
 }
 
 /// Choices in a line, as they are read.
@@ -29,23 +33,10 @@ pub fn line(choices: &[u16]) -> String {
     texts.join("  ")
 }
 
-/// The words of a line, up to its comment.
-fn words(line: &[u8]) -> impl Iterator<Item = &[u8]> {
-    let end = line.iter().position(|&byte| byte == b'#');
-    line[..end.unwrap_or(line.len())]
-        .split(u8::is_ascii_whitespace)
-        .filter(|word| !word.is_empty())
-}
-
 fn number(word: &[u8]) -> Option<u16> {
     let digits = word.iter().all(u8::is_ascii_digit);
     let text = std::str::from_utf8(word).ok().filter(|_| digits)?;
     text.parse().ok()
-}
-
-fn flaw(line: usize, word: &[u8]) -> Flaw {
-    let word = text::shown(word);
-    Flaw { line, word }
 }
 
 #[cfg(test)]
@@ -69,8 +60,14 @@ mod tests {
 
     #[test]
     fn words_that_are_no_numbers() {
-        let flawed = |text: &[u8]| numbers(text).unwrap_err();
-        assert_eq!((flawed(b"1 0\n65536 0").line), 2);
+        let flaws = numbers(b"1 0\n65536 0\n\n 2 x").unwrap_err();
+        let places: Vec<_> = flaws
+            .iter()
+            .map(|flaw| (flaw.at.line, flaw.at.column))
+            .collect();
+        assert_eq!(places, [(2, 1), (4, 4)]);
+        let flawed = |text: &[u8]| numbers(text).unwrap_err()[0].what.clone();
+        let due = |word: &str| format!("'{word}' is no number from 0 to 65535");
         for word in [
             "-1",
             "+1",
@@ -80,9 +77,9 @@ mod tests {
             "eins",
             "99999999999999999999",
         ] {
-            assert_eq!(flawed(word.as_bytes()).word, word);
+            assert_eq!(flawed(word.as_bytes()), due(word));
         }
-        assert_eq!(flawed(b"\x00\xff").word, "\\x00\\xff");
-        assert_eq!(flawed(&[b'x'; 100]).word, "x".repeat(40));
+        assert_eq!(flawed(b"\x00\xff"), due("\\x00\\xff"));
+        assert_eq!(flawed(&[b'x'; 100]), due(&"x".repeat(40)));
     }
 }

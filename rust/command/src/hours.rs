@@ -1,6 +1,7 @@
 //! Opening hours as text, and minutes of the week.
 
-use text::shown;
+use crate::spaced;
+use text::{shown, At, Flaw};
 
 const DAYS: [&str; 7] = ["Mon", "Tue", "Wed", "Thu", "Fri", "Sat", "Sun"];
 
@@ -16,66 +17,75 @@ pub struct Table {
     pub lines: Vec<usize>,
 }
 
-/// What is wrong in a line of the text.
-#[derive(Debug, PartialEq)]
-pub struct Flaw {
-    /// Its line, from 1.
-    pub line: usize,
-    pub what: String,
-}
-
 impl Table {
     /// The rows of the text: `role 2 Mon-Fri 07:00-15:00` is a row for each day,
     /// and two where it goes over midnight, also over that of the week's end. `#`
     /// starts a comment.
-    pub fn of(text: &[u8]) -> Result<Table, Flaw> {
-        let mut table = Table::default();
+    pub fn of(text: &[u8]) -> Result<Table, Vec<Flaw>> {
+        let (mut table, mut flaws) = (Table::default(), Vec::new());
         for (line, text) in (1..).zip(text.split(|&byte| byte == b'\n')) {
-            let text = text.split(|&byte| byte == b'#').next().unwrap_or_default();
-            let Ok(text) = std::str::from_utf8(text) else {
-                let what = format!("'{}' is not written in UTF-8", shown(text));
-                return Err(Flaw { line, what });
-            };
-            let words: Vec<&str> = text.split_whitespace().collect();
-            if !words.is_empty() {
-                let rows = rows(&words).map_err(|what| Flaw { line, what })?;
-                table.lines.extend(rows.iter().map(|_| line));
-                table.words.extend(rows.as_flattened());
+            let words = spaced::words(line, text);
+            if words.is_empty() {
+                continue;
+            }
+            match rows(&words) {
+                Ok(rows) => {
+                    table.lines.extend(rows.iter().map(|_| line));
+                    table.words.extend(rows.as_flattened());
+                }
+                Err(flaw) => flaws.push(flaw),
             }
         }
-        Ok(table)
+        match flaws.is_empty() {
+            true => Ok(table),
+            false => Err(flaws),
+        }
     }
 }
 
 /// The rows of a line that isn't empty.
-fn rows(words: &[&str]) -> Result<Vec<[u16; 3]>, String> {
-    let &[start, role, days, times] = words else {
-        return Err(format!("'{}' has not four words", shown(words.join(" "))));
+fn rows(words: &[(At, &[u8])]) -> Result<Vec<[u16; 3]>, Flaw> {
+    let flaw = |at: At, what: String| Flaw { at, what };
+    let mut told = Vec::new();
+    for &(at, word) in words {
+        let foreign = |_| flaw(at, format!("'{}' is not written in UTF-8", shown(word)));
+        told.push(std::str::from_utf8(word).map_err(foreign)?);
+    }
+    let (&[start, role, days, times], &[(start_at, _), (role_at, _), (days_at, _), (times_at, _)]) =
+        (&told[..], words)
+    else {
+        let what = format!("'{}' has not four words", shown(told.join(" ")));
+        return Err(flaw(spaced::over(words), what));
     };
     if !start.eq_ignore_ascii_case("role") {
-        return Err(format!("'{}' is not the word 'role'", shown(start)));
+        let what = format!("'{}' is not the word 'role'", shown(start));
+        return Err(flaw(start_at, what));
     }
-    let role = number(role).ok_or_else(|| format!("'{}' is no number of a role", shown(role)))?;
+    let no_role = || flaw(role_at, format!("'{}' is no number of a role", shown(role)));
+    let role = number(role).ok_or_else(no_role)?;
     let (first, last) = days.split_once('-').unwrap_or((days, days));
     let [first, last] = [first, last].map(|name| {
-        day(name)
-            .ok_or_else(|| format!("'{}' is no day, which are {}", shown(name), DAYS.join(", ")))
+        let what = || format!("'{}' is no day, which are {}", shown(name), DAYS.join(", "));
+        day(name).ok_or_else(|| flaw(days_at, what()))
     });
-    let (begin, end) = stretch(times)?;
-    let mut rows = Vec::new();
-    for day in days_from(first?, last?) {
-        let at = |day: u16, minute: u16| DAY * day + minute;
-        if begin < end {
-            rows.push([role, at(day, begin), at(day, end)]);
-            continue;
-        }
-        rows.push([role, at(day, begin), at(day, DAY)]);
-        let next = (day + 1) % 7;
-        if end > 0 {
-            rows.push([role, at(next, 0), at(next, end)]);
-        }
+    let (begin, end) = stretch(times).map_err(|what| flaw(times_at, what))?;
+    Ok(days_from(first?, last?)
+        .flat_map(|day| of_day(role, day, begin, end))
+        .collect())
+}
+
+/// The row of a day, and one of the next if the stretch goes over midnight.
+fn of_day(role: u16, day: u16, begin: u16, end: u16) -> Vec<[u16; 3]> {
+    let at = |day: u16, minute: u16| DAY * day + minute;
+    if begin < end {
+        return vec![[role, at(day, begin), at(day, end)]];
     }
-    Ok(rows)
+    let mut rows = vec![[role, at(day, begin), at(day, DAY)]];
+    if end > 0 {
+        let next = (day + 1) % 7;
+        rows.push([role, at(next, 0), at(next, end)]);
+    }
+    rows
 }
 
 /// The days from one to another, over the week's end if need be.
@@ -177,8 +187,8 @@ mod tests {
     #[test]
     fn lines_that_are_no_row() {
         let flaw = |text: &str| {
-            let flaw = Table::of(text.as_bytes()).expect_err("a flaw");
-            (flaw.line, flaw.what)
+            let flaws = Table::of(text.as_bytes()).expect_err("a flaw");
+            (flaws[0].at.line, flaws[0].what.clone())
         };
         let days = "Mon, Tue, Wed, Thu, Fri, Sat, Sun";
         for (text, line, what) in [
@@ -265,12 +275,13 @@ mod tests {
         ] {
             assert_eq!(flaw(text), (line, what), "{text}");
         }
-        assert_eq!(
-            Table::of(b"role \xff Mon 1:00-2:00")
-                .expect_err("a flaw")
-                .line,
-            1
-        );
+        let flaws =
+            Table::of(b"role \xff Mon 1:00-2:00\n\nrole 1  Mo 1:00-2:00").expect_err("flaws");
+        let places: Vec<_> = flaws
+            .iter()
+            .map(|flaw| (flaw.at.line, flaw.at.column))
+            .collect();
+        assert_eq!(places, [(1, 6), (3, 9)]);
     }
 
     #[test]

@@ -4,12 +4,13 @@ use crate::clinic::{Clinic, SESSIONS};
 use crate::length::{Bytes, Length};
 use crate::output;
 use crate::reading::{Start, LONGEST};
+use crate::refusals;
 use crate::report;
-use crate::source::too_long;
+use crate::source::{too_long, Source};
 use crate::WrongUse;
-use pilzdamo::Verdict;
+use pilzdamo::{Counts, Verdict};
 use std::ops::Deref;
-use text::{At, Flaw, Packed};
+use text::{At, Flaw, Names, Packed};
 
 /// A file's bytes, and the text that says them, if it came as one.
 pub struct Input {
@@ -18,10 +19,12 @@ pub struct Input {
     pub text: Option<Text>,
 }
 
-/// A text that was understood.
+/// A text that was understood, or the canonical one of bytes whose names are known.
 pub struct Text {
     pub text: String,
     pub packed: Packed,
+    /// Whether the file came as this text, so that its lines mean something.
+    pub has_lines: bool,
 }
 
 impl Text {
@@ -29,6 +32,16 @@ impl Text {
     pub fn sessions(&self) -> Vec<String> {
         let sessions = self.packed.names.sessions.iter();
         sessions.map(|session| session.name.clone()).collect()
+    }
+
+    /// The step of the node of this number, as it is written.
+    pub fn step(&self, node: usize) -> Option<String> {
+        let place = self.packed.source.nodes.get(node.checked_sub(1)?)?;
+        if place.behind {
+            return Some("end".to_string());
+        }
+        let line = self.text.split('\n').nth(place.at.line - 1)?;
+        Some(words_at(line, place.at))
     }
 }
 
@@ -56,11 +69,16 @@ impl Input {
         match text::is_text(&bytes) {
             true if !bytes.is_whole() => Err(too_long(&name, LONGEST)),
             true => Input::of_text(name, &bytes),
-            false => Ok(Input {
-                name,
-                bytes,
-                text: None,
-            }),
+            false => Ok(Input::of_bytes(name, bytes)),
+        }
+    }
+
+    /// What is to be bytes.
+    pub fn of_bytes(name: String, bytes: Start) -> Input {
+        Input {
+            name,
+            bytes,
+            text: None,
         }
     }
 
@@ -74,8 +92,46 @@ impl Input {
             text: Some(Text {
                 text: text.to_string(),
                 packed,
+                has_lines: true,
             }),
         })
+    }
+
+    /// Bytes with names for their records, which stand beside them. What 1 to 9 refuse
+    /// has no text and stays in numbers.
+    pub fn with_names(mut self, names: &Source) -> Result<Input, WrongUse> {
+        if self.text.is_some() {
+            let (file, from) = (&self.name, names.name());
+            let why = "--names is for bytes";
+            return Err(WrongUse(format!(
+                "{from}: {file} is a text and has its own names; {why}"
+            )));
+        }
+        let text = self.named_text(&names.name(), &read_names(names)?)?;
+        let packed = text.as_deref().and_then(|text| text::pack(text).ok());
+        self.text = text.zip(packed).map(|(text, packed)| Text {
+            text,
+            packed,
+            has_lines: false,
+        });
+        Ok(self)
+    }
+
+    /// The canonical text with these names; none where the file has no text.
+    pub fn named_text(&self, from: &str, names: &Names) -> Result<Option<String>, WrongUse> {
+        if let Some(what) = text::misfit(self, names) {
+            let name = &self.name;
+            let why = "there is one for each kind, role, user, channel, session and variable, in the file's order";
+            return Err(WrongUse(format!(
+                "{from}: these names don't fit {name}: {what}\n  {why}"
+            )));
+        }
+        Ok(text::unpack_named(self, names))
+    }
+
+    /// The text that the file came as.
+    pub fn source_text(&self) -> Option<&Text> {
+        self.text.as_ref().filter(|text| text.has_lines)
     }
 
     /// The message for a refused file, by check or placing. In a text it is at its
@@ -83,8 +139,25 @@ impl Input {
     pub fn refused(&self, verdict: Verdict) -> String {
         match self.culprit(verdict) {
             Some(told) => format!("{told}\n  {}", report::below(self, verdict)),
-            None => report::of_file(&self.name, self, verdict) + self.hint(verdict),
+            None => match self.blamed(verdict) {
+                Some(more) => report::of_place(&self.name, self, verdict, more),
+                None => report::of_file(&self.name, self, verdict) + self.hint(verdict),
+            },
         }
+    }
+
+    /// What there is to say of a refusal of bytes in their names: the record or step, and
+    /// who or what is to blame.
+    fn blamed(&self, verdict: Verdict) -> Option<String> {
+        let Verdict { number, place } = verdict;
+        let Text { text, packed, .. } = self.text.as_ref()?;
+        let culprit = text::why(packed, number, place)?;
+        let line = text.split('\n').nth(culprit.at.line.checked_sub(1)?)?;
+        let node = match refusals::counts(number, place, false) {
+            Counts::Node => format!("node {place}: "),
+            _ => String::new(),
+        };
+        Some(format!("{node}{}\n  {}", line.trim(), culprit.what))
     }
 
     /// Said of bytes that nobody would write but as a text.
@@ -135,7 +208,7 @@ impl Input {
     /// The place of a refusal in the text.
     fn culprit(&self, verdict: Verdict) -> Option<String> {
         let Verdict { number, place } = verdict;
-        let Text { packed, .. } = self.text.as_ref()?;
+        let Text { packed, .. } = self.source_text()?;
         let culprit = text::why(packed, number, place)?;
         let what = format!("refused {number}: {}", culprit.what);
         Some(self.told(culprit.at, &what))
@@ -146,6 +219,22 @@ impl Input {
         let text = self.text.as_ref().map_or("", |text| &text.text);
         text::told(&self.name, text, at, what)
     }
+}
+
+/// The words that stand at a place of this line.
+pub fn words_at(line: &str, at: At) -> String {
+    line.chars().skip(at.column - 1).take(at.width).collect()
+}
+
+/// Names from a file of their own, or from a text.
+pub fn read_names(source: &Source) -> Result<Names, WrongUse> {
+    let (name, bytes) = (source.name(), source.read()?);
+    if text::is_text(&bytes) {
+        let input = Input::of_text(name, &bytes)?;
+        return Ok(input.text.map(|text| text.packed.names).unwrap_or_default());
+    }
+    let text = decoded(&name, &bytes)?;
+    Names::read(text).map_err(|flaws| flawed(&name, text, &flaws))
 }
 
 /// The characters of a text.

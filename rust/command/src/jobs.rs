@@ -1,10 +1,10 @@
 //! What each word of the command does.
 
-use crate::choices;
 use crate::clinic::{Clinic, KINDS};
 use crate::input::Input;
 use crate::length::Bytes;
 use crate::lists::{self, List};
+use crate::objects::{self, Ran};
 use crate::output::{self, Out};
 use crate::seats::{self, Table};
 use crate::source::{NamedFile, Source};
@@ -12,11 +12,12 @@ use crate::state::State;
 use crate::turning::Turn;
 use crate::words::{Form, Job};
 use crate::{
-    checking, days, explain, merging, names, notices, packing, placing, reasons, refusals, report,
-    runs, sheets, shown, turning,
+    checking, days, explain, following, interactive, meeting, merging, names, notices, packing,
+    placing, reasons, refusals, report, runs, sheets, shown, svg, turning,
 };
 use crate::{Outcome, WrongUse};
-use pilzdamo::{Counts, Totals, Verdict, BEFORE_ROUND, ROOM, ROOM_1, RUN_ROOM};
+use pilzdamo::{Totals, Verdict, BEFORE_ROUND, ROOM, ROOM_1, RUN_ROOM};
+use std::ops::Range;
 
 /// Does a job.
 pub fn carry_out(job: Job) -> Result<Outcome, WrongUse> {
@@ -60,13 +61,21 @@ pub fn carry_out(job: Job) -> Result<Outcome, WrongUse> {
             trace,
             json,
         } => run(&file, &choices, seats.as_ref(), trace, json),
-        Job::Interactive { file, choices } => interactive(&file, choices.as_ref()),
-        Job::Choices { file, choices } => choices_next(&file, &choices),
+        Job::Interactive {
+            file,
+            choices,
+            seats,
+        } => interactive::run(&file, choices.as_ref(), seats.as_ref()),
+        Job::Choices {
+            file,
+            choices,
+            seats,
+        } => choices_next(&file, &choices, seats.as_ref()),
         Job::Ready {
             file,
             choices,
             json,
-        } => ready(&file, &choices, json),
+        } => meeting::ready(&file, &choices, json),
         Job::Waiting { file, choices } => waiting(&file, &choices),
         Job::Seats {
             file,
@@ -183,20 +192,35 @@ fn sheet(files: &[Source], json: bool) -> Result<Outcome, WrongUse> {
 
 fn run(
     file: &NamedFile,
-    list: &Source,
+    choices: &Source,
     table: Option<&Source>,
-    _trace: bool,
-    _json: bool,
+    trace: bool,
+    json: bool,
 ) -> Result<Outcome, WrongUse> {
     let bytes = file.clinic()?;
-    let choices = list.choices()?;
+    let text = choices.choices()?;
     let table = table.map(Table::read).transpose()?;
-    let list = List::of(list.name(), &choices, &bytes, table.as_ref())?;
+    let list = List::of(choices.name(), &text, &bytes, table.as_ref())?;
     let mut room = [0; RUN_ROOM];
     let verdict = seats::run(&bytes, &list.words, table.as_ref(), &mut room);
+    if json {
+        let ran = Ran {
+            file: file.file.typed(),
+            choices: choices.typed(),
+            input: &bytes,
+            list: &list,
+            table: table.as_ref(),
+            verdict,
+        };
+        return objects::print(&objects::ran(&ran, &room), verdict);
+    }
     let state = || {
         let seated = seated(table.as_ref(), &bytes, &list.words);
-        runs::told(&bytes, &room, &list.followed.threads) + &seated
+        let state = runs::told(&bytes, &room, &list.followed.threads) + &seated;
+        match trace {
+            true => following::traced(&bytes, &list, table.as_ref(), verdict, &state),
+            false => state,
+        }
     };
     if verdict.is_clean() {
         return answer(&state());
@@ -204,20 +228,26 @@ fn run(
     stopped(&bytes, &list, table.as_ref(), verdict, state)
 }
 
-fn interactive(_file: &NamedFile, _choices: Option<&Source>) -> Result<Outcome, WrongUse> {
-    Err(WrongUse("run -i is not there yet".to_string()))
-}
-
-fn choices_next(_file: &NamedFile, _choices: &Source) -> Result<Outcome, WrongUse> {
-    Err(WrongUse("choices is not there yet".to_string()))
-}
-
-fn ready(_file: &NamedFile, _choices: &Source, _json: bool) -> Result<Outcome, WrongUse> {
-    Err(WrongUse("ready is not there yet".to_string()))
+fn choices_next(
+    file: &NamedFile,
+    list: &Source,
+    table: Option<&Source>,
+) -> Result<Outcome, WrongUse> {
+    let bytes = file.clinic()?;
+    let choices = list.choices()?;
+    let table = table.map(Table::read).transpose()?;
+    let table = table.as_ref();
+    let list = List::of(list.name(), &choices, &bytes, table)?;
+    let verdict = seats::run(&bytes, &list.words, table, &mut [0; RUN_ROOM]);
+    let lines = || following::choices(&bytes, &list, table);
+    if verdict.is_clean() {
+        return answer(&lines());
+    }
+    stopped(&bytes, &list, table, verdict, lines)
 }
 
 /// What there is to say of the seats, if there are any.
-fn seated(table: Option<&Table>, input: &Input, choices: &[u16]) -> String {
+pub fn seated(table: Option<&Table>, input: &Input, choices: &[u16]) -> String {
     table.map_or(String::new(), |table| {
         let told = pilzdamo::seats(input, choices, &table.words);
         seats::text(input, table, &told)
@@ -267,52 +297,69 @@ fn round(file: &NamedFile, list: &Source, table: Option<&Source>) -> Result<Outc
         Some(table) => pilzdamo::round_seated(&bytes, &list.words, &table.words, &mut room),
     };
     let both = [&list.words, round.choices()].concat();
-    let state = || {
-        let threads = lists::threads(&bytes, &both, table);
-        runs::told(&bytes, &room, &threads) + &seated(table, &bytes, &both)
-    };
+    let followed = lists::followed(&bytes, &both, table);
+    let state = || runs::told(&bytes, &room, &followed.threads) + &seated(table, &bytes, &both);
     if !round.verdict().is_clean() {
         return stopped(&bytes, &list, table, round.verdict(), state);
     }
     let told = match round.choices() {
         [] => "no choice can be done".to_string(),
-        choices => choices::line(choices),
+        _ => lists::line(
+            &bytes,
+            &followed,
+            &both,
+            list.words.len() / 2..both.len() / 2,
+        ),
     };
     answer(&format!("round: {told}\n{}", state()))
 }
 
 /// The refusal of a file, a list or a table of seats, behind what there is to say of a run
 /// that halted.
-fn stopped(
+pub fn stopped(
     input: &Input,
     list: &List,
     table: Option<&Table>,
     verdict: Verdict,
     state: impl FnOnce() -> String,
 ) -> Result<Outcome, WrongUse> {
+    if refusals::is_halt(verdict) {
+        output::print(state().as_bytes())?;
+    }
+    refusal(&refused_run(input, list, table, verdict))
+}
+
+/// The message for a refusal of a file, a list or a table of seats.
+pub fn refused_run(input: &Input, list: &List, table: Option<&Table>, verdict: Verdict) -> String {
     if let Some(table) = table.filter(|table| table.is_refused(input, verdict)) {
-        return refusal(&table.refused(input, verdict));
+        return table.refused(input, verdict);
     }
     let name = match verdict.number {
         17 => list.name.clone(),
-        _ if is_halt(verdict) => {
-            output::print(state().as_bytes())?;
+        _ if refusals::is_halt(verdict) => {
             if let Some(message) = runs::refused(input, list, table, verdict) {
-                return refusal(&message);
+                return message;
             }
             format!("{}, {}", input.name, list.name)
         }
-        _ => return refusal(&input.refused(verdict)),
+        _ => {
+            let more = table.and_then(|table| table.overfilled(input, verdict));
+            return match more {
+                Some(more) => report::of_place(&input.name, input, verdict, more),
+                None => input.refused(verdict),
+            };
+        }
     };
-    refusal(&report::of_run(&name, input, &list.words, verdict))
+    let stands = runs::stand_in_numbers(input, list, table, verdict);
+    report::of_run(&name, input, &list.words, verdict, stands)
 }
 
 fn dispatch(file: &NamedFile, most: Option<u16>) -> Result<Outcome, WrongUse> {
     let bytes = file.clinic()?;
     let mut room = [0; RUN_ROOM];
-    let (mut choices, mut lines) = (Vec::new(), Vec::new());
+    let (mut choices, mut rounds) = (Vec::new(), Vec::new());
     let why = loop {
-        if most.is_some_and(|most| lines.len() == usize::from(most)) {
+        if most.is_some_and(|most| rounds.len() == usize::from(most)) {
             break "as many rounds as were asked for".to_string();
         }
         if choices.len() > 2 * BEFORE_ROUND {
@@ -326,28 +373,38 @@ fn dispatch(file: &NamedFile, most: Option<u16>) -> Result<Outcome, WrongUse> {
             let threads = names::several(State::of(&room).threads(), "thread");
             break format!("then no choice can be done, {threads} left");
         }
+        let start = choices.len() / 2;
         choices.extend(round.choices());
-        lines.push(choices::line(round.choices()) + "\n");
+        rounds.push(start..choices.len() / 2);
     };
-    output::print(lines.concat().as_bytes())?;
-    let rounds = names::several(lines.len(), "round");
+    let followed = lists::followed(&bytes, &choices, None);
+    let line =
+        |round: &Range<usize>| lists::line(&bytes, &followed, &choices, round.clone()) + "\n";
+    let lines: String = rounds.iter().map(line).collect();
+    output::print(lines.as_bytes())?;
+    let rounds = names::several(rounds.len(), "round");
     let count = names::several(choices.len() / 2, "choice");
     output::say(&format!("{}: {rounds}, {count}; {why}", file.name()));
     Ok(Outcome::Answer)
 }
 
-/// Whether a run's refusal came at a choice, so that there is a state.
-fn is_halt(verdict: Verdict) -> bool {
-    refusals::counts(verdict.number, verdict.place, true) == Counts::Choice
-}
-
-fn show(file: &NamedFile, _form: Form, out: &Out) -> Result<Outcome, WrongUse> {
+fn show(file: &NamedFile, form: Form, out: &Out) -> Result<Outcome, WrongUse> {
     output::spare(&file.sources(), out)?;
-    answer(&shown::page(&file.clinic()?))
+    let input = file.clinic()?;
+    match form {
+        Form::Json => {
+            let object = objects::shown(&file.file.typed(), &input);
+            output::deliver_text(objects::line(&object).as_bytes(), out)?;
+            Ok(Outcome::Answer)
+        }
+        Form::Svg => svg::show(&input, out),
+        Form::Page => answer(&shown::page(&input)),
+    }
 }
 
-fn explain(number: u16, _json: bool) -> Result<Outcome, WrongUse> {
+fn explain(number: u16, json: bool) -> Result<Outcome, WrongUse> {
     match refusals::of(number) {
+        Some(refusal) if json => answer(&objects::line(&objects::explained(number, refusal))),
         Some(refusal) => answer(&explain::text(number, refusal)),
         None => Err(WrongUse(format!("there is no refusal {number}"))),
     }

@@ -2,12 +2,13 @@
 //! for a meeting.
 
 use crate::choices;
-use crate::clinic::Clinic;
+use crate::follow::{Follower, Seating};
 use crate::input::{decoded, flawed, Input};
+use crate::lines::Lines;
 use crate::seats::Table;
 use crate::threads::{named, over, tokens, Choice, Thread, Who};
 use crate::WrongUse;
-use pilzdamo::Desk;
+use std::ops::Range;
 use text::{At, Token};
 
 /// The most choices of a run.
@@ -24,13 +25,17 @@ pub struct List {
 }
 
 /// Where a list leads.
-#[derive(Default)]
+#[derive(Debug, Default, PartialEq)]
 pub struct Followed {
     words: Vec<u16>,
     /// The threads at its end, or where it halts.
     pub threads: Vec<Thread>,
+    /// For each choice its thread, and its partner if it has one.
+    met: Vec<[Option<Thread>; 2]>,
     /// A named thread that isn't there at the choice at which it halts.
     pub missing: Option<Thread>,
+    /// The indices of the choices that got no seat.
+    waited: Vec<usize>,
 }
 
 impl List {
@@ -43,7 +48,7 @@ impl List {
     ) -> Result<List, WrongUse> {
         match choices::numbers(bytes) {
             Ok(words) => Ok(List::of_numbers(name, bytes, words, input, table)),
-            Err(flaw) => List::of_names(name, bytes, input, table, flaw),
+            Err(_) => List::of_names(name, bytes, input, table),
         }
     }
 
@@ -80,14 +85,10 @@ impl List {
         bytes: &[u8],
         input: &Input,
         table: Option<&Table>,
-        flaw: choices::Flaw,
     ) -> Result<List, WrongUse> {
         let text = decoded(&name, bytes)?;
         let choices = named(&tokens(text), &input.sessions());
-        let choices = choices.map_err(|flaws| match input.text {
-            Some(_) => flawed(&name, text, &flaws),
-            None => no_number(&name, flaw),
-        })?;
+        let choices = choices.map_err(|flaws| flawed(&name, text, &flaws))?;
         let mut followed = follow(input, &choices, table);
         Ok(List {
             name,
@@ -100,8 +101,24 @@ impl List {
 
     /// A message about the choice of this number.
     pub fn told(&self, choice: u16, what: &str) -> Option<String> {
-        let at = *self.places.get(usize::from(choice).checked_sub(1)?)?;
+        let at = self.place(choice)?;
         Some(text::told(&self.name, &self.text, at, what))
+    }
+
+    /// Where the choice of this number stands.
+    pub fn place(&self, choice: u16) -> Option<At> {
+        let at = usize::from(choice).checked_sub(1)?;
+        self.places.get(at).copied()
+    }
+
+    /// The name of a thread where the list leads, if the file has names.
+    pub fn thread(&self, input: &Input, number: u16) -> Option<String> {
+        let text = input.text.as_ref()?;
+        let thread = self
+            .followed
+            .threads
+            .get(usize::from(number).checked_sub(1)?)?;
+        Some(thread.name(&text.sessions()))
     }
 
     /// The thread and partner of the choice of this number.
@@ -111,94 +128,96 @@ impl List {
     }
 }
 
-fn no_number(name: &str, flaw: choices::Flaw) -> WrongUse {
-    let choices::Flaw { line, word } = flaw;
-    let form = "a list of choices is text, two numbers for each choice: thread, partner";
-    WrongUse(format!(
-        "{name}: line {line}: '{word}' is no number from 0 to 65535\n  {form}"
-    ))
+/// Where a list of numbers leads, of a text alone.
+pub fn followed(input: &Input, words: &[u16], table: Option<&Table>) -> Followed {
+    match input.text {
+        Some(_) => follow(input, &numbered(words), table),
+        None => Followed::default(),
+    }
 }
 
-/// The threads that a list of numbers leads to, of a text alone.
-pub fn threads(input: &Input, words: &[u16], table: Option<&Table>) -> Vec<Thread> {
-    if input.text.is_none() {
-        return Vec::new();
+/// The indices of those of these choices that get no seat.
+pub fn waited(input: &Input, words: &[u16], table: Option<&Table>) -> Vec<usize> {
+    match table {
+        None => Vec::new(),
+        Some(_) => follow(input, &numbered(words), table).waited,
     }
+}
+
+fn numbered(words: &[u16]) -> Vec<Choice> {
     let choice = |&[thread, partner]: &[u16; 2]| Choice {
         at: At::default(),
         thread: Who::Numbered(thread),
         partner: Who::Numbered(partner),
     };
-    let choices: Vec<Choice> = words.as_chunks().0.iter().map(choice).collect();
-    follow(input, &choices, table).threads
+    words.as_chunks().0.iter().map(choice).collect()
 }
 
-/// Follows a list by the engine's own steps, and gives each named thread its number
-/// in the list of threads at that choice. A choice that gets no seat is no step.
+/// Follows a list, and gives each named thread its number in the list of threads at that
+/// choice.
 fn follow(input: &Input, choices: &[Choice], table: Option<&Table>) -> Followed {
+    let seating = table.map_or(Seating::Unlimited, |table| {
+        Seating::Followed(Lines::of(table))
+    });
+    let quick = walk(input, choices, seating);
+    quick.unwrap_or_else(|| {
+        let slow = table.and_then(|table| walk(input, choices, Seating::Asked(table)));
+        slow.unwrap_or_default()
+    })
+}
+
+/// Follows a list with seats that are known so; none where the engine answers otherwise.
+fn walk(input: &Input, choices: &[Choice], seating: Seating) -> Option<Followed> {
     let mut followed = Followed::default();
-    let desk = Desk::start(input);
-    let (Ok(mut desk), true) = (desk, choices.len() <= MOST) else {
+    let start = Follower::start(input, seating);
+    let (Some(mut run), true) = (start, choices.len() <= MOST) else {
         // The engine refuses the file, or the length of the list.
         followed.words = vec![0; 2 * choices.len()];
-        return followed;
+        return Some(followed);
     };
-    let threads = 0..desk.threads().len();
-    let first = |session| Thread { session, number: 1 };
-    followed.threads = threads.map(first).collect();
-    let mut counts = vec![1; followed.threads.len()];
-    let clinic = Clinic::of(input);
     for choice in choices {
-        let found = [choice.thread, choice.partner].map(|who| followed.number(who));
+        let found = [choice.thread, choice.partner].map(|who| run.roll.number(who));
         let [Ok(thread), Ok(partner)] = found else {
             followed.missing = found.into_iter().find_map(Result::err);
-            followed.words.extend([0, 0]);
+            run.words.extend([0, 0]);
             break;
         };
-        followed.words.extend([thread, partner]);
-        let asked = table.filter(|table| asks(&clinic, &desk, thread, table));
-        if asked.is_some_and(|table| table.waits(input, &followed.words)) {
-            continue;
-        }
-        let before = desk.threads().len();
-        if desk.choose(input, thread, partner).is_err() {
+        let met = [thread, partner].map(|number| {
+            let index = usize::from(number).checked_sub(1)?;
+            run.roll.threads.get(index).copied()
+        });
+        followed.met.push(met);
+        if !run.choose(thread, partner) {
             break;
         }
-        let index = usize::from(thread) - 1;
-        let session = followed.threads[index].session;
-        match desk.threads().len() {
-            after if after > before => {
-                counts[session] += 1;
-                let number = counts[session];
-                followed.threads.push(Thread { session, number });
-            }
-            after if after < before => {
-                followed.threads.remove(index);
-            }
-            _ => (),
-        }
     }
-    followed
+    let agrees = run.agrees();
+    (followed.words, followed.threads) = (run.words, run.roll.threads);
+    followed.waited = run.waited;
+    agrees.then_some(followed)
 }
 
-/// Whether a thread stands at an on of a role that has a limit.
-fn asks(clinic: &Clinic, desk: &Desk, thread: u16, table: &Table) -> bool {
-    let index = usize::from(thread).checked_sub(1);
-    let thread = index.and_then(|index| desk.threads().get(index));
-    let node = thread.and_then(|thread| usize::from(thread.node).checked_sub(1));
-    let node = node.and_then(|node| clinic.nodes.get(node));
-    node.is_some_and(|&[tag, role, _]| tag == 7 && table.limits(role))
+/// Some of the choices of a list in a line, as they are read: of a text in its names.
+pub fn line(input: &Input, followed: &Followed, words: &[u16], choices: Range<usize>) -> String {
+    match input.text {
+        Some(_) => followed.line(&input.sessions(), choices),
+        None => choices::line(&words[2 * choices.start..2 * choices.end]),
+    }
 }
 
 impl Followed {
-    /// A thread's number in the list of threads.
-    fn number(&self, who: Who) -> Result<u16, Thread> {
-        match who {
-            Who::Numbered(number) => Ok(number),
-            Who::Named(thread) => {
-                let at = self.threads.iter().position(|found| *found == thread);
-                at.map(|at| at as u16 + 1).ok_or(thread)
-            }
-        }
+    /// Some of its choices in a line, as they are read.
+    fn line(&self, sessions: &[String], choices: Range<usize>) -> String {
+        let met = self.met.get(choices).unwrap_or_default().iter();
+        let texts: Vec<String> = met
+            .map(|threads| {
+                let names = threads.iter().flatten().map(|thread| thread.name(sessions));
+                names.collect::<Vec<_>>().join(" -> ")
+            })
+            .collect();
+        texts.join("  ")
     }
 }
+
+#[cfg(test)]
+mod tests;

@@ -2,9 +2,11 @@
 
 use crate::clinic::Clinic;
 use crate::days::date;
+use crate::faults;
 use crate::length::{Bytes, Length};
 use crate::names::several;
 use crate::reading::Start;
+use crate::refusals;
 use crate::report;
 use pilzdamo::{InForce, Verdict};
 
@@ -59,8 +61,12 @@ fn unsound(notice: &Start) -> String {
     if length.to_string() != behind {
         return format!("its length word is {length}, and the bytes behind it are {behind}");
     }
-    let sentence = report::sentence_of(&Clinic::of(file), pilzdamo::read(file));
-    format!("its file: {sentence}")
+    let verdict = pilzdamo::read(file);
+    let sentence = report::sentence_of(&Clinic::of(file), verdict);
+    let counts = refusals::counts(verdict.number, verdict.place, false);
+    let mut lines = vec![format!("its file: {sentence}")];
+    lines.extend(faults::lines(file, verdict, counts));
+    lines.join("\n  ")
 }
 
 /// The first day and the length, if both are there.

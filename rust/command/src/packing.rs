@@ -1,11 +1,11 @@
 //! Text to bytes and back, and texts that are answered with texts.
 
-use crate::input::{decoded, flawed, Input, Text};
+use crate::input::{read_names, Input, Text};
 use crate::names;
 use crate::output::{self, Out, Ready};
 use crate::source::Source;
 use crate::{Outcome, WrongUse};
-use text::{Names, Records};
+use text::Records;
 
 /// `pack TEXT`: writes the file that a text says, and its names if that is wanted.
 pub fn pack(source: &Source, out: &Out, names: Option<&Out>) -> Result<Outcome, WrongUse> {
@@ -45,25 +45,12 @@ pub fn unpack(source: &Source, out: &Out, names: Option<&Source>) -> Result<Outc
         (None, None) => None,
     };
     let text = match &names {
-        None => text::unpack(&input).ok_or_else(|| WrongUse(format!("{}: has no text", input.name)))?,
-        Some((from, names)) => text::unpack_named(&input, names).ok_or_else(|| {
-            let why = "there is one for each user, role, kind, channel, session and variable, in the file's order";
-            WrongUse(format!("{from}: these names don't fit {}\n  {why}", input.name))
-        })?,
+        None => text::unpack(&input),
+        Some((from, names)) => input.named_text(from, names)?,
     };
+    let text = text.ok_or_else(|| WrongUse(format!("{}: has no text", input.name)))?;
     output::deliver_text(text.as_bytes(), out)?;
     Ok(Outcome::Answer)
-}
-
-/// Names from a file of their own, or from a text.
-fn read_names(source: &Source) -> Result<Names, WrongUse> {
-    let (name, bytes) = (source.name(), source.read()?);
-    if text::is_text(&bytes) {
-        let input = Input::of_text(name, &bytes)?;
-        return Ok(input.text.map(|text| text.packed.names).unwrap_or_default());
-    }
-    let text = decoded(&name, &bytes)?;
-    Names::read(text).map_err(|flaws| flawed(&name, text, &flaws))
 }
 
 /// `strip FILE`: takes on and off out again, of a text as of bytes.
@@ -75,7 +62,7 @@ pub fn strip(source: &Source, out: &Out) -> Result<Outcome, WrongUse> {
         output::say(&input.refused(verdict));
         return Ok(Outcome::Refusal);
     }
-    if let Some(Text { text, packed }) = &input.text {
+    if let Some(Text { text, packed, .. }) = &input.text {
         output::deliver_text(text::stripped(text, packed).as_bytes(), out)?;
         return Ok(Outcome::Answer);
     }
@@ -92,7 +79,7 @@ pub fn strip(source: &Source, out: &Out) -> Result<Outcome, WrongUse> {
 
 /// Writes a placed file as the text that it came from, with on and off put in.
 pub fn deliver_placed(from: &Text, placed: &[u8], out: &Out) -> Result<(), WrongUse> {
-    let Text { text, packed } = from;
+    let Text { text, packed, .. } = from;
     let records = Records::of(placed);
     let placed = records.and_then(|records| text::placed(text, packed, &records));
     let why = "what was placed is not this text with on and off put in";

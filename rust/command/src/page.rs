@@ -20,7 +20,7 @@ pub enum Spot {
 
 impl Spot {
     /// Where the refusal of a check belongs.
-    fn of(verdict: Verdict) -> Spot {
+    pub fn of(verdict: Verdict) -> Spot {
         let place = usize::from(verdict.place);
         match (
             verdict.number,

@@ -1,8 +1,10 @@
 //! `place FILE` and `measure FILE`.
 
 use crate::asked::{refused, Hours};
+use crate::input::Input;
 use crate::jobs::{answer, refusal};
 use crate::names;
+use crate::objects::{self, Asked};
 use crate::output::{self, Out};
 use crate::packing;
 use crate::source::NamedFile;
@@ -15,7 +17,7 @@ pub fn place(
     at: Option<&At>,
     out: &Out,
     as_bytes: bool,
-    _json: bool,
+    json: bool,
 ) -> Result<Outcome, WrongUse> {
     let hours = at.map(|at| &at.hours);
     output::spare(
@@ -29,20 +31,22 @@ pub fn place(
         None => pilzdamo::place(&bytes, &mut room),
         Some(hours) => pilzdamo::place_at(&bytes, &hours.table.words, hours.minute, &mut room),
     };
+    let asked = json.then(|| Asked::of(file, &bytes, hours.as_ref()));
     if !placed.is_placed() {
-        return refusal(&refused(&bytes, hours.as_ref(), placed.verdict()));
+        return match asked {
+            Some(asked) => objects::print(&objects::placed(&asked, placed, None), placed.verdict()),
+            None => refusal(&refused(&bytes, hours.as_ref(), placed.verdict())),
+        };
     }
     let length = usize::from(placed.length);
-    let written = &room[..length.min(ROOM)];
-    let (packed, there) = match &bytes.text {
-        Some(text) if !as_bytes => {
-            packing::deliver_placed(text, written, out)?;
-            (" when packed", "; the text is in")
-        }
-        _ => {
-            output::deliver(written, out)?;
-            ("", " in")
-        }
+    let form = deliver(&bytes, &room[..length.min(ROOM)], as_bytes, out)?;
+    if let Some(asked) = asked {
+        let object = objects::placed(&asked, placed, Some((out, form)));
+        return objects::print(&object, placed.verdict());
+    }
+    let (packed, there) = match form {
+        "text" => (" when packed", "; the text is in"),
+        _ => ("", " in"),
     };
     let (name, told) = (file.name(), size(placed) + packed);
     let when = hours.map_or(String::new(), |hours| hours.when("for"));
@@ -52,13 +56,36 @@ pub fn place(
     Ok(Outcome::Answer)
 }
 
-pub fn measure(file: &NamedFile, at: Option<&At>, _json: bool) -> Result<Outcome, WrongUse> {
+/// Writes a placed file in the form in which it came, or as bytes, and says the form.
+fn deliver(
+    input: &Input,
+    placed: &[u8],
+    as_bytes: bool,
+    out: &Out,
+) -> Result<&'static str, WrongUse> {
+    match input.source_text() {
+        Some(text) if !as_bytes => {
+            packing::deliver_placed(text, placed, out)?;
+            Ok("text")
+        }
+        _ => {
+            output::deliver(placed, out)?;
+            Ok("bytes")
+        }
+    }
+}
+
+pub fn measure(file: &NamedFile, at: Option<&At>, json: bool) -> Result<Outcome, WrongUse> {
     let bytes = file.clinic()?;
     let hours = at.map(Hours::read).transpose()?;
     let placed = match &hours {
         None => pilzdamo::measure(&bytes),
         Some(hours) => pilzdamo::measure_at(&bytes, &hours.table.words, hours.minute),
     };
+    if json {
+        let asked = Asked::of(file, &bytes, hours.as_ref());
+        return objects::print(&objects::measured(&asked, placed), placed.verdict());
+    }
     if !placed.is_placed() {
         return refusal(&refused(&bytes, hours.as_ref(), placed.verdict()));
     }

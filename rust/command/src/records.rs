@@ -2,6 +2,7 @@
 
 use crate::clinic::{Clinic, Section};
 use crate::clinic::{CHANNELS, COUNTED, JUNIORS, KINDS, ROLES, USERS};
+use crate::length::Length;
 use crate::names::{items, list, several};
 use pilzdamo::Verdict;
 
@@ -9,7 +10,7 @@ use pilzdamo::Verdict;
 pub fn told(clinic: &Clinic, verdict: Verdict) -> Option<String> {
     let place = usize::from(verdict.place);
     match verdict.number {
-        1 => Some(format!("it has {}", clinic.length)),
+        1 => Some(length(clinic)),
         2 => Some(format!("it has version {}", clinic.version())),
         3 => counts(clinic),
         4 => offset(clinic),
@@ -21,6 +22,18 @@ pub fn told(clinic: &Clinic, verdict: Verdict) -> Option<String> {
         7 => session(clinic, place.checked_sub(1)?),
         21 => junior(clinic, place),
         _ => None,
+    }
+}
+
+/// A length that no file has.
+fn length(clinic: &Clinic) -> String {
+    let there = clinic.length;
+    let head = if clinic.has_juniors() { 28 } else { 26 };
+    match there {
+        Length::Exactly(short) if short < head => {
+            format!("it has {there}, and its head alone has {head}")
+        }
+        _ => format!("it has {there}, and a word has 2: one is left over"),
     }
 }
 
@@ -55,7 +68,7 @@ fn index(clinic: &Clinic, section: Section, word: usize) -> Option<usize> {
 }
 
 /// `and there are 2 roles`.
-fn there(clinic: &Clinic, section: Section) -> String {
+pub fn there(clinic: &Clinic, section: Section) -> String {
     match clinic.count(section) {
         0 => format!("and there are no {}", section.name),
         1 => format!("and there is 1 {}", section.one),

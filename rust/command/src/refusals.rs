@@ -1,7 +1,7 @@
 //! The refusals at length: what their places count, who can mend them, and how. What
 //! each number means in a few words is the engine's phrase.
 
-use pilzdamo::Counts;
+use pilzdamo::{Counts, Verdict};
 
 /// One refusal at length.
 pub struct Refusal {
@@ -49,6 +49,11 @@ pub fn counts(number: u16, place: u16, in_run: bool) -> Counts {
         27 => Counts::Notice,
         _ => Counts::Nothing,
     }
+}
+
+/// Whether a run's refusal came at a choice, so that there is a state.
+pub fn is_halt(verdict: Verdict) -> bool {
+    counts(verdict.number, verdict.place, true) == Counts::Choice
 }
 
 /// The refusals from 1 on.

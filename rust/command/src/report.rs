@@ -1,44 +1,76 @@
 //! Refusals in messages. What a refusal is is said by the engine's own sentence.
 
-use crate::clinic::Clinic;
+use crate::clinic::{Clinic, ROLES};
+use crate::faults;
+use crate::hours;
 use crate::input::Input;
-use crate::names::{self, Above};
+use crate::length::Bytes;
+use crate::names;
 use crate::records;
 use crate::refusals;
-use crate::tree;
 use pilzdamo::{Counts, Verdict, NO_TAG};
 
 /// The message for a refused file, by check or placing.
 pub fn of_file(name: &str, input: &Input, verdict: Verdict) -> String {
     let counts = refusals::counts(verdict.number, verdict.place, false);
-    in_file(name, &Clinic::of(input), verdict, counts)
+    in_file(name, input, verdict, counts)
 }
 
-/// The message for a refused run.
-pub fn of_run(name: &str, bytes: &[u8], choices: &[u16], verdict: Verdict) -> String {
+/// The same with what there is to say of the place.
+pub fn of_place(name: &str, bytes: &[u8], verdict: Verdict, more: String) -> String {
+    let sentence = sentence_of(&Clinic::of(bytes), verdict);
+    message(name, verdict, &sentence, Some(more))
+}
+
+/// The message for a refused run, with where the threads of a refused choice stand.
+pub fn of_run(
+    name: &str,
+    bytes: &[u8],
+    choices: &[u16],
+    verdict: Verdict,
+    stands: Option<String>,
+) -> String {
     let clinic = Clinic::of(bytes);
     match refusals::counts(verdict.number, verdict.place, true) {
         Counts::Choice => {
             let sentence = sentence(&clinic, verdict, Counts::Choice);
-            message(name, verdict, &sentence, choice(choices, verdict.place))
+            let choice = choice(choices, verdict.place);
+            let lines: Vec<String> = choice.into_iter().chain(stands).collect();
+            let more = (!lines.is_empty()).then(|| lines.join("\n  "));
+            message(name, verdict, &sentence, more)
         }
         Counts::Nothing if verdict.number == 17 => {
             let sentence = sentence(&clinic, verdict, Counts::Nothing);
             message(name, verdict, &sentence, Some(length(choices)))
         }
-        counts => in_file(name, &clinic, verdict, counts),
+        counts => in_file(name, bytes, verdict, counts),
     }
 }
 
-/// The message for a refused table of hours, whose rows come from these lines.
-pub fn of_hours(name: &str, lines: &[usize], verdict: Verdict) -> String {
+/// The message for a table of hours that is refused for a file.
+pub fn of_hours(name: &str, table: &hours::Table, file: &[u8], verdict: Verdict) -> String {
     let Verdict { number, place } = verdict;
     let counts = refusals::counts(number, place, false);
     let sentence = sentence(&Clinic::default(), verdict, counts);
-    let row = usize::from(place).checked_sub(1);
-    let line = row.and_then(|row| lines.get(row));
-    let line = line.map(|line| format!("row {place} comes from line {line}"));
-    message(name, verdict, &sentence, line)
+    let more = match number {
+        22 => Some(format!(
+            "the table has {}, and at most 64 are taken",
+            names::several(table.lines.len(), "row")
+        )),
+        _ => row(table, &Clinic::of(file), place),
+    };
+    message(name, verdict, &sentence, more)
+}
+
+/// The line that a row comes from, and its role.
+fn row(table: &hours::Table, clinic: &Clinic, number: u16) -> Option<String> {
+    let index = usize::from(number).checked_sub(1)?;
+    let line = table.lines.get(index)?;
+    let [role, ..] = table.words.as_chunks::<3>().0.get(index)?;
+    let there = records::there(clinic, ROLES);
+    Some(format!(
+        "row {number} comes from line {line}: it is of role {role}, {there}"
+    ))
 }
 
 /// The message for two files that can't be one, though neither is refused by itself,
@@ -63,17 +95,22 @@ pub fn mark(clinic: &Clinic, verdict: Verdict) -> String {
     }
 }
 
-/// A message with the step of a node, where a node is refused, or what is wrong with a
-/// record.
-fn in_file(name: &str, clinic: &Clinic, verdict: Verdict, counts: Counts) -> String {
-    let place = verdict.place;
-    let step = match counts {
-        Counts::Node => step(clinic, place.into()),
-        _ => None,
-    };
-    let step = step.map(|step| format!("node {place}: {step}"));
-    let more = step.or_else(|| records::told(clinic, verdict));
-    message(name, verdict, &sentence(clinic, verdict, counts), more)
+/// A message with what a file's bytes have at the place.
+fn in_file<B: Bytes + ?Sized>(name: &str, file: &B, verdict: Verdict, counts: Counts) -> String {
+    let more = more(file, verdict, counts, "\n  ");
+    let sentence = sentence(&Clinic::of(file), verdict, counts);
+    message(name, verdict, &sentence, more)
+}
+
+/// What there is to say of a refused file below the engine's sentence.
+pub fn more<B: Bytes + ?Sized>(
+    file: &B,
+    verdict: Verdict,
+    counts: Counts,
+    between: &str,
+) -> Option<String> {
+    let lines = faults::lines(file, verdict, counts);
+    (!lines.is_empty()).then(|| lines.join(between))
 }
 
 /// What stands below a refusal in a text: the engine's sentence, and who can mend it.
@@ -85,9 +122,14 @@ pub fn below(bytes: &[u8], verdict: Verdict) -> String {
     lines.join("\n  ")
 }
 
+/// The engine's sentence for a refused choice.
+pub fn sentence_of_choice(verdict: Verdict) -> String {
+    sentence(&Clinic::default(), verdict, Counts::Choice)
+}
+
 /// What stands below a refused choice: the engine's sentence, and who can mend it.
 pub fn below_choice(verdict: Verdict) -> String {
-    let mut lines = vec![sentence(&Clinic::default(), verdict, Counts::Choice)];
+    let mut lines = vec![sentence_of_choice(verdict)];
     lines.extend(mend(verdict));
     lines.join("\n  ")
 }
@@ -116,7 +158,7 @@ pub fn sentence_of(clinic: &Clinic, verdict: Verdict) -> String {
 }
 
 /// The engine's sentence for a refusal whose place counts so.
-fn sentence(clinic: &Clinic, verdict: Verdict, counts: Counts) -> String {
+pub fn sentence(clinic: &Clinic, verdict: Verdict, counts: Counts) -> String {
     let reason = verdict.reason(counts, tag(clinic, verdict, counts));
     reason.sentence().unwrap_or_else(|| verdict.to_string())
 }
@@ -133,28 +175,15 @@ fn tag(clinic: &Clinic, verdict: Verdict, counts: Counts) -> u16 {
     }
 }
 
-/// A node's step, if a session's tree comes to it.
-fn step(clinic: &Clinic, number: usize) -> Option<String> {
-    let (trees, _) = tree::follow(clinic);
-    let mut visits = trees.iter().flat_map(|tree| &tree.visits);
-    let visit = visits.find(|visit| visit.node == number)?;
-    let node = clinic.nodes.get(number.checked_sub(1)?)?;
-    let above = Above {
-        bound: Some(visit.bound),
-        due: visit.due,
-    };
-    Some(names::step(clinic, *node, above))
-}
-
 /// The length of a list that can't be one.
-fn length(choices: &[u16]) -> String {
+pub fn length(choices: &[u16]) -> String {
     let numbers = names::several(choices.len(), "number");
     let most = "at most 65,535 choices (65,471 before a round)";
     format!("the list has {numbers}: two for each choice, {most}")
 }
 
 /// A choice: its number, thread and partner.
-fn choice(choices: &[u16], number: u16) -> Option<String> {
+pub fn choice(choices: &[u16], number: u16) -> Option<String> {
     let at = 2 * (usize::from(number).checked_sub(1)?);
     let [thread, partner] = choices.get(at..at + 2)? else {
         return None;

@@ -8,6 +8,7 @@ use crate::seats::{self, Table};
 use crate::state;
 use crate::threads::Thread;
 use pilzdamo::{State, Verdict, RUN_ROOM};
+use text::NodeAt;
 
 /// The state in the output of a run, in lines: of a text in its names.
 pub fn told(input: &Input, output: &[u8], threads: &[Thread]) -> String {
@@ -57,18 +58,27 @@ pub fn refused(
     table: Option<&Table>,
     verdict: Verdict,
 ) -> Option<String> {
-    let why = match list.followed.missing {
-        Some(missing) => not_there(&input.sessions(), list, missing),
-        None => stand(input, list, table, verdict)?,
-    };
+    let why = why(input, list, table, verdict)?;
     let what = format!("refused {}: {why}", verdict.number);
     let message = list.told(verdict.place, &what)?;
     Some(format!("{message}\n  {}", report::below_choice(verdict)))
 }
 
+/// Why a choice is refused, in names; none where there are no names.
+pub fn why(input: &Input, list: &List, table: Option<&Table>, verdict: Verdict) -> Option<String> {
+    match list.followed.missing {
+        Some(missing) => Some(not_there(
+            &input.sessions(),
+            &list.followed.threads,
+            missing,
+        )),
+        None => stand(input, list, table, verdict),
+    }
+}
+
 /// A named thread that isn't there, and those that are.
-fn not_there(sessions: &[String], list: &List, missing: Thread) -> String {
-    let threads = list.followed.threads.iter();
+pub fn not_there(sessions: &[String], threads: &[Thread], missing: Thread) -> String {
+    let threads = threads.iter();
     let threads: Vec<String> = threads.map(|thread| thread.name(sessions)).collect();
     let there = match &threads[..] {
         [] => "no thread is left".to_string(),
@@ -92,8 +102,30 @@ fn stand(input: &Input, list: &List, table: Option<&Table>, verdict: Verdict) ->
     Some(stands.collect::<Vec<_>>().join(", and "))
 }
 
-struct Told<'a> {
-    text: &'a Text,
+/// Where the threads of a refused choice stand, in numbers.
+pub fn stand_in_numbers(
+    input: &Input,
+    list: &List,
+    table: Option<&Table>,
+    verdict: Verdict,
+) -> Option<String> {
+    let mut room = [0; RUN_ROOM];
+    let halted = seats::run(input, &list.words, table, &mut room) == verdict;
+    let [thread, partner] = list.choice(verdict.place).filter(|_| halted)?;
+    let (state, clinic) = (state::State::of(&room), Clinic::of(input));
+    let mut stands = vec![state.stands(&clinic, thread)];
+    if partner != 0 {
+        stands.push(state.stands(&clinic, partner));
+    }
+    if verdict.number == 20 {
+        stands.push(state.full());
+    }
+    Some(stands.join("\n  "))
+}
+
+/// What a run has, in a text's names.
+pub struct Told<'a> {
+    pub text: &'a Text,
 }
 
 impl Told<'_> {
@@ -104,7 +136,7 @@ impl Told<'_> {
             .map_or("?", String::as_str)
     }
 
-    fn thread(&self, thread: Thread) -> String {
+    pub fn thread(&self, thread: Thread) -> String {
         thread.name(&self.text.sessions())
     }
 
@@ -119,24 +151,32 @@ impl Told<'_> {
         format!("{name} stands at {}", self.stands(thread.node))
     }
 
-    /// A node's step and line.
-    fn stands(&self, node: u16) -> String {
-        let place = usize::from(node).checked_sub(1);
-        let place = place.and_then(|at| self.text.packed.source.nodes.get(at));
-        let Some(place) = place else {
-            return format!("node {node}");
-        };
-        let line = place.at.line;
-        if place.behind {
-            return format!("the end behind line {line}");
+    /// A node's line, or its number if there are no lines.
+    pub fn place(&self, node: u16) -> String {
+        match self.source(node).filter(|_| self.text.has_lines) {
+            None => format!("node {node}"),
+            Some(NodeAt { at, behind, .. }) => match behind {
+                true => format!("the end behind line {}", at.line),
+                false => format!("line {}", at.line),
+            },
         }
-        let whole = self.text.text.split('\n').nth(line - 1).unwrap_or("");
-        let step: String = whole
-            .chars()
-            .skip(place.at.column - 1)
-            .take(place.at.width)
-            .collect();
-        format!("line {line} ({step})")
+    }
+
+    /// A node's place and step.
+    pub fn stands(&self, node: u16) -> String {
+        let place = self.place(node);
+        let step = match self.source(node) {
+            None => return place,
+            Some(found) if found.behind && self.text.has_lines => return place,
+            Some(found) if found.behind => "end".to_string(),
+            Some(_) => self.text.step(node.into()).unwrap_or_default(),
+        };
+        format!("{place} ({step})")
+    }
+
+    fn source(&self, node: u16) -> Option<&NodeAt> {
+        let at = usize::from(node).checked_sub(1)?;
+        self.text.packed.source.nodes.get(at)
     }
 
     fn roles(&self, mask: u16) -> String {
@@ -161,7 +201,7 @@ impl Told<'_> {
         }
     }
 
-    fn value(&self, value: u16) -> String {
+    pub fn value(&self, value: u16) -> String {
         let names = &self.text.packed.names;
         match value {
             1..=32 => self.name(&names.users, value).to_string(),

@@ -1,8 +1,8 @@
 //! Seats in words.
 
-use crate::choices::{self, Flaw};
+use crate::choices;
 use crate::clinic::{Clinic, ROLES};
-use crate::input::Input;
+use crate::input::{flawed, Input};
 use crate::names;
 use crate::report;
 use crate::source::Source;
@@ -17,16 +17,21 @@ pub struct Table {
 
 impl Table {
     pub fn read(seats: &Source) -> Result<Table, WrongUse> {
-        let (name, form) = (
-            seats.name(),
-            "seats are text, a number for each role: 0 for no limit, else 1 to 32",
-        );
-        let words = choices::numbers(&seats.read()?).map_err(|Flaw { line, word }| {
-            WrongUse(format!(
-                "{name}: line {line}: '{word}' is no number from 0 to 65535\n  {form}"
-            ))
+        let (name, bytes) = (seats.name(), seats.read()?);
+        let words = choices::numbers(&bytes).map_err(|flaws| {
+            let WrongUse(why) = flawed(&name, &bytes, &flaws);
+            let form = "seats are text, a number for each role: 0 for no limit, else 1 to 32";
+            WrongUse(format!("{why}\n  {form}"))
         })?;
         Ok(Table { name, words })
+    }
+
+    #[cfg(test)]
+    pub fn of(name: &str, words: &[u16]) -> Table {
+        Table {
+            name: name.to_string(),
+            words: words.to_vec(),
+        }
     }
 
     /// Whether it is this table that is refused, and not the list.
@@ -36,15 +41,46 @@ impl Table {
 
     /// The message for this table, which can't be one of this file's.
     pub fn refused(&self, input: &Input, verdict: Verdict) -> String {
-        let more = length(&Clinic::of(input), &self.words);
-        report::of_both(&self.name, verdict, Some(more))
+        report::of_both(&self.name, verdict, Some(self.wrong(input)))
+    }
+
+    /// What is wrong with this table.
+    pub fn wrong(&self, input: &Input) -> String {
+        length(&Clinic::of(input), &self.words)
+    }
+
+    /// What 26 objects to before the first choice, of bytes without names: a role that the
+    /// starting roles of the sessions overfill.
+    pub fn overfilled(&self, input: &Input, verdict: Verdict) -> Option<String> {
+        let session = usize::from(verdict.place).checked_sub(1);
+        let session = session.filter(|_| verdict.number == 26 && input.text.is_none())?;
+        let clinic = Clinic::of(input);
+        let starts = clinic.sessions.get(..=session)?;
+        let with = |role: u32| {
+            let masks = starts.iter().map(|&[_, mask, _]| mask);
+            masks.filter(|mask| mask >> (role - 1) & 1 == 1).count()
+        };
+        let own = names::items(clinic.sessions[session][1].into());
+        let seats = |role: u32| usize::from(self.seats(role as u16));
+        let role = own
+            .into_iter()
+            .find(|&role| (1..with(role)).contains(&seats(role)))?;
+        let (place, seats) = (verdict.place, names::several(seats(role), "seat"));
+        let before = names::several(with(role) - 1, "session");
+        Some(format!(
+            "session {place} starts with role {role}, which has {seats}, taken by {before} before it"
+        ))
+    }
+
+    /// The seats of a role, 0 where it has no limit.
+    pub fn seats(&self, role: u16) -> u16 {
+        let at = usize::from(role).checked_sub(1);
+        at.and_then(|at| self.words.get(at)).copied().unwrap_or(0)
     }
 
     /// Whether a role has a limit.
     pub fn limits(&self, role: u16) -> bool {
-        let at = usize::from(role).checked_sub(1);
-        at.and_then(|at| self.words.get(at))
-            .is_some_and(|&seats| seats != 0)
+        self.seats(role) != 0
     }
 
     /// Whether the last of these choices gets no seat.
@@ -105,5 +141,9 @@ fn fits(clinic: &Clinic, table: &[u16]) -> bool {
 fn length(clinic: &Clinic, table: &[u16]) -> String {
     let numbers = names::several(table.len(), "number");
     let roles = names::several(clinic.count(ROLES), "role");
-    format!("the table has {numbers}, the file {roles}: one for each, 0 for no limit, else 1 to 32")
+    let above = (1..).zip(table).find(|(_, &seats)| seats > SEATS);
+    let above = above.map_or(String::new(), |(at, seats)| {
+        format!("\n  number {at} of the table is {seats}")
+    });
+    format!("the table has {numbers}, the file {roles}: one for each, 0 for no limit, else 1 to 32{above}")
 }

@@ -27,7 +27,8 @@ pub fn show(page: &mut Page, clinic: &Clinic) {
     cut_off(page, clinic, NODES, clinic.nodes.len());
 }
 
-fn session_line(
+/// A session with its user, the roles that it starts with, and its root.
+pub fn session_line(
     clinic: &Clinic,
     number: usize,
     [user, mask, root]: [u16; 3],
@@ -46,16 +47,21 @@ fn session_line(
 
 /// What is to be said below a tree that has no end.
 fn past_end(page: &mut Page, clinic: &Clinic, tree: &Tree) {
+    if let Some(remark) = unended(tree) {
+        page.line(&format!("  ({remark})"));
+    }
+    if tree.ended == Ended::PastLast {
+        page.mark(Spot::Node(clinic.nodes.len() + 1));
+    }
+}
+
+/// Why a tree that was begun has no end.
+pub fn unended(tree: &Tree) -> Option<&'static str> {
     match tree.ended {
-        Ended::PastLast => {
-            page.line(match tree.visits.as_slice() {
-                [] => "  (no node is left for it)",
-                _ => "  (the tree runs past the last node)",
-            });
-            page.mark(Spot::Node(clinic.nodes.len() + 1));
-        }
-        Ended::Lost => page.line("  (the tree can't be followed from here)"),
-        Ended::Whole | Ended::Unknown => (),
+        Ended::PastLast if tree.visits.is_empty() => Some("no node is left for it"),
+        Ended::PastLast => Some("the tree runs past the last node"),
+        Ended::Lost => Some("the tree can't be followed from here"),
+        Ended::Whole | Ended::Unknown => None,
     }
 }
 
@@ -86,10 +92,6 @@ struct Row {
 
 fn row(clinic: &Clinic, visit: &Visit) -> Row {
     let node = clinic.nodes[visit.node - 1];
-    let above = Above {
-        bound: Some(visit.bound),
-        due: visit.due,
-    };
     let held: Vec<String> = names::items(u32::from(visit.held))
         .map(|role| role.to_string())
         .collect();
@@ -101,7 +103,7 @@ fn row(clinic: &Clinic, visit: &Visit) -> Row {
         } else {
             held.join(",")
         },
-        step: format!("{}{}", visit.lead, names::step(clinic, node, above)),
+        step: format!("{}{}", visit.lead, visit.step(clinic)),
     }
 }
 

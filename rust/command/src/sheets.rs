@@ -1,5 +1,6 @@
 //! The group's sheet, to be read and for programs.
 
+use crate::json::object;
 use crate::names::several;
 use pilzdamo::Sheet;
 
@@ -38,22 +39,15 @@ pub fn text(sheet: &Sheet) -> String {
 
 /// One line of JSON; numbers at which no file is refused are left out.
 pub fn json(sheet: &Sheet) -> String {
-    let refused: Vec<String> = refused(sheet)
-        .map(|(number, count)| format!("\"{number}\": {count}"))
-        .collect();
-    let Sheet {
-        files,
-        sessions,
-        on_steps,
-        most,
-        quotient,
-        remainder,
-        ..
-    } = sheet;
-    format!(
-        "{{\"files\": {files}, \"refused\": {{{}}}, \"sessions\": {sessions}, \
-         \"on_steps\": {on_steps}, \"most\": {most}, \"quotient\": {quotient}, \
-         \"remainder\": {remainder}}}\n",
-        refused.join(", ")
-    )
+    let refused = refused(sheet).map(|(number, count)| (number, count.into()));
+    let object = object([
+        ("files", sheet.files.into()),
+        ("refused", object(refused)),
+        ("sessions", sheet.sessions.into()),
+        ("on_steps", sheet.on_steps.into()),
+        ("most", sheet.most.into()),
+        ("quotient", sheet.quotient.into()),
+        ("remainder", sheet.remainder.into()),
+    ]);
+    format!("{object}\n")
 }

@@ -2,11 +2,18 @@
 
 use crate::clinic::{Clinic, Section};
 use crate::clinic::{CHANNELS, COUNTED, JUNIORS, KINDS, ROLES, USERS};
+use crate::input::Input;
 use crate::length::{Bytes, Length};
 use crate::names::{carries, grants, juniors, list, record, several};
+use crate::objects;
 use crate::page::{Page, Spot};
+use crate::reading::Start;
 use crate::sessions;
 use pilzdamo::Verdict;
+
+/// Said of a file whose counts say nothing.
+pub(crate) const NO_RECORDS: &str =
+    "no records can be told apart: that takes a head of version 1 to 3, counts in range";
 
 /// Any bytes whatever, as far as they can be followed as a clinic's file. What
 /// the engine's check refuses is marked at its place.
@@ -25,6 +32,12 @@ pub(crate) fn of<B: Bytes + ?Sized>(file: &B) -> String {
         sessions::show(&mut page, &clinic);
     }
     page.text()
+}
+
+/// The same as an object, in JSON.
+pub fn json(bytes: &[u8]) -> String {
+    let input = Input::of_bytes("-".to_string(), Start::whole(bytes.to_vec()));
+    objects::line(&objects::shown("-", &input))
 }
 
 fn head(page: &mut Page, clinic: &Clinic, verdict: Verdict) {
@@ -47,14 +60,12 @@ fn head(page: &mut Page, clinic: &Clinic, verdict: Verdict) {
     }
     match clinic.counts {
         Some(_) => page.line(&format!("on steps: {}", clinic.on_steps())),
-        None => page.line(
-            "(no records can be told apart: that takes a head of version 1 to 3, counts in range)",
-        ),
+        None => page.line(&format!("({NO_RECORDS})")),
     }
 }
 
 /// What the check says.
-fn judged(clinic: &Clinic, verdict: Verdict) -> String {
+pub(crate) fn judged(clinic: &Clinic, verdict: Verdict) -> String {
     match verdict.number {
         0 => "passes".to_string(),
         13 if clinic.is_bare() => {
@@ -159,9 +170,14 @@ fn section<const W: usize>(
 
 /// A remark if the file ends before a section's last record.
 pub(crate) fn cut_off(page: &mut Page, clinic: &Clinic, section: Section, there: usize) {
-    let missing = clinic.count(section) - there;
-    if missing > 0 {
-        let records = several(missing, section.one);
-        page.line(&format!("(the file ends here; {records} missing)"));
+    if let Some(remark) = missing(clinic, section, there) {
+        page.line(&format!("({remark})"));
     }
+}
+
+/// What is to be said if the file ends before a section's last record.
+pub(crate) fn missing(clinic: &Clinic, section: Section, there: usize) -> Option<String> {
+    let missing = clinic.count(section) - there;
+    let records = || several(missing, section.one);
+    (missing > 0).then(|| format!("the file ends here; {} missing", records()))
 }

@@ -1,9 +1,10 @@
-//! A text shown: its own lines, with the roles held at each step.
+//! A text shown: its own lines, with the roles held at each step. Bytes with names beside
+//! them are shown as the text that they have with them.
 
+use crate::clinic::Clinic;
 use crate::input::{Input, Text};
 use crate::names::{items, several};
 use crate::show;
-use pilzdamo::Verdict;
 
 /// The page for a file: of a text its lines, of bytes their records.
 pub fn page(input: &Input) -> String {
@@ -17,17 +18,25 @@ fn of_text(input: &Input, text: &Text) -> String {
     let verdict = pilzdamo::check(input);
     let bytes = several(input.len(), "byte");
     let on_steps = text.packed.records.nodes.iter().filter(|node| node[0] == 7);
-    let mut page = format!("check: {}\n", judged(input, verdict));
-    page += &format!("length: {bytes} as a file\n");
+    let mut page = format!("check: {}\n", show::judged(&Clinic::of(input), verdict));
+    let as_file = if text.has_lines { " as a file" } else { "" };
+    page += &format!("length: {bytes}{as_file}\n");
     page += &format!("on steps: {}\n\n", on_steps.count());
     let rows = rows(text);
     let width = rows.iter().map(|row| row.held.chars().count()).max();
     let width = width.unwrap_or(0).max(4);
-    page += "  node  line  held\n";
+    page += match text.has_lines {
+        true => "  node  line  held\n",
+        false => "  node  held\n",
+    };
     let culprit = text::why(&text.packed, verdict.number, verdict.place);
     for (number, (row, line)) in (1..).zip(rows.iter().zip(text.text.lines())) {
         let Row { node, held } = row;
-        let shown = format!("  {node:>4}  {number:4}  {held:width$}  {line}");
+        let numbered = match text.has_lines {
+            true => format!("{number:4}  "),
+            false => String::new(),
+        };
+        let shown = format!("  {node:>4}  {numbered}{held:width$}  {line}");
         page += shown.trim_end();
         page.push('\n');
         if let Some(culprit) = culprit.as_ref().filter(|found| found.at.line == number) {
@@ -38,17 +47,6 @@ fn of_text(input: &Input, text: &Text) -> String {
         page += &format!("!! {}\n", input.refused(verdict));
     }
     page
-}
-
-/// What the check says.
-fn judged(input: &Input, verdict: Verdict) -> String {
-    match verdict.number {
-        0 => "passes".to_string(),
-        13 if crate::clinic::Clinic::of(input).is_bare() => {
-            "refused 13, marked !!; it has no on or off yet: place it".to_string()
-        }
-        number => format!("refused {number}, marked !!"),
-    }
 }
 
 /// What stands before a line: a step's node, and the roles that are held there.

@@ -36,6 +36,14 @@ impl Source {
         }
     }
 
+    /// As it was typed, as far as that is UTF-8.
+    pub fn typed(&self) -> String {
+        match self {
+            Source::StandardInput => "-".to_string(),
+            Source::File(path) => path.to_string_lossy().to_string(),
+        }
+    }
+
     /// Which file it is, if it is one.
     pub fn identity(&self) -> Option<Identity> {
         match self {
@@ -106,9 +114,13 @@ impl NamedFile {
         std::iter::once(&self.file).chain(&self.names).collect()
     }
 
-    /// The clinic's file that it is, or that its text says.
+    /// The clinic's file that it is, or that its text says; with the names for its bytes.
     pub fn clinic(&self) -> Result<Input, WrongUse> {
-        self.file.clinic()
+        let input = self.file.clinic()?;
+        match &self.names {
+            None => Ok(input),
+            Some(names) => input.with_names(names),
+        }
     }
 }
 

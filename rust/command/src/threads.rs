@@ -1,6 +1,6 @@
 //! Choices as they stand in a list: threads by number or by name.
 
-use text::{At, Flaw, Token};
+use text::{shown, At, Flaw, Token};
 
 /// A thread by its session's index, and its number in it: 1 is the one that the session
 /// starts with, and each that is forked or repeated off has the next.
@@ -80,6 +80,30 @@ pub fn named(tokens: &[Token], sessions: &[String]) -> Result<Vec<Choice>, Vec<F
     }
 }
 
+/// One choice, with or without an arrow, of all these words.
+pub fn asked(tokens: &[Token], sessions: &[String]) -> Result<Choice, Flaw> {
+    let mut reader = Reader {
+        tokens,
+        next: 0,
+        sessions,
+    };
+    let thread = reader.who(THREAD)?;
+    let partner = match reader.takes("->") || reader.next < tokens.len() {
+        true => reader.who("a thread to meet, or 0")?,
+        false => Who::Numbered(0),
+    };
+    match reader.next < tokens.len() {
+        true => reader.expected("no more than two threads"),
+        false => Ok(Choice {
+            at: over(tokens),
+            thread,
+            partner,
+        }),
+    }
+}
+
+const THREAD: &str = "a thread: a session's name, with .2 for its second thread, or a number";
+
 struct Reader<'a> {
     tokens: &'a [Token],
     next: usize,
@@ -89,8 +113,7 @@ struct Reader<'a> {
 impl Reader<'_> {
     fn choice(&mut self) -> Result<Choice, Flaw> {
         let start = self.next;
-        let thread =
-            self.who("a thread: a session's name, with .2 for its second thread, or a number")?;
+        let thread = self.who(THREAD)?;
         let partner = if self.takes("->") {
             self.who("a thread to meet")?
         } else if let Who::Numbered(_) = thread {
@@ -133,15 +156,19 @@ impl Reader<'_> {
             self.next += 1;
             return Ok(Who::Numbered(number));
         }
+        if token.text.bytes().all(|byte| byte.is_ascii_digit()) {
+            let what = format!("'{}' is no number from 0 to 65535", shown(&token.text));
+            return Err(Flaw { at: token.at, what });
+        }
         if !token.is_name() {
             return self.expected(due);
         }
         let Some(session) = self.sessions.iter().position(|name| *name == token.text) else {
-            let sessions = self.sessions.join(", ");
-            let what = format!(
-                "there is no session '{}' (sessions: {sessions})",
-                token.text
-            );
+            let sessions = match self.sessions {
+                [] => "there are no sessions".to_string(),
+                sessions => format!("sessions: {}", sessions.join(", ")),
+            };
+            let what = format!("there is no session '{}' ({sessions})", shown(&token.text));
             return Err(Flaw { at: token.at, what });
         };
         self.next += 1;
@@ -160,8 +187,7 @@ impl Reader<'_> {
     fn expected<T>(&self, what: &str) -> Result<T, Flaw> {
         Err(match (self.tokens.get(self.next), self.tokens.last()) {
             (Some(token), _) => {
-                let found = text::shown(&token.text);
-                let what = format!("expected {what}, not '{found}'");
+                let what = format!("expected {what}, not '{}'", shown(&token.text));
                 Flaw { at: token.at, what }
             }
             (None, last) => {

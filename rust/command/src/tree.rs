@@ -1,6 +1,7 @@
 //! The sessions' trees, followed by tags alone.
 
 use crate::clinic::Clinic;
+use crate::names::{self, Above};
 
 /// A node on its path.
 pub struct Visit {
@@ -14,6 +15,17 @@ pub struct Visit {
     pub lead: String,
     /// The second child that is due to a fork, if its first child's tree ends.
     pub due: Option<usize>,
+}
+
+impl Visit {
+    /// The node in words.
+    pub fn step(&self, clinic: &Clinic) -> String {
+        let above = Above {
+            bound: Some(self.bound),
+            due: self.due,
+        };
+        names::step(clinic, clinic.nodes[self.node - 1], above)
+    }
 }
 
 /// How following a tree ended.

@@ -73,10 +73,12 @@ pub enum Job {
         file: NamedFile,
         /// The list that goes before what is typed, if there is one.
         choices: Option<Source>,
+        seats: Option<Source>,
     },
     Choices {
         file: NamedFile,
         choices: Source,
+        seats: Option<Source>,
     },
     Ready {
         file: NamedFile,

@@ -3,14 +3,15 @@
 use crate::{choose, run, start, total, totals, Channel, State, Thread, Verdict};
 use crate::{BESIDE, RECORDS, RUN_ROOM, TOTALS};
 use std::fmt;
+use std::sync::Arc;
 
-/// The list of threads of a run, and beside it its made channels and how many
-/// threads wait on each kind, which go on choice by choice.
+/// A file, the list of threads of a run of it, and beside that its made channels and
+/// how many threads wait on each kind, which go on choice by choice.
 ///
-/// It begins with what the engine writes, and only the engine changes it: so it is
-/// always a state of a run of its file, as long as each call gets that same file. A
-/// caller that has another place for the list lends it to [`start`] and [`choose`]
-/// itself.
+/// It begins with what the engine writes, only the engine changes it, and its file is
+/// its own: so it is always a state of a run of that file. A caller that has another
+/// place for the list lends it to [`start`] and [`choose`] itself. A clone stays behind
+/// when the desk goes on, so that a choice can be taken back; both share the file.
 ///
 /// ```
 /// use pilzdamo::Desk;
@@ -21,7 +22,7 @@ use std::fmt;
 ///
 /// // Ward 1 makes a channel, puts role 1 on and forks.
 /// for _ in 0..3 {
-///     desk.choose(&file, 1, 0)?;
+///     desk.choose(1, 0)?;
 /// }
 /// let channel = desk.made().next().unwrap();
 /// assert_eq!((channel.owner, channel.kind), (1, 2));
@@ -30,25 +31,32 @@ use std::fmt;
 /// assert_eq!((last.mask, last.vars[0]), (1, 385));
 ///
 /// // Thread 1 can't send alone. A refused choice changes nothing.
-/// let refusal = desk.choose(&file, 1, 0).unwrap_err();
+/// let refusal = desk.choose(1, 0).unwrap_err();
 /// assert_eq!(refusal.to_string(), "refused 18 1");
 ///
-/// // Ward 3 repeats; its new thread puts role 2 on, and takes the request.
-/// for (thread, partner) in [(3, 0), (5, 0), (1, 5)] {
-///     desk.choose(&file, thread, partner)?;
-/// }
+/// // Ward 3 repeats; its new thread puts role 2 on, and can take the request.
+/// desk.choose(3, 0)?;
+/// desk.choose(5, 0)?;
+/// assert_eq!(desk.choices(), [(1, 5), (2, 0), (3, 0)]);
+/// let before = desk.clone();
+/// desk.choose(1, 5)?;
 /// assert_eq!(desk.threads()[4].vars[0], 385);
+///
+/// // It is taken back.
+/// desk = before;
+/// assert_eq!(desk.threads()[4].vars[0], 0);
 /// # Ok::<(), Box<dyn std::error::Error>>(())
 /// ```
 #[derive(Clone)]
 pub struct Desk {
+    file: Arc<[u8]>,
     threads: [Thread; RECORDS],
     beside: [u16; BESIDE],
 }
 
 impl Desk {
     /// The start of a file's run: one thread for each session. The file is judged
-    /// by refusals 1 to 10.
+    /// by refusals 1 to 10, and copied.
     ///
     /// ```
     /// let file = std::fs::read("../../examples/spring/cut.clinic")?;
@@ -60,8 +68,8 @@ impl Desk {
     /// # Ok::<(), Box<dyn std::error::Error>>(())
     /// ```
     pub fn start(file: &[u8]) -> Result<Desk, Verdict> {
-        let mut desk = Desk::empty();
-        start(file, &mut desk.threads, &mut desk.beside).result()?;
+        let mut desk = Desk::empty(file);
+        start(&desk.file, &mut desk.threads, &mut desk.beside).result()?;
         Ok(desk)
     }
 
@@ -73,9 +81,9 @@ impl Desk {
     ///
     /// let file = std::fs::read("../../examples/spring/cut.clinic")?;
     /// let mut desk = Desk::start(&file)?;
-    /// desk.choose(&file, 3, 0)?;
-    /// desk.choose(&file, 4, 0)?;
-    /// desk.choose(&file, 3, 4)?;
+    /// desk.choose(3, 0)?;
+    /// desk.choose(4, 0)?;
+    /// desk.choose(3, 4)?;
     ///
     /// let again = Desk::after(&file, &[3, 0, 4, 0, 3, 4])?;
     /// assert_eq!(again.threads(), desk.threads());
@@ -88,19 +96,20 @@ impl Desk {
         let mut out = [0; RUN_ROOM];
         run(file, choices, &mut out).result()?;
         let state = State::of(&out).expect("a state fits in its room");
-        Ok(Desk::of(&state, &totals(file, choices).totals))
+        Ok(Desk::of(file, &state, &totals(file, choices).totals))
     }
 
-    fn empty() -> Desk {
+    fn empty(file: &[u8]) -> Desk {
         Desk {
+            file: file.into(),
             threads: [Thread::default(); RECORDS],
             beside: [0; BESIDE],
         }
     }
 
     /// Lays a state and its totals out as they are lent.
-    fn of(state: &State, totals: &[u16; TOTALS]) -> Desk {
-        let mut desk = Desk::empty();
+    fn of(file: &[u8], state: &State, totals: &[u16; TOTALS]) -> Desk {
+        let mut desk = Desk::empty(file);
         desk.threads[..state.threads.len()].copy_from_slice(&state.threads);
         desk.beside[0] = state.threads.len() as u16;
         desk.beside[1] = state.made.len() as u16;
@@ -121,19 +130,76 @@ impl Desk {
     /// let before = desk.threads().to_vec();
     ///
     /// // Thread 1 compares user 1 with user 2.
-    /// let refusal = desk.choose(&file, 1, 0).unwrap_err();
+    /// let refusal = desk.choose(1, 0).unwrap_err();
     /// assert_eq!(refusal.to_string(), "refused 19 1");
     /// assert_eq!(desk.threads(), before);
-    ///
-    /// // Of another file these are no threads: user 1 has no session in it.
-    /// let other = std::fs::read("../../examples/refused/11-on.clinic")?;
-    /// let refusal = desk.choose(&other, 1, 0).unwrap_err();
-    /// assert_eq!(refusal.to_string(), "refused 18 0");
     /// # Ok::<(), Box<dyn std::error::Error>>(())
     /// ```
-    pub fn choose(&mut self, file: &[u8], thread: u16, partner: u16) -> Result<(), Verdict> {
-        let Desk { threads, beside } = self;
+    pub fn choose(&mut self, thread: u16, partner: u16) -> Result<(), Verdict> {
+        let Desk {
+            file,
+            threads,
+            beside,
+        } = self;
         choose(file, threads, beside, thread, partner).result()
+    }
+
+    /// Why a choice can't be done here, by the refusal of [`choose`](Desk::choose);
+    /// none where it can. Nothing is changed.
+    ///
+    /// ```
+    /// let file = std::fs::read("../../examples/refused/choices.clinic")?;
+    /// let desk = pilzdamo::Desk::start(&file)?;
+    ///
+    /// // Thread 1 compares two users, thread 2 repeats, and there is no thread 3.
+    /// let number = |thread| desk.why_not(thread, 0).map(|refusal| refusal.number);
+    /// assert_eq!([1, 2, 3].map(number), [Some(19), None, Some(18)]);
+    /// # Ok::<(), Box<dyn std::error::Error>>(())
+    /// ```
+    pub fn why_not(&self, thread: u16, partner: u16) -> Option<Verdict> {
+        self.clone().choose(thread, partner).err()
+    }
+
+    /// All choices that can be done here, thread and partner (0 where the thread steps
+    /// alone), in the order of the threads and then of the partners. Each was tried on a
+    /// copy of the list, and was done there.
+    ///
+    /// ```
+    /// // Two bookings, and the desk that takes them; each puts its role on.
+    /// let (file, _) = pilzdamo::placed(&std::fs::read("../../examples/desks.clinic")?)?;
+    /// let mut desk = pilzdamo::Desk::start(&file)?;
+    /// assert_eq!(desk.choices(), [(1, 0), (2, 0), (3, 0)]);
+    /// for thread in [1, 2, 3] {
+    ///     desk.choose(thread, 0)?;
+    /// }
+    /// assert_eq!(desk.choices(), [(1, 3), (2, 3)]);
+    ///
+    /// // The lowest pair is the one that `ready` finds.
+    /// assert_eq!(pilzdamo::ready(&file, &[1, 0, 2, 0, 3, 0]).pair(), Some((1, 3)));
+    /// # Ok::<(), Box<dyn std::error::Error>>(())
+    /// ```
+    pub fn choices(&self) -> Vec<(u16, u16)> {
+        let (mut choices, mut paired) = (Vec::new(), Vec::new());
+        for thread in 1..=self.beside[0] {
+            match self.why_not(thread, 0) {
+                None => choices.push((thread, 0)),
+                // Only who sends or receives is refused so alone, and only they can meet.
+                Some(Verdict { number: 18, .. }) => paired.push(thread),
+                Some(_) => (),
+            }
+        }
+        for &thread in &paired {
+            let partners = paired.iter().copied();
+            let meets = |partner: &u16| self.why_not(thread, *partner).is_none();
+            choices.extend(partners.filter(meets).map(|partner| (thread, partner)));
+        }
+        choices.sort_unstable();
+        choices
+    }
+
+    /// The file that it runs.
+    pub fn file(&self) -> &[u8] {
+        &self.file
     }
 
     /// The threads, thread 1 first.
@@ -160,7 +226,7 @@ impl Desk {
     /// assert_eq!(waiting(&desk), [0, 0, 0]);
     ///
     /// // The first scheduler puts its role on, and waits to read (kind 1).
-    /// desk.choose(&file, 1, 0)?;
+    /// desk.choose(1, 0)?;
     /// assert_eq!(waiting(&desk), [1, 0, 0]);
     /// assert_eq!((desk.total(0), desk.total(33)), (0, 0));
     /// # Ok::<(), Box<dyn std::error::Error>>(())

@@ -22,7 +22,7 @@
 //! | see how many threads wait on each kind | [`totals`]; [`Desk::total`], and [`total`] of a list of one's own |
 //! | give roles a number of seats, with a line for those who wait | [`run_seated`], [`round_seated`], [`seats`] |
 //! | say a refusal in a sentence, and read one back | [`reason`], [`Reason::sentence`], [`read_reason`]; [`phrase`], [`meaning`] for a number alone |
-//! | go on choice by choice | [`Desk`]; [`start`] and [`choose`] in a list of one's own |
+//! | go on choice by choice, and list what can be done next | [`Desk`]; [`start`] and [`choose`] in a list of one's own |
 //! | make one file of two | [`merge`], [`merged`] |
 //! | have the nodes by column, and by row again | [`to_columns`], [`in_columns`], [`to_rows`], [`in_rows`] |
 //! | find the plan that is in force on a day | [`in_force`], [`file_in_force`] |
@@ -301,38 +301,27 @@
 //!
 //! # A run is driven choice by choice
 //!
-//! A [`Desk`] has the threads and goes on by one choice at a time. Whatever is
-//! chosen, no choice in a placed file is ever refused for a role: with 11, 12 or 13.
+//! A [`Desk`] has a file of its own and the threads, lists the choices that can be done,
+//! and goes on by one at a time. Whatever is chosen, no choice in a placed file is ever
+//! refused for a role: with 11, 12 or 13.
 //!
 //! ```
 //! use pilzdamo::Desk;
-//!
-//! /// Carries out the first choice that isn't refused.
-//! fn next(desk: &mut Desk, file: &[u8]) -> Option<[u16; 2]> {
-//!     let threads = desk.threads().len() as u16;
-//!     for thread in 1..=threads {
-//!         for partner in 0..=threads {
-//!             match desk.choose(file, thread, partner) {
-//!                 Ok(()) => return Some([thread, partner]),
-//!                 Err(refusal) => assert!(!(11..=13).contains(&refusal.number)),
-//!             }
-//!         }
-//!     }
-//!     None
-//! }
 //!
 //! // Two schedulers, and the desk's four sessions.
 //! let file = std::fs::read("../../examples/spring/bare.clinic")?;
 //! let (file, _) = pilzdamo::placed(&file)?;
 //! let mut desk = Desk::start(&file)?;
 //! let mut choices = Vec::new();
-//! while let Some(choice) = next(&mut desk, &file) {
-//!     choices.extend(choice);
+//! while let Some(&(thread, partner)) = desk.choices().first() {
+//!     desk.choose(thread, partner)?;
+//!     choices.extend([thread, partner]);
 //! }
 //!
 //! // All have ended but one, which has a note to pass on and nobody to take it.
 //! assert_eq!(desk.threads().len(), 1);
 //! assert_eq!((desk.threads()[0].user, desk.threads()[0].node), (3, 31));
+//! assert_eq!(desk.why_not(1, 0).map(|refusal| refusal.number), Some(18));
 //!
 //! // The list of these choices leads to the same state.
 //! assert_eq!(Desk::after(&file, &choices)?.threads(), desk.threads());
@@ -352,8 +341,8 @@
 //! fn both_wait(file: &[u8]) -> Result<Desk, Verdict> {
 //!     pilzdamo::check(file).result()?;
 //!     let mut desk = Desk::start(file)?;
-//!     desk.choose(file, 1, 0)?;
-//!     desk.choose(file, 2, 0)?;
+//!     desk.choose(1, 0)?;
+//!     desk.choose(2, 0)?;
 //!     Ok(desk)
 //! }
 //! let read = |name: &str| std::fs::read(format!("../../examples/{name}"));

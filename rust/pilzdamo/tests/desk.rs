@@ -46,7 +46,7 @@ fn go_through(file: &[u8], choices: &[u16]) -> Option<(u16, usize)> {
         assert_eq!(held(&desk), (before.threads, before.made));
         let totals = pilzdamo::totals(file, &choices[..2 * done]);
         assert_eq!((totals.number, totals.totals), (0, waiting(&desk)));
-        if let Err(refusal) = desk.choose(file, thread, partner) {
+        if let Err(refusal) = desk.choose(thread, partner) {
             let halted = state(file, choices);
             assert_eq!(
                 (usize::from(halted.done), halted.refusal),

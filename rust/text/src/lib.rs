@@ -17,6 +17,7 @@
 
 mod blocks;
 mod edit;
+mod fit;
 mod line;
 mod mark;
 mod names;
@@ -30,6 +31,7 @@ mod why;
 mod words;
 
 pub use edit::{placed, stripped};
+pub use fit::misfit;
 pub use line::{shown, tokens, At, Flaw, Token};
 pub use mark::{decoded, is_text, told};
 pub use names::{Names, SessionNames};
@@ -37,4 +39,4 @@ pub use pack::{pack, NodeAt, Packed, Source};
 pub use printable::printable;
 pub use records::{Channel, Node, Records, Role, Session, Version};
 pub use unpack::{canonical, unpack, unpack_named};
-pub use why::{held, variables_at, why, Culprit};
+pub use why::{held, variables, variables_at, why, why_in_numbers, Culprit};

@@ -74,6 +74,27 @@ impl Names {
         text
     }
 
+    /// Names that are numbers, of names that were invented: `user 1`, `variable 2`.
+    pub(crate) fn numbered(self) -> Names {
+        let told = |noun: &str, names: Vec<String>| {
+            let numbers = names
+                .iter()
+                .map(|name| name.trim_start_matches(char::is_alphabetic));
+            numbers.map(|number| format!("{noun} {number}")).collect()
+        };
+        let session = |session: SessionNames| SessionNames {
+            name: session.name,
+            variables: told("variable", session.variables),
+        };
+        Names {
+            kinds: told("kind", self.kinds),
+            roles: told("role", self.roles),
+            users: told("user", self.users),
+            channels: told("channel", self.channels),
+            sessions: self.sessions.into_iter().map(session).collect(),
+        }
+    }
+
     /// Reads such a text. Whether the names fit a file is seen when it is unpacked.
     pub fn read(text: &str) -> Result<Names, Vec<Flaw>> {
         let (lines, mut flaws) = line::lines(text);

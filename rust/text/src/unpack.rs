@@ -32,7 +32,8 @@ pub fn canonical(packed: &Packed) -> Option<String> {
     write(&packed.records, &spots, &packed.names)
 }
 
-fn write(records: &Records, spots: &[Spot], names: &Names) -> Option<String> {
+/// The canonical text.
+pub(crate) fn write(records: &Records, spots: &[Spot], names: &Names) -> Option<String> {
     let writer = Writer {
         records,
         names,

@@ -2,9 +2,10 @@
 //! in names. The engine judges; here the place that it names is looked up and told.
 
 use crate::line::At;
-use crate::pack::Packed;
+use crate::pack::{pack, Packed};
 use crate::records::{items, Node, NEW, RECEIVE, SEND};
 use crate::tree::{self, Spot};
+use crate::unpack::unpack;
 
 /// A place in a text, and what is wrong with it.
 #[derive(Clone, Debug, PartialEq, Eq)]
@@ -40,6 +41,15 @@ pub fn why(packed: &Packed, number: u16, place: u16) -> Option<Culprit> {
         10..=15 | 24 => told.node(number, index?),
         _ => None,
     }
+}
+
+/// What is wrong in a file's bytes, which have no names: `user 1 has no role that may send
+/// on kind 2`.
+pub fn why_in_numbers(bytes: &[u8], number: u16, place: u16) -> Option<String> {
+    let mut packed = pack(&unpack(bytes)?).ok()?;
+    packed.names = packed.names.numbered();
+    let what = why(&packed, number, place)?.what;
+    Some(what.replace("of kind kind ", "of kind "))
 }
 
 struct Told<'a> {
@@ -158,8 +168,13 @@ impl Told<'_> {
             14 => "on and off are put in by placing, and this one stands there already".to_string(),
             15 => {
                 let (act, kind, may) = self.act(node, spot)?;
+                // A role that is assigned and may is one that is shut at the minute asked for.
+                let open = match may & self.assigned(session.user) {
+                    0 => "",
+                    _ => "open ",
+                };
                 format!(
-                    "{user} has no role that may {act} on {} (roles that may: {})",
+                    "{user} has no {open}role that may {act} on {} (roles that may: {})",
                     self.kind(kind),
                     self.roles(may)
                 )
@@ -295,17 +310,23 @@ fn name(names: &[String], number: u16) -> &str {
 /// The names of the variables that are bound above the node of this number, the first
 /// bound first.
 pub fn variables_at(packed: &Packed, node: u16) -> Vec<String> {
+    let at = usize::from(node).checked_sub(1);
+    let found = at.and_then(|at| variables(packed).into_iter().nth(at));
+    found.unwrap_or_default()
+}
+
+/// These names for each node.
+pub fn variables(packed: &Packed) -> Vec<Vec<String>> {
     let spots = tree::follow(&packed.records).unwrap_or_default();
     let told = Told {
         packed,
         spots: &spots,
     };
-    let spot = usize::from(node)
-        .checked_sub(1)
-        .and_then(|at| spots.get(at));
-    let binders = spot.map_or(&[][..], |spot| &spot.binders);
     let name = |&binder: &usize| told.variable(binder).to_string();
-    binders.iter().map(name).collect()
+    let above = spots.iter().map(|spot| &spot.binders);
+    above
+        .map(|binders| binders.iter().map(name).collect())
+        .collect()
 }
 
 /// The mask of the roles that are active at each node when it is reached.

@@ -25,12 +25,17 @@ pub fn check(mut given: Given) -> Result<Job, WrongUse> {
 }
 
 pub fn place(mut given: Given) -> Result<Job, WrongUse> {
+    let (out, json) = (given.out(), given.has(Opt::Json));
+    if json && out.path.is_none() {
+        let why = "the placed file goes there, and the object to standard output";
+        return misused(&format!("place: --json wants -o OUT: {why}"));
+    }
     Ok(Job::Place {
         file: named_file(&mut given)?,
         at: minute_and_hours(&given)?,
-        out: given.out(),
+        out,
         bytes: given.has(Opt::Bytes),
-        json: given.has(Opt::Json),
+        json,
     })
 }
 
@@ -113,7 +118,7 @@ pub fn run(mut given: Given) -> Result<Job, WrongUse> {
 
 /// Standard input is what is typed, so no file can be it.
 fn interactive(mut given: Given) -> Result<Job, WrongUse> {
-    for other in [Opt::Seats, Opt::Trace, Opt::Json] {
+    for other in [Opt::Trace, Opt::Json] {
         if given.has(other) {
             let other = other.long();
             return misused(&format!("run: -i and {other} don't go together"));
@@ -126,18 +131,26 @@ fn interactive(mut given: Given) -> Result<Job, WrongUse> {
             (file, Some(choices))
         }
     };
-    let names = given.source(Opt::Names);
-    let read = [Some(&file), choices.as_ref(), names.as_ref()];
-    if read.contains(&Some(&Source::StandardInput)) {
+    let (names, seats) = (given.source(Opt::Names), given.source(Opt::Seats));
+    let beside = [choices.as_ref(), names.as_ref(), seats.as_ref()];
+    if file == Source::StandardInput || beside.contains(&Some(&Source::StandardInput)) {
         return misused("run: with -i standard input is what is typed, and no file can be it");
     }
-    let file = NamedFile { file, names };
-    Ok(Job::Interactive { file, choices })
+    Ok(Job::Interactive {
+        file: NamedFile { file, names },
+        choices,
+        seats,
+    })
 }
 
 pub fn choices(mut given: Given) -> Result<Job, WrongUse> {
     let (file, choices) = file_and_choices(&mut given)?;
-    Ok(Job::Choices { file, choices })
+    let seats = given.source(Opt::Seats);
+    Ok(Job::Choices {
+        file,
+        choices,
+        seats,
+    })
 }
 
 pub fn ready(mut given: Given) -> Result<Job, WrongUse> {

@@ -54,7 +54,7 @@ pub const ALL: [Word; 23] = [
     word!("in-force", ["DAY", "NOTICE", "NOTICE"], [Out, Force], jobs::in_force),
     word!("sheet", ["FILE..."], [Json], jobs::sheet),
     word!("run", ["FILE", "CHOICES"], [Seats, Names, Trace, Interactive, Json], jobs::run),
-    word!("choices", ["FILE", "CHOICES"], [Names], jobs::choices),
+    word!("choices", ["FILE", "CHOICES"], [Seats, Names], jobs::choices),
     word!("ready", ["FILE", "CHOICES"], [Names, Json], jobs::ready),
     word!("waiting", ["FILE", "CHOICES"], [Names], jobs::waiting),
     word!("seats", ["FILE", "CHOICES", "SEATS"], [Names], jobs::seats),

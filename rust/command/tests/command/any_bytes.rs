@@ -117,17 +117,21 @@ fn nodes(file: &[u8]) -> u16 {
     u16::from_le_bytes([file[12], file[13]])
 }
 
-#[test]
-fn ten_thousand_files() {
+/// Files of all sorts, few of them sound.
+pub fn some_files(count: usize) -> impl Iterator<Item = Vec<u8>> {
     let mut dice = Dice(2024);
     let mut files: Vec<Vec<u8>> = files::all().into_iter().map(|(_, bytes)| bytes).collect();
     files.retain(|file| !file.is_empty());
-    for i in 0..10_000 {
-        let file = match i % 10 {
-            0 => noise(&mut dice),
-            1..=4 => records(&mut dice),
-            _ => damaged(&mut dice, &files),
-        };
+    (0..count).map(move |i| match i % 10 {
+        0 => noise(&mut dice),
+        1..=4 => records(&mut dice),
+        _ => damaged(&mut dice, &files),
+    })
+}
+
+#[test]
+fn ten_thousand_files() {
+    for file in some_files(10_000) {
         show(&file);
     }
 }

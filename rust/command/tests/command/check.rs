@@ -30,6 +30,8 @@ fn a_bare_routine_is_to_be_placed() {
     let due = format!(
         "pilzdamo: {file}: Refused 13: no active role permits the step at node 1, a send.\n  \
          node 1: send user 2 on channel 1\n  \
+         user 1 has no role on that may send on kind 1 \
+         (roles on: none; roles that may: role 1, role 2)\n  \
          the routine's author can mend it; more: pilzdamo explain 13\n  \
          the routine has no on or off yet: pilzdamo place puts them in\n"
     );

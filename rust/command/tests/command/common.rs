@@ -55,6 +55,14 @@ pub fn example_bytes(name: &str) -> Vec<u8> {
     fs::read(example(name)).unwrap_or_else(|error| panic!("{name}: {error}"))
 }
 
+/// The numbers of an example that is a list of choices or a table of seats.
+pub fn numbers(name: &str) -> Vec<u16> {
+    let text = String::from_utf8(example_bytes(name)).expect("text");
+    let lines = text.lines().map(|line| line.split('#').next());
+    let words = lines.flat_map(|line| line.unwrap_or("").split_whitespace());
+    words.map(|word| word.parse().expect("a number")).collect()
+}
+
 /// The bytes of an example when it is placed.
 pub fn placed(name: &str) -> Vec<u8> {
     pilzdamo(&["place", &example(name)]).out

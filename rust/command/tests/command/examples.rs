@@ -116,7 +116,7 @@ fn the_readmes_commands() {
             printed += 1;
         }
     }
-    assert_eq!(printed, 16);
+    assert_eq!(printed, 19);
 }
 
 /// The refusal that a line begins with, `- 6 at word 27: ` or `- 3: `: its sentence, up

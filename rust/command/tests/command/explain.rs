@@ -1,6 +1,8 @@
 //! `explain N`.
 
 use crate::common::pilzdamo as call;
+use std::fs;
+use std::path::PathBuf;
 
 #[test]
 fn every_refusal_is_explained() {
@@ -47,5 +49,31 @@ fn no_other_number() {
             answer.err.contains("the refusals have the numbers 1 to 28"),
             "{word}"
         );
+    }
+}
+
+/// The text that the script at the root prints where the program isn't built.
+fn kept(number: u16) -> PathBuf {
+    let folder = concat!(env!("CARGO_MANIFEST_DIR"), "/src/explain");
+    format!("{folder}/{number}.txt").into()
+}
+
+#[test]
+fn the_kept_texts_are_what_the_program_prints() {
+    for number in 1..=28 {
+        let text = fs::read_to_string(kept(number)).expect("a text");
+        assert_eq!(call(&["explain", &number.to_string()]).text(), text);
+    }
+    let folder = fs::read_dir(kept(1).with_file_name("")).expect("a folder");
+    assert_eq!(folder.count(), 28);
+}
+
+/// `cargo test -p command -- --ignored write_the_kept_texts`
+#[test]
+#[ignore = "writes the texts anew"]
+fn write_the_kept_texts() {
+    for number in 1..=28 {
+        let text = call(&["explain", &number.to_string()]).out;
+        fs::write(kept(number), text).expect("it can be written");
     }
 }

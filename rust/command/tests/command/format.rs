@@ -1,13 +1,13 @@
 //! What `docs/FORMAT.md` and `README.md` show of texts is what the command does.
 
-use crate::common::{pilzdamo, pilzdamo_fed, Folder};
+use crate::common::{example_bytes, pilzdamo, pilzdamo_fed, Folder};
 use std::fs;
 use std::process::Command;
 
-const FORMAT: &str = "FORMAT.md";
+pub const FORMAT: &str = "FORMAT.md";
 const README: &str = "../README.md";
 
-fn page(name: &str) -> String {
+pub fn page(name: &str) -> String {
     let folder = concat!(env!("CARGO_MANIFEST_DIR"), "/../../docs");
     fs::read_to_string(format!("{folder}/{name}")).expect("the page")
 }
@@ -40,7 +40,7 @@ fn blocks(name: &str) -> Vec<String> {
 }
 
 /// The block of `FORMAT.md` that begins so.
-fn block(start: &str) -> String {
+pub fn block(start: &str) -> String {
     block_of(FORMAT, start)
 }
 
@@ -51,7 +51,7 @@ fn block_of(name: &str, start: &str) -> String {
     found.next().unwrap_or_else(|| panic!("no block {start}"))
 }
 
-fn example() -> String {
+pub fn example() -> String {
     block("# A nurse asks")
 }
 
@@ -71,7 +71,8 @@ fn words(bytes: &[u8]) -> Vec<u16> {
     pairs.iter().copied().map(u16::from_le_bytes).collect()
 }
 
-fn placed() -> String {
+/// The example as it is placed.
+pub fn placed() -> String {
     let answer = pilzdamo_fed(&["place", "-"], example().as_bytes());
     answer.text().to_string()
 }
@@ -145,17 +146,31 @@ fn what_is_refused() {
     typed(&block("$ ./pilzdamo place ward.txt\n"), &folder);
 }
 
+/// The list of choices that stands as a comment behind a block's first command.
+fn listed(block: &str) -> &str {
+    let line = block.lines().next().and_then(|line| line.split_once('#'));
+    line.expect("a list").1
+}
+
+#[test]
+fn a_run_that_is_followed() {
+    let folder = Folder::new("format trace");
+    folder.file("placed.txt", placed());
+    let shown = block("$ ./pilzdamo run placed.txt twice.choices --trace");
+    folder.file("twice.choices", listed(&shown));
+    typed(&shown, &folder);
+    let shown = block("$ ./pilzdamo choices placed.txt asked.choices");
+    folder.file("asked.choices", listed(&shown));
+    typed(&shown, &folder);
+    typed(&block("$ printf"), &folder);
+}
+
 #[test]
 fn a_run_and_its_words() {
     let folder = Folder::new("format run");
     let file = folder.file("placed.txt", placed());
     let shown = block("$ ./pilzdamo run placed.txt asked.choices");
-    let (_, list) = shown
-        .lines()
-        .next()
-        .and_then(|line| line.split_once('#'))
-        .expect("a list");
-    folder.file("asked.choices", list);
+    folder.file("asked.choices", listed(&shown));
     typed(&shown, &folder);
     let bytes = pilzdamo(&["pack", &file]).out;
     let mut room = [0; pilzdamo::RUN_ROOM];
@@ -209,6 +224,32 @@ fn seats_in_names() {
     folder.file("both.choices", list);
     folder.file("one.seats", "1 0");
     typed(&shown, &folder);
+}
+
+#[test]
+fn a_run_of_bytes_in_names() {
+    let folder = Folder::new("format run of bytes");
+    let text = folder.file("ward.txt", example());
+    let [file, names, placed] =
+        ["ward.clinic", "ward.names", "placed.clinic"].map(|name| folder.at(name));
+    let pack = ["pack", &text, "-o", &file, "--names", &names];
+    assert_eq!(pilzdamo(&pack).status, 0);
+    assert_eq!(pilzdamo(&["place", &file, "-o", &placed]).status, 0);
+    folder.file(
+        "asked.choices",
+        "ask ask ask  serve serve.2  ask -> serve.2",
+    );
+    typed(&block("$ ./pilzdamo run placed.clinic"), &folder);
+}
+
+#[test]
+fn what_is_refused_of_bytes() {
+    let folder = Folder::new("format refused bytes");
+    let name = "examples/refused/15-no-role.clinic";
+    let refused = folder.path().join("examples/refused");
+    fs::create_dir_all(refused).expect("a folder");
+    folder.file(name, example_bytes("refused/15-no-role.clinic"));
+    typed(&block(&format!("$ ./pilzdamo place {name}\n")), &folder);
 }
 
 /// The page has every number that can be explained.

@@ -83,9 +83,10 @@ fn no_role_is_open() {
 
 #[test]
 fn refused_tables() {
-    let row = "  row 6 comes from line 2\n";
+    let rows = "  the table has 70 rows, and at most 64 are taken\n";
+    let row = "  row 6 comes from line 2: it is of role 3, and there are 2 roles\n";
     for (hours, number, place, line) in [
-        ("refused/22-rows.hours", 22, "", ""),
+        ("refused/22-rows.hours", 22, "", rows),
         ("refused/23-role.hours", 23, "row 6", row),
     ] {
         for (verb, file) in [
@@ -136,7 +137,8 @@ fn hours_from_standard_input() {
     let answer = pilzdamo_fed(&words, b"role 9 Mon 07:00-08:00");
     assert_eq!(answer.status, 1);
     let sentence = sentence(23, "row 1");
-    let due = format!("pilzdamo: standard input: {sentence}\n  row 1 comes from line 1\n");
+    let row = "row 1 comes from line 1: it is of role 9, and there are 2 roles";
+    let due = format!("pilzdamo: standard input: {sentence}\n  {row}\n");
     assert!(answer.err.starts_with(&due), "{}", answer.err);
 }
 
@@ -144,16 +146,20 @@ fn hours_from_standard_input() {
 fn lines_that_are_wrong() {
     let folder = Folder::new("hours");
     let file = example("hours/by-day.clinic");
-    for (text, line, what) in [
-        ("role 1 Mon-Fri", 1, "'role 1 Mon-Fri' has not four words"),
+    for (text, place, what) in [
+        (
+            "role 1 Mon-Fri",
+            "1:1",
+            "'role 1 Mon-Fri' has not four words",
+        ),
         (
             "# a\nrole 1 Mo 07:00-15:00",
-            2,
+            "2:8",
             "'Mo' is no day, which are Mon, Tue",
         ),
         (
-            "role 1 Mon 7-15",
-            1,
+            "role 1 Mon 7-15\nrole",
+            "1:12",
             "'7-15' is no stretch such as 07:00-15:00",
         ),
     ] {
@@ -161,7 +167,7 @@ fn lines_that_are_wrong() {
         for verb in ["check", "place"] {
             let answer = pilzdamo(&[verb, &file, "--at", "Mon 12:00", "--hours", &hours]);
             assert_eq!((answer.status, answer.text()), (2, ""), "{text}");
-            let due = format!("pilzdamo: {hours}: line {line}: {what}");
+            let due = format!("{hours}:{place}: {what}");
             assert!(answer.err.starts_with(&due), "{}", answer.err);
             let form =
                 "opening hours are text, a line for each stretch: role 2 Mon-Fri 07:00-15:00\n";

@@ -61,6 +61,7 @@ fn at_a_time() {
     let answer = at(&wrong, "Mon 07:30");
     assert_eq!(answer.status, 1);
     let sentence = sentence(23, "row 6");
-    let due = format!("pilzdamo: {wrong}: {sentence}\n  row 6 comes from line 2\n");
+    let row = "row 6 comes from line 2: it is of role 3, and there are 2 roles";
+    let due = format!("pilzdamo: {wrong}: {sentence}\n  {row}\n");
     assert!(answer.err.starts_with(&due), "{}", answer.err);
 }

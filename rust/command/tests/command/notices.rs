@@ -150,8 +150,14 @@ fn unsound_notices() {
     let refused = example_bytes("refused/10-kinds.clinic");
     let length = (refused.len() as u16).to_le_bytes();
     let kinds = folder.file("kinds", [&[0, 0], &length[..], &refused].concat());
-    let kinds_line = format!("its file: {}", sentence(10, "node 2, a receive"));
-    let one_line = format!("its file: {}", sentence(1, ""));
+    let kinds_line = format!(
+        "its file: {}\n  node 2: receive variable 1 on channel 2\n  user 1 receives on channel 2, and its owner is user 2",
+        sentence(10, "node 2, a receive")
+    );
+    let one_line = format!(
+        "its file: {}\n  it has 1 byte, and its head alone has 26",
+        sentence(1, "")
+    );
     let cut = example("refused/27-cut.notice");
     for (notice, line) in [
         (

@@ -130,20 +130,15 @@ fn bytes_that_are_no_characters() {
     assert!(answer.err.starts_with(&due), "{}", answer.err);
     let hours = folder.file("hours", b"# \xff is no matter\nrole 1 M\xffn 07:00-15:00");
     let answer = pilzdamo(&["check", &file, "--at=Mon 07:30", "--hours", &hours]);
-    assert!(
-        answer
-            .err
-            .contains("line 2: 'role 1 M\\xffn 07:00-15:00' is not written in UTF-8"),
-        "{}",
-        answer.err
+    let due = format!(
+        "{hours}:2:8: 'M\\xffn' is not written in UTF-8\n     \
+         2 | role 1 M\\xffn 07:00-15:00\n       |        ^^^^^^\n"
     );
+    assert!(answer.err.starts_with(&due), "{}", answer.err);
     let seats = folder.file("seats", b"1 \x9b");
     let answer = pilzdamo(&["seats", &file, &example("desks.choices"), &seats]);
-    assert!(
-        answer.err.contains("line 1: '\\x9b' is no number"),
-        "{}",
-        answer.err
-    );
+    let due = format!("{seats}:1:3: '\\x9b' is no number from 0 to 65535\n     1 | 1 \\x9b\n");
+    assert!(answer.err.starts_with(&due), "{}", answer.err);
 }
 
 #[test]

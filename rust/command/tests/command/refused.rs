@@ -7,7 +7,13 @@ use crate::files;
 /// The example, what is asked of it, the refusal, its place in the sentence, and what
 /// more is said of it.
 const FILES: [(&str, &str, u16, &str, &str); 17] = [
-    ("01-odd", "check", 1, "", "it has 83 bytes"),
+    (
+        "01-odd",
+        "check",
+        1,
+        "",
+        "it has 83 bytes, and a word has 2: one is left over",
+    ),
     ("02-version", "check", 2, "", "it has version 9"),
     ("03-count", "check", 3, "", "it has 33 users (at most 32)"),
     (
@@ -57,38 +63,50 @@ const FILES: [(&str, &str, u16, &str, &str); 17] = [
         "check",
         10,
         "node 2, a receive",
-        "node 2: receive variable 1 on channel 2",
+        "node 2: receive variable 1 on channel 2\n  user 1 receives on channel 2, and its owner is user 2",
     ),
-    ("11-on", "check", 11, "node 1, an on", "node 1: on role 1"),
+    (
+        "11-on",
+        "check",
+        11,
+        "node 1, an on",
+        "node 1: on role 1\n  role 1 is no role of user 2 (roles of user 2: none)",
+    ),
     (
         "12-off",
         "check",
         12,
         "node 1, an off",
-        "node 1: off role 1",
+        "node 1: off role 1\n  role 1 is not on here (roles on: none)",
     ),
     (
         "13-role",
         "check",
         13,
         "node 4, a send",
-        "node 4: send user 2 on channel 1",
+        "node 4: send user 2 on channel 1\n  user 1 has no role on that may send on kind 1 (roles on: none; roles that may: role 1, role 2)",
     ),
     (
         "14-placed",
         "place",
         14,
         "node 1, an on",
-        "node 1: on role 2",
+        "node 1: on role 2\n  on and off are put in by placing, and this one stands there already",
     ),
     (
         "15-no-role",
         "place",
         15,
         "node 4, a send",
-        "node 4: send user 1 on channel 1",
+        "node 4: send user 1 on channel 1\n  user 2 has no role that may send on kind 1 (roles that may: role 1, role 2)",
     ),
-    ("16-too-long", "place", 16, "", ""),
+    (
+        "16-too-long",
+        "place",
+        16,
+        "",
+        "it has 601 nodes before placing, and a file has at most 1024",
+    ),
     (
         "21-junior",
         "check",
@@ -243,18 +261,23 @@ fn lists() {
     let odd = format!("the list has 3 numbers: two for each choice, {most}");
     let lists = [
         ("17-odd", 17, "", odd.as_str()),
-        ("18-thread", 18, "choice 1", "choice 1: thread 3, partner 0"),
+        (
+            "18-thread",
+            18,
+            "choice 1",
+            "choice 1: thread 3, partner 0\n  there is no thread 3: the list has 2 threads",
+        ),
         (
             "19-unequal",
             19,
             "choice 2",
-            "choice 2: thread 1, partner 0",
+            "choice 2: thread 1, partner 0\n  thread 1 stands at node 1 (compare user 1 with user 2)",
         ),
         (
             "20-thread",
             20,
             "choice 63",
-            "choice 63: thread 2, partner 0",
+            "choice 63: thread 2, partner 0\n  thread 2 stands at node 3 (repeat)\n  there are 64 threads and 0 made channels: at most 64 of each",
         ),
     ];
     for (name, number, place, more) in lists {
@@ -295,7 +318,8 @@ fn seats() {
     for words in uses {
         let answer = pilzdamo(words);
         assert_eq!((answer.status, answer.text()), (1, ""), "{words:?}");
-        let due = format!("pilzdamo: {file}: {}", message(26, "session 2", ""));
+        let more = "session 2 starts with role 1, which has 1 seat, taken by 1 session before it";
+        let due = format!("pilzdamo: {file}: {}", message(26, "session 2", more));
         assert_eq!(answer.err, due);
         assert_read_back(&answer.err, &file, 26, "session 2");
     }

@@ -61,6 +61,7 @@ fn a_halted_run_prints_its_state() {
         "pilzdamo: {file}, {list}: Refused 19: the values compared are not equal, or the two \
          channels differ at choice 2.\n  \
          choice 2: thread 1, partner 0\n  \
+         thread 1 stands at node 1 (compare user 1 with user 2)\n  \
          the caller can mend it; more: pilzdamo explain 19\n"
     );
     assert_eq!(answer.err, due);
@@ -131,11 +132,18 @@ fn a_list_that_is_no_list() {
     let list = folder.file("my list", "1 0\n# two\n2 zero\n");
     let answer = pilzdamo(&["run", &example("booking.clinic"), &list]);
     assert_eq!((answer.status, answer.text()), (2, ""));
-    let due = format!("pilzdamo: {list}: line 3: 'zero' is no number from 0 to 65535\n");
-    assert!(answer.err.starts_with(&due), "{}", answer.err);
+    let due = format!(
+        "\
+{list}:3:3: there is no session 'zero' (sessions: s1)
+     3 | 2 zero
+       |   ^^^^
+pilzdamo: {list}: 1 place can't be understood
+"
+    );
+    assert_eq!(answer.err, due);
     for wrong in ["65536 0", "-1 0", "1 0x2", "1, 0", "\u{0}\u{1}"] {
         let answer = pilzdamo_fed(&["run", &example("booking.clinic"), "-"], wrong.as_bytes());
         assert_eq!((answer.status, answer.text()), (2, ""), "{wrong}");
-        assert!(answer.err.contains("line 1: "), "{wrong}");
+        assert!(answer.err.starts_with("standard input:1:"), "{wrong}");
     }
 }

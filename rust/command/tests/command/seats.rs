@@ -114,8 +114,13 @@ fn a_table_that_is_no_table() {
     let list = folder.file("none", "");
     let answer = pilzdamo_fed(&["seats", &file, &list, "-"], b"1\nmany");
     assert_eq!((answer.status, answer.text()), (2, ""));
-    let due = "pilzdamo: standard input: line 2: 'many' is no number from 0 to 65535\n  seats are \
-               text, a number for each role: 0 for no limit, else 1 to 32\n";
+    let due = "\
+standard input:2:1: 'many' is no number from 0 to 65535
+     2 | many
+       | ^^^^
+pilzdamo: standard input: 1 place can't be understood
+  seats are text, a number for each role: 0 for no limit, else 1 to 32
+";
     assert_eq!(answer.err, due);
     for (table, numbers) in [("", "0 numbers"), ("1", "1 number"), ("1 33", "2 numbers")] {
         let answer = pilzdamo_fed(&["seats", &file, &list, "-"], table.as_bytes());

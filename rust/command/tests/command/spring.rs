@@ -1,6 +1,6 @@
 //! What the examples of spring show.
 
-use crate::common::{example, example_bytes, pilzdamo};
+use crate::common::{example, example_bytes, numbers, pilzdamo, pilzdamo_fed};
 use pilzdamo::RUN_ROOM;
 
 /// What is looked at in a thread: its node, mask, first and third variable.
@@ -36,19 +36,6 @@ fn threads(file: &[u8], choices: &[u16]) -> Vec<Thread> {
     (0..words[2]).map(thread).collect()
 }
 
-fn choices(name: &str) -> Vec<u16> {
-    let text = String::from_utf8(example_bytes(name)).expect("text");
-    let lines = text
-        .lines()
-        .map(|line| line.split('#').next().unwrap_or(""));
-    lines
-        .flat_map(|line| {
-            line.split_whitespace()
-                .map(|word| word.parse().expect("a number"))
-        })
-        .collect()
-}
-
 fn cut() -> Vec<u8> {
     example_bytes("spring/cut.clinic")
 }
@@ -65,7 +52,7 @@ fn schedulers(threads: &[Thread]) -> [&Thread; 2] {
 /// Both have read bed 4, neither has written, and neither holds a role.
 #[test]
 fn the_cut_routine_with_both_reads_first() {
-    let threads = threads(&cut(), &choices("spring/cut-both-read.choices"));
+    let threads = threads(&cut(), &numbers("spring/cut-both-read.choices"));
     let [one, other] = schedulers(&threads);
     assert_eq!((one.node, one.mask, one.first), (4, 0, 4));
     assert_eq!((other.node, other.mask, other.first), (11, 0, 4));
@@ -75,7 +62,7 @@ fn the_cut_routine_with_both_reads_first() {
 /// hold the same role.
 #[test]
 fn the_cut_routine_promises_one_bed_twice() {
-    let list = choices("spring/cut-both-write.choices");
+    let list = numbers("spring/cut-both-write.choices");
     let last = threads(&cut(), &list);
     assert_eq!((last[6].first, last[6].third), (4, 4));
     for done in 0..=list.len() / 2 {
@@ -83,7 +70,7 @@ fn the_cut_routine_promises_one_bed_twice() {
         let [one, other] = schedulers(&state);
         assert_eq!(one.mask & other.mask, 0);
     }
-    let read = choices("spring/cut-both-read.choices");
+    let read = numbers("spring/cut-both-read.choices");
     assert_eq!(list[..read.len()], read);
 }
 
@@ -94,7 +81,7 @@ fn one_by_one() {
         (cut(), "spring/cut-one-by-one.choices"),
         (placed(), "spring/placed-one-by-one.choices"),
     ] {
-        let last = threads(&file, &choices(list));
+        let last = threads(&file, &numbers(list));
         assert_eq!((last[6].first, last[6].third), (4, 5));
     }
 }
@@ -102,10 +89,47 @@ fn one_by_one() {
 /// Placed, both can read first as well; but then both hold role 2.
 #[test]
 fn the_placed_routine_with_both_reads_first() {
-    let threads = threads(&placed(), &choices("spring/placed-both-read.choices"));
+    let threads = threads(&placed(), &numbers("spring/placed-both-read.choices"));
     let [one, other] = schedulers(&threads);
     assert_eq!((one.node, one.mask, one.first), (3, 2, 4));
     assert_eq!((other.node, other.mask, other.first), (8, 2, 4));
+}
+
+/// Where it goes on the desk has two bookings of bed 4.
+#[test]
+fn the_placed_routine_promises_one_bed_twice() {
+    let list = numbers("spring/placed-both-write.choices");
+    let last = threads(&placed(), &list);
+    assert_eq!((last[6].first, last[6].third), (4, 4));
+    let read = numbers("spring/placed-both-read.choices");
+    assert_eq!(list[..read.len()], read);
+}
+
+/// The lists in names are those in numbers, and the examples' page prints them.
+#[test]
+fn lists_in_names() {
+    let readme = String::from_utf8(example_bytes("README.md")).expect("text");
+    let texts = [
+        ("cut", String::from_utf8(example_bytes("spring/cut.txt"))),
+        (
+            "placed",
+            String::from_utf8(crate::common::placed("spring/bare.txt")),
+        ),
+    ];
+    for (name, text) in texts {
+        let text = text.expect("text");
+        let run = |list: &str| {
+            let list = example(&format!("spring/{name}-both-write{list}.choices"));
+            let answer = pilzdamo_fed(&["run", "-", &list], text.as_bytes());
+            assert_eq!((answer.status, answer.err.as_str()), (0, ""));
+            answer.text().to_string()
+        };
+        assert_eq!(run("-named"), run(""));
+        let list = example_bytes(&format!("spring/{name}-both-write-named.choices"));
+        let list = String::from_utf8(list).expect("text");
+        let printed: String = list.lines().map(|line| format!("    {line}\n")).collect();
+        assert!(readme.contains(&printed), "{name}");
+    }
 }
 
 /// By rounds both read first too, both hold role 2, and the desk has two bookings

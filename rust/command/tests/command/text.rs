@@ -174,7 +174,8 @@ fn names_go_beside_a_file() {
     let other = example("booking.clinic");
     let answer = pilzdamo(&["unpack", &other, "--names", &names]);
     assert_eq!((answer.status, answer.text()), (2, ""));
-    let said = format!("pilzdamo: {names}: these names don't fit {other}\n");
+    let what = "they have 3 users, and the file has 2";
+    let said = format!("pilzdamo: {names}: these names don't fit {other}: {what}\n");
     assert!(answer.err.starts_with(&said), "{}", answer.err);
     let wrong = folder.file("wrong.names", "names\nkind a\n");
     let answer = pilzdamo(&["unpack", &file, "--names", &wrong]);
@@ -355,7 +356,7 @@ made channels: 1
     );
     let answer = fed(&["round", &file, "-"], "ask ask ask");
     let lines: Vec<&str> = answer.text().lines().collect();
-    assert_eq!(lines[0], "round: 2 0");
+    assert_eq!(lines[0], "round: serve");
     assert_eq!(lines[6], "  4 serve.2: desk, line 26 (on keeper), no role");
     // Of bytes the sessions have the names that unpack gives them.
     let bytes = folder.at("ward.clinic");

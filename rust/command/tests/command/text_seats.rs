@@ -94,7 +94,7 @@ choices that got no seat: 2
     let due = "standard input:1:14: refused 18: second stands at line 11 (on holder), and first stands at line 8 (off holder)\n";
     assert!(answer.err.starts_with(due), "{}", answer.err);
     let answer = seated("round", "");
-    let due = "round: 1 0  2 0\n";
+    let due = "round: first  second\n";
     assert!(answer.text().starts_with(due), "{}", answer.text());
     let due = "\n  2 second: two, line 11 (on holder), no role\n";
     assert!(answer.text().contains(due), "{}", answer.text());

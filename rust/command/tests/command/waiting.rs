@@ -101,7 +101,7 @@ fn a_list_that_is_no_list() {
     let file = example("booking.clinic");
     let answer = pilzdamo_fed(&["waiting", &file, "-"], b"1 0\n2 zero\n");
     assert_eq!((answer.status, answer.text()), (2, ""));
-    let due = "pilzdamo: standard input: line 2: 'zero' is no number from 0 to 65535\n";
+    let due = "standard input:2:3: there is no session 'zero' (sessions: s1)\n";
     assert!(answer.err.starts_with(due), "{}", answer.err);
     let answer = pilzdamo_fed(&["waiting", &file, "-"], b"1");
     assert_eq!((answer.status, answer.text()), (1, ""));

@@ -1,0 +1,76 @@
+# The words that only a checkout has: build and install. Read by the script pilzdamo at the root.
+# shellcheck shell=bash disable=SC2154
+
+# The help of the words that only this script has.
+help_here() { # WORD
+    case $1 in
+    build) print <<'TEXT' ;;
+./pilzdamo build
+
+Proves the engine and builds the command if they are yet to be built, or if a
+source has changed, and does nothing else. Every other word does so by itself.
+Exit status: 0 all is built, 3 it could not be.
+TEXT
+    install) print <<'TEXT' ;;
+./pilzdamo install [DIR]
+
+Builds the command if need be, and puts the program into DIR, or else into
+.local/bin of your home, and its man page beside it: into ../share/man/man1 if
+DIR is called bin, else into DIR. Says where each went, and whether DIR is on the
+PATH. The program there needs neither this checkout nor a toolchain.
+  ./pilzdamo install             into ~/.local/bin
+  ./pilzdamo install /opt/bin    into /opt/bin
+Exit status: 0 both are there, 2 DIR can't be written, 3 the command could not be
+built.
+TEXT
+    esac
+}
+
+# Copies a file to a place: whole, or not at all.
+put() { # FROM FOLDER NAME MODE
+    local part=$2/.$3.$$
+    mkdir -p -- "$2" && [[ ! -d $2/$3 ]] && cp -- "$1" "$part" && chmod "$4" "$part" && mv -f -- "$part" "$2/$3" && return
+    rm -f -- "$part"
+    misused "install: $2/$3 can't be written"
+}
+
+# Puts the program and its man page where they are found, and says where that is.
+install_into() { # DIR
+    local folder pages
+    mkdir -p -- "$1" || misused "install: $1 can't be made"
+    folder=$(cd -- "$1" && pwd)
+    [[ ! $folder -ef $root ]] || misused "install: $1 is the checkout, and pilzdamo there is the script that builds"
+    pages=$folder
+    if [[ ${folder##*/} == bin ]]; then pages=${folder%/*}/share/man/man1; fi
+    put "$program" "$folder" pilzdamo 755
+    put "$root/docs/pilzdamo.1" "$pages" pilzdamo.1 644
+    {
+        printf 'the program is %s\nits man page is %s\n' "$folder/pilzdamo" "$pages/pilzdamo.1"
+        case :$PATH: in
+        *:"$folder":*) printf '%s is on the PATH\n' "$folder" ;;
+        *) printf '%s is not on the PATH: put it there, or call the program by its whole name\n' "$folder" ;;
+        esac
+    } | print
+}
+
+# The words that only this script has.
+carry_out_here() { # WORD [DIR]
+    local word=$1 operand most=0
+    shift
+    for operand; do
+        case $operand in
+        -h | --help)
+            help_here "$word"
+            exit
+            ;;
+        -*) misused "$word has no option ${operand@Q}" ;;
+        esac
+    done
+    if [[ $word == install ]]; then most=1; fi
+    operand=${*:most+1:1}
+    (($# <= most)) || misused "$word: ${operand@Q} is too many"
+    if [[ $word == install && -z ${1-} && -z ${HOME-} ]]; then misused "install: DIR is missing, and HOME isn't set"; fi
+    is_built || build || exit 3
+    if [[ $word == install ]]; then install_into "${1:-${HOME-}/.local/bin}"; fi
+    exit
+}

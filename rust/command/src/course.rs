@@ -1,0 +1,171 @@
+//! A run that is followed choice by choice, and what each choice does in words.
+
+use crate::called::Called;
+use crate::roll::Roll;
+use crate::seats::Table;
+use pilzdamo::{Desk, Thread, Verdict};
+
+/// Where a run stands.
+#[derive(Clone)]
+pub struct Course<'a> {
+    pub called: &'a Called<'a>,
+    pub desk: Desk,
+    pub roll: Roll,
+}
+
+impl<'a> Course<'a> {
+    /// The start of a file's run.
+    pub fn start(called: &'a Called<'a>) -> Result<Course<'a>, Verdict> {
+        let desk = Desk::start(called.input)?;
+        let roll = Roll::start(desk.threads().len());
+        Ok(Course { called, desk, roll })
+    }
+
+    /// Goes through the choices of a list, of which those of these indices wait for a seat,
+    /// up to one that is refused: each in the list's form, and what it did.
+    pub fn through(&mut self, words: &[u16], waited: &[usize]) -> Vec<[String; 2]> {
+        let mut waited = waited.iter().peekable();
+        let mut lines = Vec::new();
+        for (index, &[thread, partner]) in words.as_chunks().0.iter().enumerate() {
+            let choice = self.choice(thread, partner);
+            let done = match waited.next_if_eq(&&index) {
+                Some(_) => Ok(self.waits(thread)),
+                None => self.choose(thread, partner),
+            };
+            match done {
+                Ok(done) => lines.push([choice, done]),
+                Err(_) => break,
+            }
+        }
+        lines
+    }
+
+    /// Does a choice, and says what it did. A refused choice changes nothing.
+    pub fn choose(&mut self, thread: u16, partner: u16) -> Result<String, Verdict> {
+        let before = self.thread(thread);
+        self.desk.choose(thread, partner)?;
+        self.roll.step(thread, self.desk.threads().len());
+        Ok(before.map_or(String::new(), |before| self.did(&before, thread, partner)))
+    }
+
+    /// What a choice that can be done would do behind these words; with a table of seats it
+    /// may wait.
+    pub fn would(&self, table: Option<&Table>, words: &[u16], choice: [u16; 2]) -> String {
+        let [thread, partner] = choice;
+        if self.is_waiting(table, words, choice) {
+            return self.waits(thread);
+        }
+        let tried = self.clone().choose(thread, partner);
+        tried.unwrap_or_else(|refusal| refusal.to_string())
+    }
+
+    /// A choice in the form of a list.
+    pub fn choice(&self, thread: u16, partner: u16) -> String {
+        self.called.choice(&self.roll, thread, partner)
+    }
+
+    /// A thread by its number.
+    pub fn thread(&self, number: u16) -> Option<Thread> {
+        let index = usize::from(number).checked_sub(1)?;
+        self.desk.threads().get(index).copied()
+    }
+
+    /// Whether a choice behind these words gets no seat by a table, if there is one.
+    pub fn is_waiting(&self, table: Option<&Table>, words: &[u16], choice: [u16; 2]) -> bool {
+        let role = self.role_put_on(choice[0]);
+        let table = table.filter(|table| role.is_some_and(|role| table.limits(role)));
+        table.is_some_and(|table| {
+            let words = [words, &choice].concat();
+            table.waits(self.called.input, &words)
+        })
+    }
+
+    /// What is said of a choice that gets no seat.
+    pub fn waits(&self, thread: u16) -> String {
+        let role = self.role_put_on(thread).unwrap_or(0);
+        format!("waits for a seat as {}", self.called.role(role))
+    }
+
+    /// The role that a thread is about to put on.
+    fn role_put_on(&self, thread: u16) -> Option<u16> {
+        let node = self.called.node(self.thread(thread)?.node);
+        (node[0] == 7).then_some(node[1])
+    }
+
+    /// What was done by a thread that stood so before.
+    fn did(&self, before: &Thread, thread: u16, partner: u16) -> String {
+        let called = self.called;
+        let [tag, f1, f2] = called.node(before.node);
+        let operand = |word| called.operand(before, word);
+        let after = self.thread(thread).unwrap_or_default();
+        match tag {
+            0 => self.ended(thread),
+            1 => format!("forks; {}", self.begins()),
+            2 => format!("repeats; {}", self.begins()),
+            3 => {
+                let (kind, made) = (called.input.kind(f1), called.bound_last(&after));
+                format!("makes a channel of kind {kind}: {made}")
+            }
+            4 => format!("compares {} with {}: equal", operand(f1), operand(f2)),
+            6 => {
+                let receiver = called.thread(&self.roll, partner);
+                let taken = called.bound_last(&self.thread(partner).unwrap_or_default());
+                let (value, channel) = (operand(f2), operand(f1));
+                format!("sends {value} on {channel}; {receiver} has {taken}")
+            }
+            7 | 8 => {
+                let put = if tag == 7 { "on" } else { "off" };
+                let (role, roles) = (called.role(f1), called.roles(after.mask));
+                format!("puts {role} {put}; holds {roles}")
+            }
+            _ => String::new(),
+        }
+    }
+
+    /// Of bytes, threads are known by their numbers alone.
+    fn ended(&self, thread: u16) -> String {
+        let is_last = usize::from(thread) > self.desk.threads().len();
+        match self.called.input.text.is_some() || is_last {
+            true => "ends".to_string(),
+            false => "ends; the threads behind it move down by one".to_string(),
+        }
+    }
+
+    /// The thread that is new.
+    fn begins(&self) -> String {
+        let number = self.desk.threads().len() as u16;
+        let name = self.called.thread(&self.roll, number);
+        let node = self.thread(number).unwrap_or_default().node;
+        format!("{name} begins at {}", self.called.place(node))
+    }
+
+    /// Why a choice was refused with this number, by where its threads stand.
+    pub fn why(&self, number: u16, thread: u16, partner: u16) -> String {
+        let threads = [thread, partner].into_iter().filter(|&number| number != 0);
+        let stands = |one| match self.thread(one) {
+            None => format!("there is no thread {one}"),
+            Some(thread) => {
+                let name = self.called.thread(&self.roll, one);
+                let more = self.more(number, &thread);
+                format!("{name} stands at {}{more}", self.called.stands(&thread))
+            }
+        };
+        match threads.map(stands).collect::<Vec<_>>() {
+            none if none.is_empty() => "there is no thread 0".to_string(),
+            stand => stand.join(", and "),
+        }
+    }
+
+    /// The roles that a thread holds where these are wrong, and the values where those are.
+    fn more(&self, number: u16, thread: &Thread) -> String {
+        let [tag, f1, f2] = self.called.node(thread.node);
+        let operand = |word| self.called.operand(thread, word);
+        match (number, tag) {
+            (11..=13, _) => format!(", holds {}", self.called.roles(thread.mask)),
+            (19, 4) => format!(", compares {} with {}", operand(f1), operand(f2)),
+            (19, 5) => format!(", receives on {}", operand(f1)),
+            (19, 6) => format!(", sends on {}", operand(f1)),
+            _ => String::new(),
+        }
+    }
+}

@@ -1,0 +1,119 @@
+//! A list of choices followed by the engine's own steps, so that threads have names.
+
+use crate::clinic::Clinic;
+use crate::input::Input;
+use crate::lines::Lines;
+use crate::roll::Roll;
+use crate::seats::Table;
+use pilzdamo::Desk;
+
+/// A run as it stands, with the names of its threads.
+pub struct Follower<'a> {
+    input: &'a Input,
+    clinic: Clinic,
+    desk: Desk,
+    seating: Seating<'a>,
+    pub roll: Roll,
+    /// The choices so far, two words for each.
+    pub words: Vec<u16>,
+    /// The indices of those that got no seat.
+    pub waited: Vec<usize>,
+}
+
+/// How it is known whether an on gets a seat.
+pub enum Seating<'a> {
+    /// No role has a limit.
+    Unlimited,
+    /// By lines that are followed beside the threads.
+    Followed(Lines<'a>),
+    /// By the engine, which is asked with all choices so far.
+    Asked(&'a Table),
+}
+
+impl<'a> Follower<'a> {
+    /// The start of a run; none where the engine refuses the file.
+    pub fn start(input: &'a Input, seating: Seating<'a>) -> Option<Follower<'a>> {
+        let desk = Desk::start(input).ok()?;
+        Some(Follower {
+            input,
+            clinic: Clinic::of(input),
+            roll: Roll::start(desk.threads().len()),
+            desk,
+            seating,
+            words: Vec::new(),
+            waited: Vec::new(),
+        })
+    }
+
+    /// Carries out a choice; says whether it isn't refused. One that gets no seat is no
+    /// step.
+    pub fn choose(&mut self, thread: u16, partner: u16) -> bool {
+        self.words.extend([thread, partner]);
+        if self.waits(thread, partner) {
+            self.waited.push(self.words.len() / 2 - 1);
+            return true;
+        }
+        let done = self.desk.choose(thread, partner).is_ok();
+        if done {
+            self.roll.step(thread, self.desk.threads().len());
+        }
+        done
+    }
+
+    /// Whether a choice is an on that gets no seat.
+    fn waits(&mut self, thread: u16, partner: u16) -> bool {
+        let Some((role, session)) = self.asks(thread, partner) else {
+            return false;
+        };
+        let seated = self.seated(role);
+        match &mut self.seating {
+            Seating::Unlimited => false,
+            Seating::Followed(lines) => lines.waits(role, session, &seated),
+            Seating::Asked(table) => table.waits(self.input, &self.words),
+        }
+    }
+
+    /// The role with a limit that a lone thread is about to put on, and its session.
+    fn asks(&self, thread: u16, partner: u16) -> Option<(u16, usize)> {
+        let table = match &self.seating {
+            Seating::Unlimited => return None,
+            Seating::Followed(lines) => lines.table,
+            Seating::Asked(table) => table,
+        };
+        let index = usize::from(thread)
+            .checked_sub(1)
+            .filter(|_| partner == 0)?;
+        let found = self.desk.threads().get(index)?;
+        let node = usize::from(found.node).checked_sub(1)?;
+        let &[tag, role, _] = self.clinic.nodes.get(node)?;
+        let user = usize::from(found.user).checked_sub(1)?;
+        let &[assigned] = self.clinic.users.get(user)?;
+        let asks = tag == 7 && table.limits(role) && has(assigned, role);
+        asks.then(|| (role, self.roll.threads[index].session))
+    }
+
+    /// The sessions that have a thread with a role active.
+    fn seated(&self, role: u16) -> Vec<usize> {
+        let threads = self.desk.threads().iter().zip(&self.roll.threads);
+        let mut sessions: Vec<usize> = threads
+            .filter(|(thread, _)| has(thread.mask, role))
+            .map(|(_, name)| name.session)
+            .collect();
+        sessions.sort_unstable();
+        sessions.dedup();
+        sessions
+    }
+
+    /// Whether what was followed is what the engine answers for all choices at once.
+    pub fn agrees(&self) -> bool {
+        match &self.seating {
+            Seating::Followed(lines) => lines.agree(self.input, &self.words, &self.desk),
+            _ => true,
+        }
+    }
+}
+
+/// Whether a mask has a role, which is from 1 to 16.
+fn has(mask: u16, role: u16) -> bool {
+    matches!(role, 1..=16) && mask >> (role - 1) & 1 == 1
+}

@@ -1,0 +1,85 @@
+//! What a run did, and what can be done next: `run --trace` and `choices`.
+
+use crate::called::Called;
+use crate::course::Course;
+use crate::input::Input;
+use crate::lists::{self, List};
+use crate::names;
+use crate::output;
+use crate::report;
+use crate::seats::Table;
+use pilzdamo::Verdict;
+
+/// Each choice of a run with what it did, the state that it came to, and why it stopped.
+pub fn traced(
+    input: &Input,
+    list: &List,
+    table: Option<&Table>,
+    verdict: Verdict,
+    state: &str,
+) -> String {
+    let lines = trace(input, list, table);
+    let why = match verdict.is_clean() {
+        true => "all choices are done".to_string(),
+        false => report::sentence_of_choice(verdict),
+    };
+    format!("{lines}{state}stopped: {why}\n")
+}
+
+/// A line for each choice that was done: its number, the choice, and what it did.
+fn trace(input: &Input, list: &List, table: Option<&Table>) -> String {
+    let called = Called::of(input);
+    let Ok(mut course) = Course::start(&called) else {
+        return String::new();
+    };
+    let waited = lists::waited(input, &list.words, table);
+    let lines = course.through(&list.words, &waited);
+    let width = lines.len().to_string().len();
+    let numbered = (1..).zip(lines);
+    let line = |(number, [choice, done]): (usize, [String; 2])| {
+        format!("{number:width$}  {choice}: {done}\n")
+    };
+    numbered.map(line).collect()
+}
+
+/// A line for each choice that can be done where a list leads or halts, as a list has it,
+/// with what it would do behind `#`. That there is none is said beside.
+pub fn choices(input: &Input, list: &List, table: Option<&Table>) -> String {
+    let called = Called::of(input);
+    let Ok(mut course) = Course::start(&called) else {
+        return String::new();
+    };
+    let waited = lists::waited(input, &list.words, table);
+    let done = course.through(&list.words, &waited).len();
+    let found = possible(&course, table, &list.words[..2 * done]);
+    if found.is_empty() {
+        let left = names::several(course.desk.threads().len(), "thread");
+        output::say(&format!(
+            "{}: no choice can be done, {left} left",
+            input.name
+        ));
+    }
+    aligned(found.into_iter().map(|(_, line)| line).collect())
+}
+
+/// The choices that can be done behind these words, each in the list's form and with what
+/// it would do.
+pub fn possible(
+    course: &Course,
+    table: Option<&Table>,
+    words: &[u16],
+) -> Vec<([u16; 2], [String; 2])> {
+    let told = |(thread, partner)| {
+        let does = course.would(table, words, [thread, partner]);
+        ([thread, partner], [course.choice(thread, partner), does])
+    };
+    course.desk.choices().into_iter().map(told).collect()
+}
+
+/// Lines with the comments below each other.
+fn aligned(lines: Vec<[String; 2]>) -> String {
+    let width = lines.iter().map(|[choice, _]| choice.chars().count()).max();
+    let width = width.unwrap_or(0);
+    let line = |[choice, does]: [String; 2]| format!("{choice:width$}  # {does}\n");
+    lines.into_iter().map(line).collect()
+}

@@ -1,0 +1,68 @@
+//! The lines of a run with seats, followed beside its threads. The engine judges: what
+//! was followed counts only if the engine answers the same for the whole list.
+
+use crate::input::Input;
+use crate::seats::{self, Table};
+use pilzdamo::{Desk, State, RUN_ROOM};
+use std::collections::BTreeMap;
+
+/// The sessions that wait for a seat.
+pub struct Lines<'a> {
+    pub table: &'a Table,
+    /// For each role the indices of the sessions in its line, the first in front.
+    lines: BTreeMap<u16, Vec<usize>>,
+    /// How many choices got no seat.
+    waited: u16,
+}
+
+impl<'a> Lines<'a> {
+    pub fn of(table: &'a Table) -> Lines<'a> {
+        Lines {
+            table,
+            lines: BTreeMap::new(),
+            waited: 0,
+        }
+    }
+
+    /// Whether a session that puts on a role with a limit gets no seat, where these
+    /// sessions have it. Its line changes by that.
+    pub fn waits(&mut self, role: u16, session: usize, seated: &[usize]) -> bool {
+        if seated.contains(&session) {
+            return false;
+        }
+        let line = self.lines.entry(role).or_default();
+        let free = seated.len() < usize::from(self.table.seats(role));
+        if free && line.first().is_none_or(|&head| head == session) {
+            if !line.is_empty() {
+                line.remove(0);
+            }
+            return false;
+        }
+        if !line.contains(&session) {
+            line.push(session);
+        }
+        self.waited = self.waited.saturating_add(1);
+        true
+    }
+
+    /// Whether the engine answers these choices with the same lines and threads.
+    pub fn agree(&self, input: &Input, choices: &[u16], desk: &Desk) -> bool {
+        let told = pilzdamo::seats(input, choices, &self.table.words);
+        let mut room = [0; RUN_ROOM];
+        let verdict = seats::run(input, choices, Some(self.table), &mut room);
+        let state = State::of(&room);
+        let same_lines = (1..).zip(&self.table.words).all(|(role, _)| {
+            let line = self.lines.get(&role).map_or(&[][..], |line| line);
+            let sessions = told
+                .line_of(role)
+                .iter()
+                .map(|&session| usize::from(session));
+            sessions.eq(line.iter().map(|session| session + 1))
+        });
+        let same_state = state.is_some_and(|state| {
+            state.threads == desk.threads() && desk.made().eq(state.made.iter().copied())
+        });
+        let same_waits = told.waited == self.waited && told.verdict() == verdict;
+        same_waits && same_lines && same_state
+    }
+}

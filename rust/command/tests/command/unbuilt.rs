@@ -1,0 +1,186 @@
+//! What the script `pilzdamo` at the root answers where nothing is built and no toolchain is
+//! there: the same as the program.
+
+use crate::common::pilzdamo;
+use crate::script::{repository, said, Place};
+use std::fs;
+
+/// The words that have a page of help.
+pub fn words() -> Vec<String> {
+    let pages = fs::read_dir(repository("rust/command/src/help")).expect("a folder");
+    let names = pages.map(|page| page.expect("a page").file_name().display().to_string());
+    let words = names.map(|name| name.strip_suffix(".txt").expect("a text").to_string());
+    words.collect()
+}
+
+/// The script answers these words as the program does, and builds nothing.
+fn alike(place: &Place, words: &[&str]) {
+    let said = place.call(words);
+    let due = pilzdamo(words);
+    let got = (said.status, said.out.as_str(), said.err.as_str());
+    assert_eq!(got, (due.status, due.text(), due.err.as_str()), "{words:?}");
+    assert!(!place.at("target").exists(), "{words:?}");
+}
+
+#[test]
+fn help_and_the_version() {
+    let place = Place::new("unbuilt help");
+    for words in [&["--help"][..], &["-h"], &["help"], &["--version"], &["-V"]] {
+        alike(&place, words);
+    }
+    for word in words() {
+        alike(&place, &["help", &word]);
+        alike(&place, &[&word, "--help"]);
+        alike(&place, &[&word, "a", "-h", "b"]);
+    }
+}
+
+#[test]
+fn explain() {
+    let place = Place::new("unbuilt explain");
+    for number in 1..=28 {
+        alike(&place, &["explain", &number.to_string()]);
+    }
+    for word in [
+        "007", "+7", "0", "29", "-1", "", "x", "7 ", "7.txt", "70000",
+    ] {
+        alike(&place, &["explain", word]);
+    }
+    for words in [
+        &["explain"][..],
+        &["explain", "7", "8"],
+        &["explain", "--", "7"],
+    ] {
+        alike(&place, words);
+    }
+}
+
+#[test]
+fn operands_and_options_that_are_not_there() {
+    let place = Place::new("unbuilt operands");
+    for word in words() {
+        if word != "help" {
+            alike(&place, &[&word]);
+        }
+        alike(
+            &place,
+            &[&word, "--", "a", "b", "c", "d"][..2 + 4 * usize::from(!several(&word))],
+        );
+    }
+    for words in [
+        &["check", "a", "--frob"][..],
+        &["check", "--frob=a"],
+        &["check", "a", "-o", "b"],
+        &["place", "-oa", "b", "c"],
+        &["place", "--output=a", "--at=b", "--hours", "c", "d", "e"],
+        &["place", "-o", "-x", "--", "-a", "-b"],
+        &["run", "a", "--seats", "b"],
+        &["run", "a", "b", "c"],
+        &["in-force", "2026-11-16", "a"],
+        &["dispatch", "a", "3", "4"],
+        &["help", "check", "a"],
+    ] {
+        alike(&place, words);
+    }
+}
+
+/// Whether a word takes as many files as there are.
+fn several(word: &str) -> bool {
+    matches!(word, "check" | "sheet")
+}
+
+/// All words are named, those of the script too.
+#[test]
+fn a_word_that_is_not_there() {
+    let place = Place::new("unbuilt word");
+    for typed in [
+        &["chekc", "a"][..],
+        &["help", "chekc"],
+        &["chekc", "--help"],
+    ] {
+        let said = place.call(typed);
+        assert_eq!((said.status, said.out.as_str()), (2, ""));
+        let due = "pilzdamo: there is no word 'chekc'; the words are check, ";
+        assert!(said.err.starts_with(due), "{}", said.err);
+        let (line, _) = said.err.split_once('\n').expect("a line");
+        for word in words()
+            .iter()
+            .map(String::as_str)
+            .chain(["build", "install"])
+        {
+            let named = line.split([' ', ',']).any(|it| it == word);
+            assert!(named, "{word}: {line}");
+        }
+        assert!(!place.at("target").exists());
+    }
+    for word in ["../help", "check.txt", "/", ".", "--frob"] {
+        let said = place.call(&[word]);
+        let due = format!("pilzdamo: there is no word '{word}'; ");
+        assert!(
+            said.status == 2 && said.err.starts_with(&due),
+            "{}",
+            said.err
+        );
+    }
+}
+
+/// What was typed is said without its control characters.
+#[test]
+fn control_characters() {
+    let place = Place::new("unbuilt control");
+    let typed = "a\u{1b}[31mb\nc";
+    for words in [&[typed][..], &["explain", typed], &["place", "a", typed]] {
+        let said = place.call(words);
+        assert_eq!((said.status, said.err.lines().count()), (2, 2));
+        assert!(!said.err.contains('\u{1b}'), "{}", said.err);
+    }
+}
+
+#[test]
+fn a_full_disk() {
+    let place = Place::new("unbuilt full");
+    for words in [
+        &["--help"][..],
+        &["help", "run"],
+        &["explain", "3"],
+        &["-V"],
+    ] {
+        let Ok(full) = fs::File::options().write(true).open("/dev/full") else {
+            return;
+        };
+        let mut call = place.command(&place.at("pilzdamo"));
+        let said = said(call.args(words).stdout(full));
+        let due = "pilzdamo: standard output can't be written\n";
+        assert_eq!((said.status, said.err.as_str()), (2, due), "{words:?}");
+    }
+}
+
+#[test]
+fn no_words() {
+    let place = Place::new("unbuilt none");
+    let said = place.call(&[]);
+    let help = fs::read_to_string(repository("rust/command/src/help.txt")).expect("a page");
+    assert_eq!((said.status, said.out, said.err), (2, String::new(), help));
+}
+
+/// What can't be told wrong is not told so: it asks for what a build needs.
+#[test]
+fn words_that_are_right() {
+    let place = Place::new("unbuilt right");
+    for words in [
+        &["check", "a", "b", "c"][..],
+        &["check", "--", "--frob"],
+        &["place", "a", "-o", "-x"],
+        &["place", "a", "-o", "--help.txt"],
+        &["place", "-ob", "--bytes", "a"],
+        &["run", "-i", "a"],
+        &["run", "a", "--interactive"],
+        &["run", "a", "b", "--seats=c"],
+        &["reason", "--frob"],
+        &["dispatch", "a"],
+    ] {
+        let said = place.call(words);
+        assert_eq!((said.status, said.out.as_str()), (3, ""), "{words:?}");
+        assert!(said.err.contains("there is no 'rt'"), "{}", said.err);
+    }
+}
