@@ -10,10 +10,10 @@ use native.Mathlib.Omega.{arith}
 use lib.Dec.{ltb}
 use lib.ListN.{length, getD, length-map, length-append, List·getD-append, List·getD-map}
 use lib.Seq.{getD-append-add}
-use borrow.Author.Tests.{ltb-true, ltb-false}
+use borrow.Author.Tests.{ltb-true, ltb-false, eq-eqb, ne-eqb}
 use Rattle.format.specs.Words.{wordAt}
 use Rattle.format.specs.Header.{Laid}
-use Rattle.format.specs.Sections.{byColumn, apart, between, spot, nodeSpot, nodeOf, wordsFrom}
+use Rattle.format.specs.Sections.{byColumn, apart, between, spot, nodeSpot, nodeAt, nodeOf, wordsFrom}
 use Rattle.format.specs.Contents.{tabled, item, noNode, contentsAt}
 use Rattle.format.specs.Writing.{nodeRows, nodeColumns, nodeWords}
 use Rattle.format.specs.declared.Head.{Head}
@@ -48,10 +48,39 @@ spot-within v k n j pos le few = each-word (λ j. spot v k n j < 3 * k) (go (byC
     go true = (omega arith, omega arith, omega arith)
     go false = (omega arith, omega arith, omega arith)
 
+-- by row the words of a node stand together, by column each a column further
+pub row-node : (f : List ℕ) (h : Head) → h .version ≢ 3 → (n : ℕ)
+    → nodeAt f (h .at .nodes + 3 * (n - 1)) (h .at .nodes + 3 * (n - 1) + 1) (h .at .nodes + 3 * (n - 1) + 2) ≡ nodeOf f h n
+unfolding spot
+row-node f h other n =
+    let p = h .at .nodes in
+    let e0 : p + 3 * (n - 1) ≡ p + (3 * (n - 1) + 1 * 0) = omega arith in
+    let e1 : p + 3 * (n - 1) + 1 ≡ p + (3 * (n - 1) + 1 * 1) = omega arith in
+    let e2 : p + 3 * (n - 1) + 2 ≡ p + (3 * (n - 1) + 1 * 2) = omega arith in
+    rw (ne-eqb (h .version) 3 other) (λ i. nodeAt f (e0 i) (e1 i) (e2 i))
+
+pub column-node : (f : List ℕ) (h : Head) → h .version ≡ 3 → (n : ℕ)
+    → nodeAt f (h .at .nodes + (n - 1)) (h .at .nodes + (n - 1) + h .count .nodes) (h .at .nodes + (n - 1) + h .count .nodes + h .count .nodes) ≡ nodeOf f h n
+unfolding spot
+column-node f h third n =
+    let p = h .at .nodes in
+    let k = h .count .nodes in
+    let e0 : p + (n - 1) ≡ p + (1 * (n - 1) + k * 0) = omega arith in
+    let e1 : p + (n - 1) + k ≡ p + (1 * (n - 1) + k * 1) = omega arith in
+    let e2 : p + (n - 1) + k + k ≡ p + (1 * (n - 1) + k * 2) = omega arith in
+    rw (eq-eqb (h .version) 3 third) (λ i. nodeAt f (e0 i) (e1 i) (e2 i))
+
 -- so a node in count lies within the file
 pub node-there : (f : List ℕ) (h : Head) → Laid f h → (n j : ℕ) → 1 ≤ n → n ≤ h .count .nodes → j < 3 → 2 * nodeSpot h n j + 1 < length f
 node-there f h l n j pos le few =
     omega (arith, some-there f h l (omega (arith, l, pos, le)), spot-within (h .version) (h .count .nodes) n j pos le few)
+
+pub row-there : (f : List ℕ) (h : Head) → Laid f h → h .version ≢ 3 → (n : ℕ) → 1 ≤ n → n ≤ h .count .nodes → 2 * (h .at .nodes + 3 * (n - 1) + 2) + 1 < length f
+unfolding spot
+row-there f h l other n pos le =
+    let there : 2 * nodeSpot h n 2 + 1 < length f = node-there f h l n 2 pos le (omega arith) in
+    let e : nodeSpot h n 2 ≡ h .at .nodes + 3 * (n - 1) + 2 = rw (ne-eqb (h .version) 3 other) (omega arith) in
+    omega (arith, there, e)
 
 -- no two alike: word i of node n and word j of node m
 abbrev Alike : Bool → ℕ → ℕ → ℕ → ℕ → ℕ → Type 0

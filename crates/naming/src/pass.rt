@@ -161,15 +161,14 @@ fn walk_names(
     let mut bound = bound_with(top);
     let mut here = waits[depth];
     let nodes = head.count.nodes;
-    let mut i: u16 = 1;
-    while i <= nodes {
+    let mut i: u16 = 0;
+    while i < nodes {
+        i += 1;
         let it = node(file, head, i);
         let tag = it.tag;
-        let at = i;
-        i += 1;
         match tag {
             0 => {
-                keep(scopes, wide(at), here, ChannelKind(0));
+                keep(scopes, wide(i), here, ChannelKind(0));
                 if depth == 0 {
                     return fine;
                 }
@@ -180,7 +179,7 @@ fn walk_names(
                 here = waits[depth];
             }
             1 => {
-                keep(scopes, wide(at), here, ChannelKind(0));
+                keep(scopes, wide(i), here, ChannelKind(0));
                 stack[depth] = paired(user, bound);
                 waits[depth] = here;
                 depth += 1;
@@ -190,12 +189,12 @@ fn walk_names(
                 if step.wrong != 0 {
                     return Verdict {
                         number: step.wrong,
-                        place: at,
+                        place: i,
                     };
                 }
-                keep(scopes, wide(at), here, ChannelKind(step.awaits));
+                keep(scopes, wide(i), here, ChannelKind(step.awaits));
                 names[512 + wide(bound)] = step.binding;
-                here = scope_after(here, bound, step, wide(at) < scopes.len());
+                here = scope_after(here, bound, step, wide(i) < scopes.len());
                 bound = step.bound;
             }
         }

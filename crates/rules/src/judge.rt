@@ -112,15 +112,14 @@ fn walk(
     let mut here = unpacked(stack[depth]);
     let mut first = fine;
     let nodes = head.count.nodes;
-    let mut i: u16 = 1;
-    while i <= nodes {
+    let mut i: u16 = 0;
+    while i < nodes {
+        i += 1;
         let it = node(file, head, i);
         let tag = it.tag;
-        let at = i;
-        i += 1;
         match tag {
             0 => {
-                roles[wide(at)] = here.assigned;
+                roles[wide(i)] = here.assigned;
                 if depth == 0 {
                     return Judged {
                         names: fine,
@@ -131,7 +130,7 @@ fn walk(
                 here = unpacked(stack[depth]);
             }
             1 => {
-                roles[wide(at)] = here.assigned;
+                roles[wide(i)] = here.assigned;
                 stack[depth] = packed(here);
                 depth += 1;
             }
@@ -139,12 +138,12 @@ fn walk(
                 let step = step_at(file, head, sends, receives, names, here, it);
                 if step.wrong != 0 {
                     return Judged {
-                        names: answer_at(step.wrong, at),
+                        names: answer_at(step.wrong, i),
                         roles: fine,
                     };
                 }
-                first = or_else(first, answer_at(step.barred, at));
-                roles[wide(at)] = step.roles;
+                first = or_else(first, answer_at(step.barred, i));
+                roles[wide(i)] = step.roles;
                 names[512 + wide(here.bound)] = step.binding;
                 here = step.child;
             }

@@ -57,11 +57,11 @@ fn sound_by(file: &[u8], head: Head, stack: &mut [u32]) -> bool
         return false;
     }
     let mut bound: u16 = 0;
-    let mut i: u16 = 1;
-    while i <= nodes {
+    let mut i: u16 = 0;
+    while i < nodes {
+        i += 1;
         let it = node(file, head, i);
         let tag = it.tag;
-        i += 1;
         match tag {
             0 => {
                 if !((it.f1 == 0) & (it.f2 == 0)) {
@@ -72,7 +72,7 @@ fn sound_by(file: &[u8], head: Head, stack: &mut [u32]) -> bool
                 }
                 depth -= 1;
                 let next = stack[depth];
-                if named(next) != i {
+                if named(next) != i + 1 {
                     return false;
                 }
                 bound = bound_above(next);

@@ -46,15 +46,15 @@ use Rattle.naming.proofs.scopes.scope_after.Reads as scope-after-reads
 
 abbrev Inv-loop : tie.InvT-loop
 Inv-loop file head names₀ stack₀ waits₀ scopes₀ fine depth₀ top user₀ bound₀ here₀ nodes i₀ names stack waits scopes depth user bound here i =
-    (1 ≤ i) × (i ≤ nodes + 1) × (length stack ≡ length stack₀) × (length names ≡ length names₀) × (depth + 2 ≤ head .count .sessions + i) × (bound < i) × (user < 65534)
+    (1 ≤ i + 1) × (i + 1 ≤ nodes + 1) × (length stack ≡ length stack₀) × (length names ≡ length names₀) × (depth + 2 ≤ head .count .sessions + (i + 1)) × (bound < i + 1) × (user < 65534)
     × NameTable (schemaOf (contentsAt file head)) (head .count .users) (head .count .channels) names × Held names bound
     × Waits Ownable bound (queued (schemaOf (contentsAt file head)) stack depth)
-    × Scoping (contentsAt file head) scopes₀ i (contextOf names (barePoint (schemaOf (contentsAt file head)) user bound) ∷ map (contextOf names) (queued (schemaOf (contentsAt file head)) stack depth)) scopes
-    × (length waits ≡ length waits₀) × (i < length scopes → here ≡ scopeOf (contextOf names (barePoint (schemaOf (contentsAt file head)) user bound)))
-    × (i < length scopes → stacked 0 waits depth ≡ map scopeOf (map (contextOf names) (queued (schemaOf (contentsAt file head)) stack depth))) × (length scopes ≡ length scopes₀)
+    × Scoping (contentsAt file head) scopes₀ (i + 1) (contextOf names (barePoint (schemaOf (contentsAt file head)) user bound) ∷ map (contextOf names) (queued (schemaOf (contentsAt file head)) stack depth)) scopes
+    × (length waits ≡ length waits₀) × (i + 1 < length scopes → here ≡ scopeOf (contextOf names (barePoint (schemaOf (contentsAt file head)) user bound)))
+    × (i + 1 < length scopes → stacked 0 waits depth ≡ map scopeOf (map (contextOf names) (queued (schemaOf (contentsAt file head)) stack depth))) × (length scopes ≡ length scopes₀)
 
 abbrev μ-loop : tie.MeasureT-loop
-μ-loop file head names₀ stack₀ waits₀ scopes₀ fine depth₀ top user₀ bound₀ here₀ nodes i₀ names stack waits scopes depth user bound here i = nodes + 1 - i
+μ-loop file head names₀ stack₀ waits₀ scopes₀ fine depth₀ top user₀ bound₀ here₀ nodes i₀ names stack waits scopes depth user bound here i = nodes + 1 - (i + 1)
 
 -- what the step tells of the node
 told-at : (c : tie.After-naming-at Inv-loop μ-loop) → NamesJudged (schemaOf (contentsAt (c .before .before .before .before .before .before .before .before .before .before .before .before .before .before .before .before .before .before .before .before .before .before .before .before .before .before .before .args .file .now) (c .before .before .before .before .before .before .before .before .before .before .before .before .before .before .before .before .before .before .before .before .before .before .before .before .before .before .before .args .head))) (c .before .before .before .before .before .loop .names) (c .before .before .before .before .before .loop .user) (c .before .before .before .before .before .loop .bound) (c .before .before .before .node .result) (c .naming-at .result)
@@ -200,8 +200,8 @@ returns-2 c =
     let C = contentsAt (a .file .now) (a .head) in
     let st : map (contextOf (l .names)) (queued (schemaOf C) (l .stack) (l .depth)) ≡ [] =
     ap (λ d. map (contextOf (l .names)) (queued (schemaOf C) (l .stack) d)) (c .if2 .taken) ∙ ap (map (contextOf (l .names))) (read-none 0 (unpaired (schemaOf C)) (l .stack)) in
-    let left = scoping-tree C (a .scopes .now) (l .i) (contextOf (l .names) (barePoint (schemaOf C) (l .user) (l .bound))) _ (l .scopes) (n .result) (l .inv .0) (omega (arith, nodes-held (a .file .now) (a .head), c .before .before .before .before .before .before .before .before .loop-test .taken)) (n .ensures) (l .inv .10) (c .before .before .before .before .wide .result) (l .here) 0 (c .before .before .before .before .wide .ensures .0) (l .inv .12) (λ _. rw (c .before .before .before .before .before .before .match .keys1)) (c .before .before .before .before .before .before .match .keys1) in
-    let done = scoping-out C (a .scopes .now) (l .i + 1) _ (subst (λ (x : List Context). Scoping C (a .scopes .now) (l .i + 1) x (set (l .scopes) (c .before .before .before .before .wide .result) (marked (l .here) 0))) st left) in
+    let left = scoping-tree C (a .scopes .now) (l .i + 1) (contextOf (l .names) (barePoint (schemaOf C) (l .user) (l .bound))) _ (l .scopes) (n .result) (l .inv .0) (omega (arith, nodes-held (a .file .now) (a .head), c .before .before .before .before .before .before .before .before .loop-test .taken)) (n .ensures) (l .inv .10) (c .before .before .before .before .wide .result) (l .here) 0 (c .before .before .before .before .wide .ensures .0) (l .inv .12) (λ _. rw (c .before .before .before .before .before .before .match .keys1)) (c .before .before .before .before .before .before .match .keys1) in
+    let done = scoping-out C (a .scopes .now) (l .i + 1 + 1) _ (subst (λ (x : List Context). Scoping C (a .scopes .now) (l .i + 1 + 1) x (set (l .scopes) (c .before .before .before .before .wide .result) (marked (l .here) 0))) st left) in
     (done .0, c .before .before .before .keep .ensures ∙ done .1)
 
 sub-depth-2 : tie.Need-sub-depth-2 Inv-loop μ-loop
@@ -240,9 +240,9 @@ loop-again c =
     let top : queued D (l .stack) (l .depth) ≡ p ∷ queued D (l .stack) (l .depth - 1) =
     read-top 0 (unpaired D) (l .stack) (l .depth) pos ∙ ap (λ (q : Point). q ∷ queued D (l .stack) (l .depth - 1)) (ap₂ (barePoint D) (sym (c .before .before .user-in2 .ensures)) (sym (c .before .bound-with2 .ensures))) in
     let w : Waits Ownable (l .bound) (p ∷ queued D (l .stack) (l .depth - 1)) = subst (λ (ps : List Point). Waits Ownable (l .bound) ps) top (l .inv .9) in
-    let left = scoping-tree C (a .scopes .now) (l .i) (contextOf (l .names) (barePoint D (l .user) (l .bound))) _ (l .scopes) (n .result) (l .inv .0) (omega (arith, nodes-held (a .file .now) (a .head), c .before .before .before .before .before .before .before .before .before .before .before .before .loop-test .taken)) (n .ensures) (l .inv .10) (c .before .before .before .before .before .before .before .before .wide .result) (l .here) 0 (c .before .before .before .before .before .before .before .before .wide .ensures .0) (l .inv .12) (λ _. rw (c .before .before .before .before .before .before .before .before .before .before .match .keys1)) (c .before .before .before .before .before .before .before .before .before .before .match .keys1) in
+    let left = scoping-tree C (a .scopes .now) (l .i + 1) (contextOf (l .names) (barePoint D (l .user) (l .bound))) _ (l .scopes) (n .result) (l .inv .0) (omega (arith, nodes-held (a .file .now) (a .head), c .before .before .before .before .before .before .before .before .before .before .before .before .loop-test .taken)) (n .ensures) (l .inv .10) (c .before .before .before .before .before .before .before .before .wide .result) (l .here) 0 (c .before .before .before .before .before .before .before .before .wide .ensures .0) (l .inv .12) (λ _. rw (c .before .before .before .before .before .before .before .before .before .before .match .keys1)) (c .before .before .before .before .before .before .before .before .before .before .match .keys1) in
     let long : length (set (l .scopes) (c .before .before .before .before .before .before .before .before .wide .result) (marked (l .here) 0)) ≡ length (l .scopes) = length-set (l .scopes) (c .before .before .before .before .before .before .before .before .wide .result) (marked (l .here) 0) in
-    let popped : l .i < length (l .scopes) → (getD (l .waits) (l .depth - 1) 0 ≡ scopeOf (contextOf (l .names) p)) × (stacked 0 (l .waits) (l .depth - 1) ≡ map scopeOf (map (contextOf (l .names)) (queued D (l .stack) (l .depth - 1)))) =
+    let popped : (l .i + 1) < length (l .scopes) → (getD (l .waits) (l .depth - 1) 0 ≡ scopeOf (contextOf (l .names) p)) × (stacked 0 (l .waits) (l .depth - 1) ≡ map scopeOf (map (contextOf (l .names)) (queued D (l .stack) (l .depth - 1)))) =
     λ room. scope-popped (l .waits) (l .depth) (contextOf (l .names) p) (map (contextOf (l .names)) (queued D (l .stack) (l .depth - 1))) pos (l .inv .13 room ∙ ap (λ (ps : List Point). map scopeOf (map (contextOf (l .names)) ps)) top) in (
       omega arith,
       omega arith,
@@ -254,7 +254,7 @@ loop-again c =
       l .inv .7,
       held-less (l .names) (l .bound) (p .bound) (w .0) (l .inv .8),
       w .2,
-      rw (c .before .before .before .before .before .before .before .keep .ensures) (subst (λ (ps : List Point). Scoping C (a .scopes .now) (l .i + 1) (map (contextOf (l .names)) ps) (set (l .scopes) (c .before .before .before .before .before .before .before .before .wide .result) (marked (l .here) 0))) top left),
+      rw (c .before .before .before .before .before .before .before .keep .ensures) (subst (λ (ps : List Point). Scoping C (a .scopes .now) (l .i + 1 + 1) (map (contextOf (l .names)) ps) (set (l .scopes) (c .before .before .before .before .before .before .before .before .wide .result) (marked (l .here) 0))) top left),
       l .inv .11,
       (λ room. popped (omega (arith, room, ap length (c .before .before .before .before .before .before .before .keep .ensures), long)) .0),
       (λ room. popped (omega (arith, room, ap length (c .before .before .before .before .before .before .before .keep .ensures), long)) .1),
@@ -301,7 +301,7 @@ loop-again-2 c =
     let is : unpaired D (c .paired .result) ≡ p = ap₂ (barePoint D) (omega (arith, c .paired .ensures)) (omega (arith, c .paired .ensures)) in
     let long : length (set (l .scopes) (c .before .before .before .before .wide2 .result) (marked (l .here) 0)) ≡ length (l .scopes) = length-set (l .scopes) (c .before .before .before .before .wide2 .result) (marked (l .here) 0) in
     let push = read-push 0 (unpaired D) (l .stack) (l .depth) (c .paired .result) p room is in
-    let left = scoping-fork C (a .scopes .now) (l .i) (contextOf (l .names) p) (map (contextOf (l .names)) (queued D (l .stack) (l .depth))) (l .scopes) (n .result) (l .inv .0) (omega (arith, nodes-held (a .file .now) (a .head), c .before .before .before .before .before .before .before .before .loop-test .taken)) (n .ensures) (l .inv .10) (c .before .before .before .before .wide2 .result) (l .here) 0 (c .before .before .before .before .wide2 .ensures .0) (l .inv .12) (λ _. rw (c .before .before .before .before .before .before .match .keys2)) (c .before .before .before .before .before .before .match .keys2) in (
+    let left = scoping-fork C (a .scopes .now) (l .i + 1) (contextOf (l .names) p) (map (contextOf (l .names)) (queued D (l .stack) (l .depth))) (l .scopes) (n .result) (l .inv .0) (omega (arith, nodes-held (a .file .now) (a .head), c .before .before .before .before .before .before .before .before .loop-test .taken)) (n .ensures) (l .inv .10) (c .before .before .before .before .wide2 .result) (l .here) 0 (c .before .before .before .before .wide2 .ensures .0) (l .inv .12) (λ _. rw (c .before .before .before .before .before .before .match .keys2)) (c .before .before .before .before .before .before .match .keys2) in (
       omega arith,
       omega arith,
       simp length-set (l .inv .2),
@@ -312,11 +312,11 @@ loop-again-2 c =
       l .inv .7,
       l .inv .8,
       waits-push (unpaired D) Ownable (l .bound) (l .stack) (l .depth) (c .paired .result) p room is (omega arith) (l .inv .6) (l .inv .9),
-      rw (c .before .before .before .keep2 .ensures) (subst (λ (ps : List Point). Scoping C (a .scopes .now) (l .i + 1) (contextOf (l .names) p ∷ map (contextOf (l .names)) ps) (set (l .scopes) (c .before .before .before .before .wide2 .result) (marked (l .here) 0))) (sym push) left),
+      rw (c .before .before .before .keep2 .ensures) (subst (λ (ps : List Point). Scoping C (a .scopes .now) (l .i + 1 + 1) (contextOf (l .names) p ∷ map (contextOf (l .names)) ps) (set (l .scopes) (c .before .before .before .before .wide2 .result) (marked (l .here) 0))) (sym push) left),
       simp length-set (l .inv .11),
       (λ room. l .inv .12 (omega (arith, room, ap length (c .before .before .before .keep2 .ensures), long))),
       (λ room.
-          let due : l .i < length (l .scopes) = omega (arith, room, ap length (c .before .before .before .keep2 .ensures), long) in
+          let due : (l .i + 1) < length (l .scopes) = omega (arith, room, ap length (c .before .before .before .keep2 .ensures), long) in
           scope-pushed (l .waits) (l .depth) (l .here) (contextOf (l .names) p) (map (contextOf (l .names)) (queued D (l .stack) (l .depth))) beside (l .inv .12 due) (l .inv .13 due) ∙ ap (λ (ps : List Point). map scopeOf (map (contextOf (l .names)) ps)) (sym push)),
       ap length (c .before .before .before .keep2 .ensures) ∙ long ∙ l .inv .14,
     )
@@ -342,7 +342,7 @@ returns-3 c =
     let l = c .before .before .before .before .before .before .before .loop in
     let n = c .before .before .before .before .before .node in
     let C = contentsAt (a .file .now) (a .head) in
-    scoping-refused C (a .scopes .now) (l .i) (contextOf (l .names) (barePoint (schemaOf C) (l .user) (l .bound))) _ (l .scopes) (n .result) (l .inv .0) (omega (arith, nodes-held (a .file .now) (a .head), c .before .before .before .before .before .before .loop-test .taken)) (n .ensures) (l .inv .10) (c .before .before .naming-at .result .wrong)
+    scoping-refused C (a .scopes .now) (l .i + 1) (contextOf (l .names) (barePoint (schemaOf C) (l .user) (l .bound))) _ (l .scopes) (n .result) (l .inv .0) (omega (arith, nodes-held (a .file .now) (a .head), c .before .before .before .before .before .before .loop-test .taken)) (n .ensures) (l .inv .10) (c .before .before .naming-at .result .wrong)
     (told-at (c .before .before) .wrong) (c .if3 .taken)
 
 wide-requires-3 : tie.Need-wide-requires-3 Inv-loop μ-loop
@@ -392,9 +392,9 @@ loop-again-3 c =
     let more = contextOf t (barePoint D (l .user) (s .bound)) ∷ map (contextOf t) (queued D (l .stack) (l .depth)) in
     let next : map unmasked more ≡ map unmasked (waitingAfter D here (n .result) rest) =
     ap₂ _∷_ (it .child good) (ap (map unmasked) kept) ∙ ap (map unmasked) (after-step D here (n .result) rest (c .before .before .before .before .before .before .before .before .before .before .before .before .match .rest .0 .1) (c .before .before .before .before .before .before .before .before .before .before .before .before .match .rest .1) refl refl) in
-    let left = scoping-on C (a .scopes .now) (l .i) here rest (l .scopes) (n .result) (l .inv .0) (omega (arith, nodes-held (a .file .now) (a .head), c .before .before .before .before .before .before .before .before .before .before .before .before .before .before .loop-test .taken)) (n .ensures) (l .inv .10) (c .before .before .before .before .before .before .wide3 .result) (l .here) (s .awaits) (c .before .before .before .before .before .before .wide3 .ensures .0) (l .inv .12) (kind-at (c .before .before .before .before .before .before .before .before .before .before)) more (sym (it .wrong) ∙ good) next in
+    let left = scoping-on C (a .scopes .now) (l .i + 1) here rest (l .scopes) (n .result) (l .inv .0) (omega (arith, nodes-held (a .file .now) (a .head), c .before .before .before .before .before .before .before .before .before .before .before .before .before .before .loop-test .taken)) (n .ensures) (l .inv .10) (c .before .before .before .before .before .before .wide3 .result) (l .here) (s .awaits) (c .before .before .before .before .before .before .wide3 .ensures .0) (l .inv .12) (kind-at (c .before .before .before .before .before .before .before .before .before .before)) more (sym (it .wrong) ∙ good) next in
     let same-room : length (set (l .scopes) (c .before .before .before .before .before .before .wide3 .result) (marked (l .here) (s .awaits))) ≡ length (l .scopes) = length-set (l .scopes) (c .before .before .before .before .before .before .wide3 .result) (marked (l .here) (s .awaits)) in
-    let child : l .i < length (l .scopes) → c .scope-after .result ≡ scopeOf (contextOf t (barePoint D (l .user) (s .bound))) =
+    let child : (l .i + 1) < length (l .scopes) → c .scope-after .result ≡ scopeOf (contextOf t (barePoint D (l .user) (s .bound))) =
     λ due.
     c .scope-after .ensures (lt-ltb (c .before .wide5 .result) (length (c .before .before .before .before .before .keep3 .last .0)) (omega (arith, due, c .before .wide5 .ensures .0, ap length (c .before .before .before .before .before .keep3 .ensures), same-room)))
     ∙ ap (λ (w : ℕ). cond (eqb (s .bound) (l .bound)) w (bindScope w (kindIn (s .binding)))) (l .inv .12 due)
@@ -433,7 +433,7 @@ returns-4 : tie.Need-returns-4 Inv-loop μ-loop
 returns-4 c =
     let a = c .before .before .before .before .before .before .before .before .before .before .before .before .before .before .before .before .before .before .before .before .before .before .before .args in
     let l = c .before .loop in
-    scoping-ends (contentsAt (a .file .now) (a .head)) (a .scopes .now) (l .i) _ (l .scopes) (omega (arith, nodes-held (a .file .now) (a .head), c .loop-test .left)) (l .inv .10)
+    scoping-ends (contentsAt (a .file .now) (a .head)) (a .scopes .now) (l .i + 1) _ (l .scopes) (omega (arith, nodes-held (a .file .now) (a .head), c .loop-test .left)) (l .inv .10)
 
 pub walk-names-spec : {M : Type 1} → statement M
 walk-names-spec =
@@ -455,8 +455,8 @@ walk-names-spec =
     mul-here
     slice-read-here
     loop-holds
-    node-requires
     add-i
+    node-requires
     wide-requires
     keep-requires
     same-length-4

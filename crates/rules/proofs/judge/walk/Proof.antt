@@ -36,13 +36,13 @@ use Rattle.rules.proofs.steps.step_at.Reads as step-at-reads
 
 abbrev Inv-loop : tie.InvT-loop
 Inv-loop file head sends receives names₀ stack₀ roles₀ fine depth₀ here₀ first₀ nodes i₀ names stack roles depth here first i =
-    (1 ≤ i) × (i ≤ nodes + 1) × (length stack ≡ length stack₀) × (length names ≡ length names₀) × (length roles ≡ 1025) × (depth + 2 ≤ head .count .sessions + i) × (here .bound < i)
+    (1 ≤ i + 1) × (i + 1 ≤ nodes + 1) × (length stack ≡ length stack₀) × (length names ≡ length names₀) × (length roles ≡ 1025) × (depth + 2 ≤ head .count .sessions + (i + 1)) × (here .bound < i + 1)
     × Given (schemaOf (contentsAt file head)) here × NameTable (schemaOf (contentsAt file head)) (head .count .users) (head .count .channels) names
     × Held names (here .bound) × Waits (Given (schemaOf (contentsAt file head))) (here .bound) (waiting stack depth)
-    × Left (contentsAt file head) roles₀ i (contextOf names here ∷ map (contextOf names) (waiting stack depth)) first roles
+    × Left (contentsAt file head) roles₀ (i + 1) (contextOf names here ∷ map (contextOf names) (waiting stack depth)) first roles
 
 abbrev μ-loop : tie.MeasureT-loop
-μ-loop file head sends receives names₀ stack₀ roles₀ fine depth₀ here₀ first₀ nodes i₀ names stack roles depth here first i = nodes + 1 - i
+μ-loop file head sends receives names₀ stack₀ roles₀ fine depth₀ here₀ first₀ nodes i₀ names stack roles depth here first i = nodes + 1 - (i + 1)
 
 -- what the step tells of the node
 right-at : (c : tie.After-step-at Inv-loop μ-loop) → Right (schemaOf (contentsAt (c .before .before .before .before .before .before .before .before .before .before .before .before .before .before .before .before .before .before .before .args .file .now) (c .before .before .before .before .before .before .before .before .before .before .before .before .before .before .before .before .before .before .before .args .head))) (c .before .before .before .before .before .loop .names) (c .before .before .before .before .before .loop .here) (c .before .before .before .node .result) (c .step-at .result)
@@ -143,8 +143,8 @@ returns-2 c =
     let l = c .before .before .before .before .before .loop in
     let n = c .before .before .before .node in
     let st : map (contextOf (l .names)) (waiting (l .stack) (l .depth)) ≡ [] = ap (λ d. map (contextOf (l .names)) (waiting (l .stack) d)) (c .if2 .taken) ∙ ap (map (contextOf (l .names))) (read-none 0 unpacking (l .stack)) in
-    let left = ends-tree (contentsAt (a .file .now) (a .head)) (a .roles .now) (l .i) (contextOf (l .names) (l .here)) _ (l .first) (l .roles) (l .here .assigned) (n .result) (l .inv .0) (omega (arith, nodes-held (a .file .now) (a .head), c .before .before .before .before .loop-test .taken)) (n .ensures) (c .before .before .match .keys1) (l .inv .7 .0) (l .inv .11) in
-    let over = runs-out (contentsAt (a .file .now) (a .head)) (a .roles .now) (l .i + 1) (l .first) (set (l .roles) (l .i) (l .here .assigned)) (subst (λ (x : List Context). Left (contentsAt (a .file .now) (a .head)) (a .roles .now) (l .i + 1) x (l .first) (set (l .roles) (l .i) (l .here .assigned))) st left) in
+    let left = ends-tree (contentsAt (a .file .now) (a .head)) (a .roles .now) (l .i + 1) (contextOf (l .names) (l .here)) _ (l .first) (l .roles) (l .here .assigned) (n .result) (l .inv .0) (omega (arith, nodes-held (a .file .now) (a .head), c .before .before .before .before .loop-test .taken)) (n .ensures) (c .before .before .match .keys1) (l .inv .7 .0) (l .inv .11) in
+    let over = runs-out (contentsAt (a .file .now) (a .head)) (a .roles .now) (l .i + 1 + 1) (l .first) (set (l .roles) (l .i + 1) (l .here .assigned)) (subst (λ (x : List Context). Left (contentsAt (a .file .now) (a .head)) (a .roles .now) (l .i + 1 + 1) x (l .first) (set (l .roles) (l .i + 1) (l .here .assigned))) st left) in
     (over .0, ap (λ j. set (l .roles) j (l .here .assigned)) (c .before .wide .ensures .0) ∙ over .1)
 
 sub-depth-2 : tie.Need-sub-depth-2 Inv-loop μ-loop
@@ -173,8 +173,8 @@ loop-again c =
     let top : waiting (l .stack) (l .depth) ≡ p ∷ waiting (l .stack) (l .depth - 1) =
     read-top 0 unpacking (l .stack) (l .depth) pos ∙ ap (λ (q : Point). q ∷ waiting (l .stack) (l .depth - 1)) (sym (c .unpacked2 .ensures)) in
     let w : Waits (Given D) (l .here .bound) (p ∷ waiting (l .stack) (l .depth - 1)) = subst (λ (ps : List Point). Waits (Given D) (l .here .bound) ps) top (l .inv .10) in
-    let left = ends-tree (contentsAt (a .file .now) (a .head)) (a .roles .now) (l .i) (contextOf (l .names) (l .here)) _ (l .first) (l .roles) (l .here .assigned) (n .result) (l .inv .0) (omega (arith, nodes-held (a .file .now) (a .head), c .before .before .before .before .before .before .loop-test .taken)) (n .ensures) (c .before .before .before .before .match .keys1) (l .inv .7 .0) (l .inv .11) in
-    let at : c .before .before .before .wide .result ≡ l .i = c .before .before .before .wide .ensures .0 in (
+    let left = ends-tree (contentsAt (a .file .now) (a .head)) (a .roles .now) (l .i + 1) (contextOf (l .names) (l .here)) _ (l .first) (l .roles) (l .here .assigned) (n .result) (l .inv .0) (omega (arith, nodes-held (a .file .now) (a .head), c .before .before .before .before .before .before .loop-test .taken)) (n .ensures) (c .before .before .before .before .match .keys1) (l .inv .7 .0) (l .inv .11) in
+    let at : c .before .before .before .wide .result ≡ l .i + 1 = c .before .before .before .wide .ensures .0 in (
       omega arith,
       omega arith,
       l .inv .2,
@@ -186,8 +186,8 @@ loop-again c =
       l .inv .8,
       held-less (l .names) (l .here .bound) (p .bound) (w .0) (l .inv .9),
       w .2,
-      subst (λ j. Left (contentsAt (a .file .now) (a .head)) (a .roles .now) (l .i + 1) (contextOf (l .names) p ∷ map (contextOf (l .names)) (waiting (l .stack) (l .depth - 1))) (l .first) (set (l .roles) j (l .here .assigned))) (sym at)
-          (subst (λ (ps : List Point). Left (contentsAt (a .file .now) (a .head)) (a .roles .now) (l .i + 1) (map (contextOf (l .names)) ps) (l .first) (set (l .roles) (l .i) (l .here .assigned))) top left),
+      subst (λ j. Left (contentsAt (a .file .now) (a .head)) (a .roles .now) (l .i + 1 + 1) (contextOf (l .names) p ∷ map (contextOf (l .names)) (waiting (l .stack) (l .depth - 1))) (l .first) (set (l .roles) j (l .here .assigned))) (sym at)
+          (subst (λ (ps : List Point). Left (contentsAt (a .file .now) (a .head)) (a .roles .now) (l .i + 1 + 1) (map (contextOf (l .names)) ps) (l .first) (set (l .roles) (l .i + 1) (l .here .assigned))) top left),
     )
 
 wide-requires-2 : tie.Need-wide-requires-2 Inv-loop μ-loop
@@ -223,8 +223,8 @@ loop-again-2 c =
     let room : l .depth < length (l .stack) = omega (arith, l .inv .5, l .inv .2, c .before .before .before .before .loop-test .taken, c .before .before .before .before .before .before .before .before .before .before .before .before .before .before .before .before .before .before .before .pre .6) in
     let push : waiting (set (l .stack) (l .depth) (c .packed .result)) (l .depth + 1) ≡ l .here ∷ waiting (l .stack) (l .depth) =
     read-push 0 unpacking (l .stack) (l .depth) (c .packed .result) (l .here) room (c .packed .ensures .1) in
-    let left = forks (contentsAt (a .file .now) (a .head)) (a .roles .now) (l .i) (contextOf (l .names) (l .here)) (map (contextOf (l .names)) (waiting (l .stack) (l .depth))) (l .first) (l .roles) (l .here .assigned) (n .result) (l .inv .0) (omega (arith, nodes-held (a .file .now) (a .head), c .before .before .before .before .loop-test .taken)) (n .ensures) (c .before .before .match .keys2) (l .inv .7 .0) (l .inv .11) in
-    let at : c .before .wide2 .result ≡ l .i = c .before .wide2 .ensures .0 in (
+    let left = forks (contentsAt (a .file .now) (a .head)) (a .roles .now) (l .i + 1) (contextOf (l .names) (l .here)) (map (contextOf (l .names)) (waiting (l .stack) (l .depth))) (l .first) (l .roles) (l .here .assigned) (n .result) (l .inv .0) (omega (arith, nodes-held (a .file .now) (a .head), c .before .before .before .before .loop-test .taken)) (n .ensures) (c .before .before .match .keys2) (l .inv .7 .0) (l .inv .11) in
+    let at : c .before .wide2 .result ≡ l .i + 1 = c .before .wide2 .ensures .0 in (
       omega arith,
       omega arith,
       simp length-set (l .inv .2),
@@ -236,8 +236,8 @@ loop-again-2 c =
       l .inv .8,
       l .inv .9,
       waits-push unpacking (Given D) (l .here .bound) (l .stack) (l .depth) (c .packed .result) (l .here) room (c .packed .ensures .1) (omega arith) (l .inv .7) (l .inv .10),
-      subst (λ j. Left (contentsAt (a .file .now) (a .head)) (a .roles .now) (l .i + 1) (contextOf (l .names) (l .here) ∷ map (contextOf (l .names)) (waiting (set (l .stack) (l .depth) (c .packed .result)) (l .depth + 1))) (l .first) (set (l .roles) j (l .here .assigned))) (sym at)
-          (subst (λ (ps : List Point). Left (contentsAt (a .file .now) (a .head)) (a .roles .now) (l .i + 1) (contextOf (l .names) (l .here) ∷ map (contextOf (l .names)) ps) (l .first) (set (l .roles) (l .i) (l .here .assigned))) (sym push) left),
+      subst (λ j. Left (contentsAt (a .file .now) (a .head)) (a .roles .now) (l .i + 1 + 1) (contextOf (l .names) (l .here) ∷ map (contextOf (l .names)) (waiting (set (l .stack) (l .depth) (c .packed .result)) (l .depth + 1))) (l .first) (set (l .roles) j (l .here .assigned))) (sym at)
+          (subst (λ (ps : List Point). Left (contentsAt (a .file .now) (a .head)) (a .roles .now) (l .i + 1 + 1) (contextOf (l .names) (l .here) ∷ map (contextOf (l .names)) ps) (l .first) (set (l .roles) (l .i + 1) (l .here .assigned))) (sym push) left),
     )
 
 step-at-requires : tie.Need-step-at-requires Inv-loop μ-loop
@@ -266,7 +266,7 @@ returns-3 c =
     let n = c .before .before .before .before .before .before .node in
     let s = c .before .before .before .step-at .result in
     let right = right-at (c .before .before .before) in
-    let over = refuses (contentsAt (a .file .now) (a .head)) (a .roles .now) (l .i) (contextOf (l .names) (l .here)) _ (l .first) (l .roles) (s .wrong) (n .result) (l .inv .0) (omega (arith, nodes-held (a .file .now) (a .head), c .before .before .before .before .before .before .before .loop-test .taken)) (n .ensures) (right .wrong) (c .before .if3 .taken) (l .inv .11) in
+    let over = refuses (contentsAt (a .file .now) (a .head)) (a .roles .now) (l .i + 1) (contextOf (l .names) (l .here)) _ (l .first) (l .roles) (s .wrong) (n .result) (l .inv .0) (omega (arith, nodes-held (a .file .now) (a .head), c .before .before .before .before .before .before .before .loop-test .taken)) (n .ensures) (right .wrong) (c .before .if3 .taken) (l .inv .11) in
     (ap (λ (x : Verdict). record { names = x; roles = fine }) (c .answer-at .ensures) ∙ over .0, over .1)
 
 answer-at-requires-2 : tie.Need-answer-at-requires-2 Inv-loop μ-loop
@@ -311,13 +311,13 @@ loop-again-3 c =
     let goes = right .goes good in
     let few : l .here .bound < 1024 = omega (arith, l .inv .6, c .before .before .before .before .before .before .before .before .before .before .before .loop-test .taken, c .before .before .before .before .before .before .before .before .before .before .before .before .before .before .before .before .before .before .before .before .before .before .before .before .before .before .pre .0 .nodes) in
     let t = set (l .names) (512 + l .here .bound) (s .binding) in
-    let at : c .before .before .wide3 .result ≡ l .i = c .before .before .wide3 .ensures .0 in
+    let at : c .before .before .wide3 .result ≡ l .i + 1 = c .before .before .wide3 .ensures .0 in
     let to : 512 + c .before .wide4 .result ≡ 512 + l .here .bound = ap (λ k. 512 + k) (c .before .wide4 .ensures .0) in
     let same : l .here .bound ≤ l .here .bound = omega arith in
     let rest = contexts-kept (Given D) (l .names) (l .here .bound) (s .binding) (l .here .bound) (waiting (l .stack) (l .depth)) same (l .inv .10) in
     let next = after-step D (contextOf (l .names) (l .here)) (n .result) (map (contextOf (l .names)) (waiting (l .stack) (l .depth))) (c .before .before .before .before .before .before .before .before .before .match .rest .0 .1) (c .before .before .before .before .before .before .before .before .before .match .rest .1) (goes .child) rest in
-    let first : c .before .before .before .or-else .result ≡ orElse (l .first) (answerAt (s .barred) (l .i)) = c .before .before .before .or-else .ensures ∙ ap (orElse (l .first)) (c .before .before .before .before .answer-at2 .ensures) in
-    let left = goes-on (contentsAt (a .file .now) (a .head)) (a .roles .now) (l .i) (contextOf (l .names) (l .here)) (map (contextOf (l .names)) (waiting (l .stack) (l .depth))) _ (l .first) (l .roles) (s .barred) (s .roles) (n .result) (l .inv .0) (omega (arith, nodes-held (a .file .now) (a .head), c .before .before .before .before .before .before .before .before .before .before .before .loop-test .taken)) (n .ensures)
+    let first : c .before .before .before .or-else .result ≡ orElse (l .first) (answerAt (s .barred) (l .i + 1)) = c .before .before .before .or-else .ensures ∙ ap (orElse (l .first)) (c .before .before .before .before .answer-at2 .ensures) in
+    let left = goes-on (contentsAt (a .file .now) (a .head)) (a .roles .now) (l .i + 1) (contextOf (l .names) (l .here)) (map (contextOf (l .names)) (waiting (l .stack) (l .depth))) _ (l .first) (l .roles) (s .barred) (s .roles) (n .result) (l .inv .0) (omega (arith, nodes-held (a .file .now) (a .head), c .before .before .before .before .before .before .before .before .before .before .before .loop-test .taken)) (n .ensures)
     (sym (right .wrong) ∙ good) (goes .barred) (goes .roles) next (l .inv .11) in
     rw (to) (
       omega arith,
@@ -347,7 +347,7 @@ returns-4 : tie.Need-returns-4 Inv-loop μ-loop
 returns-4 c =
     let a = c .before .before .before .before .before .before .before .before .before .before .before .before .before .before .before .args in
     let l = c .before .loop in
-    ends (contentsAt (a .file .now) (a .head)) (a .roles .now) (l .i) _ (l .first) (l .roles) (omega (arith, nodes-held (a .file .now) (a .head), c .loop-test .left)) (l .inv .11)
+    ends (contentsAt (a .file .now) (a .head)) (a .roles .now) (l .i + 1) _ (l .first) (l .roles) (omega (arith, nodes-held (a .file .now) (a .head), c .loop-test .left)) (l .inv .11)
 
 pub walk-spec : {M : Type 1} → statement M
 walk-spec =
@@ -363,8 +363,8 @@ walk-spec =
     slice-read-unpacked
     unpacked-requires
     loop-holds
-    node-requires
     add-i
+    node-requires
     wide-requires
     mul-roles
     slice-write-roles

@@ -16,7 +16,7 @@ use Rattle.steps.proofs.act.act.Tie as tie
 use Rattle.steps.proofs.act.act.Reads as reads
 use Rattle.steps.proofs.act.act.Lts as lts
 use Rattle.format.proofs.sections.in_count.Reads as in-count-reads
-use Rattle.format.proofs.sections.node.Reads as node-reads
+use Rattle.format.proofs.sections.single_node.Reads as single-node-reads
 use Rattle.steps.proofs.act.refused.Reads as refused-reads
 use Rattle.steps.proofs.act.send.Reads as send-reads
 use Rattle.steps.proofs.act.step.Reads as step-reads
@@ -39,8 +39,8 @@ returns c =
     let a = c .before .before .before .before .before .before .before .args in
     answered (acting-out (clinicOf (contentsAt (a .file .now) (a .head))) (getD (a .beside .now) 0 0) (madeIn (a .beside .now) 2 (getD (a .beside .now) 1 0)) (a .own) (a .partner) (a .other) (counted (c .before .before) (not-true _ (c .before .if1 .taken)))) (c .refused .ensures)
 
-node-requires : tie.Need-node-requires
-node-requires c κs = search needs
+single-node-requires : tie.Need-single-node-requires
+single-node-requires c κs = search needs
 
 send-requires : tie.Need-send-requires
 send-requires c κs =
@@ -52,7 +52,7 @@ send-requires c κs =
 returns-2 : tie.Need-returns-2
 returns-2 c =
     let a = c .before .before .before .before .before .before .before .before .before .before .args in
-    answered (acting-send (clinicOf (contentsAt (a .file .now) (a .head))) (getD (a .beside .now) 0 0) (madeIn (a .beside .now) 2 (getD (a .beside .now) 1 0)) (a .own) (a .partner) (a .other) (c .before .before .before .node .result) (c .before .before .before .node .ensures) (counted (c .before .before .before .before .before) (not-false _ (c .before .before .before .before .if1 .left))) (c .before .if2 .taken)) (c .send .ensures)
+    answered (acting-send (clinicOf (contentsAt (a .file .now) (a .head))) (getD (a .beside .now) 0 0) (madeIn (a .beside .now) 2 (getD (a .beside .now) 1 0)) (a .own) (a .partner) (a .other) (c .before .before .before .single-node .result) (c .before .before .before .single-node .ensures) (counted (c .before .before .before .before .before) (not-false _ (c .before .before .before .before .if1 .left))) (c .before .if2 .taken)) (c .send .ensures)
 
 refused-requires-2 : tie.Need-refused-requires-2
 refused-requires-2 c κs = search needs
@@ -60,7 +60,7 @@ refused-requires-2 c κs = search needs
 returns-3 : tie.Need-returns-3
 returns-3 c =
     let a = c .before .before .before .before .before .before .before .before .before .before .before .before .args in
-    answered (acting-receive (clinicOf (contentsAt (a .file .now) (a .head))) (getD (a .beside .now) 0 0) (madeIn (a .beside .now) 2 (getD (a .beside .now) 1 0)) (a .own) (a .partner) (a .other) (c .before .before .before .before .before .node .result) (c .before .before .before .before .before .node .ensures) (counted (c .before .before .before .before .before .before .before) (not-false _ (c .before .before .before .before .before .before .if1 .left))) (c .before .if3 .taken)) (c .refused2 .ensures)
+    answered (acting-receive (clinicOf (contentsAt (a .file .now) (a .head))) (getD (a .beside .now) 0 0) (madeIn (a .beside .now) 2 (getD (a .beside .now) 1 0)) (a .own) (a .partner) (a .other) (c .before .before .before .before .before .single-node .result) (c .before .before .before .before .before .single-node .ensures) (counted (c .before .before .before .before .before .before .before) (not-false _ (c .before .before .before .before .before .before .if1 .left))) (c .before .if3 .taken)) (c .refused2 .ensures)
 
 refused-requires-3 : tie.Need-refused-requires-3
 refused-requires-3 c κs = search needs
@@ -68,7 +68,7 @@ refused-requires-3 c κs = search needs
 returns-4 : tie.Need-returns-4
 returns-4 c =
     let a = c .before .before .before .before .before .before .before .before .before .before .before .before .before .args in
-    answered (acting-partner (clinicOf (contentsAt (a .file .now) (a .head))) (getD (a .beside .now) 0 0) (madeIn (a .beside .now) 2 (getD (a .beside .now) 1 0)) (a .own) (a .partner) (a .other) (c .before .before .before .before .before .before .node .result) (c .before .before .before .before .before .before .node .ensures) (counted (c .before .before .before .before .before .before .before .before) (not-false _ (c .before .before .before .before .before .before .before .if1 .left))) (c .before .before .before .before .if2 .left) (c .before .before .if3 .left) (c .before .if4 .taken)) (c .refused3 .ensures)
+    answered (acting-partner (clinicOf (contentsAt (a .file .now) (a .head))) (getD (a .beside .now) 0 0) (madeIn (a .beside .now) 2 (getD (a .beside .now) 1 0)) (a .own) (a .partner) (a .other) (c .before .before .before .before .before .before .single-node .result) (c .before .before .before .before .before .before .single-node .ensures) (counted (c .before .before .before .before .before .before .before .before) (not-false _ (c .before .before .before .before .before .before .before .if1 .left))) (c .before .before .before .before .if2 .left) (c .before .before .if3 .left) (c .before .if4 .taken)) (c .refused3 .ensures)
 
 thread-count-requires : tie.Need-thread-count-requires
 thread-count-requires c κs = search needs
@@ -86,7 +86,7 @@ step-requires c κs =
 returns-5 : tie.Need-returns-5
 returns-5 c =
     let a = c .before .before .before .before .before .before .before .before .before .before .before .before .before .before .before .args in
-    answered (acting-lone (clinicOf (contentsAt (a .file .now) (a .head))) (getD (a .beside .now) 0 0) (madeIn (a .beside .now) 2 (getD (a .beside .now) 1 0)) (a .own) (a .partner) (a .other) (c .before .before .before .before .before .before .before .before .node .result) (getD (a .beside .now) 1 0) (c .before .before .before .before .before .before .before .before .node .ensures) (length-made (a .beside .now) 2 (getD (a .beside .now) 1 0)) (counted (c .before .before .before .before .before .before .before .before .before .before) (not-false _ (c .before .before .before .before .before .before .before .before .before .if1 .left))) (c .before .before .before .before .before .before .if2 .left) (c .before .before .before .before .if3 .left) (c .before .before .before .if4 .left)) (c .step .ensures ∙ ap₂ (λ (n m : ℕ). actedOf (lone (clinicOf (contentsAt (a .file .now) (a .head))) n m (a .own) (c .before .before .before .before .before .before .before .before .node .result))) (c .before .before .thread-count .ensures) (c .before .made-count .ensures))
+    answered (acting-lone (clinicOf (contentsAt (a .file .now) (a .head))) (getD (a .beside .now) 0 0) (madeIn (a .beside .now) 2 (getD (a .beside .now) 1 0)) (a .own) (a .partner) (a .other) (c .before .before .before .before .before .before .before .before .single-node .result) (getD (a .beside .now) 1 0) (c .before .before .before .before .before .before .before .before .single-node .ensures) (length-made (a .beside .now) 2 (getD (a .beside .now) 1 0)) (counted (c .before .before .before .before .before .before .before .before .before .before) (not-false _ (c .before .before .before .before .before .before .before .before .before .if1 .left))) (c .before .before .before .before .before .before .if2 .left) (c .before .before .before .before .if3 .left) (c .before .before .before .if4 .left)) (c .step .ensures ∙ ap₂ (λ (n m : ℕ). actedOf (lone (clinicOf (contentsAt (a .file .now) (a .head))) n m (a .own) (c .before .before .before .before .before .before .before .before .single-node .result))) (c .before .before .thread-count .ensures) (c .before .made-count .ensures))
 
 pub act-spec : {M : Type 1} → statement M
 act-spec =
@@ -95,7 +95,7 @@ act-spec =
     in-count-requires
     refused-requires
     returns
-    node-requires
+    single-node-requires
     send-requires
     returns-2
     refused-requires-2

@@ -14,7 +14,7 @@ use Rattle.steps.proofs.act.send.Tie as tie
 use Rattle.steps.proofs.act.send.Reads as reads
 use Rattle.steps.proofs.act.send.Lts as lts
 use Rattle.format.proofs.sections.in_count.Reads as in-count-reads
-use Rattle.format.proofs.sections.node.Reads as node-reads
+use Rattle.format.proofs.sections.single_node.Reads as single-node-reads
 use Rattle.steps.proofs.act.meets.Reads as meets-reads
 use Rattle.steps.proofs.act.refused.Reads as refused-reads
 use Rattle.steps.proofs.beside.thread_count.Reads as thread-count-reads
@@ -54,8 +54,8 @@ returns-3 c =
     let a = c .before .before .before .before .before .before .before .before .before .before .args in
     answered (sending-out (clinicOf (contentsAt (a .file .now) (a .head))) (madeIn (a .beside .now) 2 (getD (a .beside .now) 1 0)) (a .own) (a .it) (getD (a .beside .now) 0 0) (a .partner) (a .other) (c .before .before .before .before .before .if1 .left) (omega (arith, c .before .before .before .if2 .left, c .before .before .before .before .thread-count .ensures)) (counted (c .before .before) (not-true _ (c .before .if3 .taken)))) (c .refused3 .ensures)
 
-node-requires : tie.Need-node-requires
-node-requires c κs = search needs
+single-node-requires : tie.Need-single-node-requires
+single-node-requires c κs = search needs
 
 refused-requires-4 : tie.Need-refused-requires-4
 refused-requires-4 c κs = search needs
@@ -63,7 +63,7 @@ refused-requires-4 c κs = search needs
 returns-4 : tie.Need-returns-4
 returns-4 c =
     let a = c .before .before .before .before .before .before .before .before .before .before .before .before .before .args in
-    answered (sending-elsewhere (clinicOf (contentsAt (a .file .now) (a .head))) (madeIn (a .beside .now) 2 (getD (a .beside .now) 1 0)) (a .own) (a .it) (getD (a .beside .now) 0 0) (a .partner) (a .other) (c .before .before .before .node .result) (c .before .before .before .node .ensures) (c .before .before .before .before .before .before .before .before .if1 .left) (omega (arith, c .before .before .before .before .before .before .if2 .left, c .before .before .before .before .before .before .before .thread-count .ensures)) (counted (c .before .before .before .before .before) (not-false _ (c .before .before .before .before .if3 .left))) (c .before .if4 .taken)) (c .refused4 .ensures)
+    answered (sending-elsewhere (clinicOf (contentsAt (a .file .now) (a .head))) (madeIn (a .beside .now) 2 (getD (a .beside .now) 1 0)) (a .own) (a .it) (getD (a .beside .now) 0 0) (a .partner) (a .other) (c .before .before .before .single-node .result) (c .before .before .before .single-node .ensures) (c .before .before .before .before .before .before .before .before .if1 .left) (omega (arith, c .before .before .before .before .before .before .if2 .left, c .before .before .before .before .before .before .before .thread-count .ensures)) (counted (c .before .before .before .before .before) (not-false _ (c .before .before .before .before .if3 .left))) (c .before .if4 .taken)) (c .refused4 .ensures)
 
 meets-requires : tie.Need-meets-requires
 meets-requires c κs =
@@ -75,7 +75,7 @@ meets-requires c κs =
 returns-5 : tie.Need-returns-5
 returns-5 c =
     let a = c .before .before .before .before .before .before .before .before .before .before .before .before .before .args in
-    answered (sending-received (clinicOf (contentsAt (a .file .now) (a .head))) (madeIn (a .beside .now) 2 (getD (a .beside .now) 1 0)) (a .own) (a .it) (getD (a .beside .now) 0 0) (a .partner) (a .other) (c .before .before .before .node .result) (c .before .before .before .node .ensures) (c .before .before .before .before .before .before .before .before .if1 .left) (omega (arith, c .before .before .before .before .before .before .if2 .left, c .before .before .before .before .before .before .before .thread-count .ensures)) (counted (c .before .before .before .before .before) (not-false _ (c .before .before .before .before .if3 .left))) (c .before .if4 .left)) (c .meets .ensures)
+    answered (sending-received (clinicOf (contentsAt (a .file .now) (a .head))) (madeIn (a .beside .now) 2 (getD (a .beside .now) 1 0)) (a .own) (a .it) (getD (a .beside .now) 0 0) (a .partner) (a .other) (c .before .before .before .single-node .result) (c .before .before .before .single-node .ensures) (c .before .before .before .before .before .before .before .before .if1 .left) (omega (arith, c .before .before .before .before .before .before .if2 .left, c .before .before .before .before .before .before .before .thread-count .ensures)) (counted (c .before .before .before .before .before) (not-false _ (c .before .before .before .before .if3 .left))) (c .before .if4 .left)) (c .meets .ensures)
 
 pub send-spec : {M : Type 1} → statement M
 send-spec =
@@ -89,7 +89,7 @@ send-spec =
     in-count-requires
     refused-requires-3
     returns-3
-    node-requires
+    single-node-requires
     refused-requires-4
     returns-4
     meets-requires

@@ -39,11 +39,11 @@ abbrev μ-loop : tie.MeasureT-loop
 
 abbrev Inv-loop2 : tie.InvT-loop2
 Inv-loop2 file head stack₀ nodes sessions depth₀ bound₀ i₀ stack depth bound i =
-    (1 ≤ i) × (i ≤ nodes + 1) × (length stack ≡ length stack₀) × (depth + 1 ≤ sessions + i)
-    × (accepts i (drop (i - 1) (contentsAt file head .nodes)) bound (held stack depth) ≡ eqb (shapeAnswer (contentsAt file head) .number) 0)
+    (1 ≤ i + 1) × (i + 1 ≤ nodes + 1) × (length stack ≡ length stack₀) × (depth + 1 ≤ sessions + (i + 1))
+    × (accepts (i + 1) (drop (i + 1 - 1) (contentsAt file head .nodes)) bound (held stack depth) ≡ eqb (shapeAnswer (contentsAt file head) .number) 0)
 
 abbrev μ-loop2 : tie.MeasureT-loop2
-μ-loop2 file head stack₀ nodes sessions depth₀ bound₀ i₀ stack depth bound i = nodes + 1 - i
+μ-loop2 file head stack₀ nodes sessions depth₀ bound₀ i₀ stack depth bound i = nodes + 1 - (i + 1)
 
 -- two tests that both held
 both : (a b : Bool) → not (a && b) ≡ false → (a ≡ true) × (b ≡ true)
@@ -165,11 +165,11 @@ loop2-holds c =
       rw (eq-eqb (top .number) 1 one) at look,
     )
 
-node-requires : tie.Need-node-requires Inv-loop μ-loop Inv-loop2 μ-loop2
-node-requires c κs = search needs
-
 add-i : tie.Need-add-i Inv-loop μ-loop Inv-loop2 μ-loop2
 add-i c = omega arith
+
+node-requires : tie.Need-node-requires Inv-loop μ-loop Inv-loop2 μ-loop2
+node-requires c κs = search needs
 
 same-length-2 : tie.Need-same-length-2 Inv-loop μ-loop Inv-loop2 μ-loop2
 same-length-2 c = omega (arith, kept2 (c .before .before .before .before .before .before))
@@ -180,7 +180,7 @@ returns-2 c =
     let l = c .before .before .before .before .before .before .loop2 in
     let node = c .before .before .before .before .node .result in
     let ns = contentsAt (a .file .now) (a .head) .nodes in
-    sym (off-fields ns (l .i) (omega arith) (omega (arith, nodes-held (a .file .now) (a .head))) node (c .before .before .before .before .node .ensures) (l .bound) (held (l .stack) (l .depth)) (c .before .before .before .match .keys1) (not-true (eqb (node .f1) 0 && eqb (node .f2) 0) (c .if2 .taken))) ∙ l .inv .4
+    sym (off-fields ns (l .i + 1) (omega arith) (omega (arith, nodes-held (a .file .now) (a .head))) node (c .before .before .before .before .node .ensures) (l .bound) (held (l .stack) (l .depth)) (c .before .before .before .match .keys1) (not-true (eqb (node .f1) 0 && eqb (node .f2) 0) (c .if2 .taken))) ∙ l .inv .4
 
 same-length-3 : tie.Need-same-length-3 Inv-loop μ-loop Inv-loop2 μ-loop2
 same-length-3 c = omega (arith, kept2 (c .before .before .before .before .before .before .before))
@@ -193,7 +193,7 @@ returns-3 c =
     let ns = contentsAt (a .file .now) (a .head) .nodes in
     let zeros = both (eqb (node .f1) 0) (eqb (node .f2) 0) (c .before .if2 .left) in
     let empty : held (l .stack) (l .depth) ≡ [] = ap (held (l .stack)) (c .if3 .taken) ∙ read-none 0 unpack (l .stack) in
-    sym (ap (accepts (l .i) (drop (l .i - 1) ns) (l .bound)) empty ∙ off-none ns (l .i) (omega arith) (omega (arith, nodes-held (a .file .now) (a .head))) node (c .before .before .before .before .before .node .ensures) (l .bound) (c .before .before .before .before .match .keys1) (eqb-true _ _ (zeros .0)) (eqb-true _ _ (zeros .1))) ∙ l .inv .4
+    sym (ap (accepts (l .i + 1) (drop (l .i + 1 - 1) ns) (l .bound)) empty ∙ off-none ns (l .i + 1) (omega arith) (omega (arith, nodes-held (a .file .now) (a .head))) node (c .before .before .before .before .before .node .ensures) (l .bound) (c .before .before .before .before .match .keys1) (eqb-true _ _ (zeros .0)) (eqb-true _ _ (zeros .1))) ∙ l .inv .4
 
 sub-depth : tie.Need-sub-depth Inv-loop μ-loop Inv-loop2 μ-loop2
 sub-depth c = omega arith
@@ -207,6 +207,9 @@ slice-read-next c = omega (arith, kept2 (c .before .before .before .before .befo
 named-requires-2 : tie.Need-named-requires-2 Inv-loop μ-loop Inv-loop2 μ-loop2
 named-requires-2 c κs = omega arith
 
+add-if4 : tie.Need-add-if4 Inv-loop μ-loop Inv-loop2 μ-loop2
+add-if4 c = omega arith
+
 same-length-4 : tie.Need-same-length-4 Inv-loop μ-loop Inv-loop2 μ-loop2
 same-length-4 c = omega (arith, kept2 (c .before .before .before .before .before .before .before .before .before .before))
 
@@ -219,8 +222,8 @@ returns-4 c =
     let zeros = both (eqb (node .f1) 0) (eqb (node .f2) 0) (c .before .before .before .before .if2 .left) in
     let w = unpack (getD (l .stack) (l .depth - 1) 0) in
     let pos : 0 < l .depth = omega arith in
-    sym (ap (accepts (l .i) (drop (l .i - 1) ns) (l .bound)) (read-top 0 unpack (l .stack) (l .depth) pos)
-    ∙ off-number ns (l .i) (omega arith) (omega (arith, nodes-held (a .file .now) (a .head))) node (c .before .before .before .before .before .before .before .before .node .ensures) (l .bound) w (held (l .stack) (l .depth - 1)) (c .before .before .before .before .before .before .before .match .keys1) (eqb-true _ _ (zeros .0)) (eqb-true _ _ (zeros .1)) (λ e. c .if4 .taken (c .before .named2 .ensures ∙ e))) ∙ l .inv .4
+    sym (ap (accepts (l .i + 1) (drop (l .i + 1 - 1) ns) (l .bound)) (read-top 0 unpack (l .stack) (l .depth) pos)
+    ∙ off-number ns (l .i + 1) (omega arith) (omega (arith, nodes-held (a .file .now) (a .head))) node (c .before .before .before .before .before .before .before .before .node .ensures) (l .bound) w (held (l .stack) (l .depth - 1)) (c .before .before .before .before .before .before .before .match .keys1) (eqb-true _ _ (zeros .0)) (eqb-true _ _ (zeros .1)) (λ e. c .if4 .taken (c .before .named2 .ensures ∙ e))) ∙ l .inv .4
 
 bound-above-requires : tie.Need-bound-above-requires Inv-loop μ-loop Inv-loop2 μ-loop2
 bound-above-requires c κs = omega arith
@@ -233,18 +236,18 @@ loop2-again c =
     let a = c .before .before .before .before .before .before .before .before .before .before .before .before .before .before .before .before .before .before .before .before .before .args in
     let l = c .before .before .before .before .before .before .before .before .before .before .before .loop2 in
     let node = c .before .before .before .before .before .before .before .before .before .node .result in
-    let law = on-end (contentsAt (a .file .now) (a .head) .nodes) (l .i) (omega arith) (omega (arith, nodes-held (a .file .now) (a .head))) node (c .before .before .before .before .before .before .before .before .before .node .ensures) in
+    let law = on-end (contentsAt (a .file .now) (a .head) .nodes) (l .i + 1) (omega arith) (omega (arith, nodes-held (a .file .now) (a .head))) node (c .before .before .before .before .before .before .before .before .before .node .ensures) in
     let w = unpack (getD (l .stack) (l .depth - 1) 0) in
     let zeros = both (eqb (node .f1) 0) (eqb (node .f2) 0) (c .before .before .before .before .before .if2 .left) in
     let pos : 0 < l .depth = omega arith in
-    let number : w .number ≡ l .i + 1 = sym (c .before .before .named2 .ensures) ∙ c .before .if4 .left in (
+    let number : w .number ≡ l .i + 1 + 1 = sym (c .before .before .named2 .ensures) ∙ c .before .if4 .left in (
       omega arith,
       omega arith,
       l .inv .2,
       omega arith,
       rw (c .bound-above .ensures)
           (law (l .bound) w (held (l .stack) (l .depth - 1)) (c .before .before .before .before .before .before .before .before .match .keys1) (eqb-true _ _ (zeros .0)) (eqb-true _ _ (zeros .1)) number
-          ∙ sym (ap (accepts (l .i) (drop (l .i - 1) (contentsAt (a .file .now) (a .head) .nodes)) (l .bound)) (read-top 0 unpack (l .stack) (l .depth) pos)) ∙ l .inv .4),
+          ∙ sym (ap (accepts (l .i + 1) (drop (l .i + 1 - 1) (contentsAt (a .file .now) (a .head) .nodes)) (l .bound)) (read-top 0 unpack (l .stack) (l .depth) pos)) ∙ l .inv .4),
     )
 
 same-length-5 : tie.Need-same-length-5 Inv-loop μ-loop Inv-loop2 μ-loop2
@@ -256,7 +259,7 @@ returns-5 c =
     let l = c .before .before .before .before .before .loop2 in
     let node = c .before .before .before .node .result in
     let ns = contentsAt (a .file .now) (a .head) .nodes in
-    sym (off-fork ns (l .i) (omega arith) (omega (arith, nodes-held (a .file .now) (a .head))) node (c .before .before .before .node .ensures) (l .bound) (held (l .stack) (l .depth)) (c .before .before .match .keys2) (c .if5 .taken)) ∙ l .inv .4
+    sym (off-fork ns (l .i + 1) (omega arith) (omega (arith, nodes-held (a .file .now) (a .head))) node (c .before .before .before .node .ensures) (l .bound) (held (l .stack) (l .depth)) (c .before .before .match .keys2) (c .if5 .taken)) ∙ l .inv .4
 
 paired-requires-3 : tie.Need-paired-requires-3 Inv-loop μ-loop Inv-loop2 μ-loop2
 paired-requires-3 c κs = omega arith
@@ -278,7 +281,7 @@ loop2-again-2 c =
     let a = c .before .before .before .before .before .before .before .before .before .before .before .before .before .before .before .before .args in
     let l = c .before .before .before .before .before .before .loop2 in
     let node = c .before .before .before .before .node .result in
-    let law = on-fork (contentsAt (a .file .now) (a .head) .nodes) (l .i) (omega arith) (omega (arith, nodes-held (a .file .now) (a .head))) node (c .before .before .before .before .node .ensures) in
+    let law = on-fork (contentsAt (a .file .now) (a .head) .nodes) (l .i + 1) (omega arith) (omega (arith, nodes-held (a .file .now) (a .head))) node (c .before .before .before .before .node .ensures) in
     let room : l .depth < length (l .stack) = omega (arith, kept2 (c .before .before .before .before .before .before)) in
     let pushed : held (set (l .stack) (l .depth) (c .paired3 .result)) (l .depth + 1) ≡ waiting (node .f1) (l .bound) ∷ held (l .stack) (l .depth) =
     ap (λ v. held (set (l .stack) (l .depth) v) (l .depth + 1)) (c .paired3 .ensures) ∙ held-push (l .stack) (l .depth) (node .f1) (l .bound) room (omega arith) in (
@@ -302,14 +305,14 @@ returns-6 c =
     let node = c .before .before .before .node .result in
     let ns = contentsAt (a .file .now) (a .head) .nodes in
     let m = c .before .before .match .rest in
-    sym (off-other ns (l .i) (omega arith) (omega (arith, nodes-held (a .file .now) (a .head))) node (c .before .before .before .node .ensures) (l .bound) (held (l .stack) (l .depth)) (m .0 .1) (m .1) (sym (c .before .goes-on .ensures) ∙ not-true (c .before .goes-on .result) (c .if6 .taken))) ∙ l .inv .4
+    sym (off-other ns (l .i + 1) (omega arith) (omega (arith, nodes-held (a .file .now) (a .head))) node (c .before .before .before .node .ensures) (l .bound) (held (l .stack) (l .depth)) (m .0 .1) (m .1) (sym (c .before .goes-on .ensures) ∙ not-true (c .before .goes-on .result) (c .if6 .taken))) ∙ l .inv .4
 
 bound-below-requires : tie.Need-bound-below-requires Inv-loop μ-loop Inv-loop2 μ-loop2
 bound-below-requires c κs =
     let a = c .before .before .before .before .before .before .before .before .before .before .before .before .before .before .before .args in
     let l = c .before .before .before .before .before .loop2 in
     let node = c .before .before .before .node .result in
-    has-room (contentsAt (a .file .now) (a .head) .nodes) (l .i) (omega arith) (omega (arith, nodes-held (a .file .now) (a .head))) node (c .before .before .before .node .ensures) (l .bound)
+    has-room (contentsAt (a .file .now) (a .head) .nodes) (l .i + 1) (omega arith) (omega (arith, nodes-held (a .file .now) (a .head))) node (c .before .before .before .node .ensures) (l .bound)
     (sym (c .before .goes-on .ensures) ∙ not-false (c .before .goes-on .result) (c .if6 .left))
 
 loop2-less-3 : tie.Need-loop2-less-3 Inv-loop μ-loop Inv-loop2 μ-loop2
@@ -321,7 +324,7 @@ loop2-again-3 c =
     let l = c .before .before .before .before .before .before .loop2 in
     let node = c .before .before .before .before .node .result in
     let m = c .before .before .before .match .rest in
-    let law = on-other (contentsAt (a .file .now) (a .head) .nodes) (l .i) (omega arith) (omega (arith, nodes-held (a .file .now) (a .head))) node (c .before .before .before .before .node .ensures) in (
+    let law = on-other (contentsAt (a .file .now) (a .head) .nodes) (l .i + 1) (omega arith) (omega (arith, nodes-held (a .file .now) (a .head))) node (c .before .before .before .before .node .ensures) in (
       omega arith,
       omega arith,
       l .inv .2,
@@ -338,7 +341,7 @@ returns-7 : tie.Need-returns-7 Inv-loop μ-loop Inv-loop2 μ-loop2
 returns-7 c =
     let a = c .before .before .before .before .before .before .before .before .before .before .before .args in
     let l = c .before .loop2 in
-    on-last (contentsAt (a .file .now) (a .head) .nodes) (l .i) (l .bound) (l .stack) (l .depth) (omega (arith, nodes-held (a .file .now) (a .head))) ∙ l .inv .4
+    on-last (contentsAt (a .file .now) (a .head) .nodes) (l .i + 1) (l .bound) (l .stack) (l .depth) (omega (arith, nodes-held (a .file .now) (a .head))) ∙ l .inv .4
 
 pub sound-by-spec : {M : Type 1} → statement M
 sound-by-spec =
@@ -368,8 +371,8 @@ sound-by-spec =
     same-length
     returns
     loop2-holds
-    node-requires
     add-i
+    node-requires
     same-length-2
     returns-2
     same-length-3
@@ -378,6 +381,7 @@ sound-by-spec =
     mul-next
     slice-read-next
     named-requires-2
+    add-if4
     same-length-4
     returns-4
     bound-above-requires
