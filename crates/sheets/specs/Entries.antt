@@ -5,6 +5,7 @@ use mathlib.Core.Bool.{cond}
 use lib.Dec.{eqb}
 use lib.ListN.{length}
 use Rattle.format.specs.Contents.{Contents, contentsOf}
+use Rattle.format.specs.declared.Session.{Session}
 use Rattle.format.specs.declared.Node.{Node}
 use Rattle.format.specs.declared.Verdict.{Verdict}
 use Rattle.trees.specs.Shape.{depthAfter}
@@ -13,7 +14,6 @@ use Rattle.states.specs.declared.Turn.{Turn}
 use Rattle.groups.specs.Groups.{onOf, onsOf}
 use Rattle.placing.specs.Placing.{labelsFrom, turnsFor, placeableBy, judging}
 use Rattle.sheets.specs.declared.Entry.{Entry}
-use Rattle.sheets.specs.declared.Span.{Span}
 
 -- The most on steps in one session, from the left over the nodes, each with its turn: the trees that are due (1 before a session's root), the on steps
 -- of the session so far, and the most so far.
@@ -23,9 +23,10 @@ mostFrom due sum most (n ∷ ns) [] = most
 mostFrom due sum most (n ∷ ns) (t ∷ ts) =
     cond (eqb (depthAfter (n .tag) due) 0) (mostFrom 1 0 (max most (sum + onOf t)) ns ts) (mostFrom (depthAfter (n .tag) due) (sum + onOf t) most ns ts)
 
--- one node, in these three numbers
-abbrev pub spanned : Span → ℕ → ℕ → Span
-spanned p due on = record { due = cond (eqb due 0) 1 due; sum = cond (eqb due 0) 0 (p .sum + on); most = cond (eqb due 0) (max (p .most) (p .sum + on)) (p .most) }
+-- where the sessions before these end: at the root of the first of them, or else at a number
+abbrev pub endBy : ℕ → List Session → ℕ
+endBy last [] = last
+endBy last (s ∷ ss) = s .root
 
 -- "A refused file adds to the files and to its refusal only"
 abbrev pub refusedAt : ℕ → Entry

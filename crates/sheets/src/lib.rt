@@ -32,13 +32,6 @@ pub struct Entry {
     pub most: u16,
 }
 
-// While sessions are read from the left: the trees that are due, the session's on steps so far, the most so far.
-pub struct Span {
-    pub due: u16,
-    pub sum: u16,
-    pub most: u16,
-}
-
 // The bytes of the record that stands at a place, with its length word; 0 if it isn't whole.
 fn size_at(input: &[u8], at: usize) -> usize
     requires { ⌜ at ≤ length (now input) ⌝ }

@@ -1,36 +1,23 @@
-// The most on steps in one session: one pass over the nodes in order, with a count of the trees that are due.
-use super::Span;
+// The most on steps in one session. Its nodes stand from its root up to the next session's, so that no tag is read and the on steps are counted without branches.
 use format::Head;
-use format::sections::node_tag;
+use format::sections::session;
 use format::words::wide;
 ghost use mathlib.Core.Path.{_≡_};
-ghost use Prim.Native.Nat.{_≤_, max};
-ghost use lib.ListN.{length};
+ghost use mathlib.Core.List.{map};
+ghost use Prim.Native.Nat.{_+_, _-_, _≤_, max};
+ghost use lib.ListN.{length, take, drop};
 ghost use Rattle.format.specs.Header.{Laid};
 ghost use Rattle.format.specs.Contents.{contentsAt};
-ghost use Rattle.trees.specs.Shape.{depthAfter};
+ghost use Rattle.reading.specs.declared.Opened.the-variants.{Fine};
+ghost use Rattle.checking.specs.Check.{entered};
 ghost use Rattle.states.specs.States.{unpacked};
-ghost use Rattle.groups.specs.Groups.{onOf, turnsIn};
-ghost use Rattle.sheets.specs.Entries.{mostFrom, spanned};
+ghost use Rattle.groups.specs.Groups.{onOf, onsOf, turnsIn};
+ghost use Rattle.sheets.specs.Entries.{mostFrom, endBy};
 
 fn larger(a: u16, b: u16) -> u16
     ensures { λ r. ⌜ r ≡ max a b ⌝ }
 {
     if a < b { b } else { a }
-}
-
-// The trees that are due after a node.
-fn due_after(tag: u16, due: u16) -> u16
-    requires { ⌜ (1 ≤ due) × (due ≤ 1025) ⌝ }
-    ensures { λ r. ⌜ r ≡ depthAfter tag due ⌝ }
-{
-    if tag == 0 {
-        return due - 1;
-    }
-    if tag == 1 {
-        return due + 1;
-    }
-    due
 }
 
 // The on steps before a node, by its turn.
@@ -42,43 +29,46 @@ fn on_before(turn: u16) -> u16
     ((from != to) & (to != 0)) as u16
 }
 
-// One node more, with the trees due after it and the on steps before it.
-fn next(p: Span, due: u16, on: u16) -> Span
-    requires { ⌜ (p .sum ≤ 1024) × (on ≤ 1) ⌝ }
-    ensures { λ r. ⌜ r ≡ spanned p due on ⌝ }
+// The on steps of the nodes from one up to another, which is not among them; each node's turn stands at its number.
+fn ons_between(turns: &[u16], at: usize, end: usize) -> u16
+    requires { ⌜ (end ≤ 1025) × (length (now turns) ≡ 1025) ⌝ }
+    ensures { λ r. ⌜ r ≡ onsOf (map unpacked (take (end - at) (drop at (now (turns .entry))))) ⌝ }
 {
-    let sum = p.sum + on;
-    if due == 0 {
-        return Span {
-            due: 1,
-            sum: 0,
-            most: larger(p.most, sum),
-        };
+    let mut ons: u16 = 0;
+    let mut i = at;
+    while i < end {
+        ons += on_before(turns[i]);
+        i += 1;
     }
-    Span {
-        due,
-        sum,
-        most: p.most,
+    ons
+}
+
+// Where the first k sessions end: at the next one's root, or after the last node.
+fn end_of(file: &[u8], head: Head, k: u16) -> usize
+    requires { ⌜ Laid (now file) head × (k ≤ head .count .sessions) ⌝ }
+    ensures { λ r. ⌜ r ≡ endBy (1 + head .count .nodes) (drop k (contentsAt (now (file .entry)) head .sessions)) ⌝ }
+{
+    if k == head.count.sessions {
+        return 1 + wide(head.count.nodes);
     }
+    let next = session(file, head, k + 1);
+    wide(next.root)
 }
 
 // Each node's turn stands at its number.
 pub fn most_in(file: &[u8], head: Head, turns: &[u16]) -> u16
-    requires { ⌜ Laid (now file) head × (length (now turns) ≡ 1025) ⌝ }
+    requires { ⌜ (entered (now file) ≡ Fine head) × (length (now turns) ≡ 1025) ⌝ }
     ensures { λ r. ⌜ r ≡ mostFrom 1 0 0 (contentsAt (now (file .entry)) head .nodes) (turnsIn (now (turns .entry)) (head .count .nodes)) ⌝ }
 {
-    let n = head.count.nodes;
-    let mut p = Span {
-        due: 1,
-        sum: 0,
-        most: 0,
-    };
-    let mut i: u16 = 0;
-    while i < n {
-        i += 1;
-        let due = due_after(node_tag(file, head, i), p.due);
-        let on = on_before(turns[wide(i)]);
-        p = next(p, due, on);
+    let count = head.count.sessions;
+    let mut most: u16 = 0;
+    let mut at: usize = 1;
+    let mut k: u16 = 0;
+    while k < count {
+        k += 1;
+        let end = end_of(file, head, k);
+        most = larger(most, ons_between(turns, at, end));
+        at = end;
     }
-    p.most
+    most
 }

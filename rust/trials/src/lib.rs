@@ -74,7 +74,7 @@ pub use schedule::{busy, crowded, largest_run, typical_run, MOST_CHOICES};
 pub use seats::{agreed_seated, compare_seats, deal_seated, largest_seated, typical_seated};
 pub use seats::{engine_round_seated, engine_run_seated, engine_seats, SeatTally, Seated};
 pub use sheets::{agreed_sheet, by_placing, compare_sheets, deal_sheet, engine_sheet};
-pub use sheets::{typical_sheet, Dealing, SheetTally};
+pub use sheets::{full_sheet, typical_sheet, Dealing, SheetTally};
 pub use starting::{agreed_start, any_lists, compare_starting, deal_start};
 pub use starting::{engine_start, StartTally};
 pub use tally::{compare, Tally};

@@ -4,7 +4,7 @@
 mod deal;
 mod tally;
 
-pub use deal::{deal_sheet, typical_sheet, Dealing};
+pub use deal::{deal_sheet, full_sheet, typical_sheet, Dealing};
 pub use tally::SheetTally;
 
 use crate::placing::engine_place;

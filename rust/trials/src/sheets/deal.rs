@@ -1,6 +1,6 @@
 //! Files in a row, by index.
 
-use crate::bare::{deal_bare, filled, small_bare, typical_bare};
+use crate::bare::{deal_bare, filled, full_bare, small_bare, typical_bare};
 use crate::deal::deal;
 use crate::rng::Rng;
 use second::cases::records;
@@ -133,6 +133,15 @@ pub fn typical_sheet(seed: u64) -> (Vec<Vec<u8>>, Vec<u8>) {
     let files: Vec<Vec<u8>> = (0..MOST_FILES as u64)
         .map(|at| typical_bare(Version::ALL[at as usize % 2], seed + at % 50))
         .collect();
+    let input = records(&files);
+    (files, input)
+}
+
+/// 1,000 files of 32 sessions with forks, ten of them in turns, whose results have
+/// 1,024 nodes, and their records.
+pub fn full_sheet(seed: u64) -> (Vec<Vec<u8>>, Vec<u8>) {
+    let ten: Vec<Vec<u8>> = (0..10).map(|more| full_bare(seed + more)).collect();
+    let files: Vec<Vec<u8>> = ten.iter().cycle().take(MOST_FILES).cloned().collect();
     let input = records(&files);
     (files, input)
 }

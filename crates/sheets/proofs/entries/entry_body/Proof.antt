@@ -87,7 +87,7 @@ slice-aggregate-most-in c = search needs
 
 -- src/entries.rt:44:15
 most-in-requires : tie.Need-most-in-requires
-most-in-requires c κs = (entered-fine (c .before .before .before .before .before .before .before .before .before .args .file .now) (c .before .before .before .before .before .before .before .before .before .args .head) (c .before .before .before .before .before .before .before .before .before .pre .0) .0, ap length (table-at (c .before)) ∙ length-sets {A = ℕ} (replicate 1025 0) 1 (map packed (turnsOf (seen (c .before)))))
+most-in-requires c κs = (c .before .before .before .before .before .before .before .before .before .pre .0, ap length (table-at (c .before)) ∙ length-sets {A = ℕ} (replicate 1025 0) 1 (map packed (turnsOf (seen (c .before)))))
 
 -- src/entries.rt:29:1
 returns-2 : tie.Need-returns-2

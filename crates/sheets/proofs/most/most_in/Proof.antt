@@ -1,120 +1,98 @@
-use Prim.Native.Nat.{ℕ, _+_, _-_, _≤_}
-use mathlib.Core.Path.{_≡_, refl, sym, ap, ap₂, _∙_, subst}
+use Prim.Native.Nat.{ℕ, _+_, _-_, _≤_, _<_, max}
+use mathlib.Core.Path.{_≡_, refl, sym, ap, _∙_, subst}
+use mathlib.Core.List.{List}
 use native.Mathlib.Omega.{arith}
-use lib.ListN.{getD, drop}
+use lib.ListN.{length, drop}
 use borrow.Author.Needs.{needs}
-use Rattle.format.specs.Contents.{item, noNode, contentsAt}
-use Rattle.format.proofs.ContentsLaws.{nodes-held}
-use Rattle.trees.specs.Shape.{depthAfter}
-use Rattle.states.specs.States.{unpacked}
-use Rattle.groups.specs.Groups.{onOf, turnsIn}
-use Rattle.groups.proofs.WriteLaws.{turnsAfter, turns-all}
-use Rattle.sheets.specs.Entries.{mostFrom, spanned}
-use Rattle.sheets.specs.declared.Span.{Span}
-use Rattle.sheets.proofs.MostLaws.{mostAfter, Spanning, spanning-next, most-next, most-end}
+use Rattle.format.specs.Header.{Laid}
+use Rattle.format.specs.Contents.{contentsAt}
+use Rattle.format.specs.declared.Head.{Head}
+use Rattle.format.specs.declared.Session.{Session}
+use Rattle.format.specs.declared.Node.{Node}
+use Rattle.format.proofs.ContentsLaws.{nodes-held, sessions-held}
+use Rattle.checking.proofs.CheckLaws.{entered-fine}
+use Rattle.groups.specs.Groups.{onsOf, turnsIn}
+use Rattle.sheets.specs.Entries.{mostFrom, endBy}
+use Rattle.sheets.proofs.MostLaws.{entered-shape, part, Passing, passing-first, passing-next, passing-last}
 use Rattle.sheets.proofs.most.most_in.Statement.{statement}
 use Rattle.sheets.proofs.most.most_in.Tie as tie
 use Rattle.sheets.proofs.most.most_in.Reads as reads
 use Rattle.sheets.proofs.most.most_in.Lts as lts
-use Rattle.format.proofs.sections.node_tag.Reads as node-tag-reads
-use Rattle.format.proofs.words.wide.Reads as wide-reads
-use Rattle.sheets.proofs.most.due_after.Reads as due-after-reads
-use Rattle.sheets.proofs.most.next.Reads as next-reads
-use Rattle.sheets.proofs.most.on_before.Reads as on-before-reads
+use Rattle.sheets.proofs.most.end_of.Reads as end-of-reads
+use Rattle.sheets.proofs.most.larger.Reads as larger-reads
+use Rattle.sheets.proofs.most.ons_between.Reads as ons-between-reads
+
+abbrev Passed : List ℕ → Head → List ℕ → ℕ → ℕ → ℕ → Type 0
+Passed file head turns most at k =
+    Passing (contentsAt file head .nodes) (contentsAt file head .sessions) turns (mostFrom 1 0 0 (contentsAt file head .nodes) (turnsIn turns (head .count .nodes))) most at k
 
 abbrev Inv-loop : tie.InvT-loop
-Inv-loop file head turns n p₀ i₀ p i =
-    (n ≡ head .count .nodes) × (i ≤ n) × Spanning i p
-    × (mostAfter p (drop i (contentsAt file head .nodes)) (turnsAfter turns i n) ≡ mostFrom 1 0 0 (contentsAt file head .nodes) (turnsIn turns (head .count .nodes)))
+Inv-loop file head turns count most₀ at₀ k₀ most at k = (count ≡ head .count .sessions) × (k ≤ count) × Passed file head turns most at k
 
 abbrev μ-loop : tie.MeasureT-loop
-μ-loop file head turns n p₀ i₀ p i = n - i
+μ-loop file head turns count most₀ at₀ k₀ most at k = count - k
 
--- src/most.rt:77:5
+-- what a session's end is good for
+next : (c : tie.After-end-of Inv-loop μ-loop)
+    → Passed (c .before .before .before .before .before .args .file .now) (c .before .before .before .before .before .args .head) (c .before .before .before .before .before .args .turns .now)
+    (max (c .before .before .loop .most) (onsOf (part (c .before .before .before .before .before .args .turns .now) (c .before .before .loop .at) (c .end-of .result)))) (c .end-of .result) (c .before .before .loop .k + 1)
+next c =
+    let a = c .before .before .before .before .before .args in
+    let l = c .before .before .loop in
+    let ns : List Node = contentsAt (a .file .now) (a .head) .nodes in
+    let ss : List Session = contentsAt (a .file .now) (a .head) .sessions in
+    let laid : Laid (a .file .now) (a .head) = entered-fine (a .file .now) (a .head) (c .before .before .before .before .before .pre .0) .0 in
+    let n : length ns ≡ a .head .count .nodes = nodes-held (a .file .now) (a .head) in
+    let e : c .end-of .result ≡ endBy (1 + length ns) (drop (l .k + 1) ss) = c .end-of .ensures ∙ ap (λ (m : ℕ). endBy (1 + m) (drop (l .k + 1) ss)) (sym n) in
+    passing-next ns ss (a .turns .now) (mostFrom 1 0 0 ns (turnsIn (a .turns .now) (a .head .count .nodes))) (l .most) (l .at) (l .k) (c .end-of .result)
+    (omega (arith, n, laid .nodes, c .before .before .before .before .before .pre .1)) (omega (arith, c .before .loop-test .taken, l .inv .0, sessions-held (a .file .now) (a .head))) e (l .inv .2)
+
 loop-holds : tie.Need-loop-holds Inv-loop μ-loop
 loop-holds c =
     let a = c .before .before .args in
-    (refl, omega arith, record { some = omega arith; due-few = omega arith; sum-few = omega arith }, ap (mostFrom 1 0 0 (contentsAt (a .file .now) (a .head) .nodes)) (turns-all (a .turns .now) (a .head .count .nodes)))
-
--- src/most.rt:78:9
-add-i : tie.Need-add-i Inv-loop μ-loop
-add-i c = omega (arith, c .before .before .before .before .pre .0 .nodes)
-
--- src/most.rt:79:29
-node-tag-requires : tie.Need-node-tag-requires Inv-loop μ-loop
-node-tag-requires c κs = c .before .before .before .before .pre .0
-
--- src/most.rt:79:13
-due-after-requires : tie.Need-due-after-requires Inv-loop μ-loop
-due-after-requires c κs = let v = c .before .before .loop .inv .2 in (v .some, omega (arith, v .due-few, c .before .before .before .before .before .pre .0 .nodes))
-
--- src/most.rt:80:34
-wide-requires : tie.Need-wide-requires Inv-loop μ-loop
-wide-requires c κs = search needs
-
--- src/most.rt:80:28
-mul-on-before : tie.Need-mul-on-before Inv-loop μ-loop
-mul-on-before c = omega (arith, c .wide .ensures)
-
--- src/most.rt:80:28
-shared-slice-read-on-before : tie.Need-shared-slice-read-on-before Inv-loop μ-loop
-shared-slice-read-on-before c = omega (arith, c .before .wide .ensures .0, c .before .before .before .before .before .before .before .before .pre .0 .nodes, c .before .before .before .before .before .before .before .before .pre .1)
-
--- src/most.rt:80:13
-on-before-requires : tie.Need-on-before-requires Inv-loop μ-loop
-on-before-requires c κs = search needs
-
--- src/most.rt:81:9
-next-requires : tie.Need-next-requires Inv-loop μ-loop
-next-requires c κs = (omega (arith, c .before .before .before .before .before .before .loop .inv .2 .sum-few, c .before .before .before .before .before .before .before .before .before .pre .0 .nodes), c .on-before .ensures .1)
-
--- src/most.rt:77:5
-loop-less : tie.Need-loop-less Inv-loop μ-loop
-loop-less c = omega arith
-
--- src/most.rt:77:5
-loop-again : tie.Need-loop-again Inv-loop μ-loop
-loop-again c =
-    let a = c .before .before .before .before .before .before .before .before .before .before .args in
-    let l = c .before .before .before .before .before .before .before .loop in
-    let ns = contentsAt (a .file .now) (a .head) .nodes in
-    let n : ℕ = a .head .count .nodes in
-    let tag : ℕ = item noNode ns (l .i + 1) .tag in
-    let on : ℕ = onOf (unpacked (getD (a .turns .now) (l .i + 1) 0)) in
-    let due-known : c .before .before .before .before .due-after .result ≡ depthAfter tag (l .p .due) = c .before .before .before .before .due-after .ensures ∙ ap (λ (t : ℕ). depthAfter t (l .p .due)) (c .before .before .before .before .before .node-tag .ensures) in
-    let on-known : c .before .on-before .result ≡ on = c .before .on-before .ensures .0 ∙ ap (λ (j : ℕ). onOf (unpacked (getD (a .turns .now) j 0))) (c .before .before .before .wide .ensures .0) in
-    let e : c .next .result ≡ spanned (l .p) (depthAfter tag (l .p .due)) on = c .next .ensures ∙ ap₂ (λ (d o : ℕ). spanned (l .p) d o) due-known on-known in
-    let small : on ≤ 1 = omega (arith, on-known, c .before .on-before .ensures .1) in (
+    let ns : List Node = contentsAt (a .file .now) (a .head) .nodes in
+    let ss : List Session = contentsAt (a .file .now) (a .head) .sessions in (
       refl,
       omega arith,
-      subst (Spanning (l .i + 1)) (sym e) (spanning-next (l .i) (l .p) tag on small (l .inv .2)),
-      ap (λ (p : Span). mostAfter p (drop (l .i + 1) ns) (turnsAfter (a .turns .now) (l .i + 1) n)) e
-          ∙ sym (most-next (l .p) ns (a .turns .now) (l .i) n (c .before .before .before .before .before .before .loop-test .taken) (sym (nodes-held (a .file .now) (a .head))) (omega (arith, c .before .before .before .before .before .before .before .before .before .before .pre .0 .nodes, c .before .before .before .before .before .before .before .before .before .before .pre .1))) ∙ l .inv .3,
+      subst (λ (n : ℕ). Passing ns ss (a .turns .now) (mostFrom 1 0 0 ns (turnsIn (a .turns .now) n)) 0 1 0) (nodes-held (a .file .now) (a .head))
+          (passing-first ns ss (a .turns .now) (entered-shape (a .file .now) (a .head) (c .before .before .pre .0))),
     )
 
--- src/most.rt:66:1
+add-k : tie.Need-add-k Inv-loop μ-loop
+add-k c =
+    let a = c .before .before .before .before .args in
+    omega (arith, c .loop-test .taken, c .before .loop .inv .0, entered-fine (a .file .now) (a .head) (c .before .before .before .before .pre .0) .0 .sessions)
+
+end-of-requires : tie.Need-end-of-requires Inv-loop μ-loop
+end-of-requires c κs =
+    let a = c .before .before .before .before .args in
+    (entered-fine (a .file .now) (a .head) (c .before .before .before .before .pre .0) .0, omega (arith, c .loop-test .taken, c .before .loop .inv .0))
+
+ons-between-requires : tie.Need-ons-between-requires Inv-loop μ-loop
+ons-between-requires c κs =
+    let a = c .before .before .before .before .before .args in
+    (omega (arith, next c .within, nodes-held (a .file .now) (a .head), entered-fine (a .file .now) (a .head) (c .before .before .before .before .before .pre .0) .0 .nodes), c .before .before .before .before .before .pre .1)
+
+larger-requires : tie.Need-larger-requires Inv-loop μ-loop
+larger-requires c κs = search needs
+
+loop-less : tie.Need-loop-less Inv-loop μ-loop
+loop-less c = omega (arith, c .before .before .before .loop-test .taken)
+
+loop-again : tie.Need-loop-again Inv-loop μ-loop
+loop-again c =
+    let a = c .before .before .before .before .before .before .before .args in
+    let l = c .before .before .before .before .loop in
+    let most : max (l .most) (onsOf (part (a .turns .now) (l .at) (c .before .before .end-of .result))) ≡ c .larger .result = sym (c .larger .ensures ∙ ap (λ (x : ℕ). max (l .most) x) (c .before .ons-between .ensures)) in
+    (refl, omega (arith, c .before .before .before .loop-test .taken), subst (λ (m : ℕ). Passed (a .file .now) (a .head) (a .turns .now) m (c .before .before .end-of .result) (l .k + 1)) most (next (c .before .before)))
+
 returns : tie.Need-returns Inv-loop μ-loop
 returns c =
     let a = c .before .before .before .before .args in
     let l = c .before .loop in
-    let ns = contentsAt (a .file .now) (a .head) .nodes in
-    sym (most-end (l .p) ns (l .i) (turnsAfter (a .turns .now) (l .i) (a .head .count .nodes)) (omega (arith, nodes-held (a .file .now) (a .head), c .loop-test .left))) ∙ l .inv .3
+    let ns : List Node = contentsAt (a .file .now) (a .head) .nodes in
+    passing-last ns (contentsAt (a .file .now) (a .head) .sessions) (a .turns .now) (mostFrom 1 0 0 ns (turnsIn (a .turns .now) (a .head .count .nodes))) (l .most) (l .at) (l .k)
+    (omega (arith, c .loop-test .left, l .inv .0, sessions-held (a .file .now) (a .head))) (l .inv .2)
 
 pub most-in-spec : {M : Type 1} → statement M
-most-in-spec =
-    tie.close
-    (tie.spec
-    Inv-loop
-    μ-loop
-    loop-holds
-    add-i
-    node-tag-requires
-    due-after-requires
-    wide-requires
-    mul-on-before
-    shared-slice-read-on-before
-    on-before-requires
-    next-requires
-    loop-less
-    loop-again
-    returns)
+most-in-spec = tie.close (tie.spec Inv-loop μ-loop loop-holds add-k end-of-requires ons-between-requires larger-requires loop-less loop-again returns)

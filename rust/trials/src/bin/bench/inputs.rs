@@ -9,6 +9,9 @@ use trials::{juniors, At, Lent, Notices, Seated};
 /// A file, and a list of choices.
 pub type Run = (Vec<u8>, Vec<u16>);
 
+/// Files, and their records in a row.
+pub type Files = (Vec<Vec<u8>>, Vec<u8>);
+
 /// Files and lists, the largest there are and typical ones of 40 nodes.
 pub struct Inputs {
     pub largest: Vec<u8>,
@@ -53,7 +56,9 @@ pub struct Inputs {
     /// Notices of two files of 40 nodes.
     pub notices: Notices,
     /// 1,000 files of 40 nodes, and their records.
-    pub typical_sheet: (Vec<Vec<u8>>, Vec<u8>),
+    pub typical_sheet: Files,
+    /// 1,000 files of 32 sessions, and their records.
+    pub full_sheet: Files,
 }
 
 impl Inputs {
@@ -96,6 +101,7 @@ impl Inputs {
             typical_pair: trials::typical_pair(seed),
             notices: trials::typical_notices(seed),
             typical_sheet: trials::typical_sheet(seed),
+            full_sheet: trials::full_sheet(seed),
         }
     }
 
@@ -147,6 +153,8 @@ impl Inputs {
             let file = file.clone();
             Input::Turn { turn, file }
         };
+        let sheet = |(_, input): &Files| Input::Sheet(input.clone());
+        let measure_each = |(files, _): &Files| Input::MeasureEach(files.clone());
         vec![
             Case::new("read largest", read(&self.largest), 50),
             Case::new("read typical", read(&self.typical), 300),
@@ -216,12 +224,10 @@ impl Inputs {
             Case::new("rows largest", turn(Turn::ToRows, &self.largest_3), 50),
             Case::new("rows typical", turn(Turn::ToRows, &self.typical_3), 300),
             Case::new("in force", Input::InForce(self.notices.clone()), 300),
-            Case::new("sheet", Input::Sheet(self.typical_sheet.1.clone()), 1),
-            Case::new(
-                "measure each",
-                Input::MeasureEach(self.typical_sheet.0.clone()),
-                1,
-            ),
+            Case::new("sheet", sheet(&self.typical_sheet), 1),
+            Case::new("measure each", measure_each(&self.typical_sheet), 1),
+            Case::new("sheet full", sheet(&self.full_sheet), 1),
+            Case::new("each full", measure_each(&self.full_sheet), 1),
         ]
     }
 
@@ -267,7 +273,8 @@ impl Inputs {
              typical has {}. Its round, and what is read of its seats.\n\
              In force, of two notices; the bytes are those of both, whose files have 40 nodes each.\n\
              Sheet: the records of 1,000 files of 40 nodes, half of them in version 2. Measure each:\n\
-             1,000 calls of measure for the same files.\n",
+             1,000 calls of measure for the same files. Sheet full, and each full: of 1,000 files\n\
+             with 32 sessions with forks, ten of them in turns, placed in 1,024 nodes.\n",
             run(&self.largest_run),
             run(&self.typical_run),
             run(&self.short_run),

@@ -173,6 +173,20 @@ fn the_sheet_has_1_000_typical_files() {
     );
 }
 
+#[test]
+fn the_full_sheet_has_1_000_full_files() {
+    let (files, input) = Inputs::new(seed()).full_sheet;
+    assert_eq!(files.len(), 1_000);
+    assert_eq!(input.len(), files.iter().map(|file| 2 + file.len()).sum());
+    for file in &files[..10] {
+        assert_eq!(Draft::of(file).sessions.len(), 32);
+        let (file, number) = (file.clone(), 0);
+        let out = Case::new("place", Input::Place { file, number }, 1).agree();
+        assert_eq!(nodes(&out), 1_024);
+    }
+    assert_eq!(second::sheet(&input).sessions, 32_000);
+}
+
 /// Each sender of the crowded round goes past all that receive before its own.
 #[test]
 fn the_crowded_round_meets_the_last_first() {
