@@ -202,6 +202,23 @@ fn walk_names(
     fine
 }
 
+// 9 and 10 of a file of over 64 nodes, in tables that fit it.
+fn judge_longer(file: &[u8], head: Head, scopes: &mut [u64]) -> Verdict
+    requires { ⌜ Laid (now file) head × Owned (contentsAt (now file) head) ⌝ }
+    ensures { λ r. ⌜ (r ≡ namesAnswer (contentsAt (now (file .entry)) head)) × (now (scopes .exit) ≡ sets (now (scopes .entry)) 1 (scopesIn (contentsAt (now (file .entry)) head))) ⌝ }
+{
+    if head.count.nodes <= 256 {
+        let mut names = [0u32; 769];
+        let mut stack = [0u32; 289];
+        let mut waits = [0u64; 289];
+        return walk_names(file, head, &mut names, &mut stack, &mut waits, scopes);
+    }
+    let mut names = [0u32; 1537];
+    let mut stack = [0u32; 1057];
+    let mut waits = [0u64; 1057];
+    walk_names(file, head, &mut names, &mut stack, &mut waits, scopes)
+}
+
 // 9 and 10, at the lowest node; what each node before it is reached with is stored from index 1 on, as far as there is room. Most files are short,
 // and need shorter tables.
 pub fn judge_names(file: &[u8], head: Head, scopes: &mut [u64]) -> Verdict
@@ -214,8 +231,5 @@ pub fn judge_names(file: &[u8], head: Head, scopes: &mut [u64]) -> Verdict
         let mut waits = [0u64; 97];
         return walk_names(file, head, &mut names, &mut stack, &mut waits, scopes);
     }
-    let mut names = [0u32; 1537];
-    let mut stack = [0u32; 1057];
-    let mut waits = [0u64; 1057];
-    walk_names(file, head, &mut names, &mut stack, &mut waits, scopes)
+    judge_longer(file, head, scopes)
 }

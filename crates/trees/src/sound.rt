@@ -104,6 +104,10 @@ pub fn sound_shape(file: &[u8], head: Head) -> bool
         let mut stack = [0u32; 97];
         return sound_by(file, head, &mut stack);
     }
+    if head.count.nodes <= 256 {
+        let mut stack = [0u32; 289];
+        return sound_by(file, head, &mut stack);
+    }
     let mut stack = [0u32; 1057];
     sound_by(file, head, &mut stack)
 }
