@@ -25,14 +25,19 @@ fn refused(number: u16) -> Entry
     }
 }
 
-// For a file that 1 to 10 leave clean, with each node's roles at its number: 14 to 16, else its figures.
-fn entry_body(file: &[u8], head: Head, roles: &[u16]) -> Entry
-    requires { ⌜ (entered (now file) ≡ Fine head) × (length (now roles) ≡ 1025) ⌝ }
+// For a file that 1 to 10 leave clean, with each node's roles at its number: 14 to 16, else its figures. What the other two tables hold is of no
+// account.
+fn entry_body(
+    file: &[u8],
+    head: Head,
+    roles: &[u16],
+    turns: &mut [u16],
+    starts: &mut [u16],
+) -> Entry
+    requires { ⌜ (entered (now file) ≡ Fine head) × (length (now roles) ≡ 1025) × (length (now turns) ≡ 1025) × (length (now starts) ≡ 1025) ⌝ }
     ensures { λ r. ⌜ r ≡ entryFrom (contentsAt (now (file .entry)) head) (now (roles .entry)) ⌝ }
 {
-    let mut turns = [0u16; 1025];
-    let mut starts = [0u16; 1025];
-    let decision = decide(file, head, roles, &mut turns, &mut starts);
+    let decision = decide(file, head, roles, turns, starts);
     let number = decision.verdict.number;
     if number != 0 {
         return refused(number);
@@ -41,19 +46,20 @@ fn entry_body(file: &[u8], head: Head, roles: &[u16]) -> Entry
         number: 0,
         sessions: head.count.sessions,
         on_steps: decision.sums.on_steps,
-        most: most_in(file, head, &turns),
+        most: most_in(file, head, turns),
     }
 }
 
-// What placing it by itself in an output long enough comes to.
-pub fn entry_of(file: &[u8]) -> Entry
+// What placing it by itself in an output long enough comes to. The tables are lent, so that they are cleared once for all files of a sheet; what they
+// hold is of no account.
+pub fn entry_of(file: &[u8], roles: &mut [u16], turns: &mut [u16], starts: &mut [u16]) -> Entry
+    requires { ⌜ (length (now roles) ≡ 1025) × (length (now turns) ≡ 1025) × (length (now starts) ≡ 1025) ⌝ }
     ensures { λ r. ⌜ (r ≡ entryOf (now (file .entry))) × Within r ⌝ }
 {
-    let mut roles = [0u16; 1025];
-    let found = examine(file, &mut roles);
+    let found = examine(file, roles);
     let names = found.names;
     match names {
         Opened::Refused(first) => refused(first.number),
-        Opened::Fine(head) => entry_body(file, head, &roles),
+        Opened::Fine(head) => entry_body(file, head, roles, turns, starts),
     }
 }

@@ -130,6 +130,9 @@ fn begin() -> Sheet
 pub fn sheet_of(input: &[u8]) -> Sheet
     ensures { λ r. ⌜ r ≡ sheetOf entryOf (now (input .entry)) ⌝ }
 {
+    let mut roles = [0u16; 1025];
+    let mut turns = [0u16; 1025];
+    let mut starts = [0u16; 1025];
     let mut s = begin();
     let mut at: usize = 0;
     while s.files < 1000 {
@@ -137,7 +140,8 @@ pub fn sheet_of(input: &[u8]) -> Sheet
         if size == 0 {
             return close(s);
         }
-        let e = entry_of(&input[at + 2..at + size]);
+        let file = &input[at + 2..at + size];
+        let e = entry_of(file, &mut roles, &mut turns, &mut starts);
         s = add(s, e);
         at += size;
     }

@@ -18,10 +18,10 @@ use Rattle.sheets.proofs.size_at.Reads as size-at-reads
 use Rattle.sheets.proofs.entries.entry_of.Reads as entry-of-reads
 
 abbrev Inv-loop : tie.InvT-loop
-Inv-loop input s₀ at₀ s at = (at ≤ length input) × Small s × Going entryOf input s at
+Inv-loop input roles₀ turns₀ starts₀ s₀ at₀ roles turns starts s at = (at ≤ length input) × Small s × Going entryOf input s at × (length roles ≡ 1025) × (length turns ≡ 1025) × (length starts ≡ 1025)
 
 abbrev μ-loop : tie.MeasureT-loop
-μ-loop input s₀ at₀ s at = 1000 - s .files
+μ-loop input roles₀ turns₀ starts₀ s₀ at₀ roles turns starts s at = 1000 - s .files
 
 begin-requires : tie.Need-begin-requires Inv-loop μ-loop
 begin-requires c κs = search needs
@@ -29,7 +29,8 @@ begin-requires c κs = search needs
 loop-holds : tie.Need-loop-holds Inv-loop μ-loop
 loop-holds c =
     let l = c .before .before .args .input .now in
-    subst (λ (s : Sheet). (0 ≤ length l) × Small s × Going entryOf l s 0) (sym (c .begin .ensures)) (omega arith, small-blank, refl)
+    let (a, b, d) = subst (λ (s : Sheet). (0 ≤ length l) × Small s × Going entryOf l s 0) (sym (c .begin .ensures)) (omega arith, small-blank, refl) in
+    (a, b, d, refl, refl, refl)
 
 size-at-requires : tie.Need-size-at-requires Inv-loop μ-loop
 size-at-requires c κs = c .before .before .loop .inv .0
@@ -42,65 +43,79 @@ returns c =
     let v = c .before .before .before .before .before .loop in
     c .close .ensures ∙ stopped entryOf (c .before .before .before .before .before .before .before .before .args .input .now) (v .s) (v .at) (c .before .before .size-at .result) (v .inv .2) (c .before .before .size-at .ensures) (c .before .if2 .taken)
 
-add-entry-of : tie.Need-add-entry-of Inv-loop μ-loop
-add-entry-of c =
+add-file : tie.Need-add-file Inv-loop μ-loop
+add-file c =
     let v = c .before .before .before .before .loop in
     let (a, b) = size-fits (c .before .before .before .before .before .before .before .args .input .now) (v .at) (c .before .size-at .result) (v .inv .0) (c .before .size-at .ensures) (c .if2 .left) in
     omega arith
 
-add-entry-of-2 : tie.Need-add-entry-of-2 Inv-loop μ-loop
-add-entry-of-2 c =
+add-file-2 : tie.Need-add-file-2 Inv-loop μ-loop
+add-file-2 c =
     let v = c .before .before .before .before .loop in
     let (a, b) = size-fits (c .before .before .before .before .before .before .before .args .input .now) (v .at) (c .before .size-at .result) (v .inv .0) (c .before .size-at .ensures) (c .if2 .left) in
     omega arith
 
-sub-entry-of : tie.Need-sub-entry-of Inv-loop μ-loop
-sub-entry-of c =
+sub-file : tie.Need-sub-file Inv-loop μ-loop
+sub-file c =
     let v = c .before .before .before .before .loop in
     let (a, b) = size-fits (c .before .before .before .before .before .before .before .args .input .now) (v .at) (c .before .size-at .result) (v .inv .0) (c .before .size-at .ensures) (c .if2 .left) in
     omega arith
 
-part-entry-of-start : tie.Need-part-entry-of-start Inv-loop μ-loop
-part-entry-of-start c =
+part-file-start : tie.Need-part-file-start Inv-loop μ-loop
+part-file-start c =
     let v = c .before .before .before .before .loop in
     let (a, b) = size-fits (c .before .before .before .before .before .before .before .args .input .now) (v .at) (c .before .size-at .result) (v .inv .0) (c .before .size-at .ensures) (c .if2 .left) in
     omega arith
 
-part-entry-of-end : tie.Need-part-entry-of-end Inv-loop μ-loop
-part-entry-of-end c =
+part-file-end : tie.Need-part-file-end Inv-loop μ-loop
+part-file-end c =
     let v = c .before .before .before .before .loop in
     let (a, b) = size-fits (c .before .before .before .before .before .before .before .args .input .now) (v .at) (c .before .size-at .result) (v .inv .0) (c .before .size-at .ensures) (c .if2 .left) in
     omega arith
+
+slice-aggregate-entry-of : tie.Need-slice-aggregate-entry-of Inv-loop μ-loop
+slice-aggregate-entry-of c = search needs
+
+slice-aggregate-entry-of-2 : tie.Need-slice-aggregate-entry-of-2 Inv-loop μ-loop
+slice-aggregate-entry-of-2 c = search needs
+
+slice-aggregate-entry-of-3 : tie.Need-slice-aggregate-entry-of-3 Inv-loop μ-loop
+slice-aggregate-entry-of-3 c = search needs
 
 entry-of-requires : tie.Need-entry-of-requires Inv-loop μ-loop
-entry-of-requires c κs = search needs
+entry-of-requires c κs = let v = c .before .before .before .before .before .before .before .before .loop in (v .inv .3, v .inv .4, v .inv .5)
 
 add-requires : tie.Need-add-requires Inv-loop μ-loop
-add-requires c κs = (c .before .before .before .before .before .before .loop .inv .1, c .before .before .before .before .if1 .taken, c .entry-of .ensures .1)
+add-requires c κs = (c .before .before .before .before .before .before .before .before .before .before .before .before .loop .inv .1, c .before .before .before .before .before .before .before .before .before .before .if1 .taken, c .before .before .before .entry-of .ensures .1)
 
 add-at : tie.Need-add-at Inv-loop μ-loop
 add-at c =
-    let v = c .before .before .before .before .before .before .before .loop in
-    let (a, b) = size-fits (c .before .before .before .before .before .before .before .before .before .before .args .input .now) (v .at) (c .before .before .before .before .size-at .result) (v .inv .0) (c .before .before .before .before .size-at .ensures) (c .before .before .before .if2 .left) in
+    let v = c .before .before .before .before .before .before .before .before .before .before .before .before .before .loop in
+    let (a, b) = size-fits (c .before .before .before .before .before .before .before .before .before .before .before .before .before .before .before .before .args .input .now) (v .at) (c .before .before .before .before .before .before .before .before .before .before .size-at .result) (v .inv .0) (c .before .before .before .before .before .before .before .before .before .before .size-at .ensures) (c .before .before .before .before .before .before .before .before .before .if2 .left) in
     omega arith
 
 loop-less : tie.Need-loop-less Inv-loop μ-loop
 loop-less c =
     let f = ap (λ (s : Sheet). s .files) (c .add .ensures) in
-    omega (arith, f, c .before .before .before .before .before .if1 .taken)
+    omega (arith, f, c .before .before .before .before .before .before .before .before .before .before .before .if1 .taken)
 
 loop-again : tie.Need-loop-again Inv-loop μ-loop
 loop-again c =
-    let v = c .before .before .before .before .before .before .before .loop in
-    let l = c .before .before .before .before .before .before .before .before .before .before .args .input .now in
-    let n = c .before .before .before .before .size-at .result in
-    let w = c .before .entry-of .result in
-    let (a, b) = size-fits l (v .at) n (v .inv .0) (c .before .before .before .before .size-at .ensures) (c .before .before .before .if2 .left) in
-    let g = goes-on entryOf l (v .s) (v .at) n (v .inv .2) (c .before .before .before .before .before .if1 .taken) (c .before .before .before .before .size-at .ensures) (c .before .before .before .if2 .left) in
-    let e : c .add .result ≡ added (v .s) (entryOf (take (v .at + n - (v .at + 2)) (drop (v .at + 2) l))) = c .add .ensures ∙ ap (added (v .s)) (c .before .entry-of .ensures .0) in (
+    let v = c .before .before .before .before .before .before .before .before .before .before .before .before .before .loop in
+    let l = c .before .before .before .before .before .before .before .before .before .before .before .before .before .before .before .before .args .input .now in
+    let n = c .before .before .before .before .before .before .before .before .before .before .size-at in
+    let w = c .before .before .before .before .entry-of in
+    let more = c .before .before .before .before .before .before .before .before .before .before .before .if1 .taken in
+    let whole = c .before .before .before .before .before .before .before .before .before .if2 .left in
+    let (a, b) = size-fits l (v .at) (n .result) (v .inv .0) (n .ensures) whole in
+    let g = goes-on entryOf l (v .s) (v .at) (n .result) (v .inv .2) more (n .ensures) whole in
+    let e : c .add .result ≡ added (v .s) (entryOf (take (v .at + n .result - (v .at + 2)) (drop (v .at + 2) l))) = c .add .ensures ∙ ap (added (v .s)) (w .ensures .0) in (
       b,
-      subst Small (sym (c .add .ensures)) (small-added (v .s) w (v .inv .1) (c .before .entry-of .ensures .1) (c .before .before .before .before .before .if1 .taken)),
-      subst (λ (s : Sheet). Going entryOf l s (v .at + n)) (sym e) g,
+      subst Small (sym (c .add .ensures)) (small-added (v .s) (w .result) (v .inv .1) (w .ensures .1) more),
+      subst (λ (s : Sheet). Going entryOf l s (v .at + n .result)) (sym e) g,
+      w .kept .1 .0 ∙ v .inv .3,
+      w .kept .1 .1 .0 ∙ v .inv .4,
+      w .kept .1 .1 .1 .0 ∙ v .inv .5,
     )
 
 close-requires-2 : tie.Need-close-requires-2 Inv-loop μ-loop
@@ -122,11 +137,14 @@ sheet-of-spec =
     size-at-requires
     close-requires
     returns
-    add-entry-of
-    add-entry-of-2
-    sub-entry-of
-    part-entry-of-start
-    part-entry-of-end
+    add-file
+    add-file-2
+    sub-file
+    part-file-start
+    part-file-end
+    slice-aggregate-entry-of
+    slice-aggregate-entry-of-2
+    slice-aggregate-entry-of-3
     entry-of-requires
     add-requires
     add-at

@@ -1,6 +1,6 @@
 use mathlib.Core.Path.{_≡_, sym, ap, _∙_, subst}
 use native.Mathlib.Omega.{arith}
-use lib.ListN.{length, replicate}
+use lib.ListN.{length}
 use Rattle.format.specs.Contents.{contentsAt}
 use Rattle.format.specs.declared.Verdict.{Verdict}
 use Rattle.format.proofs.ContentsLaws.{nodes-held}
@@ -23,70 +23,73 @@ use Rattle.sheets.proofs.entries.entry_body.Reads as entry-body-reads
 use Rattle.sheets.proofs.entries.refused.Reads as refused-reads
 
 -- the head that was read, and each node's candidates in the table
-told : (c : tie.After-known-told2) → entered (c .before .before .before .before .before .before .before .args .file .now) ≡ Fine (c .before .names2 .given .0 .0)
-told c = sym (ap (λ (x : Examined). x .names) (c .before .before .before .before .examine .ensures .0)) ∙ c .before .names2 .given .1
+told : (c : tie.After-known-told2) → entered (c .before .before .before .before .before .before .before .before .before .before .before .args .file .now) ≡ Fine (c .before .names2 .given .0 .0)
+told c = sym (ap (λ (x : Examined). x .names) (c .before .before .before .before .before .examine .ensures .0)) ∙ c .before .names2 .given .1
 
-labels : (c : tie.After-known-told2) → Labelled (contentsAt (c .before .before .before .before .before .before .before .args .file .now) (c .before .names2 .given .0 .0)) (c .before .before .before .before .examine .last .1 .0) × (length (c .before .before .before .before .examine .last .1 .0) ≡ 1025)
+labels : (c : tie.After-known-told2) → Labelled (contentsAt (c .before .before .before .before .before .before .before .before .before .before .before .args .file .now) (c .before .names2 .given .0 .0)) (c .before .before .before .before .before .examine .last .1 .0) × (length (c .before .before .before .before .before .examine .last .1 .0) ≡ 1025)
 labels c =
-    let f = c .before .before .before .before .before .before .before .args .file .now in
+    let a = c .before .before .before .before .before .before .before .before .before .before .before .args in
+    let f = a .file .now in
     let h = c .before .names2 .given .0 .0 in
-    surveyed-labels f h (told c) (replicate 1025 0) _ (c .before .before .before .before .examine .ensures .1) (omega (arith, nodes-held f h, entered-fine f h (told c) .0 .nodes))
+    let room = c .before .before .before .before .before .before .before .before .before .before .before .pre .0 in
+    let (l, n) = surveyed-labels f h (told c) (a .roles .now) _ (c .before .before .before .before .before .examine .ensures .1) (omega (arith, nodes-held f h, entered-fine f h (told c) .0 .nodes, room)) in
+    (l, n ∙ room)
 
--- src/entries.rt:53:31
-slice-aggregate-examine : tie.Need-slice-aggregate-examine
-slice-aggregate-examine c = search needs
-
--- src/entries.rt:53:9
 examine-requires : tie.Need-examine-requires
 examine-requires c κs = search needs
 
--- src/entries.rt:56:25
 enum-known-names : tie.Need-enum-known-names
 enum-known-names c = search needs
 
--- src/entries.rt:56:35
 refused-requires : tie.Need-refused-requires
 refused-requires c κs = search needs
 
--- src/entries.rt:57:22
 enum-known-names-2 : tie.Need-enum-known-names-2
 enum-known-names-2 c = search needs
 
--- src/entries.rt:57:54
-slice-aggregate-entry-body : tie.Need-slice-aggregate-entry-body
-slice-aggregate-entry-body c = search needs
-
--- src/entries.rt:57:31
 entry-body-requires : tie.Need-entry-body-requires
-entry-body-requires c κs = (told (c .before), labels (c .before) .1)
+entry-body-requires c κs = let at = c .before .before .before in let pre = c .before .before .before .before .before .before .before .before .before .before .before .before .before .before .pre in (told at, labels at .1, pre .1, pre .2)
 
--- src/entries.rt:49:1
+same-length : tie.Need-same-length
+same-length c = search needs
+
 returns : tie.Need-returns
 returns c =
-    let f = c .before .before .before .before .before .before .before .before .args .file .now in
+    let f = c .before .before .before .before .before .before .before .before .before .before .before .before .args .file .now in
     let w : Verdict = c .before .before .names .given .0 .0 in
-    let (e, loud) = names-loud f w (sym (ap (λ (x : Examined). x .names) (c .before .before .before .before .before .examine .ensures .0)) ∙ c .before .before .names .given .1) in
+    let (e, loud) = names-loud f w (sym (ap (λ (x : Examined). x .names) (c .before .before .before .before .before .before .examine .ensures .0)) ∙ c .before .before .names .given .1) in
     let same : c .refused .result ≡ entryOf f = c .refused .ensures ∙ sym (entry-refused f w e loud) in
     (same, subst Within (sym same) (entry-within f))
 
--- src/entries.rt:49:1
+same-length-2 : tie.Need-same-length-2
+same-length-2 c = search needs
+
+same-length-3 : tie.Need-same-length-3
+same-length-3 c = search needs
+
+same-length-4 : tie.Need-same-length-4
+same-length-4 c = search needs
+
 returns-2 : tie.Need-returns-2
 returns-2 c =
-    let f = c .before .before .before .before .before .before .before .before .before .args .file .now in
-    let at = c .before .before in
-    let same : c .entry-body .result ≡ entryOf f = c .entry-body .ensures ∙ entry-from f (at .before .names2 .given .0 .0) (told at) (at .before .before .before .before .examine .last .1 .0) (labels at .0) in
+    let f = c .before .before .before .before .before .before .before .before .before .before .before .before .before .before .before .before .before .before .before .args .file .now in
+    let at = c .before .before .before .before .before .before .before .before in
+    let e = c .before .before .before .before .entry-body in
+    let same : e .result ≡ entryOf f = e .ensures ∙ entry-from f (at .before .names2 .given .0 .0) (told at) (at .before .before .before .before .before .examine .last .1 .0) (labels at .0) in
     (same, subst Within (sym same) (entry-within f))
 
 pub entry-of-spec : {M : Type 1} → statement M
 entry-of-spec =
     tie.close
     (tie.spec
-    slice-aggregate-examine
     examine-requires
     enum-known-names
     refused-requires
     enum-known-names-2
-    slice-aggregate-entry-body
     entry-body-requires
+    same-length
     returns
+    same-length-2
+    same-length-3
+    same-length-4
     returns-2)
