@@ -41,12 +41,34 @@ help() { # [WORD]
 
 version() { sed -n 's/^version = "\(.*\)"$/pilzdamo \1/p' "$root/rust/Cargo.toml" | print; }
 
-# What a refusal's number means.
-explain() { # N
-    local all=("$texts"/explain/*.txt) page
-    if [[ $1 =~ ^[+]?0*([1-9][0-9]*)$ ]]; then page=$texts/explain/${BASH_REMATCH[1]}.txt; fi
+# What a refusal's number means, to be read or as an object.
+explain() { # N [--json]
+    local all=("$texts"/explain/*.txt) number page
+    if [[ $1 =~ ^[+]?0*([1-9][0-9]*)$ ]]; then
+        number=${BASH_REMATCH[1]}
+        page=$texts/explain/$number.txt
+    fi
     [[ -f ${page-} ]] || misused "explain: the refusals have the numbers 1 to ${#all[@]}, not ${1@Q}"
-    print "$page"
+    if [[ ${2-} ]]; then object "$number" "$page" | print; else print "$page"; fi
+}
+
+# A page of explain as an object: its first line is the meaning, each part behind it begins with its key, and lines that are indented go on.
+object() { # NUMBER PAGE
+    local line key object="{\"number\": $1"
+    while IFS= read -r line; do
+        line=${line//\\/\\\\}
+        line=${line//\"/\\\"}
+        case $line in
+        Refused*) object+=", \"meaning\": \"$line" ;;
+        '  '*) object+=" ${line#  }" ;;
+        *': '*)
+            key=${line%%: *}
+            key=${key#the }
+            object+="\", \"${key// /_}\": \"${line#*: }"
+            ;;
+        esac
+    done <"$2"
+    printf '%s"}\n' "$object"
 }
 
 has_option() { grep -qwF -e "$2" -- "$texts/help/$1.txt"; } # WORD OPTION
@@ -86,6 +108,7 @@ sort_operands() { # WORD OPERAND...
         elif has_option "$word" "$option"; then
             options+=("$option")
             value=$(value_of "$word" "$option")
+            [[ $value || $next != *=* ]] || misused "$word: $option stands by itself, not as ${next@Q}"
             if [[ $next == "$option" && $value ]]; then
                 (($#)) || misused "$word: $option wants $value behind it"
                 shift
@@ -137,8 +160,7 @@ answer_unbuilt() { # WORD...
     case $1 in
     help) help "${operands[@]}" ;;
     explain)
-        ((${#options[@]} == 0)) || return 0
-        explain "${operands[@]}"
+        explain "${operands[@]}" "${options[@]}" # --json, or nothing
         ;;
     *) return 0 ;;
     esac

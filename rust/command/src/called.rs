@@ -135,6 +135,6 @@ impl<'a> Called<'a> {
 }
 
 /// How many variables a thread has bound.
-fn bound(thread: &Thread) -> usize {
+pub fn bound(thread: &Thread) -> usize {
     thread.vars.iter().filter(|&&value| value != 0).count()
 }

@@ -2,8 +2,7 @@
 
 use crate::called::Called;
 use crate::course::Course;
-use crate::input::Input;
-use crate::lists::{self, List};
+use crate::listed::Listed;
 use crate::names;
 use crate::output;
 use crate::report;
@@ -11,14 +10,8 @@ use crate::seats::Table;
 use pilzdamo::Verdict;
 
 /// Each choice of a run with what it did, the state that it came to, and why it stopped.
-pub fn traced(
-    input: &Input,
-    list: &List,
-    table: Option<&Table>,
-    verdict: Verdict,
-    state: &str,
-) -> String {
-    let lines = trace(input, list, table);
+pub fn traced(listed: &Listed, verdict: Verdict, state: &str) -> String {
+    let lines = trace(listed);
     let why = match verdict.is_clean() {
         true => "all choices are done".to_string(),
         false => report::sentence_of_choice(verdict),
@@ -27,13 +20,12 @@ pub fn traced(
 }
 
 /// A line for each choice that was done: its number, the choice, and what it did.
-fn trace(input: &Input, list: &List, table: Option<&Table>) -> String {
-    let called = Called::of(input);
+fn trace(listed: &Listed) -> String {
+    let called = Called::of(&listed.input);
     let Ok(mut course) = Course::start(&called) else {
         return String::new();
     };
-    let waited = lists::waited(input, &list.words, table);
-    let lines = course.through(&list.words, &waited);
+    let lines = course.through(&listed.list.words, &listed.waited());
     let width = lines.len().to_string().len();
     let numbered = (1..).zip(lines);
     let line = |(number, [choice, done]): (usize, [String; 2])| {
@@ -44,14 +36,14 @@ fn trace(input: &Input, list: &List, table: Option<&Table>) -> String {
 
 /// A line for each choice that can be done where a list leads or halts, as a list has it,
 /// with what it would do behind `#`. That there is none is said beside.
-pub fn choices(input: &Input, list: &List, table: Option<&Table>) -> String {
+pub fn choices(listed: &Listed) -> String {
+    let Listed { input, list, table } = listed;
     let called = Called::of(input);
     let Ok(mut course) = Course::start(&called) else {
         return String::new();
     };
-    let waited = lists::waited(input, &list.words, table);
-    let done = course.through(&list.words, &waited).len();
-    let found = possible(&course, table, &list.words[..2 * done]);
+    let done = course.through(&list.words, &listed.waited()).len();
+    let found = possible(&course, table.as_ref(), &list.words[..2 * done]);
     if found.is_empty() {
         let left = names::several(course.desk.threads().len(), "thread");
         output::say(&format!(

@@ -3,7 +3,7 @@
 use crate::clinic::{Clinic, SESSIONS};
 use crate::length::{Bytes, Length};
 use crate::output;
-use crate::reading::{Start, LONGEST};
+use crate::reading::{Start, LONGEST_TEXT};
 use crate::refusals;
 use crate::report;
 use crate::source::{too_long, Source};
@@ -25,13 +25,23 @@ pub struct Text {
     pub packed: Packed,
     /// Whether the file came as this text, so that its lines mean something.
     pub has_lines: bool,
+    /// The mark of the byte order, if it stood before the text.
+    mark: &'static str,
 }
+
+/// A mark of the byte order.
+const MARK: &str = "\u{feff}";
 
 impl Text {
     /// The names of the sessions.
     pub fn sessions(&self) -> Vec<String> {
         let sessions = self.packed.names.sessions.iter();
         sessions.map(|session| session.name.clone()).collect()
+    }
+
+    /// A text made of this one, with the mark that stood before it.
+    pub fn marked(&self, made: &str) -> Vec<u8> {
+        [self.mark, made].concat().into_bytes()
     }
 
     /// The step of the node of this number, as it is written.
@@ -67,7 +77,7 @@ impl Input {
     /// Text and bytes are told apart by the first word.
     pub fn of(name: String, bytes: Start) -> Result<Input, WrongUse> {
         match text::is_text(&bytes) {
-            true if !bytes.is_whole() => Err(too_long(&name, LONGEST)),
+            true if !bytes.is_whole() => Err(too_long(&name, LONGEST_TEXT)),
             true => Input::of_text(name, &bytes),
             false => Ok(Input::of_bytes(name, bytes)),
         }
@@ -93,12 +103,16 @@ impl Input {
                 text: text.to_string(),
                 packed,
                 has_lines: true,
+                mark: match bytes.starts_with(MARK.as_bytes()) {
+                    true => MARK,
+                    false => "",
+                },
             }),
         })
     }
 
-    /// Bytes with names for their records, which stand beside them. What 1 to 9 refuse
-    /// has no text and stays in numbers.
+    /// Bytes with names for their records, which stand beside them. What 1 to 6, 8 and 9
+    /// refuse has no text and stays in numbers.
     pub fn with_names(mut self, names: &Source) -> Result<Input, WrongUse> {
         if self.text.is_some() {
             let (file, from) = (&self.name, names.name());
@@ -113,6 +127,7 @@ impl Input {
             text,
             packed,
             has_lines: false,
+            mark: "",
         });
         Ok(self)
     }

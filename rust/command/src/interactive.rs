@@ -5,23 +5,21 @@ use crate::called::Called;
 use crate::course::Course;
 use crate::following::possible;
 use crate::input::Input;
-use crate::jobs;
-use crate::lists::{self, List};
+use crate::listed::Listed;
+use crate::lists::MOST;
 use crate::output::{self, Out};
+use crate::reading::LONGEST_LIST;
 use crate::refusals;
 use crate::report;
 use crate::runs;
 use crate::seats::{self, Table};
-use crate::source::{reason, shown, NamedFile, Source};
+use crate::source::{reason, shown, too_long, NamedFile, Source};
 use crate::threads::Choice;
 use crate::typed::{self, Typed};
 use crate::{names, Outcome, WrongUse};
 use pilzdamo::{Verdict, RUN_ROOM};
-use std::io::{self, BufRead, IsTerminal, Write};
+use std::io::{self, BufRead, IsTerminal, Read, Write};
 use std::path::PathBuf;
-
-/// The most choices of a run.
-const MOST: usize = 65_535;
 
 /// Drives a file's run, from the end of a list on if there is one.
 pub fn run(
@@ -29,25 +27,21 @@ pub fn run(
     list: Option<&Source>,
     table: Option<&Source>,
 ) -> Result<Outcome, WrongUse> {
-    let input = file.clinic()?;
-    let table = table.map(Table::read).transpose()?;
-    let table = table.as_ref();
-    let list = match list {
-        Some(list) => List::of(list.name(), &list.choices()?, &input, table)?,
-        None => List::of(String::new(), b"", &input, table)?,
-    };
-    let verdict = seats::run(&input, &list.words, table, &mut [0; RUN_ROOM]);
+    let inputs = file.sources().into_iter().chain(list).chain(table);
+    let inputs: Vec<&Source> = inputs.collect();
+    let listed = Listed::read(file, list, table)?;
+    let verdict = listed.run(&mut [0; RUN_ROOM]);
     if !verdict.is_clean() {
-        output::say(&jobs::refused_run(&input, &list, table, verdict));
+        output::say(&listed.refused(verdict));
         if !refusals::is_halt(verdict) {
             return Ok(Outcome::Refusal);
         }
     }
-    let called = Called::of(&input);
-    let Some(mut driven) = Driven::start(&called, table, &list) else {
+    let called = Called::of(&listed.input);
+    let Some(mut driven) = Driven::start(&called, &listed) else {
         return Ok(Outcome::Refusal);
     };
-    driven.converse(file)?;
+    driven.converse(&inputs)?;
     output::print(driven.list().as_bytes())?;
     Ok(Outcome::Answer)
 }
@@ -66,14 +60,14 @@ struct Driven<'a> {
 
 impl<'a> Driven<'a> {
     /// Goes through a list, up to a choice that is refused.
-    fn start(called: &'a Called<'a>, table: Option<&'a Table>, list: &List) -> Option<Driven<'a>> {
-        let waited = lists::waited(called.input, &list.words, table);
+    fn start(called: &'a Called<'a>, listed: &'a Listed) -> Option<Driven<'a>> {
+        let (words, waited) = (&listed.list.words, listed.waited());
         let mut course = Course::start(called).ok()?;
-        let lines = course.through(&list.words, &waited);
+        let lines = course.through(words, &waited);
         Some(Driven {
             course,
-            table,
-            words: list.words[..2 * lines.len()].to_vec(),
+            table: listed.table.as_ref(),
+            words: words[..2 * lines.len()].to_vec(),
             waited,
             done: lines.into_iter().map(|[choice, _]| choice).collect(),
             listed: Vec::new(),
@@ -81,31 +75,34 @@ impl<'a> Driven<'a> {
     }
 
     /// Answers line by line, until the input ends or the person does.
-    fn converse(&mut self, file: &NamedFile) -> Result<(), WrongUse> {
+    fn converse(&mut self, inputs: &[&Source]) -> Result<(), WrongUse> {
         let sessions = self.input().sessions();
         let prompts = io::stdin().is_terminal();
         self.tell();
+        if prompts {
+            output::say("a number does that choice; help lists what else can be typed");
+        }
         while let Some(line) = next_line(prompts)? {
             match typed::read(&line, &sessions) {
                 Ok(Typed::Quit) => break,
-                Ok(typed) => self.answer(typed, file),
+                Ok(typed) => self.answer(typed, inputs),
                 Err(what) => output::say(&what),
             }
         }
         Ok(())
     }
 
-    fn answer(&mut self, typed: Typed, file: &NamedFile) {
+    fn answer(&mut self, typed: Typed, inputs: &[&Source]) {
         match typed {
             Typed::Nothing | Typed::Quit => (),
-            Typed::Listed(number) => self.choose_listed(number),
+            Typed::Listed(number) => self.choose_listed(&number),
             Typed::Choices(choices) => self.choose_all(&choices),
             Typed::Undo => self.undo(),
             Typed::WhyNot(choice) => self.why_not(choice),
             Typed::List if self.done.is_empty() => output::say("no choice is done yet"),
             Typed::List => output::say(self.list().trim_end()),
             Typed::State => output::say(self.state().trim_end()),
-            Typed::Save(path) => self.save(file, path.into()),
+            Typed::Save(path) => self.save(inputs, path.into()),
             Typed::Help => output::say(typed::HELP),
         }
     }
@@ -144,15 +141,17 @@ impl<'a> Driven<'a> {
         self.listed = possible.into_iter().map(|(choice, _)| choice).collect();
     }
 
-    fn choose_listed(&mut self, number: usize) {
-        let choice = number.checked_sub(1).and_then(|at| self.listed.get(at));
-        match choice {
+    fn choose_listed(&mut self, number: &str) {
+        let at = number.parse::<usize>().ok();
+        let at = at.and_then(|number| number.checked_sub(1));
+        match at.and_then(|at| self.listed.get(at)) {
             Some(&choice) => {
                 self.choose(choice);
                 self.tell();
             }
             None => output::say(&format!(
-                "there is no choice {number} (choices listed: {})",
+                "there is no choice {} (choices listed: {})",
+                text::shown(number),
                 self.listed.len()
             )),
         }
@@ -268,18 +267,18 @@ impl<'a> Driven<'a> {
         let mut room = [0; RUN_ROOM];
         // It was done choice by choice, so that nothing is refused.
         let _ = seats::run(self.input(), &self.words, self.table, &mut room);
-        let seated = jobs::seated(self.table, self.input(), &self.words);
+        let seated = seats::after(self.table, self.input(), &self.words);
         runs::told(self.input(), &room, &self.course.roll.threads) + &seated
     }
 
-    /// Writes the choices done so far, over neither the file nor its names.
-    fn save(&self, file: &NamedFile, path: PathBuf) {
+    /// Writes the choices done so far, over nothing that was read.
+    fn save(&self, inputs: &[&Source], path: PathBuf) {
         let name = shown(&path);
         let out = Out {
             path: Some(path),
             force: false,
         };
-        if output::spare(&file.sources(), &out).is_err() {
+        if output::spare(inputs, &out).is_err() {
             output::say(&format!("{name} is an input, and is not written over"));
             return;
         }
@@ -300,7 +299,8 @@ fn next_line(prompts: bool) -> Result<Option<String>, WrongUse> {
         let _ = write!(err, "> ").and_then(|()| err.flush());
     }
     let mut line = Vec::new();
-    let read = io::stdin().lock().read_until(b'\n', &mut line);
+    let stdin = io::stdin().lock();
+    let read = stdin.take(LONGEST_LIST).read_until(b'\n', &mut line);
     match read {
         Ok(0) if prompts => {
             // The line of the prompt is ended by nobody else.
@@ -308,6 +308,9 @@ fn next_line(prompts: bool) -> Result<Option<String>, WrongUse> {
             Ok(None)
         }
         Ok(0) => Ok(None),
+        Ok(read) if read as u64 == LONGEST_LIST => {
+            Err(too_long(&Source::StandardInput.name(), LONGEST_LIST))
+        }
         Ok(_) => Ok(Some(String::from_utf8_lossy(&line).into_owned())),
         Err(error) => {
             let why = reason(&error);

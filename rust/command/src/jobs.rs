@@ -1,23 +1,17 @@
 //! What each word of the command does.
 
-use crate::clinic::{Clinic, KINDS};
-use crate::input::Input;
 use crate::length::Bytes;
-use crate::lists::{self, List};
-use crate::objects::{self, Ran};
+use crate::objects;
 use crate::output::{self, Out};
-use crate::seats::{self, Table};
 use crate::source::{NamedFile, Source};
-use crate::state::State;
 use crate::turning::Turn;
 use crate::words::{Form, Job};
 use crate::{
-    checking, days, explain, following, interactive, meeting, merging, names, notices, packing,
-    placing, reasons, refusals, report, runs, sheets, shown, svg, turning,
+    checking, days, explain, interactive, merging, names, notices, packing, placing, reasons,
+    refusals, scheduling, sheets, shown, svg, turning,
 };
 use crate::{Outcome, WrongUse};
-use pilzdamo::{Totals, Verdict, BEFORE_ROUND, ROOM, ROOM_1, RUN_ROOM};
-use std::ops::Range;
+use pilzdamo::{ROOM, ROOM_1};
 
 /// Does a job.
 pub fn carry_out(job: Job) -> Result<Outcome, WrongUse> {
@@ -60,7 +54,7 @@ pub fn carry_out(job: Job) -> Result<Outcome, WrongUse> {
             seats,
             trace,
             json,
-        } => run(&file, &choices, seats.as_ref(), trace, json),
+        } => scheduling::run(&file, &choices, seats.as_ref(), trace, json),
         Job::Interactive {
             file,
             choices,
@@ -70,24 +64,24 @@ pub fn carry_out(job: Job) -> Result<Outcome, WrongUse> {
             file,
             choices,
             seats,
-        } => choices_next(&file, &choices, seats.as_ref()),
+        } => scheduling::choices(&file, &choices, seats.as_ref()),
         Job::Ready {
             file,
             choices,
             json,
-        } => meeting::ready(&file, &choices, json),
-        Job::Waiting { file, choices } => waiting(&file, &choices),
+        } => scheduling::ready(&file, &choices, json),
+        Job::Waiting { file, choices } => scheduling::waiting(&file, &choices),
         Job::Seats {
             file,
             choices,
             seats,
-        } => seats_after(&file, &choices, &seats),
+        } => scheduling::seats(&file, &choices, &seats),
         Job::Round {
             file,
             choices,
             seats,
-        } => round(&file, &choices, seats.as_ref()),
-        Job::Dispatch { file, rounds } => dispatch(&file, rounds),
+        } => scheduling::round(&file, &choices, seats.as_ref()),
+        Job::Dispatch { file, rounds } => scheduling::dispatch(&file, rounds),
     }
 }
 
@@ -188,204 +182,6 @@ fn sheet(files: &[Source], json: bool) -> Result<Outcome, WrongUse> {
         true => sheets::json(&sheet),
         false => sheets::text(&sheet),
     })
-}
-
-fn run(
-    file: &NamedFile,
-    choices: &Source,
-    table: Option<&Source>,
-    trace: bool,
-    json: bool,
-) -> Result<Outcome, WrongUse> {
-    let bytes = file.clinic()?;
-    let text = choices.choices()?;
-    let table = table.map(Table::read).transpose()?;
-    let list = List::of(choices.name(), &text, &bytes, table.as_ref())?;
-    let mut room = [0; RUN_ROOM];
-    let verdict = seats::run(&bytes, &list.words, table.as_ref(), &mut room);
-    if json {
-        let ran = Ran {
-            file: file.file.typed(),
-            choices: choices.typed(),
-            input: &bytes,
-            list: &list,
-            table: table.as_ref(),
-            verdict,
-        };
-        return objects::print(&objects::ran(&ran, &room), verdict);
-    }
-    let state = || {
-        let seated = seated(table.as_ref(), &bytes, &list.words);
-        let state = runs::told(&bytes, &room, &list.followed.threads) + &seated;
-        match trace {
-            true => following::traced(&bytes, &list, table.as_ref(), verdict, &state),
-            false => state,
-        }
-    };
-    if verdict.is_clean() {
-        return answer(&state());
-    }
-    stopped(&bytes, &list, table.as_ref(), verdict, state)
-}
-
-fn choices_next(
-    file: &NamedFile,
-    list: &Source,
-    table: Option<&Source>,
-) -> Result<Outcome, WrongUse> {
-    let bytes = file.clinic()?;
-    let choices = list.choices()?;
-    let table = table.map(Table::read).transpose()?;
-    let table = table.as_ref();
-    let list = List::of(list.name(), &choices, &bytes, table)?;
-    let verdict = seats::run(&bytes, &list.words, table, &mut [0; RUN_ROOM]);
-    let lines = || following::choices(&bytes, &list, table);
-    if verdict.is_clean() {
-        return answer(&lines());
-    }
-    stopped(&bytes, &list, table, verdict, lines)
-}
-
-/// What there is to say of the seats, if there are any.
-pub fn seated(table: Option<&Table>, input: &Input, choices: &[u16]) -> String {
-    table.map_or(String::new(), |table| {
-        let told = pilzdamo::seats(input, choices, &table.words);
-        seats::text(input, table, &told)
-    })
-}
-
-fn seats_after(file: &NamedFile, list: &Source, table: &Source) -> Result<Outcome, WrongUse> {
-    let bytes = file.clinic()?;
-    let choices = list.choices()?;
-    let table = Table::read(table)?;
-    let list = List::of(list.name(), &choices, &bytes, Some(&table))?;
-    let told = pilzdamo::seats(&bytes, &list.words, &table.words);
-    let lines = || seats::text(&bytes, &table, &told);
-    if told.verdict().is_clean() {
-        return answer(&lines());
-    }
-    stopped(&bytes, &list, Some(&table), told.verdict(), lines)
-}
-
-fn waiting(file: &NamedFile, list: &Source) -> Result<Outcome, WrongUse> {
-    let bytes = file.clinic()?;
-    let list = List::of(list.name(), &list.choices()?, &bytes, None)?;
-    let totals = pilzdamo::totals(&bytes, &list.words);
-    let lines = || by_kind(&bytes, &totals);
-    if totals.verdict().is_clean() {
-        return answer(&lines());
-    }
-    stopped(&bytes, &list, None, totals.verdict(), lines)
-}
-
-/// A line for each kind of a file.
-fn by_kind(input: &Input, totals: &Totals) -> String {
-    let kinds = 1..=Clinic::of(input).count(KINDS) as u16;
-    let line = |kind| format!("kind {}: {} waiting\n", input.kind(kind), totals.of(kind));
-    kinds.map(line).collect()
-}
-
-fn round(file: &NamedFile, list: &Source, table: Option<&Source>) -> Result<Outcome, WrongUse> {
-    let bytes = file.clinic()?;
-    let choices = list.choices()?;
-    let table = table.map(Table::read).transpose()?;
-    let table = table.as_ref();
-    let list = List::of(list.name(), &choices, &bytes, table)?;
-    let mut room = [0; RUN_ROOM];
-    let round = match table {
-        None => pilzdamo::round(&bytes, &list.words, &mut room),
-        Some(table) => pilzdamo::round_seated(&bytes, &list.words, &table.words, &mut room),
-    };
-    let both = [&list.words, round.choices()].concat();
-    let followed = lists::followed(&bytes, &both, table);
-    let state = || runs::told(&bytes, &room, &followed.threads) + &seated(table, &bytes, &both);
-    if !round.verdict().is_clean() {
-        return stopped(&bytes, &list, table, round.verdict(), state);
-    }
-    let told = match round.choices() {
-        [] => "no choice can be done".to_string(),
-        _ => lists::line(
-            &bytes,
-            &followed,
-            &both,
-            list.words.len() / 2..both.len() / 2,
-        ),
-    };
-    answer(&format!("round: {told}\n{}", state()))
-}
-
-/// The refusal of a file, a list or a table of seats, behind what there is to say of a run
-/// that halted.
-pub fn stopped(
-    input: &Input,
-    list: &List,
-    table: Option<&Table>,
-    verdict: Verdict,
-    state: impl FnOnce() -> String,
-) -> Result<Outcome, WrongUse> {
-    if refusals::is_halt(verdict) {
-        output::print(state().as_bytes())?;
-    }
-    refusal(&refused_run(input, list, table, verdict))
-}
-
-/// The message for a refusal of a file, a list or a table of seats.
-pub fn refused_run(input: &Input, list: &List, table: Option<&Table>, verdict: Verdict) -> String {
-    if let Some(table) = table.filter(|table| table.is_refused(input, verdict)) {
-        return table.refused(input, verdict);
-    }
-    let name = match verdict.number {
-        17 => list.name.clone(),
-        _ if refusals::is_halt(verdict) => {
-            if let Some(message) = runs::refused(input, list, table, verdict) {
-                return message;
-            }
-            format!("{}, {}", input.name, list.name)
-        }
-        _ => {
-            let more = table.and_then(|table| table.overfilled(input, verdict));
-            return match more {
-                Some(more) => report::of_place(&input.name, input, verdict, more),
-                None => input.refused(verdict),
-            };
-        }
-    };
-    let stands = runs::stand_in_numbers(input, list, table, verdict);
-    report::of_run(&name, input, &list.words, verdict, stands)
-}
-
-fn dispatch(file: &NamedFile, most: Option<u16>) -> Result<Outcome, WrongUse> {
-    let bytes = file.clinic()?;
-    let mut room = [0; RUN_ROOM];
-    let (mut choices, mut rounds) = (Vec::new(), Vec::new());
-    let why = loop {
-        if most.is_some_and(|most| rounds.len() == usize::from(most)) {
-            break "as many rounds as were asked for".to_string();
-        }
-        if choices.len() > 2 * BEFORE_ROUND {
-            break "no round follows over 65,471 choices".to_string();
-        }
-        let round = pilzdamo::round(&bytes, &choices, &mut room);
-        if !round.verdict().is_clean() {
-            return refusal(&bytes.refused(round.verdict()));
-        }
-        if round.choices().is_empty() {
-            let threads = names::several(State::of(&room).threads(), "thread");
-            break format!("then no choice can be done, {threads} left");
-        }
-        let start = choices.len() / 2;
-        choices.extend(round.choices());
-        rounds.push(start..choices.len() / 2);
-    };
-    let followed = lists::followed(&bytes, &choices, None);
-    let line =
-        |round: &Range<usize>| lists::line(&bytes, &followed, &choices, round.clone()) + "\n";
-    let lines: String = rounds.iter().map(line).collect();
-    output::print(lines.as_bytes())?;
-    let rounds = names::several(rounds.len(), "round");
-    let count = names::several(choices.len() / 2, "choice");
-    output::say(&format!("{}: {rounds}, {count}; {why}", file.name()));
-    Ok(Outcome::Answer)
 }
 
 fn show(file: &NamedFile, form: Form, out: &Out) -> Result<Outcome, WrongUse> {

@@ -66,3 +66,6 @@ impl<'a> Lines<'a> {
         same_waits && same_lines && same_state
     }
 }
+
+#[cfg(test)]
+mod tests;

@@ -9,10 +9,10 @@ use crate::seats::Table;
 use crate::threads::{named, over, tokens, Choice, Thread, Who};
 use crate::WrongUse;
 use std::ops::Range;
-use text::{At, Token};
+use text::At;
 
 /// The most choices of a run.
-const MOST: usize = 65_535;
+pub const MOST: usize = 65_535;
 
 /// A list, in the engine's words.
 pub struct List {
@@ -60,23 +60,12 @@ impl List {
         table: Option<&Table>,
     ) -> List {
         let tokens = tokens(&String::from_utf8_lossy(bytes));
-        let pairs = words.as_chunks().0.iter().zip(tokens.chunks(2));
-        let choice = |(&[thread, partner], tokens): (&[u16; 2], &[Token])| Choice {
-            at: over(tokens),
-            thread: Who::Numbered(thread),
-            partner: Who::Numbered(partner),
-        };
-        let choices: Vec<Choice> = pairs.map(choice).collect();
-        let followed = match input.text {
-            Some(_) => follow(input, &choices, table),
-            None => Followed::default(),
-        };
         List {
             name,
             text: bytes.to_vec(),
+            places: tokens.chunks(2).map(over).collect(),
+            followed: followed(input, &words, table),
             words,
-            places: choices.iter().map(|choice| choice.at).collect(),
-            followed,
         }
     }
 

@@ -1,6 +1,7 @@
 //! Operands, masks and steps in words.
 
 use crate::clinic::{Clinic, CHANNELS, KINDS, ROLES, USERS};
+pub use text::several;
 
 /// Said of zero bytes, so that an input that was lost on its way is seen.
 pub fn planned(bytes: &[u8]) -> &'static str {
@@ -55,12 +56,6 @@ pub fn carries([carried]: [u16; 1], kinds: usize) -> String {
         0 => "carries a plain value".to_string(),
         kind => format!("carries a channel of {}", record("kind", kind, kinds)),
     }
-}
-
-/// A number of things: `1 user`, `2 users`.
-pub fn several(count: usize, one: &str) -> String {
-    let many = if count == 1 { "" } else { "s" };
-    format!("{count} {one}{many}")
 }
 
 /// A user, role, kind or channel by its number.

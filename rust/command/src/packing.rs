@@ -16,7 +16,12 @@ pub fn pack(source: &Source, out: &Out, names: Option<&Out>) -> Result<Outcome, 
         let why = "FILE and NAMES are the same file";
         return Err(WrongUse(format!("pack: {why}")));
     }
-    let input = Input::of_text(source.name(), &source.read()?)?;
+    let bytes = source.read()?;
+    if bytes.contains(&0) && !text::is_text(&bytes) {
+        let (name, why) = (source.name(), "it is no text but bytes already");
+        return Err(WrongUse(format!("{name}: can't be packed: {why}")));
+    }
+    let input = Input::of_text(source.name(), &bytes)?;
     let kept = input.text.as_ref().map(|text| text.packed.names.text());
     let kept = kept.as_ref().zip(names);
     // Neither is put in its place before both are written.
@@ -62,8 +67,9 @@ pub fn strip(source: &Source, out: &Out) -> Result<Outcome, WrongUse> {
         output::say(&input.refused(verdict));
         return Ok(Outcome::Refusal);
     }
-    if let Some(Text { text, packed, .. }) = &input.text {
-        output::deliver_text(text::stripped(text, packed).as_bytes(), out)?;
+    if let Some(from) = &input.text {
+        let stripped = text::stripped(&from.text, &from.packed);
+        output::deliver_text(&from.marked(&stripped), out)?;
         return Ok(Outcome::Answer);
     }
     let stripped = text::unpack(&input).and_then(|text| {
@@ -84,5 +90,5 @@ pub fn deliver_placed(from: &Text, placed: &[u8], out: &Out) -> Result<(), Wrong
     let placed = records.and_then(|records| text::placed(text, packed, &records));
     let why = "what was placed is not this text with on and off put in";
     let placed = placed.ok_or_else(|| WrongUse(why.to_string()))?;
-    output::deliver_text(placed.as_bytes(), out)
+    output::deliver_text(&from.marked(&placed), out)
 }

@@ -8,6 +8,10 @@ use std::ops::Deref;
 /// The most bytes of which all are kept. No clinic's file has as many.
 pub const LONGEST: u64 = 1_000_000;
 
+/// The most bytes of a text. That of a file whose 1,024 nodes stand each below the one
+/// before has over a million, and no canonical text with invented names has two.
+pub const LONGEST_TEXT: u64 = 4_000_000;
+
 /// The most bytes of a list of choices, of which each may have names and a comment.
 pub const LONGEST_LIST: u64 = 16_000_000;
 
@@ -48,7 +52,12 @@ impl Start {
 
     pub fn read(mut file: File) -> io::Result<Start> {
         let mut bytes = some(LONGEST + 1, &mut file)?;
-        if bytes.len() as u64 <= LONGEST {
+        let mut most = LONGEST;
+        if text::is_text(&bytes) {
+            most = LONGEST_TEXT;
+            bytes.extend(some(most + 1 - bytes.len() as u64, &mut file)?);
+        }
+        if bytes.len() as u64 <= most {
             return Ok(Start::whole(bytes));
         }
         let length = length(bytes.len() as u64, file)?;

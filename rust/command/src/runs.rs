@@ -2,9 +2,9 @@
 
 use crate::clinic::Clinic;
 use crate::input::{Input, Text};
+use crate::listed::Listed;
 use crate::lists::List;
 use crate::report;
-use crate::seats::{self, Table};
 use crate::state;
 use crate::threads::Thread;
 use pilzdamo::{State, Verdict, RUN_ROOM};
@@ -52,27 +52,22 @@ fn state(text: &Text, state: &State, threads: &[Thread]) -> String {
 
 /// The message for a choice that is refused, at its place in the list. None where
 /// neither the file is a text nor the list has names.
-pub fn refused(
-    input: &Input,
-    list: &List,
-    table: Option<&Table>,
-    verdict: Verdict,
-) -> Option<String> {
-    let why = why(input, list, table, verdict)?;
+pub fn refused(listed: &Listed, verdict: Verdict) -> Option<String> {
+    let why = why(listed, verdict)?;
     let what = format!("refused {}: {why}", verdict.number);
-    let message = list.told(verdict.place, &what)?;
+    let message = listed.list.told(verdict.place, &what)?;
     Some(format!("{message}\n  {}", report::below_choice(verdict)))
 }
 
 /// Why a choice is refused, in names; none where there are no names.
-pub fn why(input: &Input, list: &List, table: Option<&Table>, verdict: Verdict) -> Option<String> {
-    match list.followed.missing {
-        Some(missing) => Some(not_there(
-            &input.sessions(),
-            &list.followed.threads,
-            missing,
-        )),
-        None => stand(input, list, table, verdict),
+pub fn why(listed: &Listed, verdict: Verdict) -> Option<String> {
+    let followed = &listed.list.followed;
+    match followed.missing {
+        Some(missing) => {
+            let sessions = listed.input.sessions();
+            Some(not_there(&sessions, &followed.threads, missing))
+        }
+        None => stand(listed, verdict),
     }
 }
 
@@ -89,11 +84,10 @@ pub fn not_there(sessions: &[String], threads: &[Thread], missing: Thread) -> St
 }
 
 /// Where the threads of a choice stand in a text.
-fn stand(input: &Input, list: &List, table: Option<&Table>, verdict: Verdict) -> Option<String> {
+fn stand(listed: &Listed, verdict: Verdict) -> Option<String> {
+    let Listed { input, list, .. } = listed;
     let text = input.text.as_ref()?;
-    let mut room = [0; RUN_ROOM];
-    let halted = seats::run(input, &list.words, table, &mut room) == verdict;
-    let state = &State::of(&room).filter(|_| halted)?;
+    let state = &State::of(&halted(listed, verdict)?)?;
     let told = Told { text };
     let threads = list.choice(verdict.place)?.into_iter();
     let stands = threads
@@ -103,16 +97,10 @@ fn stand(input: &Input, list: &List, table: Option<&Table>, verdict: Verdict) ->
 }
 
 /// Where the threads of a refused choice stand, in numbers.
-pub fn stand_in_numbers(
-    input: &Input,
-    list: &List,
-    table: Option<&Table>,
-    verdict: Verdict,
-) -> Option<String> {
-    let mut room = [0; RUN_ROOM];
-    let halted = seats::run(input, &list.words, table, &mut room) == verdict;
-    let [thread, partner] = list.choice(verdict.place).filter(|_| halted)?;
-    let (state, clinic) = (state::State::of(&room), Clinic::of(input));
+pub fn stand_in_numbers(listed: &Listed, verdict: Verdict) -> Option<String> {
+    let room = halted(listed, verdict)?;
+    let [thread, partner] = listed.list.choice(verdict.place)?;
+    let (state, clinic) = (state::State::of(&room), Clinic::of(&listed.input));
     let mut stands = vec![state.stands(&clinic, thread)];
     if partner != 0 {
         stands.push(state.stands(&clinic, partner));
@@ -121,6 +109,12 @@ pub fn stand_in_numbers(
         stands.push(state.full());
     }
     Some(stands.join("\n  "))
+}
+
+/// The output of a run that halts so.
+fn halted(listed: &Listed, verdict: Verdict) -> Option<[u8; RUN_ROOM]> {
+    let mut room = [0; RUN_ROOM];
+    (listed.run(&mut room) == verdict).then_some(room)
 }
 
 /// What a run has, in a text's names.

@@ -98,8 +98,16 @@ pub fn run(input: &Input, choices: &[u16], table: Option<&Table>, out: &mut [u8]
     }
 }
 
+/// What there is to say of the seats after these choices, if there are any.
+pub fn after(table: Option<&Table>, input: &Input, choices: &[u16]) -> String {
+    table.map_or(String::new(), |table| {
+        let told = pilzdamo::seats(input, choices, &table.words);
+        text(input, table, &told)
+    })
+}
+
 /// A line for each role, and how many choices got no seat.
-pub fn text(input: &Input, table: &Table, told: &Seats) -> String {
+fn text(input: &Input, table: &Table, told: &Seats) -> String {
     let mut lines: Vec<String> = (1..)
         .zip(&table.words)
         .map(|(role, &seats)| of_role(input, role, seats, told))

@@ -1,7 +1,7 @@
 //! Where a file comes from.
 
 use crate::input::Input;
-use crate::reading::{self, Start, LONGEST, LONGEST_LIST};
+use crate::reading::{self, Start, LONGEST_LIST, LONGEST_TEXT};
 use crate::WrongUse;
 use std::ffi::OsString;
 use std::fs::{self, File, Metadata};
@@ -66,7 +66,7 @@ impl Source {
 
     /// All its bytes, if a text can have as many.
     pub fn read(&self) -> Result<Vec<u8>, WrongUse> {
-        self.read_up_to(LONGEST)
+        self.read_up_to(LONGEST_TEXT)
     }
 
     /// All its bytes, if a list of choices can have as many.
@@ -126,7 +126,10 @@ impl NamedFile {
 
 /// A path in a message.
 pub fn shown(path: &Path) -> String {
-    text::printable(path.as_os_str().as_bytes())
+    match path.as_os_str().as_bytes() {
+        [] => "''".to_string(),
+        path => text::printable(path),
+    }
 }
 
 /// What a file has under all its names and links, and no other has. Pipes and devices

@@ -7,7 +7,7 @@ use text::Token;
 pub enum Typed {
     Nothing,
     /// A choice by its number in the list of those that can be done.
-    Listed(usize),
+    Listed(String),
     Choices(Vec<Choice>),
     Undo,
     WhyNot(Choice),
@@ -47,7 +47,7 @@ pub fn read(line: &str, sessions: &[String]) -> Result<Typed, String> {
         }
         ["save", ..] => path(line),
         [number] if number.bytes().all(|byte| byte.is_ascii_digit()) => {
-            Ok(Typed::Listed(number.parse().unwrap_or(usize::MAX)))
+            Ok(Typed::Listed(number.to_string()))
         }
         _ => choices(&tokens, sessions),
     }

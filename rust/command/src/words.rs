@@ -177,7 +177,7 @@ fn known(name: &OsStr) -> Result<&'static Word, WrongUse> {
         .map_or_else(
             || {
                 let names = table::ALL.iter().map(|word| word.name);
-                let hint = near::hint(&text, names);
+                let hint = near::hint(&text, names.chain(["--help", "--version"]));
                 misused(&format!("there is no word '{text}'{hint}"))
             },
             Ok,

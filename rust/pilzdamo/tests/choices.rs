@@ -43,7 +43,7 @@ fn lists() -> Vec<Vec<u16>> {
     };
     let lists = examples("choices").into_iter().filter_map(numbers);
     lists
-        .filter(|list: &Vec<u16>| list.len() % 2 == 0)
+        .filter(|list: &Vec<u16>| list.len().is_multiple_of(2))
         .collect()
 }
 

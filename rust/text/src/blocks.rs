@@ -44,6 +44,10 @@ pub struct Blocks<'a> {
     /// How many nodes stand before these.
     before: usize,
     open: Vec<Block>,
+    /// Whether a line was indented by a tab, which is told of by itself.
+    tabbed: bool,
+    /// Whether nothing can be said of the lines from here on for that tab.
+    lost: bool,
     grown: Grown,
 }
 
@@ -64,6 +68,8 @@ impl<'a> Blocks<'a> {
             tables,
             before,
             open: Vec::new(),
+            tabbed: false,
+            lost: false,
             grown: Grown::default(),
         };
         blocks.open(Opener::Session, session, Vec::new());
@@ -88,12 +94,15 @@ impl<'a> Blocks<'a> {
     }
 
     fn flaw(&mut self, at: At, what: String) {
-        self.grown.flaws.push(Flaw { at, what });
+        if !self.lost {
+            self.grown.flaws.push(Flaw { at, what });
+        }
     }
 
     /// Reads one line.
     pub fn step(&mut self, line: &Line) {
-        if !self.find_block(line) {
+        self.tabbed |= line.tabbed;
+        if self.lost || !self.find_block(line) {
             return;
         }
         if let Some(word) = self.block().ended {
@@ -133,6 +142,7 @@ impl<'a> Blocks<'a> {
         if inner == line.indent {
             return true;
         }
+        self.lost = self.tabbed;
         let deeper = "indented deeper than the steps above it: only what stands under session, branch, fork or repeat is";
         let what = match line.indent > inner {
             true => deeper.to_string(),

@@ -65,8 +65,26 @@ fn inserted(lines: &[&str], insertions: Vec<Insertion>) -> String {
         }
         all.push(line.to_string());
     }
-    insertions.for_each(|insertion| put(&mut all, insertion));
+    insertions.for_each(|insertion| put_behind(&mut all, insertion));
     all.join("\n")
+}
+
+/// Puts lines behind the last, which has no end. It gets that of the line above it, and
+/// the last of those put in has none.
+fn put_behind(all: &mut Vec<String>, insertion: Insertion) {
+    let above = all.iter().rev().nth(1);
+    if above.is_some_and(|line| line.ends_with('\r')) {
+        all.last_mut().expect("a line").push('\r');
+    }
+    put(all, insertion);
+    without_end(all);
+}
+
+/// The last line without an end.
+fn without_end(lines: &mut [String]) {
+    if let Some(last) = lines.last_mut().filter(|line| line.ends_with('\r')) {
+        last.pop();
+    }
 }
 
 fn put(all: &mut Vec<String>, insertion: Insertion) {
@@ -92,6 +110,9 @@ pub fn stripped(text: &str, packed: &Packed) -> String {
             let indent = tokens(number, line).first().map_or(0, |t| t.at.column - 1);
             kept.push(" ".repeat(indent) + &line[comment..]);
         }
+    }
+    if gone.contains(&text.split('\n').count()) {
+        without_end(&mut kept);
     }
     kept.join("\n")
 }

@@ -8,7 +8,7 @@ use crate::{pack, unpack_named};
 
 /// What is wrong with names for a file that 1 to 5 let through: a count that is another
 /// than the file's, or a name that can't stand where it does. None where they fit, or
-/// where it can't be told because 1 to 9 refuse the file.
+/// where it can't be told because 1 to 6, 8 or 9 refuse the file.
 pub fn misfit(bytes: &[u8], names: &Names) -> Option<String> {
     let records = Records::of(bytes)?;
     if let Some(other) = other_count(&records, names) {
@@ -55,7 +55,8 @@ fn other_count(records: &Records, names: &Names) -> Option<String> {
     Some(format!("they have {there}, and the file has {due}"))
 }
 
-fn several(count: usize, one: &str) -> String {
+/// A number of things: `1 user`, `2 users`.
+pub fn several(count: usize, one: &str) -> String {
     let many = if count == 1 { "" } else { "s" };
     format!("{count} {one}{many}")
 }

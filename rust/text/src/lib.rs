@@ -31,7 +31,7 @@ mod why;
 mod words;
 
 pub use edit::{placed, stripped};
-pub use fit::misfit;
+pub use fit::{misfit, several};
 pub use line::{shown, tokens, At, Flaw, Token};
 pub use mark::{decoded, is_text, told};
 pub use names::{Names, SessionNames};

@@ -39,6 +39,8 @@ impl Token {
 pub struct Line {
     /// How many characters stand before its first word.
     pub indent: usize,
+    /// Whether a tab is one of them.
+    pub tabbed: bool,
     pub tokens: Vec<Token>,
 }
 
@@ -75,7 +77,8 @@ pub fn lines(text: &str) -> (Vec<Line>, Vec<Flaw>) {
             continue;
         };
         let indent = first.at.column - 1;
-        if let Some(tab) = text.chars().take(indent).position(|c| c == '\t') {
+        let tab = text.chars().take(indent).position(|c| c == '\t');
+        if let Some(tab) = tab {
             flaws.push(Flaw {
                 at: At {
                     line: number,
@@ -85,7 +88,11 @@ pub fn lines(text: &str) -> (Vec<Line>, Vec<Flaw>) {
                 what: "a tab; lines are indented by spaces".to_string(),
             });
         }
-        lines.push(Line { indent, tokens });
+        lines.push(Line {
+            indent,
+            tabbed: tab.is_some(),
+            tokens,
+        });
     }
     (lines, flaws)
 }

@@ -296,8 +296,15 @@ fn last<T>(records: &mut [T]) -> &mut T {
 /// The version that the first line names.
 fn version(line: &Line) -> Result<Version, Flaw> {
     let mut cursor = Cursor::new(line);
-    if line.indent > 0 || cursor.peek() != Some("clinic") {
+    if cursor.peek() != Some("clinic") {
         return cursor.expected("'clinic' and a version as the first line");
+    }
+    if line.indent > 0 {
+        let what = "indented, and the first line is not".to_string();
+        return Err(Flaw {
+            at: line.at(),
+            what,
+        });
     }
     cursor.skip();
     if cursor.takes("nothing") {
@@ -328,11 +335,13 @@ pub fn known(cursor: &mut Cursor, table: &Table) -> Result<usize, Flaw> {
 
 /// What is said of a name that nothing has.
 pub fn unknown(what: &str, name: &str, names: &[(String, At)]) -> String {
-    let names: Vec<String> = names
-        .iter()
-        .filter(|(name, _)| !name.is_empty())
-        .map(|(name, _)| shown(name))
-        .collect();
+    let mut there: Vec<&str> = Vec::new();
+    for (name, _) in names {
+        if !name.is_empty() && !there.contains(&&name[..]) {
+            there.push(name);
+        }
+    }
+    let names: Vec<String> = there.into_iter().map(shown).collect();
     let there = match &names[..] {
         [] => format!("there are no {what}s"),
         names if names.len() > 8 => format!("{what}s: {}, ...", names[..8].join(", ")),

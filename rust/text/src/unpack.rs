@@ -6,8 +6,8 @@ use crate::records::{COMPARE, FORK, NEW, OFF, ON, RECEIVE, REPEAT, SEND};
 use crate::tree::{self, Spot};
 use crate::{pack, Packed};
 
-/// The canonical text of a file, with names that are invented; none where 1 to 9
-/// refuse the file.
+/// The canonical text of a file, with names that are invented; none where 1 to
+/// 6, 8 or 9 refuse the file.
 pub fn unpack(bytes: &[u8]) -> Option<String> {
     let records = Records::of(bytes)?;
     let spots = tree::follow(&records)?;

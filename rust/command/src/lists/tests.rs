@@ -33,14 +33,6 @@ fn example(name: &str) -> Input {
     }
 }
 
-fn numbered([thread, partner]: [u16; 2]) -> Choice {
-    Choice {
-        at: At::default(),
-        thread: Who::Numbered(thread),
-        partner: Who::Numbered(partner),
-    }
-}
-
 /// A list of up to so many choices that aren't refused, at times with one behind them that
 /// is.
 fn list(input: &Input, table: &Table, dice: &mut Dice, most: usize) -> Vec<u16> {
@@ -80,8 +72,7 @@ fn quick_and_slow_alike() {
             let table = Table::of("seats", &seats);
             for _ in 0..12 {
                 let words = list(&input, &table, &mut dice, 150);
-                let choices: Vec<Choice> =
-                    words.as_chunks().0.iter().copied().map(numbered).collect();
+                let choices = numbered(&words);
                 let told = pilzdamo::seats(&input, &words, &seats);
                 waited += told.waited;
                 halted += u16::from(!told.verdict().is_clean());
@@ -119,4 +110,27 @@ fn another_list_does_not_agree() {
     // A choice that was not followed: the second asks again.
     run.words.extend([2, 0]);
     assert!(!run.agrees());
+}
+
+/// A role that its user hasn't is refused, and not waited for.
+#[test]
+fn a_role_that_is_not_assigned() {
+    let text = "\
+clinic 1
+role holder
+user one: holder
+user two
+session first by one
+  on holder
+session second by two
+  on holder
+";
+    let Ok(input) = Input::of_text("unassigned".to_string(), text.as_bytes()) else {
+        panic!("it can't be read");
+    };
+    let table = Table::of("seats", &[1]);
+    let choices = numbered(&[1, 0, 2, 0]);
+    let quick = walk(&input, &choices, Seating::Followed(Lines::of(&table)));
+    assert!(quick.is_some());
+    assert_eq!(quick, walk(&input, &choices, Seating::Asked(&table)));
 }

@@ -4,11 +4,10 @@ use super::named::lines;
 use crate::clinic::Clinic;
 use crate::input::Input;
 use crate::json::{object, Json};
-use crate::lists::List;
+use crate::listed::Listed;
 use crate::refusals;
 use crate::report;
 use crate::runs;
-use crate::seats::Table;
 use pilzdamo::{Counts, Verdict};
 
 /// A refusal with all that there is to say of it.
@@ -64,18 +63,19 @@ pub fn asked(input: &Input, rows: Option<&[usize]>, verdict: Verdict) -> Json {
 }
 
 /// What a run refuses, null if that is nothing.
-pub fn in_run(input: &Input, list: &List, table: Option<&Table>, verdict: Verdict) -> Json {
+pub fn in_run(listed: &Listed, verdict: Verdict) -> Json {
+    let Listed { input, list, .. } = listed;
     if verdict.is_clean() {
         return Json::Null;
     }
-    if let Some(table) = table.filter(|table| table.is_refused(input, verdict)) {
+    if let Some(table) = listed.wrong_table(verdict) {
         return apart("seats", verdict, Some(table.wrong(input))).into();
     }
     if verdict.number == 17 {
         return apart("choices", verdict, Some(report::length(&list.words))).into();
     }
     match refusals::is_halt(verdict) {
-        true => of_choice(input, list, table, verdict).into(),
+        true => of_choice(listed, verdict).into(),
         false => of_file(input, verdict).into(),
     }
 }
@@ -98,9 +98,10 @@ fn of_file(input: &Input, verdict: Verdict) -> Refused {
     }
 }
 
-fn of_choice(input: &Input, list: &List, table: Option<&Table>, verdict: Verdict) -> Refused {
+fn of_choice(listed: &Listed, verdict: Verdict) -> Refused {
+    let list = &listed.list;
     let at = list.place(verdict.place);
-    let why = runs::why(input, list, table, verdict);
+    let why = runs::why(listed, verdict);
     Refused {
         counts: Counts::Choice,
         sentence: report::sentence(&Clinic::default(), verdict, Counts::Choice),

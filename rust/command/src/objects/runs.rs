@@ -3,10 +3,10 @@
 use super::named::{reference, Table};
 use super::nodes::Nodes;
 use super::refused;
+use crate::called::bound;
 use crate::clinic::Clinic;
-use crate::input::Input;
 use crate::json::{list, object, Json};
-use crate::lists::List;
+use crate::listed::Listed;
 use crate::names::Above;
 use crate::refusals;
 use crate::seats;
@@ -17,9 +17,7 @@ pub struct Ran<'a> {
     /// The file and the list as they were named.
     pub file: String,
     pub choices: String,
-    pub input: &'a Input,
-    pub list: &'a List,
-    pub table: Option<&'a seats::Table>,
+    pub listed: &'a Listed,
     pub verdict: Verdict,
 }
 
@@ -34,12 +32,12 @@ impl Ran<'_> {
     }
 
     pub fn refusal(&self) -> Json {
-        refused::in_run(self.input, self.list, self.table, self.verdict)
+        refused::in_run(self.listed, self.verdict)
     }
 
     /// A thread's name, where the file has names.
     fn name(&self, number: u16) -> Option<String> {
-        self.list.thread(self.input, number)
+        self.listed.list.thread(&self.listed.input, number)
     }
 
     /// A thread by its number and name.
@@ -49,16 +47,18 @@ impl Ran<'_> {
 
     /// The seats after the choices that were done.
     fn seats(&self, nodes: &Nodes) -> Option<Json> {
-        let table = self.table?;
-        let told = pilzdamo::seats(self.input, &self.list.words, &table.words);
+        let Listed { input, list, table } = self.listed;
+        let table = table.as_ref()?;
+        let told = pilzdamo::seats(input, &list.words, &table.words);
         Some(seats_of(nodes, table, &told))
     }
 }
 
 /// The state that a run came to, which is in its output unless nothing was begun.
 pub fn ran(ran: &Ran, output: &[u8]) -> Json {
-    let clinic = Clinic::of(ran.input);
-    let nodes = Nodes::of(ran.input, &clinic);
+    let input = &ran.listed.input;
+    let clinic = Clinic::of(input);
+    let nodes = Nodes::of(input, &clinic);
     let begun = ran.verdict.is_clean() || refusals::is_halt(ran.verdict);
     let state = State::of(output).filter(|_| begun);
     let state = state.as_ref();
@@ -87,7 +87,7 @@ fn threads(nodes: &Nodes, clinic: &Clinic, ran: &Ran, state: &State) -> Json {
     let threads = state.threads.iter().enumerate();
     list(threads.map(|(at, thread)| {
         let (number, mask) = (usize::from(thread.node), u32::from(thread.mask));
-        let bound = thread.vars.iter().filter(|&&value| value != 0).count();
+        let bound = bound(thread);
         let above = Above {
             bound: Some(bound),
             due: None,

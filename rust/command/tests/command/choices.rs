@@ -1,6 +1,6 @@
 //! `choices FILE CHOICES`.
 
-use crate::common::{example, pilzdamo, pilzdamo_fed, placed, sentence, Answer, Folder};
+use crate::common::{example, pilzdamo_fed, placed, sentence, Answer, Folder};
 use crate::format;
 
 fn choices(file: &str, list: &str) -> Answer {
@@ -107,9 +107,7 @@ fn a_list_that_halts() {
 #[test]
 fn with_seats() {
     let folder = Folder::new("choices with seats");
-    let text = folder.at("asked.txt");
-    let place = ["place", &example("seats/asked.txt"), "-o", &text];
-    assert_eq!(pilzdamo(&place).status, 0);
+    let text = folder.file("asked.txt", placed("seats/asked.txt"));
     let seats = example("seats/one-holder.seats");
     let seated = |list: &str| {
         let words = ["choices", &text, "-", "--seats", &seats];

@@ -1,6 +1,6 @@
 //! `run -i FILE [CHOICES]`, with what is typed on standard input.
 
-use crate::common::{example, pilzdamo, pilzdamo_fed, placed, sentence, Answer, Folder};
+use crate::common::{example, pilzdamo_fed, placed, sentence, Answer, Folder};
 use crate::format;
 use std::fs;
 
@@ -173,6 +173,7 @@ fn wrong_words() {
     for due in [
         "there is no choice 3 (choices listed: 2)\n",
         "there is no choice 0 (choices listed: 2)\n",
+        "there is no choice 99999999999999999999 (choices listed: 2)\n",
         "there is no session 'what' (sessions: ask, serve)",
         "expected a thread to meet, but the list ends",
         "save wants the name of a file behind it\n",
@@ -209,14 +210,32 @@ fn saved_and_shown() {
         format::placed()
     );
     assert_eq!(answer.text(), "ask\n");
+    // Nor is the list written over, or a table of seats.
+    let list = folder.file("begun.choices", "ask # so far");
+    let table = folder.file("one.seats", "1 0");
+    let typed = format!("ask\nsave {list}\nsave {table}\n");
+    let answer = driven(&[&file, &list, "--seats", &table], &typed);
+    let refused = answer.err.matches(" is an input, and is not written over");
+    assert_eq!(refused.count(), 2, "{}", answer.err);
+    let kept = [&list, &table].map(|path| fs::read_to_string(path).expect("it"));
+    assert_eq!(kept, ["ask # so far", "1 0"]);
+}
+
+/// A line without an end is not waited for.
+#[test]
+fn an_endless_line() {
+    let folder = Folder::new("endless line");
+    let file = folder.file("placed.txt", format::placed());
+    let answer = pilzdamo_fed(&["run", "-i", &file], &vec![b' '; 16_000_001]);
+    assert_eq!((answer.status, answer.text()), (2, ""));
+    let due = "pilzdamo: standard input: it has more than 16000000 bytes, ";
+    assert!(answer.err.contains(due), "{}", answer.err);
 }
 
 #[test]
 fn with_seats() {
     let folder = Folder::new("driven with seats");
-    let text = folder.at("asked.txt");
-    let place = ["place", &example("seats/asked.txt"), "-o", &text];
-    assert_eq!(pilzdamo(&place).status, 0);
+    let text = folder.file("asked.txt", placed("seats/asked.txt"));
     let seats = example("seats/one-holder.seats");
     let typed = "book1 book2 book1\nwhy not book2\nbook2\nundo\nbook2 book2\nstate\n";
     let answer = driven(&[&text, "--seats", &seats], typed);
@@ -231,6 +250,22 @@ fn with_seats() {
     ] {
         assert!(answer.err.contains(due), "{due}: {}", answer.err);
     }
+}
+
+/// A choice that waited and is taken back is forgotten: another that stands in its place
+/// is done, also when the list is gone through again.
+#[test]
+fn a_wait_that_is_taken_back() {
+    let folder = Folder::new("driven back from a wait");
+    let text = folder.file("asked.txt", placed("seats/asked.txt"));
+    let seats = example("seats/one-holder.seats");
+    let typed = "book1 book2 book1\nbook2\nundo\nbegin\nbook2\nundo\n";
+    let answer = driven(&[&text, "--seats", &seats], typed);
+    assert_eq!(answer.text(), "book1\nbook2\nbook1\nbegin\n");
+    let (_, last) = answer.err.rsplit_once("taken back: ").expect("a last");
+    let due =
+        "book2\nchoices done: 4; threads: book1 at line 24, book2 at line 32, begin at line 41, ";
+    assert!(last.starts_with(due), "{last}");
 }
 
 /// A file that can't be run is refused; a list that halts is told, and gone on from.

@@ -189,6 +189,20 @@ fn every_example() {
     }
 }
 
+/// Variables are numbered on their path, from 1 at the first node that binds one.
+#[test]
+fn what_a_node_binds() {
+    let text = crate::text::bare_ward();
+    let told = object(&pilzdamo_fed(&["show", "-", "--json"], text.as_bytes()));
+    let sessions = told["sessions"].list().iter();
+    let nodes = sessions.flat_map(|session| session["nodes"].list());
+    let binds = nodes.filter_map(|node| node["binds"].some());
+    let bound: Vec<(usize, &str)> = binds
+        .map(|variable| (variable["number"].number(), variable["name"].text()))
+        .collect();
+    assert_eq!(bound, [(1, "reply"), (2, "found"), (1, "back")]);
+}
+
 /// The names are those of the text, and the lines too.
 fn assert_named(told: &Value, path: &str) {
     let names = |table: &str| {

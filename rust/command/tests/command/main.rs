@@ -31,6 +31,7 @@ mod merge;
 mod named;
 mod nothing;
 mod notices;
+mod odd_texts;
 mod picture;
 mod place;
 mod printable;

@@ -2,33 +2,8 @@
 
 use crate::common::{example, pilzdamo, pilzdamo_fed, sentence, Answer, Folder};
 use crate::files;
+use crate::text::bare_ward;
 use std::fs;
-
-/// A nurse asks the desk for a bed.
-const WARD: &str = "\
-clinic 1
-kind answer
-kind request carries answer
-role caller: send request; receive answer
-role keeper: send answer; receive request
-user nurse: caller
-user desk: keeper
-user bed
-channel inbox: request, owner desk
-
-session ask by nurse
-  new reply: answer
-  fork
-    branch
-      send reply on inbox
-    branch
-      receive found on reply
-
-session serve by desk
-  repeat
-    receive back on inbox
-    send bed on back
-";
 
 /// The ward packed, its names, and the packed ward as it is placed.
 struct Ward {
@@ -41,7 +16,7 @@ struct Ward {
 impl Ward {
     fn new(name: &str) -> Ward {
         let folder = Folder::new(name);
-        let text = folder.file("ward.txt", WARD);
+        let text = folder.file("ward.txt", bare_ward());
         let [file, names, placed] =
             ["ward.clinic", "ward.names", "placed.clinic"].map(|name| folder.at(name));
         let pack = ["pack", &text, "-o", &file, "--names", &names];
@@ -70,7 +45,7 @@ impl Ward {
 #[test]
 fn names_through_placing() {
     let ward = Ward::new("names through placing");
-    let placed = pilzdamo_fed(&["place", "-"], WARD.as_bytes());
+    let placed = pilzdamo_fed(&["place", "-"], bare_ward().as_bytes());
     let bytes = fs::read(&ward.placed).expect("the placed file");
     assert_eq!(pilzdamo_fed(&["pack", "-"], &placed.out).out, bytes);
     let text = pilzdamo(&["unpack", &ward.placed, "--names", &ward.names]);
@@ -119,7 +94,7 @@ pilzdamo: {file}: {}
     let due = "\n  node 2: on caller\n  on and off are put in by placing, and this one stands there already\n";
     assert_eq!(answer.status, 1);
     assert!(answer.err.contains(due), "{}", answer.err);
-    let other = WARD.replace("session serve by desk", "session serve by desk as caller");
+    let other = bare_ward().replace("session serve by desk", "session serve by desk as caller");
     let other = pilzdamo_fed(&["pack", "-"], other.as_bytes()).out;
     let other = ward.folder.file("other.clinic", other);
     let answer = pilzdamo(&["check", &other, "--names", names]);

@@ -1,6 +1,6 @@
 //! `round` and `dispatch` of a text: its names, in the form that `run` takes.
 
-use crate::common::{example, pilzdamo, pilzdamo_fed, Folder};
+use crate::common::{example, pilzdamo, pilzdamo_fed, placed, Folder};
 use crate::files;
 use std::time::{Duration, Instant};
 
@@ -95,8 +95,7 @@ second
 #[test]
 fn a_round_with_seats() {
     let folder = Folder::new("seated rounds in names");
-    let placed = pilzdamo(&["place", &example("seats/asked.txt")]).out;
-    let file = folder.file("asked.txt", placed);
+    let file = folder.file("asked.txt", placed("seats/asked.txt"));
     let seats = example("seats/one-holder.seats");
     let mut list = String::new();
     for _ in 0..8 {
@@ -164,4 +163,26 @@ fn a_long_list_with_seats() {
             "{took:?} for {count} choices"
         );
     }
+}
+
+/// A list of as many choices as there can be has its names to the end.
+#[test]
+fn as_many_choices_as_a_list_can_have() {
+    let folder = Folder::new("as many choices as can be");
+    let file = folder.file("turns.txt", TURNS);
+    // The last turn lacks its end.
+    let list = "1 0 3 0 3 0 3 0\n".repeat(16_383) + "1 0 3 0 3 0";
+    let answer = pilzdamo_fed(&["run", &file, "-"], list.as_bytes());
+    let due = "\
+choices done: 65535
+threads: 3
+  1 first: one, line 7 (repeat), no role
+  2 second: two, line 12 (repeat), no role
+  3 first.16385: one, the end behind line 9, no role
+made channels: 0
+";
+    assert_eq!((answer.status, answer.text()), (0, due));
+    let answer = pilzdamo_fed(&["run", &file, "-"], (list + " 3 0").as_bytes());
+    assert_eq!((answer.status, answer.text()), (1, ""));
+    assert!(answer.err.contains("Refused 17: "), "{}", answer.err);
 }

@@ -42,6 +42,15 @@ const PUT_IN: [(usize, &str); 5] = [
     (24, "    off keeper"),
 ];
 
+/// The ward without its comments.
+pub fn bare_ward() -> String {
+    let lines = WARD
+        .lines()
+        .filter(|line| !line.trim_start().starts_with('#'));
+    let bare = lines.map(|line| line.split('#').next().unwrap_or("").trim_end());
+    bare.map(|line| format!("{line}\n")).collect()
+}
+
 fn placed_ward() -> String {
     let mut lines: Vec<&str> = WARD.lines().collect();
     for (behind, line) in PUT_IN.into_iter().rev() {

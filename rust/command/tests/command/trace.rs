@@ -63,6 +63,17 @@ fn a_thread_that_ends() {
     assert_eq!(last, due);
 }
 
+/// Of bytes it is said whether there are threads that move down, also if that is one.
+#[test]
+fn the_last_thread_that_ends() {
+    let folder = Folder::new("trace of last ends");
+    let file = Draft::default().user(&[]).session(1, &[END]);
+    let file = folder.file("ends.clinic", file.session(1, &[END]).bytes());
+    let [lines, _] = around(&file, "1 0 1 0", &[]);
+    let due = "1  1 0: ends; the threads behind it move down by one\n2  1 0: ends\n";
+    assert_eq!(lines, due);
+}
+
 #[test]
 fn bytes_in_numbers() {
     let folder = Folder::new("trace in numbers");
@@ -161,9 +172,7 @@ fn files_and_lists_that_are_refused() {
 #[test]
 fn a_choice_that_waits() {
     let folder = Folder::new("trace with seats");
-    let text = folder.at("asked.txt");
-    let place = ["place", &example("seats/asked.txt"), "-o", &text];
-    assert_eq!(pilzdamo(&place).status, 0);
+    let text = folder.file("asked.txt", placed("seats/asked.txt"));
     let seats = example("seats/one-holder.seats");
     let list = example("seats/one-by-one-named.choices");
     let list = std::fs::read_to_string(list).expect("a list");

@@ -40,6 +40,7 @@ fn explain() {
     let place = Place::new("unbuilt explain");
     for number in 1..=28 {
         alike(&place, &["explain", &number.to_string()]);
+        alike(&place, &["explain", &number.to_string(), "--json"]);
     }
     for word in [
         "007", "+7", "0", "29", "-1", "", "x", "7 ", "7.txt", "70000",
@@ -49,6 +50,10 @@ fn explain() {
     for words in [
         &["explain"][..],
         &["explain", "7", "8"],
+        &["explain", "--json", "7", "--json"],
+        &["explain", "7", "--json=1"],
+        &["explain", "99", "--json"],
+        &["check", "7", "--json=1"],
         &["explain", "--", "7"],
     ] {
         alike(&place, words);
