@@ -7,6 +7,10 @@ use trials::{deal, deal_bare, files, second_check, second_read, seed};
 /// One in so many of the trials' files is taken: 2,000 of each version and family.
 const SHARE: u64 = 200;
 
+/// Of those that go there and back: 28,571 of each version and family, some 100,000 of
+/// which 1 to 10 let through.
+const SHARE_THERE_AND_BACK: u64 = 14;
+
 /// The file, by its text and back; and the text, by its bytes and back.
 fn there_and_back(file: &[u8]) {
     let text = unpack(file).unwrap_or_else(|| panic!("no text for {file:?}"));
@@ -18,7 +22,7 @@ fn there_and_back(file: &[u8]) {
 
 fn demand(version: Version, file_of: impl Fn(u64) -> Vec<u8>) {
     let mut sound = 0;
-    let dealt = files() / SHARE;
+    let dealt = files() / SHARE_THERE_AND_BACK;
     for index in 0..dealt {
         let file = file_of(index);
         if second_read(&file).0 != 0 {
