@@ -3,12 +3,12 @@ use Prim.Native.Nat.{ℕ, zero, suc, _+_, _*_, _/_, _≤_, _<_}
 use mathlib.Core.Path.{_≡_, refl, sym, ap, ap₂, subst, _∙_}
 use mathlib.Core.List.{List, [], _∷_, _++_, append-assoc, append-nil}
 use native.Mathlib.Omega.{arith}
-use lib.ListN.{length, getD, set, drop, length-set, length-drop, List·getD-eq-default}
+use lib.ListN.{length, getD, set, drop, length-set, length-drop}
 use lib.Seq.{drop-cons, getD-set-same, getD-set-other}
 use Rattle.format.specs.Contents.{Contents, item, noSession}
 use Rattle.format.specs.declared.Session.{Session}
 use Rattle.format.proofs.ContentsLaws.{next-item, none-past}
-use Rattle.naming.specs.Scopes.{awaitedIn, awaitedBy}
+use Rattle.naming.specs.Scopes.{awaitedBy}
 use Rattle.steps.specs.declared.Thread.{Thread}
 use Rattle.steps.specs.Threads.{zeros, noThread}
 use Rattle.steps.specs.declared.Outcome.{Outcome}
@@ -22,7 +22,7 @@ use Rattle.steps.specs.Records.{threadsIn}
 use Rattle.steps.specs.Beside.{madeIn, startWords, startBeside, oneMore, counted}
 use Rattle.steps.specs.Kept.{stateIn, Sized, stateLeft}
 use Rattle.steps.specs.Records.{stored}
-use Rattle.steps.proofs.TotalLaws.{cleared-length, cleared-other, aside-state, aside-counted, aside-none}
+use Rattle.steps.proofs.TotalLaws.{cleared-length, cleared-other, aside-state, aside-counted, aside-none, kinds-none, more-none}
 use Rattle.choices.proofs.StateLaws.{threads-add}
 
 -- a run of which some choices are done already
@@ -196,16 +196,12 @@ module _ (C : Contents) (kind : ℕ → ℕ) where
       sym (ap (λ (ss : List Session). counted kind b (threadsFrom ss)) (none-past (C .sessions) k (omega (arith, e, past)))) ∙ have
       ∙ ap (λ (l : List ℕ). counted kind l (start C .threads)) (is ∙ ap (startWords old) (sym (threads-from-length (C .sessions) ∙ e)))
 
--- a table in which no node has a kind: nobody is counted
-module _ (C : Contents) (table : List ℕ) (few : length table < 2) (none : awaitedBy table 0 ≡ 0) where
-  kinds-none : (j : ℕ) → awaitedBy table j ≡ 0
-  kinds-none zero = none
-  kinds-none (suc j) = ap awaitedIn (List·getD-eq-default table 0 {n = suc j} (omega (arith, few)))
-
+-- by a table without room nobody is counted
+module _ (C : Contents) (table : List ℕ) (none : length table ≡ 0) where
   counted-none : (b : List ℕ) (ts : List Thread) → counted (awaitedBy table) b ts ≡ b
-  unfolding counted oneMore
+  unfolding counted
   counted-none b [] = refl
-  counted-none b (t ∷ ts) = ap (λ (k : ℕ). counted (awaitedBy table) (oneMore b k) ts) (kinds-none (t .node)) ∙ counted-none b ts
+  counted-none b (t ∷ ts) = ap (λ (l : List ℕ). counted (awaitedBy table) l ts) (sym (more-none b (awaitedBy table (t .node)) (kinds-none table none (t .node)))) ∙ counted-none b ts
 
   pub none-counted : (old b₀ : List ℕ) (n : ℕ) → length (C .sessions) ≡ n → b₀ ≡ startWords old n → b₀ ≡ startBeside (awaitedBy table) old (start C .threads)
   none-counted old b₀ n e is =

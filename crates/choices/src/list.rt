@@ -8,7 +8,6 @@ use format::sections::in_count;
 use format::sections::session;
 use format::words::narrow;
 use format::words::wide;
-use naming::scopes::awaited_by;
 use rules::grants::fill_grants;
 use steps::Acted;
 use steps::Answer;
@@ -22,8 +21,7 @@ use steps::beside::thread_count;
 use steps::records::put_thread;
 use steps::records::thread_at;
 ghost use mathlib.Core.Path.{_≡_};
-ghost use mathlib.Core.Bool.{cond, _&&_};
-ghost use lib.Dec.{eqb, ltb};
+ghost use mathlib.Core.Bool.{cond};
 ghost use Prim.Native.Nat.{_≤_, _<_};
 ghost use lib.ListN.{length, replicate};
 ghost use Rattle.format.specs.Header.{Laid};
@@ -177,13 +175,6 @@ pub fn opening(file: &[u8], head: Head, k: u16) -> Thread
     }
 }
 
-// A table in which no node has a kind: one without room.
-fn has_no_kinds(table: &[u64]) -> bool
-    ensures { λ r. ⌜ r ≡ (ltb (length (now (table .entry))) 2 && eqb (awaitedBy (now (table .entry)) 0) 0) ⌝ }
-{
-    (table.len() < 2) & (awaited_by(table, 0).0 == 0)
-}
-
 // The words beside the threads of the start: how many, no channel made, and the totals of those that start at a receive.
 pub fn start_beside(file: &[u8], head: Head, table: &[u64], beside: &mut [u16])
     requires { ⌜ Laid (now file) head × (length (now beside) ≡ besideWords) ⌝ }
@@ -191,7 +182,7 @@ pub fn start_beside(file: &[u8], head: Head, table: &[u64], beside: &mut [u16])
 {
     let sessions = head.count.sessions;
     start_words(beside, sessions);
-    if has_no_kinds(table) {
+    if table.len() == 0 {
         return;
     }
     let mut k: u16 = 0;

@@ -3,6 +3,7 @@ use Prim.Native.Nat.{ℕ, zero, suc, _+_, _*_, _-_, _≤_, _<_}
 use mathlib.Core.Path.{_≡_, refl, sym, ap, _∙_}
 use mathlib.Core.Bool.{Bool, true, false, cond, not, _&&_, false≢true}
 use mathlib.Core.List.{List, [], _∷_}
+use mathlib.Core.Logic.{_⊎_, inl, inr}
 use native.Mathlib.Omega.{arith}
 use native.Mathlib.Numerals.{add-one}
 use lib.Dec.{eqb, leb}
@@ -25,7 +26,7 @@ use Rattle.steps.specs.Beside.{threadCount, madeOf}
 use Rattle.steps.specs.Kept.{stateIn}
 use Rattle.steps.proofs.TableLaws.{threads-length, thread-get}
 use Rattle.running.specs.Run.{isMeeting}
-use Rattle.running.specs.Ways.{outOf, inOf, alike}
+use Rattle.running.specs.Ways.{worksOn, outOf, inOf, alike}
 use Rattle.running.proofs.WayLaws.{ways-meet}
 use Rattle.rounds.specs.Round.{isStep, receiverFor}
 use Rattle.dispatching.specs.Dispatch.{threadsOf, takenOf, comesTo}
@@ -49,6 +50,17 @@ with-partner s i p C n made t r =
   where
     P : Outcome → Type 0
     P o = isStep (takenOf (done s i p o)) ≡ isMeeting o
+
+-- alone, a thread at a send or a receive is refused
+refused-alone : (C : Clinic) (n : ℕ) (made : List Made) (t : Thread) → (C .node (t .node) .tag ≡ 6) ⊎ (C .node (t .node) .tag ≡ 5) → acting C n made t Alone ≡ Refused 18
+unfolding acting sending
+refused-alone C n made t which = go (inCount (C .nodes) (t .node)) which
+  where
+    go : (h : Bool) → (C .node (t .node) .tag ≡ 6) ⊎ (C .node (t .node) .tag ≡ 5)
+        → cond h (cond (eqb (C .node (t .node) .tag) 6) (sending C made t (C .node (t .node)) Alone) (cond (eqb (C .node (t .node) .tag) 5) (Refused 18) (aloneOnly Alone (lone C n (length made) t (C .node (t .node)))))) (Refused 18) ≡ Refused 18
+    go false e = refl
+    go true (inl e) = rw (eq-eqb (C .node (t .node) .tag) 6 e)
+    go true (inr e) = rw e
 
 -- a thread that has moved, and one that has not, as code tests them
 pub moved-is : (h x : Bool) → h ≡ true → false ≡ (not h && x)
@@ -96,6 +108,14 @@ module _ (C : Clinic) (w b : List ℕ) (i : ℕ) (pos : 0 < i) (le : i ≤ threa
       let e = with-thread p l m in
       ap (λ (o : Outcome). isStep (takenOf (done s i p o))) e ∙ with-partner s i p C (threadCount b) (madeOf b) (thread i) (thread p) ∙ ap isMeeting (sym e)
 
+  -- a thread at a send or a receive has no lone step
+  pub no-lone : (C .node (thread i .node) .tag ≡ 6) ⊎ (C .node (thread i .node) .tag ≡ 5) → outcome C s i 0 ≡ Refused 18
+  unfolding outcome
+  no-lone which =
+      let n : length (s .threads) ≡ threadCount b = threads-length w 0 (threadCount b) in
+      let c : outcome C s i 0 ≡ acting C (length (s .threads)) (s .made) (threadAt s i) Alone = rw (inCount-iff (length (s .threads)) i .1 (pos, omega (arith, n, le))) in
+      c ∙ ap (λ (x : Thread). acting C (length (s .threads)) (s .made) x Alone) (at-thread i pos le) ∙ refused-alone C (length (s .threads)) (s .made) (thread i) which
+
   step-meets : (p : ℕ) → 0 < p → p ≤ threadCount b → isStep (comesTo C s i p) ≡ alike over (at p)
   step-meets p l m = step-met p l m ∙ ap isMeeting (with-thread p l m) ∙ ways-meet C (threadCount b) (madeOf b) (thread i) (thread p)
 
@@ -139,6 +159,15 @@ module _ (C : Clinic) (w b : List ℕ) (i : ℕ) (pos : 0 < i) (le : i ≤ threa
       where
         is-over : (own : Thread) (k v : ℕ) → k ≡ i - 1 → own ≡ threadIn w (recordAt k) → v ≡ outOf C (madeOf b) own → over ≡ v
         is-over own k v ek eo ev = sym (ev ∙ ap (outOf C (madeOf b)) (eo ∙ ap (λ (x : ℕ). threadIn w (recordAt x)) ek))
+
+    -- one that is not at a send may send on nothing
+    pub not-sending : (C .node (thread i .node) .tag ≡ 6 → ⊥) → 0 ≡ receiverFor threadsOf (comesTo C) s i 1 (marksFrom 1 there moved)
+    unfolding outOf
+    not-sending other = silent (thread i) (i - 1) 0 refl refl (sym (none-out (inCount (C .nodes) (thread i .node)))) refl
+      where
+        none-out : (h : Bool) → cond (h && eqb (C .node (thread i .node) .tag) 6) (worksOn C (madeOf b) Sends (thread i) (C .node (thread i .node) .f1)) 0 ≡ 0
+        none-out true = rw (ne-eqb (C .node (thread i .node) .tag) 6 other)
+        none-out false = refl
 
     module _ (own : Thread) (k v : ℕ) (ek : k ≡ i - 1) (eo : own ≡ threadIn w (recordAt k)) (ev : v ≡ outOf C (madeOf b) own) (some : v ≡ 0 → ⊥) where
       is-over : v ≡ over

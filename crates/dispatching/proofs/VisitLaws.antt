@@ -105,11 +105,16 @@ module _ (C : Clinic) (w b : List ℕ) (sized : Sized w b) (i there moved : ℕ)
   counted : (w b : List ℕ) → threadsOf (stateIn w b) ≡ threadCount b
   counted w b = threads-length w 0 (threadCount b)
 
+  -- a visit that does nothing
+  abbrev passing : Visit
+  passing = record { «is_done» = false; partner = 0; next = i + 1; present = there; moved = moved }
+
   -- nobody can be met
-  pub told-nothing : (p : ℕ) → p ≡ receiver → p ≡ 0 → VisitTold (meetingOf receiver) i there (record { «is_done» = false; partner = 0; next = i + 1; present = there; moved = moved }) w b
-  told-nothing p e z =
-      subst (λ (x : ℕ). VisitTold (meetingOf x) i there (record { «is_done» = false; partner = 0; next = i + 1; present = there; moved = moved }) w b) (sym z ∙ e)
-      (record { words = refl; next = omega (arith, own); marks = refl; state = refl; sized = sized; few = few; less = omega arith })
+  pub told-nothing : (p : ℕ) (v : Visit) → p ≡ receiver → p ≡ 0 → v ≡ passing → VisitTold (meetingOf receiver) i there v w b
+  told-nothing p v e z ev =
+      subst (λ (x : Visit). VisitTold (meetingOf receiver) i there x w b) (sym ev)
+      (subst (λ (x : ℕ). VisitTold (meetingOf x) i there passing w b) (sym z ∙ e)
+      (record { words = refl; next = omega (arith, own); marks = refl; state = refl; sized = sized; few = few; less = omega arith }))
 
   -- the receiver that is found is met
   pub found-there : (p : ℕ) → p ≡ receiver → (p ≡ 0 → ⊥) → (0 < p) × (p ≤ there)
@@ -154,13 +159,19 @@ module _ (C : Clinic) (w b : List ℕ) (sized : Sized w b) (i there moved : ℕ)
       ap (λ (x : ℕ). going threadsOf (comesTo C) s (i - 1) marks (loneElse (comesTo C s x 0) (meetingWith threadsOf (comesTo C) s x (receiverFor threadsOf (comesTo C) s x 1 marks)))) own
       ∙ ap (λ (x : Taken State). going threadsOf (comesTo C) s (i - 1) marks (loneElse x (meetingWith threadsOf (comesTo C) s i receiver))) e
 
-  -- a meeting in tables that hold the same state
-  pub met-told : (s₁ : State) (v : Visit) (w′ b′ : List ℕ) → s₁ ≡ s → theVisit ≡ meetingOf receiver
-      → VisitTold (going threadsOf (comesTo C) s₁ (i - 1) marks (meetingWith threadsOf (comesTo C) s₁ i (receiverFor threadsOf (comesTo C) s₁ i 1 marks))) i there v w′ b′
-      → VisitTold theVisit i there v w′ b′
-  met-told s₁ v w′ b′ same by t =
-      subst (λ (x : Going State). VisitTold x i there v w′ b′)
-      (ap (λ (x : State). going threadsOf (comesTo C) x (i - 1) marks (meetingWith threadsOf (comesTo C) x i (receiverFor threadsOf (comesTo C) x i 1 marks))) same ∙ sym by) t
+  -- no lone step, and nobody to meet
+  pub told-still : (n : ℕ) → outcome C s i 0 ≡ Refused n → 0 ≡ receiver → (v : Visit) (w′ b′ : List ℕ) → v ≡ passing → Sized w′ b′ → stateIn w′ b′ ≡ s → VisitTold theVisit i there v w′ b′
+  unfolding choice done
+  told-still n o z v w′ b′ ev sized′ left =
+      subst (λ (x : Visit). VisitTold theVisit i there x w′ b′) (sym ev)
+      (subst (λ (x : Going State). VisitTold x i there passing w′ b′) (ap meetingOf z ∙ sym (visit-by (refuses n) (ap (λ (x : Outcome). takenOf (done s i 0 x)) o)))
+      (record { words = refl; next = omega (arith, own); marks = refl; state = left; sized = sized′; few = omega (arith, few, ap threadsOf left, counted w b, counted w′ b′); less = omega arith }))
+
+  -- no lone step: what a meeting leaves
+  pub told-meeting : (n : ℕ) → outcome C s i 0 ≡ Refused n → (v : Visit) (w′ b′ : List ℕ) → VisitTold (meetingOf receiver) i there v w′ b′ → VisitTold theVisit i there v w′ b′
+  unfolding choice done
+  told-meeting n o v w′ b′ t =
+      subst (λ (x : Going State). VisitTold x i there v w′ b′) (sym (visit-by (refuses n) (ap (λ (x : Outcome). takenOf (done s i 0 x)) o))) t
 
   module _ (s′ : State) (e : comesTo C s i 0 ≡ steps s′) (w′ b′ : List ℕ) (sized′ : Sized w′ b′) (left : stateIn w′ b′ ≡ s′) (m : ℕ) where
     stays : threadCount b′ ≡ threadsOf s′
@@ -199,16 +210,12 @@ module _ (C : Clinic) (w b : List ℕ) (sized : Sized w b) (i there moved : ℕ)
     chose : Chose (besideBy kind b (outcome C s i 0)) (outcome C s i 0) i 0 (r .last) w b w′ b′
     chose = one-chose kind C w b w′ b′ i 0 r through
 
-    -- a refused one leaves the state, and the thread may meet another
-    pub lone-refused : (n : ℕ) → r .last ≡ answers.Refused n → (stateIn w′ b′ ≡ s) × (there ≤ threadCount b′) × (theVisit ≡ meetingOf receiver)
+    -- a refused one leaves the state, and one that is not at a send does nothing
+    pub lone-refused : (n : ℕ) (v : Visit) → r .last ≡ answers.Refused n → 0 ≡ receiver → v ≡ passing → VisitTold theVisit i there v w′ b′
     unfolding choice done
-    lone-refused n e =
+    lone-refused n v e z ev =
         let o : outcome C s i 0 ≡ Refused n = refused-by (outcome C s i 0) n (sym e ∙ chose .0) in
-        let left : stateIn w′ b′ ≡ s = chose .1 ∙ ap (λ (x : Outcome). stateLeft s (done s i 0 x)) o in (
-          left,
-          omega (arith, few, ap threadsOf left, counted w b, counted w′ b′),
-          visit-by (refuses n) (ap (λ (x : Outcome). takenOf (done s i 0 x)) o),
-        )
+        told-still n o z v w′ b′ ev (chose .3) (chose .1 ∙ ap (λ (x : Outcome). stateLeft s (done s i 0 x)) o)
 
     pub lone-ends : (m : ℕ) → r .last ≡ answers.Ends → m ≡ closeUp moved i → VisitTold theVisit i there (record { «is_done» = true; partner = 0; next = i; present = there - 1; moved = m }) w′ b′
     unfolding choice done

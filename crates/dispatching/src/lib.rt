@@ -116,7 +116,7 @@ fn round_into(file: &[u8], head: Head, choices: &[u16], out: &mut [u8]) -> Round
     let mut threads = [0u16; TABLE];
     let mut beside = [0u16; BESIDE];
     let mut words = [0u16; 128];
-    let table = [0u64; 1];
+    let table = [0u64; 0];
     let own = run_by(
         file,
         head,

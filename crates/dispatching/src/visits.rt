@@ -5,6 +5,7 @@ use super::marks::has_moved;
 use super::marks::with_moved;
 use choices::list::go_through;
 use format::Head;
+use format::sections::node_tag;
 use format::words::narrow;
 use format::words::wide;
 use running::pairs::receives_over;
@@ -13,7 +14,7 @@ use steps::Answer;
 use steps::beside::thread_count;
 use steps::records::thread_at;
 ghost use mathlib.Core.Path.{_≡_};
-ghost use mathlib.Core.Bool.{cond, not, _&&_};
+ghost use mathlib.Core.Bool.{false, cond, not, _&&_};
 ghost use mathlib.Core.List.{[], _∷_, _++_};
 ghost use Prim.Native.Nat.{suc, _+_, _*_, _-_, _/_, _≤_, _<_};
 ghost use lib.Dec.{eqb};
@@ -86,7 +87,30 @@ pub fn receiver_for(
     0
 }
 
-// The visit of a thread without a lone step: it meets the first receiver that it can meet, or does nothing.
+// The tag of the node at which thread i stands, 0 at none.
+fn tag_at(file: &[u8], head: Head, threads: &[u16], i: u16) -> u16
+    requires { ⌜ Laid (now file) head × (0 < i) × (recordAt i ≤ length (now threads)) ⌝ }
+    ensures { λ r. ⌜ r ≡ clinicOf (contentsAt (now (file .entry)) head) .node (threadIn (now (threads .entry)) (recordAt (i - 1)) .node) .tag ⌝ }
+{
+    let own = thread_at(threads, wide(i - 1));
+    node_tag(file, head, own.node)
+}
+
+// A visit of thread i that does nothing.
+fn pass_by(i: u16, there: u16, moved: u64) -> Visit
+    requires { ⌜ i < 65535 ⌝ }
+    ensures { λ r. ⌜ r ≡ record { «is_done» = false; partner = 0; next = i + 1; present = there; moved = moved } ⌝ }
+{
+    Visit {
+        is_done: false,
+        partner: 0,
+        next: i + 1,
+        present: there,
+        moved,
+    }
+}
+
+// The visit of a thread at a send: it meets the first receiver that it can meet, or does nothing.
 fn meet(
     file: &[u8],
     head: Head,
@@ -118,13 +142,7 @@ fn meet(
         moved,
     );
     if p == 0 {
-        return Visit {
-            is_done: false,
-            partner: 0,
-            next: i + 1,
-            present: there,
-            moved,
-        };
+        return pass_by(i, there, moved);
     }
     let list = [i, p];
     go_through(file, head, sends, receives, table, &list, threads, beside);
@@ -137,7 +155,8 @@ fn meet(
     }
 }
 
-// The visit of thread i: its lone step if that is not refused, else a meeting.
+// The visit of thread i: its lone step if that is not refused, else a meeting. A thread at a send or a receive has no lone step, and one that is not at a
+// send meets nobody of itself.
 fn visit(
     file: &[u8],
     head: Head,
@@ -155,24 +174,29 @@ fn visit(
     ensures { λ r. ⌜ VisitTold (visit threadsOf (comesTo (clinicOf (contentsAt (now (file .entry)) head))) (stateIn (now (threads .entry)) (now (beside .entry))) (i - 1) (marksFrom 1 there moved))
         i there r (now (threads .exit)) (now (beside .exit)) ⌝ }
 {
+    let tag = tag_at(file, head, threads, i);
+    if tag == 6 {
+        return meet(
+            file,
+            head,
+            sends,
+            receives,
+            table,
+            threads,
+            beside,
+            i,
+            there,
+            moved,
+        );
+    }
+    if tag == 5 {
+        return pass_by(i, there, moved);
+    }
     let list = [i, 0u16];
     let went = go_through(file, head, sends, receives, table, &list, threads, beside);
     let answer = went.last;
     match answer {
-        Answer::Refused(_) => {
-            meet(
-                file,
-                head,
-                sends,
-                receives,
-                table,
-                threads,
-                beside,
-                i,
-                there,
-                moved,
-            )
-        }
+        Answer::Refused(_) => pass_by(i, there, moved),
         Answer::Ends => Visit {
             is_done: true,
             partner: 0,

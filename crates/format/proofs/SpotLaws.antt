@@ -82,6 +82,15 @@ row-there f h l other n pos le =
     let e : nodeSpot h n 2 ≡ h .at .nodes + 3 * (n - 1) + 2 = rw (ne-eqb (h .version) 3 other) (omega arith) in
     omega (arith, there, e)
 
+pub column-there : (f : List ℕ) (h : Head) → Laid f h → h .version ≡ 3 → (n : ℕ) → 1 ≤ n → n ≤ h .count .nodes
+    → 2 * (h .at .nodes + (n - 1) + h .count .nodes + h .count .nodes) + 1 < length f
+unfolding spot
+column-there f h l third n pos le =
+    let k = h .count .nodes in
+    let there : 2 * nodeSpot h n 2 + 1 < length f = node-there f h l n 2 pos le (omega arith) in
+    let e : nodeSpot h n 2 ≡ h .at .nodes + (n - 1) + k + k = rw (eq-eqb (h .version) 3 third) (omega arith) in
+    omega (arith, there, e)
+
 -- no two alike: word i of node n and word j of node m
 abbrev Alike : Bool → ℕ → ℕ → ℕ → ℕ → ℕ → Type 0
 Alike c k n m i j = cond c 1 3 * (n - 1) + cond c k 1 * i ≡ cond c 1 3 * (m - 1) + cond c k 1 * j → (n ≡ m) × (i ≡ j)

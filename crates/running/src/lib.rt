@@ -64,7 +64,7 @@ pub struct Two {
 }
 
 // Not 17: an even number of words of choices, and at most 65,535 choices.
-fn is_listed(words: usize) -> bool
+pub fn is_listed(words: usize) -> bool
     ensures { λ r. ⌜ r ≡ listed words ⌝ }
 {
     (words % 2 == 0) & (words <= 131070)
@@ -153,7 +153,7 @@ fn ready_in(file: &[u8], head: Head, choices: &[u16]) -> Ready
     let mut receives = [0u16; 33];
     let mut threads = [0u16; TABLE];
     let mut beside = [0u16; BESIDE];
-    let table = [0u64; 1];
+    let table = [0u64; 0];
     let progress = run_by(
         file,
         head,

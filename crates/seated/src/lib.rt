@@ -17,6 +17,7 @@ use read::line_words;
 use read::taken_words;
 use read::waiting_words;
 use reading::Opened;
+use running::is_listed;
 use running::out::put_state;
 use running::stopped_at;
 use runs::run_seated_by;
@@ -32,7 +33,6 @@ ghost use lib.ListN.{length, replicate};
 ghost use Rattle.format.specs.Header.{Laid};
 ghost use Rattle.format.specs.Contents.{contentsAt};
 ghost use Rattle.naming.specs.Scopes.{awaitedBy};
-ghost use Rattle.running.specs.Run.{listed};
 ghost use Rattle.seating.specs.SeatedRunning.{seatedOver};
 ghost use Rattle.seating.specs.SeatsRead.{noSeats, seatsAfter};
 ghost use Rattle.seated.specs.SeatedEntry.{writtenOf, seatedWritten, writtenBy, outBy, seatsBy};
@@ -51,13 +51,6 @@ pub struct SeatedWent {
     pub refusal: u16,
     pub waited: u16,
     pub last: u16,
-}
-
-// Not 17: an even number of words of choices, and at most 65,535 choices.
-fn is_listed(words: usize) -> bool
-    ensures { λ r. ⌜ r ≡ listed words ⌝ }
-{
-    (words % 2 == 0) & (words <= 131070)
 }
 
 fn not_written(verdict: Verdict) -> Written
@@ -86,7 +79,7 @@ fn run_into(file: &[u8], head: Head, choices: &[u16], seats: &[u16], out: &mut [
     let mut beside = [0u16; BESIDE];
     let mut owners = [0u16; 64];
     let mut lines = [0u16; 528];
-    let table = [0u64; 1];
+    let table = [0u64; 0];
     let went = run_seated_by(
         file,
         head,

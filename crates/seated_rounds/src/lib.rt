@@ -87,7 +87,7 @@ fn round_into(file: &[u8], head: Head, choices: &[u16], seats: &[u16], out: &mut
     let mut owners = [0u16; 64];
     let mut lines = [0u16; 528];
     let mut words = [0u16; 128];
-    let table = [0u64; 1];
+    let table = [0u64; 0];
     let own = run_seated_by(
         file,
         head,

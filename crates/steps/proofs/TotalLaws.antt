@@ -4,11 +4,12 @@ use mathlib.Core.Path.{_≡_, refl, sym, ap, ap₂, _∙_}
 use mathlib.Core.Bool.{Bool, true, false, cond}
 use mathlib.Core.List.{List, [], _∷_, _++_}
 use native.Mathlib.Omega.{arith}
-use lib.ListN.{length, getD, set, take, drop, replicate, length-set, length-drop}
+use lib.ListN.{length, getD, set, take, drop, replicate, length-set, length-drop, List·getD-eq-default}
 use mir.Val.{boolByte}
 use lib.Seq.{sets, length-sets, set-getD, getD-set-same, getD-set-other, getD-drop, take-suc, take-suc-set, take-all}
 use Rattle.format.specs.Contents.{inCount}
 use Rattle.format.proofs.ContentsLaws.{in-count}
+use Rattle.naming.specs.Scopes.{awaitedIn, awaitedBy}
 use Rattle.steps.specs.declared.Thread.{Thread}
 use Rattle.steps.specs.declared.Made.{Made}
 use Rattle.steps.specs.declared.Outcome.{Outcome}
@@ -90,6 +91,18 @@ less-length b k = put-length (λ x. (x + 65535) % 65536) b k (inCount 32 k)
 pub less-other : (b : List ℕ) (k j : ℕ) → j < 130 → getD (oneLess b k) j 0 ≡ getD b j 0
 unfolding oneLess
 less-other b k j lt = put-other (λ x. (x + 65535) % 65536) b k j lt (inCount 32 k) refl
+
+-- by a table without room nobody waits, and nobody is counted
+pub kinds-none : (table : List ℕ) → length table ≡ 0 → (j : ℕ) → awaitedBy table j ≡ 0
+kinds-none table none j = ap awaitedIn (List·getD-eq-default table 0 {n = j} (omega (arith, none)))
+
+pub more-none : (b : List ℕ) (k : ℕ) → k ≡ 0 → b ≡ oneMore b k
+unfolding oneMore
+more-none b k none = ap (oneMore b) (sym none)
+
+pub less-none : (b : List ℕ) (k : ℕ) → k ≡ 0 → b ≡ oneLess b k
+unfolding oneLess
+less-none b k none = ap (oneLess b) (sym none)
 
 -- words that differ in totals only
 pub record Aside (b d : List ℕ) : Type 0 where

@@ -150,11 +150,15 @@ fn one_less(beside: &mut [u16], kind: ChannelKind)
     add_to(beside, kind, 65535);
 }
 
-// A thread reaches a node: by the table of what each node is reached with, it waits there for a kind or for none.
+// A thread reaches a node: by the table of what each node is reached with, it waits there for a kind or for none. A table without room has no kinds, and
+// nobody is counted by it.
 pub fn reach(beside: &mut [u16], table: &[u64], node: u16)
     requires { ⌜ length (now beside) ≡ besideWords ⌝ }
     ensures { λ r. ⌜ now (beside .exit) ≡ oneMore (now (beside .entry)) (awaitedBy (now (table .entry)) node) ⌝ }
 {
+    if table.len() == 0 {
+        return;
+    }
     one_more(beside, awaited_by(table, node));
 }
 
@@ -172,6 +176,9 @@ fn leave(beside: &mut [u16], table: &[u64], next: u16)
     requires { ⌜ length (now beside) ≡ besideWords ⌝ }
     ensures { λ r. ⌜ now (beside .exit) ≡ oneLess (now (beside .entry)) (awaitedBy (now (table .entry)) (next - 1)) ⌝ }
 {
+    if table.len() == 0 {
+        return;
+    }
     one_less(beside, awaited_by(table, before(next)));
 }
 

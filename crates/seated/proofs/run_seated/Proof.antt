@@ -11,7 +11,7 @@ use Rattle.seated.proofs.run_seated.Tie as tie
 use Rattle.seated.proofs.run_seated.Reads as reads
 use Rattle.seated.proofs.run_seated.Lts as lts
 use Rattle.checking.proofs.enter.Reads as enter-reads
-use Rattle.seated.proofs.is_listed.Reads as is-listed-reads
+use Rattle.running.proofs.is_listed.Reads as is-listed-reads
 use Rattle.seated.proofs.not_written.Reads as not-written-reads
 use Rattle.seated.proofs.run_into.Reads as run-into-reads
 

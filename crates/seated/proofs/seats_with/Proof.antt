@@ -10,7 +10,7 @@ use Rattle.seated.proofs.seats_with.Tie as tie
 use Rattle.seated.proofs.seats_with.Reads as reads
 use Rattle.seated.proofs.seats_with.Lts as lts
 use Rattle.checking.proofs.enter_scoped.Reads as enter-scoped-reads
-use Rattle.seated.proofs.is_listed.Reads as is-listed-reads
+use Rattle.running.proofs.is_listed.Reads as is-listed-reads
 use Rattle.seated.proofs.no_seats.Reads as no-seats-reads
 use Rattle.seated.proofs.seats_in.Reads as seats-in-reads
 

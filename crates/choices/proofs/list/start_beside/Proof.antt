@@ -1,12 +1,9 @@
 -- The invariant: counting the sessions that are left from here gives what counting them all gives.
 use Prim.Native.Nat.{ℕ, _+_, _-_, _≤_}
 use mathlib.Core.Path.{_≡_, refl, sym, ap, _∙_}
-use mathlib.Core.Bool.{and-eq-true-iff}
 use mathlib.Core.List.{List}
 use native.Mathlib.Omega.{arith}
-use lib.Dec.{eqb, ltb}
 use lib.ListN.{length, set, length-set}
-use borrow.Author.Tests.{eqb-true, ltb-true}
 use borrow.Author.Needs.{needs}
 use Rattle.format.specs.Contents.{contentsAt}
 use Rattle.format.proofs.ContentsLaws.{sessions-held}
@@ -18,7 +15,6 @@ use Rattle.choices.proofs.list.start_beside.Statement.{statement}
 use Rattle.choices.proofs.list.start_beside.Tie as tie
 use Rattle.choices.proofs.list.start_beside.Reads as reads
 use Rattle.choices.proofs.list.start_beside.Lts as lts
-use Rattle.choices.proofs.list.has_no_kinds.Reads as has-no-kinds-reads
 use Rattle.format.proofs.sections.session.Reads as session-reads
 use Rattle.steps.proofs.beside.reach.Reads as reach-reads
 use Rattle.steps.proofs.beside.start_words.Reads as start-words-reads
@@ -36,23 +32,19 @@ abbrev μ-loop : tie.MeasureT-loop
 start-words-requires : tie.Need-start-words-requires Inv-loop μ-loop
 start-words-requires c κs = search needs
 
-has-no-kinds-requires : tie.Need-has-no-kinds-requires Inv-loop μ-loop
-has-no-kinds-requires c κs = search needs
-
 same-length : tie.Need-same-length Inv-loop μ-loop
-same-length c = ap length (c .before .before .before .before .start-words .ensures) ∙ started-length (c .before .before .before .before .before .before .before .before .before .args .beside .now) (c .before .before .before .before .before .before .before .before .before .args .head .count .sessions)
+same-length c = ap length (c .before .before .before .start-words .ensures) ∙ started-length (c .before .before .before .before .before .before .before .before .args .beside .now) (c .before .before .before .before .before .before .before .before .args .head .count .sessions)
 
 returns : tie.Need-returns Inv-loop μ-loop
 returns c =
-    let a = c .before .before .before .before .before .before .before .before .before .args in
-    let (few, none) = and-eq-true-iff (ltb (length (a .table .now)) 2) (eqb (awaitedBy (a .table .now) 0) 0) .0 (sym (c .before .has-no-kinds .ensures) ∙ c .if1 .taken) in
-    none-counted (contentsAt (a .file .now) (a .head)) (a .table .now) (ltb-true (length (a .table .now)) 2 few) (eqb-true (awaitedBy (a .table .now) 0) 0 none) (a .beside .now) _ (a .head .count .sessions) (sessions-held (a .file .now) (a .head)) (c .before .before .before .before .start-words .ensures)
+    let a = c .before .before .before .before .before .before .before .before .args in
+    none-counted (contentsAt (a .file .now) (a .head)) (a .table .now) (c .if1 .taken) (a .beside .now) _ (a .head .count .sessions) (sessions-held (a .file .now) (a .head)) (c .before .before .before .start-words .ensures)
 
 loop-holds : tie.Need-loop-holds Inv-loop μ-loop
-loop-holds c = let a = c .before .before .before .before .before .before .before .before .before .args in (omega arith, ap length (c .before .before .before .before .start-words .ensures) ∙ started-length (a .beside .now) (a .head .count .sessions) ∙ c .before .before .before .before .before .before .before .before .before .pre .1, refl)
+loop-holds c = let a = c .before .before .before .before .before .before .before .before .args in (omega arith, ap length (c .before .before .before .start-words .ensures) ∙ started-length (a .beside .now) (a .head .count .sessions) ∙ c .before .before .before .before .before .before .before .before .pre .1, refl)
 
 add-k : tie.Need-add-k Inv-loop μ-loop
-add-k c = omega (arith, c .before .before .before .before .before .before .before .before .before .before .before .pre .0 .sessions)
+add-k c = omega (arith, c .before .before .before .before .before .before .before .before .before .before .pre .0 .sessions)
 
 session-requires : tie.Need-session-requires Inv-loop μ-loop
 session-requires c κs = search needs
@@ -65,7 +57,7 @@ loop-less c = search needs
 
 loop-again : tie.Need-loop-again Inv-loop μ-loop
 loop-again c =
-    let a = c .before .before .before .before .before .before .before .before .before .before .before .before .before .before .before .before .args in
+    let a = c .before .before .before .before .before .before .before .before .before .before .before .before .before .before .before .args in
     let l = c .before .before .before .before .before .before .loop in
     let it = c .before .before .before .before .session in
     let e = c .before .before .reach .ensures in (
@@ -75,13 +67,13 @@ loop-again c =
     )
 
 same-length-2 : tie.Need-same-length-2 Inv-loop μ-loop
-same-length-2 c = c .before .loop .inv .1 ∙ sym (c .before .before .before .before .before .before .before .before .before .before .before .pre .1)
+same-length-2 c = c .before .loop .inv .1 ∙ sym (c .before .before .before .before .before .before .before .before .before .before .pre .1)
 
 returns-2 : tie.Need-returns-2 Inv-loop μ-loop
 returns-2 c =
-    let a = c .before .before .before .before .before .before .before .before .before .before .before .args in
+    let a = c .before .before .before .before .before .before .before .before .before .before .args in
     let l = c .before .loop in
-    counting-ends (contentsAt (a .file .now) (a .head)) (awaitedBy (a .table .now)) (a .beside .now) _ (l .beside) (l .k) (a .head .count .sessions) (sessions-held (a .file .now) (a .head)) (c .loop-test .left) (c .before .before .before .before .before .before .start-words .ensures) (l .inv .2)
+    counting-ends (contentsAt (a .file .now) (a .head)) (awaitedBy (a .table .now)) (a .beside .now) _ (l .beside) (l .k) (a .head .count .sessions) (sessions-held (a .file .now) (a .head)) (c .loop-test .left) (c .before .before .before .before .before .start-words .ensures) (l .inv .2)
 
 pub start-beside-spec : {M : Type 1} → statement M
 start-beside-spec =
@@ -90,7 +82,6 @@ start-beside-spec =
     Inv-loop
     μ-loop
     start-words-requires
-    has-no-kinds-requires
     same-length
     returns
     loop-holds

@@ -10,13 +10,14 @@ use Rattle.dispatching.proofs.visits.meet.Reads as reads
 use Rattle.dispatching.proofs.visits.meet.Lts as lts
 use Rattle.choices.proofs.list.go_through.Reads as go-through-reads
 use Rattle.dispatching.proofs.marks.with_moved.Reads as with-moved-reads
+use Rattle.dispatching.proofs.visits.pass_by.Reads as pass-by-reads
 use Rattle.dispatching.proofs.visits.receiver_for.Reads as receiver-for-reads
 
 receiver-for-requires : tie.Need-receiver-for-requires
 receiver-for-requires c κs = search needs
 
-add-t18 : tie.Need-add-t18
-add-t18 c = search needs
+pass-by-requires : tie.Need-pass-by-requires
+pass-by-requires c κs = search needs
 
 same-length : tie.Need-same-length
 same-length c = search needs
@@ -26,9 +27,9 @@ same-length-2 c = search needs
 
 returns : tie.Need-returns
 returns c =
-    let a = c .before .before .before .before .before .before .before .before .before .before .args in
-    let q = c .before .before .before .before .before .before .before .before .before .before .pre in
-    told-nothing (clinicOf (contentsAt (a .file .now) (a .head))) (a .threads .now) (a .beside .now) (q .3) (a .i) (a .there) (a .moved) (q .4) (q .5) (q .6) (c .before .receiver-for .result) (c .before .receiver-for .ensures) (c .if1 .taken)
+    let a = c .before .before .before .before .before .before .before .before .before .before .before .args in
+    let q = c .before .before .before .before .before .before .before .before .before .before .before .pre in
+    told-nothing (clinicOf (contentsAt (a .file .now) (a .head))) (a .threads .now) (a .beside .now) (q .3) (a .i) (a .there) (a .moved) (q .4) (q .5) (q .6) (c .before .before .receiver-for .result) (c .pass-by .result) (c .before .before .receiver-for .ensures) (c .before .if1 .taken) (c .pass-by .ensures)
 
 slice-aggregate-go-through : tie.Need-slice-aggregate-go-through
 slice-aggregate-go-through c = search needs
@@ -36,8 +37,8 @@ slice-aggregate-go-through c = search needs
 go-through-requires : tie.Need-go-through-requires
 go-through-requires c κs = search needs
 
-add-t26 : tie.Need-add-t26
-add-t26 c = search needs
+add-t25 : tie.Need-add-t25
+add-t25 c = search needs
 
 with-moved-requires : tie.Need-with-moved-requires
 with-moved-requires c κs =
@@ -67,13 +68,13 @@ meet-spec =
     tie.close
     (tie.spec
     receiver-for-requires
-    add-t18
+    pass-by-requires
     same-length
     same-length-2
     returns
     slice-aggregate-go-through
     go-through-requires
-    add-t26
+    add-t25
     with-moved-requires
     with-moved-requires-2
     same-length-3

@@ -7,8 +7,8 @@ use Rattle.format.proofs.sections.column_node.Statement.{statement}
 use Rattle.format.proofs.sections.column_node.Tie as tie
 use Rattle.format.proofs.sections.column_node.Reads as reads
 use Rattle.format.proofs.sections.column_node.Lts as lts
+use Rattle.format.proofs.words.inner_word.Reads as inner-word-reads
 use Rattle.format.proofs.words.wide.Reads as wide-reads
-use Rattle.format.proofs.words.word.Reads as word-reads
 
 wide-requires : tie.Need-wide-requires
 wide-requires c κs = search needs
@@ -28,20 +28,20 @@ wide-requires-3 c κs = search needs
 add-next : tie.Need-add-next
 add-next c = search needs
 
-word-requires : tie.Need-word-requires
-word-requires c κs = search needs
+inner-word-requires : tie.Need-inner-word-requires
+inner-word-requires c κs = search needs
 
-word-requires-2 : tie.Need-word-requires-2
-word-requires-2 c κs = search needs
+inner-word-requires-2 : tie.Need-inner-word-requires-2
+inner-word-requires-2 c κs = search needs
 
 wide-requires-4 : tie.Need-wide-requires-4
 wide-requires-4 c κs = search needs
 
-add-word : tie.Need-add-word
-add-word c = search needs
+add-inner-word : tie.Need-add-inner-word
+add-inner-word c = search needs
 
-word-requires-3 : tie.Need-word-requires-3
-word-requires-3 c κs = search needs
+inner-word-requires-3 : tie.Need-inner-word-requires-3
+inner-word-requires-3 c κs = search needs
 
 returns : tie.Need-returns
 returns c =
@@ -55,9 +55,9 @@ returns c =
     let e1 : at + column .result ≡ a .nodes + (a .n - 1) + a .count = omega (arith, e, column .ensures .0) in
     let e2 : at + column .result + again .result ≡ a .nodes + (a .n - 1) + a .count + a .count = omega (arith, e1, again .ensures .0) in
     λ i. record {
-      tag = (c .before .before .before .word .ensures ∙ ap (wordAt (a .file .now)) e) i;
-      f1 = (c .before .before .word2 .ensures ∙ ap (wordAt (a .file .now)) e1) i;
-      f2 = (c .word3 .ensures ∙ ap (wordAt (a .file .now)) e2) i;
+      tag = (c .before .before .before .inner-word .ensures ∙ ap (wordAt (a .file .now)) e) i;
+      f1 = (c .before .before .inner-word2 .ensures ∙ ap (wordAt (a .file .now)) e1) i;
+      f2 = (c .inner-word3 .ensures ∙ ap (wordAt (a .file .now)) e2) i;
     }
 
 pub column-node-spec : {M : Type 1} → statement M
@@ -70,9 +70,9 @@ column-node-spec =
     add-at
     wide-requires-3
     add-next
-    word-requires
-    word-requires-2
+    inner-word-requires
+    inner-word-requires-2
     wide-requires-4
-    add-word
-    word-requires-3
+    add-inner-word
+    inner-word-requires-3
     returns)

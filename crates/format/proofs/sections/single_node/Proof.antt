@@ -7,7 +7,7 @@ use borrow.Author.Tests.{not-true, not-false}
 use Rattle.format.specs.Sections.{nodeOf}
 use Rattle.format.specs.Contents.{inCount, noNode, contentsAt}
 use Rattle.format.proofs.ContentsLaws.{in-count, item-there, item-none}
-use Rattle.format.proofs.SpotLaws.{row-node, row-there, column-node}
+use Rattle.format.proofs.SpotLaws.{row-node, row-there, column-node, column-there}
 use borrow.Author.Needs.{needs}
 use Rattle.format.proofs.sections.single_node.Statement.{statement}
 use Rattle.format.proofs.sections.single_node.Tie as tie
@@ -34,7 +34,8 @@ within c = sym (c .before .in-count .ensures) ∙ not-false (c .before .in-count
 column-node-requires : tie.Need-column-node-requires
 column-node-requires c κs =
     let a = c .before .before .before .before .before .args in
-    in-count (a .head .count .nodes) (a .n) (within (c .before .before)) .0
+    let (pos, le) = in-count (a .head .count .nodes) (a .n) (within (c .before .before)) in
+    (pos, column-there (a .file .now) (a .head) (c .before .before .before .before .before .pre) (c .if2 .taken) (a .n) pos le)
 
 returns-2 : tie.Need-returns-2
 unfolding contentsAt

@@ -7,7 +7,7 @@ use Rattle.seated.proofs.choice.role_asked.Tie as tie
 use Rattle.seated.proofs.choice.role_asked.Reads as reads
 use Rattle.seated.proofs.choice.role_asked.Lts as lts
 use Rattle.format.proofs.sections.in_count.Reads as in-count-reads
-use Rattle.format.proofs.sections.node.Reads as node-reads
+use Rattle.format.proofs.sections.single_node.Reads as single-node-reads
 use Rattle.format.proofs.sections.user_roles.Reads as user-roles-reads
 use Rattle.format.proofs.words.wide.Reads as wide-reads
 use Rattle.masks.proofs.has_role.Reads as has-role-reads
@@ -41,13 +41,13 @@ thread-at-requires c κs =
     let (one, most) = asked-there (contentsAt (a .file .now) (a .head)) (a .seats .now) (a .threads .now) (a .beside .now) (a .i) (a .p) _ _ (c .before .before .in-count .ensures) (c .before .before .before .thread-count .ensures) (c .before .if1 .left) in
     omega (arith, one, most, c .wide .ensures .0, c .before .before .before .before .before .before .before .before .pre .1 .words, c .before .before .before .before .before .before .before .before .pre .1 .threads)
 
-node-requires : tie.Need-node-requires
-node-requires c κs = search needs
+single-node-requires : tie.Need-single-node-requires
+single-node-requires c κs = search needs
 
 returns-2 : tie.Need-returns-2
 returns-2 c =
     let a = c .before .before .before .before .before .before .before .before .before .before .before .before .args in
-    asked-other (contentsAt (a .file .now) (a .head)) (a .seats .now) (a .threads .now) (a .beside .now) (a .i) (a .p) _ _ (c .before .before .before .before .before .before .in-count .ensures) (c .before .before .before .before .before .before .before .thread-count .ensures) (c .before .before .before .before .before .if1 .left) _ _ _ (c .before .before .before .before .wide .ensures .0) (c .before .before .before .thread-at .ensures) (c .before .before .node .ensures) (c .if2 .taken)
+    asked-other (contentsAt (a .file .now) (a .head)) (a .seats .now) (a .threads .now) (a .beside .now) (a .i) (a .p) _ _ (c .before .before .before .before .before .before .in-count .ensures) (c .before .before .before .before .before .before .before .thread-count .ensures) (c .before .before .before .before .before .if1 .left) _ _ _ (c .before .before .before .before .wide .ensures .0) (c .before .before .before .thread-at .ensures) (c .before .before .single-node .ensures) (c .if2 .taken)
 
 user-roles-requires : tie.Need-user-roles-requires
 user-roles-requires c κs = search needs
@@ -58,7 +58,7 @@ has-role-requires c κs = search needs
 returns-3 : tie.Need-returns-3
 returns-3 c =
     let a = c .before .before .before .before .before .before .before .before .before .before .before .before .before .before .before .args in
-    asked-stranger (contentsAt (a .file .now) (a .head)) (a .seats .now) (a .threads .now) (a .beside .now) (a .i) (a .p) _ _ (c .before .before .before .before .before .before .before .before .before .in-count .ensures) (c .before .before .before .before .before .before .before .before .before .before .thread-count .ensures) (c .before .before .before .before .before .before .before .before .if1 .left) _ _ _ (c .before .before .before .before .before .before .before .wide .ensures .0) (c .before .before .before .before .before .before .thread-at .ensures) (c .before .before .before .before .before .node .ensures) (c .before .before .before .if2 .left) _ _ (c .before .before .user-roles .ensures) (c .before .has-role .ensures) (c .if3 .taken)
+    asked-stranger (contentsAt (a .file .now) (a .head)) (a .seats .now) (a .threads .now) (a .beside .now) (a .i) (a .p) _ _ (c .before .before .before .before .before .before .before .before .before .in-count .ensures) (c .before .before .before .before .before .before .before .before .before .before .thread-count .ensures) (c .before .before .before .before .before .before .before .before .if1 .left) _ _ _ (c .before .before .before .before .before .before .before .wide .ensures .0) (c .before .before .before .before .before .before .thread-at .ensures) (c .before .before .before .before .before .single-node .ensures) (c .before .before .before .if2 .left) _ _ (c .before .before .user-roles .ensures) (c .before .has-role .ensures) (c .if3 .taken)
 
 seats-of-requires : tie.Need-seats-of-requires
 seats-of-requires c κs = search needs
@@ -66,12 +66,12 @@ seats-of-requires c κs = search needs
 returns-4 : tie.Need-returns-4
 returns-4 c =
     let a = c .before .before .before .before .before .before .before .before .before .before .before .before .before .before .before .before .before .args in
-    asked-free (contentsAt (a .file .now) (a .head)) (a .seats .now) (a .threads .now) (a .beside .now) (a .i) (a .p) _ _ (c .before .before .before .before .before .before .before .before .before .before .before .in-count .ensures) (c .before .before .before .before .before .before .before .before .before .before .before .before .thread-count .ensures) (c .before .before .before .before .before .before .before .before .before .before .if1 .left) _ _ _ (c .before .before .before .before .before .before .before .before .before .wide .ensures .0) (c .before .before .before .before .before .before .before .before .thread-at .ensures) (c .before .before .before .before .before .before .before .node .ensures) (c .before .before .before .before .before .if2 .left) _ _ (c .before .before .before .before .user-roles .ensures) (c .before .before .before .has-role .ensures) (c .before .before .if3 .left) _ (c .before .seats-of .ensures) (c .if4 .taken)
+    asked-free (contentsAt (a .file .now) (a .head)) (a .seats .now) (a .threads .now) (a .beside .now) (a .i) (a .p) _ _ (c .before .before .before .before .before .before .before .before .before .before .before .in-count .ensures) (c .before .before .before .before .before .before .before .before .before .before .before .before .thread-count .ensures) (c .before .before .before .before .before .before .before .before .before .before .if1 .left) _ _ _ (c .before .before .before .before .before .before .before .before .before .wide .ensures .0) (c .before .before .before .before .before .before .before .before .thread-at .ensures) (c .before .before .before .before .before .before .before .single-node .ensures) (c .before .before .before .before .before .if2 .left) _ _ (c .before .before .before .before .user-roles .ensures) (c .before .before .before .has-role .ensures) (c .before .before .if3 .left) _ (c .before .seats-of .ensures) (c .if4 .taken)
 
 returns-5 : tie.Need-returns-5
 returns-5 c =
     let a = c .before .before .before .before .before .before .before .before .before .before .before .before .before .before .before .before .before .args in
-    asked-named (contentsAt (a .file .now) (a .head)) (a .seats .now) (a .threads .now) (a .beside .now) (a .i) (a .p) _ _ (c .before .before .before .before .before .before .before .before .before .before .before .in-count .ensures) (c .before .before .before .before .before .before .before .before .before .before .before .before .thread-count .ensures) (c .before .before .before .before .before .before .before .before .before .before .if1 .left) _ _ _ (c .before .before .before .before .before .before .before .before .before .wide .ensures .0) (c .before .before .before .before .before .before .before .before .thread-at .ensures) (c .before .before .before .before .before .before .before .node .ensures) (c .before .before .before .before .before .if2 .left) _ _ (c .before .before .before .before .user-roles .ensures) (c .before .before .before .has-role .ensures) (c .before .before .if3 .left) _ (c .before .seats-of .ensures) (c .if4 .left)
+    asked-named (contentsAt (a .file .now) (a .head)) (a .seats .now) (a .threads .now) (a .beside .now) (a .i) (a .p) _ _ (c .before .before .before .before .before .before .before .before .before .before .before .in-count .ensures) (c .before .before .before .before .before .before .before .before .before .before .before .before .thread-count .ensures) (c .before .before .before .before .before .before .before .before .before .before .if1 .left) _ _ _ (c .before .before .before .before .before .before .before .before .before .wide .ensures .0) (c .before .before .before .before .before .before .before .before .thread-at .ensures) (c .before .before .before .before .before .before .before .single-node .ensures) (c .before .before .before .before .before .if2 .left) _ _ (c .before .before .before .before .user-roles .ensures) (c .before .before .before .has-role .ensures) (c .before .before .if3 .left) _ (c .before .seats-of .ensures) (c .if4 .left)
 
 pub role-asked-spec : {M : Type 1} → statement M
 role-asked-spec =
@@ -83,7 +83,7 @@ role-asked-spec =
     sub-wide
     wide-requires
     thread-at-requires
-    node-requires
+    single-node-requires
     returns-2
     user-roles-requires
     has-role-requires
