@@ -178,7 +178,7 @@ unfolding outcome
 outcome-none C s n i p long outside = let whole : inCount (length (s .threads)) i ≡ false = ap (λ (k : ℕ). inCount k i) long ∙ outside in rw whole
 
 -- a thread of the words of a table is one of the threads in it
-pub thread-read : (w : List ℕ) (n at : ℕ) (t : Thread) → at < n → t ≡ threadIn w (11 * at) → t ≡ getD (threadsIn w 0 n) at noThread
+pub thread-read : (w : List ℕ) (n at : ℕ) (t : Thread) → at < n → t ≡ threadIn w (12 * at) → t ≡ getD (threadsIn w 0 n) at noThread
 thread-read w n at t lt e =
-    let there : 11 * at ≡ 0 + 11 * at = omega arith in
+    let there : 12 * at ≡ 0 + 12 * at = omega arith in
     e ∙ ap (threadIn w) there ∙ sym (thread-get w 0 n at lt)

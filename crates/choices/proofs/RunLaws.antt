@@ -125,8 +125,8 @@ left-ends C s ws k now e left = left ∙ go (drop (2 * k) ws) (omega (arith, e, 
 abbrev pub Opened : List Session → List ℕ → ℕ → Type 0
 Opened ss w i = threadsIn w 0 i ++ threadsFrom (drop i ss) ≡ threadsFrom ss
 
-pub open-more : (ss : List Session) (w v : List ℕ) (i : ℕ) (t : Thread) → 11 * i + 11 ≤ length w → i < length ss
-    → let s = item noSession ss (i + 1) in t ≡ record { user = s .user; node = s .root; mask = s .mask; vars = zeros } → (v ≡ stored w (11 * i) t) × (length (t .vars) ≡ 8)
+pub open-more : (ss : List Session) (w v : List ℕ) (i : ℕ) (t : Thread) → 12 * i + 12 ≤ length w → i < length ss
+    → let s = item noSession ss (i + 1) in t ≡ record { user = s .user; node = s .root; mask = s .mask; vars = zeros } → (v ≡ stored w (12 * i) t) × (length (t .vars) ≡ 8)
     → Opened ss w i → Opened ss v (i + 1)
 unfolding threadsFrom
 open-more ss w v i t fits lt is put have =
@@ -151,7 +151,7 @@ threads-from-length [] = refl
 threads-from-length (s ∷ ss) = ap suc (threads-from-length ss)
 
 -- the counts are written beside
-counts-open : (C : Contents) (w b : List ℕ) (n : ℕ) → length w ≡ 704 → length b ≡ 162 → n ≤ 32 → length (C .sessions) ≡ n → Opened (C .sessions) w n
+counts-open : (C : Contents) (w b : List ℕ) (n : ℕ) → length w ≡ 768 → length b ≡ 162 → n ≤ 32 → length (C .sessions) ≡ n → Opened (C .sessions) w n
     → (stateIn w (startWords b n) ≡ start C) × Sized w (startWords b n)
 unfolding madeIn threadsFrom
 counts-open C w b n words long few e have =
@@ -170,7 +170,7 @@ counts-open C w b n words long few e have =
 
 -- and the totals
 module _ (C : Contents) (kind : ℕ → ℕ) where
-  pub open-state : (w b : List ℕ) (n : ℕ) → length w ≡ 704 → length b ≡ 162 → n ≤ 32 → length (C .sessions) ≡ n → Opened (C .sessions) w n
+  pub open-state : (w b : List ℕ) (n : ℕ) → length w ≡ 768 → length b ≡ 162 → n ≤ 32 → length (C .sessions) ≡ n → Opened (C .sessions) w n
       → (stateIn w (startBeside kind b (start C .threads)) ≡ start C) × Sized w (startBeside kind b (start C .threads))
   open-state w b n words long few e have =
       let ts : List Thread = threadsFrom (C .sessions) in

@@ -19,63 +19,63 @@ use Rattle.steps.specs.Records.{stored}
 use Rattle.steps.proofs.TableLaws.{down, down-below, down-above, thread-same, stored-same, stored-other, stored-length, threads-length, thread-get, threads-same, threads-split}
 
 -- a thread stored in place of another
-threads-put : (w : List ℕ) (n i : ℕ) (t : Thread) → i < n → 11 * n ≤ length w → length (t .vars) ≡ 8 → threadsIn (stored w (11 * i) t) 0 n ≡ set (threadsIn w 0 n) i t
+threads-put : (w : List ℕ) (n i : ℕ) (t : Thread) → i < n → 12 * n ≤ length w → length (t .vars) ≡ 8 → threadsIn (stored w (12 * i) t) 0 n ≡ set (threadsIn w 0 n) i t
 threads-put w n i t lt fits e =
-    let v : List ℕ = stored w (11 * i) t in
+    let v : List ℕ = stored w (12 * i) t in
     ext-getD noThread (threadsIn v 0 n) (set (threadsIn w 0 n) i t)
     (threads-length v 0 n ∙ sym (length-set (threadsIn w 0 n) i t ∙ threads-length w 0 n))
     (λ j inside. at j (omega (arith, inside, threads-length v 0 n)) (eqb j i) refl)
   where
-    at : (j : ℕ) → j < n → (b : Bool) → eqb j i ≡ b → getD (threadsIn (stored w (11 * i) t) 0 n) j noThread ≡ getD (set (threadsIn w 0 n) i t) j noThread
+    at : (j : ℕ) → j < n → (b : Bool) → eqb j i ≡ b → getD (threadsIn (stored w (12 * i) t) 0 n) j noThread ≡ getD (set (threadsIn w 0 n) i t) j noThread
     at j inside true q =
         let same : j ≡ i = eqb-true j i q in
-        let there : 0 + 11 * j ≡ 11 * i = omega (arith, same) in
-        thread-get (stored w (11 * i) t) 0 n j inside
-        ∙ ap (threadIn (stored w (11 * i) t)) there
-        ∙ stored-same w (11 * i) t (omega (arith, lt, fits)) e
+        let there : 0 + 12 * j ≡ 12 * i = omega (arith, same) in
+        thread-get (stored w (12 * i) t) 0 n j inside
+        ∙ ap (threadIn (stored w (12 * i) t)) there
+        ∙ stored-same w (12 * i) t (omega (arith, lt, fits)) e
         ∙ sym (ap (λ (x : ℕ). getD (set (threadsIn w 0 n) i t) x noThread) same ∙ getD-set-same (threadsIn w 0 n) i t noThread (omega (arith, lt, threads-length w 0 n)))
     at j inside false q =
         let apart : j ≡ i → ⊥ = eqb-false j i q in
-        thread-get (stored w (11 * i) t) 0 n j inside
-        ∙ thread-same (stored w (11 * i) t) w (0 + 11 * j) (0 + 11 * j) (λ k small. stored-other w (11 * i) (0 + 11 * j + k) t (λ m less q′. apart (omega (arith, small, less, q′))))
+        thread-get (stored w (12 * i) t) 0 n j inside
+        ∙ thread-same (stored w (12 * i) t) w (0 + 12 * j) (0 + 12 * j) (λ k small. stored-other w (12 * i) (0 + 12 * j + k) t (λ m less q′. apart (omega (arith, small, less, q′))))
         ∙ sym (getD-set-other (threadsIn w 0 n) i j t noThread apart ∙ thread-get w 0 n j inside)
 
 -- a new last thread
-pub threads-add : (w : List ℕ) (n : ℕ) (t : Thread) → 11 * n + 11 ≤ length w → length (t .vars) ≡ 8 → threadsIn (stored w (11 * n) t) 0 (n + 1) ≡ threadsIn w 0 n ++ (t ∷ [])
+pub threads-add : (w : List ℕ) (n : ℕ) (t : Thread) → 12 * n + 12 ≤ length w → length (t .vars) ≡ 8 → threadsIn (stored w (12 * n) t) 0 (n + 1) ≡ threadsIn w 0 n ++ (t ∷ [])
 unfolding threadsIn
 threads-add w n t fits e =
-    let v : List ℕ = stored w (11 * n) t in
-    let there : 0 + 11 * n ≡ 11 * n = omega arith in
+    let v : List ℕ = stored w (12 * n) t in
+    let there : 0 + 12 * n ≡ 12 * n = omega arith in
     threads-split v 0 n 1
     ∙ ap₂ (λ (a b : List Thread). a ++ b)
-    (threads-same v w 0 0 n (λ j lt. stored-other w (11 * n) (0 + j) t (λ k small q. let none : ⊥ = omega (arith, lt, q) in absurd none)))
-    (ap (λ (x : ℕ). threadIn v x ∷ []) there ∙ ap (λ (x : Thread). x ∷ []) (stored-same w (11 * n) t fits e))
+    (threads-same v w 0 0 n (λ j lt. stored-other w (12 * n) (0 + j) t (λ k small q. let none : ⊥ = omega (arith, lt, q) in absurd none)))
+    (ap (λ (x : ℕ). threadIn v x ∷ []) there ∙ ap (λ (x : Thread). x ∷ []) (stored-same w (12 * n) t (omega (arith, fits)) e))
 
 -- a thread removed
-threads-remove : (w : List ℕ) (n i : ℕ) → i < n → 11 * n ≤ length w
-    → threadsIn (down w (11 * i) 11 (11 * (n - 1) - 11 * i)) 0 (n - 1) ≡ take i (threadsIn w 0 n) ++ drop (suc i) (threadsIn w 0 n)
+threads-remove : (w : List ℕ) (n i : ℕ) → i < n → 12 * n ≤ length w
+    → threadsIn (down w (12 * i) 12 (12 * (n - 1) - 12 * i)) 0 (n - 1) ≡ take i (threadsIn w 0 n) ++ drop (suc i) (threadsIn w 0 n)
 threads-remove w n i lt fits =
-    let v : List ℕ = down w (11 * i) 11 (11 * (n - 1) - 11 * i) in
+    let v : List ℕ = down w (12 * i) 12 (12 * (n - 1) - 12 * i) in
     let rest : ℕ = n - suc i in
     let a : n - 1 ≡ i + rest = omega (arith, lt) in
     let b : n ≡ i + suc rest = omega (arith, lt) in
     let c : n ≡ suc i + rest = omega (arith, lt) in
     let before : threadsIn v 0 i ≡ threadsIn w 0 i =
-    threads-same v w 0 0 i (λ j less. down-below w (11 * i) 11 (11 * (n - 1) - 11 * i) (0 + j) 0 (omega (arith, less)) (omega (arith, lt, fits))) in
-    let after : threadsIn v (0 + 11 * i) rest ≡ threadsIn w (0 + 11 * suc i) rest =
-    threads-same v w (0 + 11 * i) (0 + 11 * suc i) rest (λ j less. moved j (omega (arith, less, lt))) in
+    threads-same v w 0 0 i (λ j less. down-below w (12 * i) 12 (12 * (n - 1) - 12 * i) (0 + j) 0 (omega (arith, less)) (omega (arith, lt, fits))) in
+    let after : threadsIn v (0 + 12 * i) rest ≡ threadsIn w (0 + 12 * suc i) rest =
+    threads-same v w (0 + 12 * i) (0 + 12 * suc i) rest (λ j less. moved j (omega (arith, less, lt))) in
     let first : take i (threadsIn w 0 n) ≡ threadsIn w 0 i =
-    ap (λ (x : ℕ). take i (threadsIn w 0 x)) b ∙ ap (take i) (threads-split w 0 i (suc rest)) ∙ take-at (threadsIn w 0 i) (threadsIn w (0 + 11 * i) (suc rest)) i (threads-length w 0 i) in
-    let last : drop (suc i) (threadsIn w 0 n) ≡ threadsIn w (0 + 11 * suc i) rest =
-    ap (λ (x : ℕ). drop (suc i) (threadsIn w 0 x)) c ∙ ap (drop (suc i)) (threads-split w 0 (suc i) rest) ∙ drop-at (threadsIn w 0 (suc i)) (threadsIn w (0 + 11 * suc i) rest) (suc i) (threads-length w 0 (suc i)) in
+    ap (λ (x : ℕ). take i (threadsIn w 0 x)) b ∙ ap (take i) (threads-split w 0 i (suc rest)) ∙ take-at (threadsIn w 0 i) (threadsIn w (0 + 12 * i) (suc rest)) i (threads-length w 0 i) in
+    let last : drop (suc i) (threadsIn w 0 n) ≡ threadsIn w (0 + 12 * suc i) rest =
+    ap (λ (x : ℕ). drop (suc i) (threadsIn w 0 x)) c ∙ ap (drop (suc i)) (threads-split w 0 (suc i) rest) ∙ drop-at (threadsIn w 0 (suc i)) (threadsIn w (0 + 12 * suc i) rest) (suc i) (threads-length w 0 (suc i)) in
     ap (threadsIn v 0) a ∙ threads-split v 0 i rest ∙ ap₂ (λ (x y : List Thread). x ++ y) (before ∙ sym first) (after ∙ sym last)
   where
-    moved : (j : ℕ) → j < 11 * (n - 1) - 11 * i → getD (down w (11 * i) 11 (11 * (n - 1) - 11 * i)) (0 + 11 * i + j) 0 ≡ getD w (0 + 11 * suc i + j) 0
+    moved : (j : ℕ) → j < 12 * (n - 1) - 12 * i → getD (down w (12 * i) 12 (12 * (n - 1) - 12 * i)) (0 + 12 * i + j) 0 ≡ getD w (0 + 12 * suc i + j) 0
     moved j less =
-        let from : 0 + 11 * i + j ≡ 11 * i + j = omega arith in
-        let to : 11 * i + 11 + j ≡ 0 + 11 * suc i + j = omega arith in
-        ap (λ (x : ℕ). getD (down w (11 * i) 11 (11 * (n - 1) - 11 * i)) x 0) from
-        ∙ down-above w (11 * i) 11 (11 * (n - 1) - 11 * i) j 0 less (omega (arith, lt, fits))
+        let from : 0 + 12 * i + j ≡ 12 * i + j = omega arith in
+        let to : 12 * i + 12 + j ≡ 0 + 12 * suc i + j = omega arith in
+        ap (λ (x : ℕ). getD (down w (12 * i) 12 (12 * (n - 1) - 12 * i)) x 0) from
+        ∙ down-above w (12 * i) 12 (12 * (n - 1) - 12 * i) j 0 less (omega (arith, lt, fits))
         ∙ ap (λ (x : ℕ). getD w x 0) to
 
 -- made channels in a row
@@ -136,15 +136,15 @@ abbrev state : List Thread → List Made → State
 state ts ms = record { threads = ts; made = ms }
 
 -- the same of whole states
-pub put-state : (w v b : List ℕ) (i at : ℕ) (t : Thread) → Sized w b → 0 < i → i ≤ getD b 0 0 → at ≡ i - 1 → (v ≡ stored w (11 * at) t) × (length (t .vars) ≡ 8)
+pub put-state : (w v b : List ℕ) (i at : ℕ) (t : Thread) → Sized w b → 0 < i → i ≤ getD b 0 0 → at ≡ i - 1 → (v ≡ stored w (12 * at) t) × (length (t .vars) ≡ 8)
     → (stateIn v b ≡ changed (stateIn w b) i t) × Sized v b
 put-state w v b i at t z pos le a q =
-    let r : v ≡ stored w (11 * (i - 1)) t = q .0 ∙ ap (λ (x : ℕ). stored w (11 * x) t) a in (
+    let r : v ≡ stored w (12 * (i - 1)) t = q .0 ∙ ap (λ (x : ℕ). stored w (12 * x) t) a in (
       ap (λ (x : List ℕ). stateIn x b) r ∙ ap (λ (ts : List Thread). state ts (madeIn b 2 (getD b 1 0))) (threads-put w (getD b 0 0) (i - 1) t (omega (arith, pos, le)) (omega (arith, z .words, z .threads)) (q .1)),
-      record { words = ap length r ∙ stored-length w (11 * (i - 1)) t ∙ z .words; beside = z .beside; threads = z .threads; made = z .made },
+      record { words = ap length r ∙ stored-length w (12 * (i - 1)) t ∙ z .words; beside = z .beside; threads = z .threads; made = z .made },
     )
 
-pub add-state : (w v b d : List ℕ) (t : Thread) → Sized w b → getD b 0 0 < 64 → length (t .vars) ≡ 8 → v ≡ stored w (11 * getD b 0 0) t → d ≡ set b 0 (getD b 0 0 + 1)
+pub add-state : (w v b d : List ℕ) (t : Thread) → Sized w b → getD b 0 0 < 64 → length (t .vars) ≡ 8 → v ≡ stored w (12 * getD b 0 0) t → d ≡ set b 0 (getD b 0 0 + 1)
     → (stateIn v d ≡ state (threadsIn w 0 (getD b 0 0) ++ (t ∷ [])) (madeIn b 2 (getD b 1 0))) × Sized v d
 add-state w v b d t z room e q r =
     let n : ℕ = getD b 0 0 in
@@ -155,7 +155,7 @@ add-state w v b d t z room e q r =
           (ap₂ (λ (x : List ℕ) (k : ℕ). threadsIn x 0 k) q count ∙ threads-add w n t (omega (arith, z .words, room)) e)
           (ap (madeIn d 2) made ∙ made-same d b 2 2 (getD b 1 0) (λ j lt. other (2 + j) (λ h. omega (arith, h)))),
       record {
-        words = ap length q ∙ stored-length w (11 * n) t ∙ z .words;
+        words = ap length q ∙ stored-length w (12 * n) t ∙ z .words;
         beside = ap length r ∙ length-set b 0 (n + 1) ∙ z .beside;
         threads = omega (arith, count, room);
         made = omega (arith, made, z .made);
@@ -183,7 +183,7 @@ mint-state w b d x z room r =
     )
 
 pub remove-state : (w v b d : List ℕ) (i : ℕ) → Sized w b → 0 < i → i ≤ getD b 0 0 → length v ≡ length w
-    → v ≡ down w (11 * (i - 1)) 11 (11 * (getD b 0 0 - 1) - 11 * (i - 1)) → d ≡ set b 0 (getD b 0 0 - 1)
+    → v ≡ down w (12 * (i - 1)) 12 (12 * (getD b 0 0 - 1) - 12 * (i - 1)) → d ≡ set b 0 (getD b 0 0 - 1)
     → (stateIn v d ≡ removed (stateIn w b) i) × Sized v d
 remove-state w v b d i z pos le same q r =
     let n : ℕ = getD b 0 0 in

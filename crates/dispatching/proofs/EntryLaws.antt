@@ -48,7 +48,7 @@ round-added C refusal r s w b l e A =
 threads-words : (w : List ℕ) (p k : ℕ) → length (threadWords (threadsIn w p k)) ≡ 12 * k
 unfolding threadsIn threadWords
 threads-words w p zero = refl
-threads-words w p (suc k) = omega (arith, threads-words w (p + 11) k)
+threads-words w p (suc k) = omega (arith, threads-words w (p + 12) k)
 
 pub output-words : (count refusal : ℕ) (w b : List ℕ) → 8 + 4 * madeCount b + 24 * threadCount b ≡ 2 * length (ranWords (record { count = count; refusal = refusal; state = stateIn w b }))
 unfolding ranWords

@@ -88,7 +88,7 @@ module _ (C : Clinic) (w b : List ℕ) (i : ℕ) (pos : 0 < i) (le : i ≤ threa
   at p = inOf C (madeOf b) (thread p)
 
   at-thread : (p : ℕ) → 0 < p → p ≤ threadCount b → threadAt s p ≡ thread p
-  at-thread p l m = let e : 0 + 11 * (p - 1) ≡ 11 * (p - 1) = omega arith in thread-get w 0 (threadCount b) (p - 1) (omega (arith, l, m)) ∙ ap (threadIn w) e
+  at-thread p l m = let e : 0 + 12 * (p - 1) ≡ 12 * (p - 1) = omega arith in thread-get w 0 (threadCount b) (p - 1) (omega (arith, l, m)) ∙ ap (threadIn w) e
 
   -- the outcome of a choice with a thread as partner
   with-thread : (p : ℕ) → 0 < p → p ≤ threadCount b → outcome C s i p ≡ acting C (threadCount b) (madeOf b) (thread i) (With (thread p))

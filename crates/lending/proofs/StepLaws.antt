@@ -90,9 +90,9 @@ self-unmet C n made t =
     (λ e. tt)
 
 -- what an answer leaves, by the answer
-pub read-as : (w : List ℕ) (n at to : ℕ) (a a′ : Answer) (it : Acted) → a ≡ a′ → it ≡ actedOf (outcomeBy a′ (threadIn w (11 * at)) (threadIn w (11 * secondAt n to a′)))
-    → it ≡ actedOf (outcomeBy a (threadIn w (11 * at)) (threadIn w (11 * secondAt n to a)))
-read-as w n at to a a′ it e q = q ∙ ap (λ (x : Answer). actedOf (outcomeBy x (threadIn w (11 * at)) (threadIn w (11 * secondAt n to x)))) (sym e)
+pub read-as : (w : List ℕ) (n at to : ℕ) (a a′ : Answer) (it : Acted) → a ≡ a′ → it ≡ actedOf (outcomeBy a′ (threadIn w (12 * at)) (threadIn w (12 * secondAt n to a′)))
+    → it ≡ actedOf (outcomeBy a (threadIn w (12 * at)) (threadIn w (12 * secondAt n to a)))
+read-as w n at to a a′ it e q = q ∙ ap (λ (x : Answer). actedOf (outcomeBy x (threadIn w (12 * at)) (threadIn w (12 * secondAt n to x)))) (sym e)
 
 -- a table keeps its length
 pub laid-long : (w v : List ℕ) (k : ℕ) (t : Thread) → (v ≡ stored w k t) × (length (t .vars) ≡ 8) → length v ≡ length w
@@ -113,9 +113,9 @@ module _ (ts : List Thread) (ms : List Made) (n m i p at to : ℕ) (long : lengt
   abbrev before : State
   before = record { threads = ts; made = ms }
 
-  read-at : (l : List Thread) (k : ℕ) → threadsIn w 0 (threadCount b) ≡ l → k < length l → threadIn w (11 * k) ≡ getD l k noThread
+  read-at : (l : List Thread) (k : ℕ) → threadsIn w 0 (threadCount b) ≡ l → k < length l → threadIn w (12 * k) ≡ getD l k noThread
   read-at l k e lt =
-      let there : 11 * k ≡ 0 + 11 * k = omega arith in
+      let there : 12 * k ≡ 0 + 12 * k = omega arith in
       let inside : k < threadCount b = omega (arith, lt, ap length e, threads-length w 0 (threadCount b)) in
       ap (threadIn w) there ∙ sym (thread-get w 0 (threadCount b) k inside) ∙ ap (λ (x : List Thread). getD x k noThread) e
 
@@ -123,11 +123,11 @@ module _ (ts : List Thread) (ms : List Made) (n m i p at to : ℕ) (long : lengt
   own-set : (t : Thread) (l : List Thread) → l ≡ set ts (i - 1) t → getD l at noThread ≡ t
   own-set t l e = ap₂ (λ (x : List Thread) (k : ℕ). getD x k noThread) e ea ∙ getD-set-same ts (i - 1) t noThread (omega (arith, pos, le, long))
 
-  own-read : (t : Thread) → threadsIn w 0 (threadCount b) ≡ set ts (i - 1) t → threadIn w (11 * at) ≡ t
+  own-read : (t : Thread) → threadsIn w 0 (threadCount b) ≡ set ts (i - 1) t → threadIn w (12 * at) ≡ t
   own-read t e = read-at (set ts (i - 1) t) at e (omega (arith, length-set ts (i - 1) t, ea, pos, le, long)) ∙ own-set t (set ts (i - 1) t) refl
 
   abbrev found : Answer → Outcome
-  found a = outcomeBy a (threadIn w (11 * at)) (threadIn w (11 * secondAt n to a))
+  found a = outcomeBy a (threadIn w (12 * at)) (threadIn w (12 * secondAt n to a))
 
   pub left-is : (x : Outcome) → HasRoom n m p (actedOf x .answer) → (p ≡ i → Unmet x) → stateIn w b ≡ stateLeft before (done before i p x) → found (actedOf x .answer) ≡ x
   unfolding done
@@ -158,7 +158,7 @@ module _ (ts : List Thread) (ms : List Made) (n m i p at to : ℕ) (long : lengt
 -- Two records laid in a table at their places, the acting thread's last.
 module _ (C : Clinic) (w v u b : List ℕ) (size : Sized w b) (i p q at to : ℕ) (own other : Thread) (inside : inCount (threadCount b) i ≡ true)
     (seen : q ≡ cond (inCount (threadCount b) p) p i) (ea : at ≡ i - 1) (et : to ≡ q - 1) (same : p ≡ i → other ≡ own)
-    (first : (v ≡ stored w (11 * to) other) × (length (other .vars) ≡ 8)) (then : (u ≡ stored v (11 * at) own) × (length (own .vars) ≡ 8)) where
+    (first : (v ≡ stored w (12 * to) other) × (length (other .vars) ≡ 8)) (then : (u ≡ stored v (12 * at) own) × (length (own .vars) ≡ 8)) where
   abbrev c : ℕ
   c = threadCount b
 
@@ -171,20 +171,20 @@ module _ (C : Clinic) (w v u b : List ℕ) (size : Sized w b) (i p q at to : ℕ
   looked-low : (1 ≤ q) × (q ≤ c)
   looked-low = looked c i p q inside seen
 
-  v-long : length v ≡ 704
-  v-long = ap length (first .0) ∙ stored-length w (11 * to) other ∙ size .words
+  v-long : length v ≡ 768
+  v-long = ap length (first .0) ∙ stored-length w (12 * to) other ∙ size .words
 
-  u-long : length u ≡ 704
-  u-long = ap length (then .0) ∙ stored-length v (11 * at) own ∙ v-long
+  u-long : length u ≡ 768
+  u-long = ap length (then .0) ∙ stored-length v (12 * at) own ∙ v-long
 
   pub laid-sized : Sized u b
   laid-sized = record { words = u-long; beside = size .beside; threads = size .threads; made = size .made }
 
   own-there : own ≡ getD (threadsIn u 0 c) (i - 1) noThread
   own-there =
-      let here : 0 + 11 * (i - 1) ≡ 11 * at = omega (arith, ea) in
+      let here : 0 + 12 * (i - 1) ≡ 12 * at = omega (arith, ea) in
       sym (thread-get u 0 c (i - 1) (omega (arith, bounds)) ∙ ap₂ threadIn (then .0) here
-      ∙ stored-same v (11 * at) own (omega (arith, v-long, ea, bounds, size .threads)) (then .1))
+      ∙ stored-same v (12 * at) own (omega (arith, v-long, ea, bounds, size .threads)) (then .1))
 
   other-there : inCount c p ≡ true → other ≡ getD (threadsIn u 0 c) (p - 1) noThread
   other-there e = go (eqb p i) refl
@@ -197,13 +197,13 @@ module _ (C : Clinic) (w v u b : List ℕ) (size : Sized w b) (i p q at to : ℕ
           let apart : p ≡ i → ⊥ = eqb-false p i z in
           let some = in-count c p e in
           let partner : q ≡ p = seen ∙ ap (λ (y : Bool). cond y p i) e in
-          let here : 11 * to ≡ 0 + 11 * (p - 1) = omega (arith, et, partner) in
-          let kept : threadIn v (11 * to) ≡ threadIn u (0 + 11 * (p - 1)) =
-          thread-same v u (11 * to) (0 + 11 * (p - 1)) (λ j small.
+          let here : 12 * to ≡ 0 + 12 * (p - 1) = omega (arith, et, partner) in
+          let kept : threadIn v (12 * to) ≡ threadIn u (0 + 12 * (p - 1)) =
+          thread-same v u (12 * to) (0 + 12 * (p - 1)) (λ j small.
           ap (λ (k : ℕ). getD v (k + j) 0) here
-          ∙ sym (ap (λ (y : List ℕ). getD y (0 + 11 * (p - 1) + j) 0) (then .0) ∙ stored-other v (11 * at) (0 + 11 * (p - 1) + j) own (λ k less f. apart (omega (arith, f, less, small, ea, some, bounds))))) in
-          sym (thread-get u 0 c (p - 1) (omega (arith, some)) ∙ sym kept ∙ ap (λ (y : List ℕ). threadIn y (11 * to)) (first .0)
-          ∙ stored-same w (11 * to) other (omega (arith, size .words, size .threads, et, partner, some)) (first .1))
+          ∙ sym (ap (λ (y : List ℕ). getD y (0 + 12 * (p - 1) + j) 0) (then .0) ∙ stored-other v (12 * at) (0 + 12 * (p - 1) + j) own (λ k less f. apart (omega (arith, f, less, small, ea, some, bounds))))) in
+          sym (thread-get u 0 c (p - 1) (omega (arith, some)) ∙ sym kept ∙ ap (λ (y : List ℕ). threadIn y (12 * to)) (first .0)
+          ∙ stored-same w (12 * to) other (omega (arith, size .words, size .threads, et, partner, some)) (first .1))
 
   -- the choice in that table is the step
   chosen : outcome C (stateIn u b) i p ≡ x
@@ -230,13 +230,13 @@ module _ (C : Clinic) (w v u b : List ℕ) (size : Sized w b) (i p q at to : ℕ
     step-second m e =
         subst (λ (k : ℕ). secondAt k to r < 64) (sym e) (second-low c (madeCount b) p to r (size .threads) (omega (arith, et, looked-low, size .threads)) (subst (HasRoom c (madeCount b) p) (sym (done-so .0)) room))
 
-    pub step-left : (m : ℕ) → m ≡ c → (it : Acted) → it ≡ actedOf (outcomeBy r (threadIn w′ (11 * at)) (threadIn w′ (11 * secondAt m to r)))
+    pub step-left : (m : ℕ) → m ≡ c → (it : Acted) → it ≡ actedOf (outcomeBy r (threadIn w′ (12 * at)) (threadIn w′ (12 * secondAt m to r)))
         → (it ≡ actedOf x) × (b′ ≡ besideBy kind b x)
     step-left m count it e =
         let (answer, state, words, sized) = done-so in
         let there : inCount c p ≡ true → to ≡ p - 1 = λ e. et ∙ ap (λ (k : ℕ). k - 1) (seen ∙ ap (λ (y : Bool). cond y p i) e) in (
-          e ∙ ap (λ (k : ℕ). actedOf (outcomeBy r (threadIn w′ (11 * at)) (threadIn w′ (11 * secondAt k to r)))) count
-              ∙ ap (λ (a : Answer). actedOf (outcomeBy a (threadIn w′ (11 * at)) (threadIn w′ (11 * secondAt c to a)))) answer
+          e ∙ ap (λ (k : ℕ). actedOf (outcomeBy r (threadIn w′ (12 * at)) (threadIn w′ (12 * secondAt k to r)))) count
+              ∙ ap (λ (a : Answer). actedOf (outcomeBy a (threadIn w′ (12 * at)) (threadIn w′ (12 * secondAt c to a)))) answer
               ∙ ap actedOf (left-is (threadsIn u 0 c) (madeOf b) c (madeCount b) i p at to (threads-length u 0 c) (bounds .0) (bounds .1) ea there w′ b′ x room unmet state),
           words,
         )

@@ -149,8 +149,8 @@ module _ (b : List ℕ) (long : length b ≡ 162) (few : threadCount b ≤ 64) (
       let low : List ℕ = set b (2 * m + 2) (x .owner) in
       let both : List ℕ = set low (2 * m + 3) (x .kind .0) in
       let d : List ℕ = oneMade b x in
-      let w : List ℕ = replicate 704 0 in
-      let z : Sized w b = record { words = length-replicate {A = ℕ} 704 0; beside = long; threads = few; made = room } in
+      let w : List ℕ = replicate 768 0 in
+      let z : Sized w b = record { words = length-replicate {A = ℕ} 768 0; beside = long; threads = few; made = room } in
       let (state, size) = mint-state w b d x z more refl in
       let count : getD d 0 0 ≡ getD b 0 0 =
       getD-set-other both 1 0 (m + 1) 0 (λ q. omega (arith, q)) ∙ getD-set-other low (2 * m + 3) 0 (x .kind .0) 0 (λ q. omega (arith, q))

@@ -75,11 +75,11 @@ module _ (C : Clinic) (w b : List ℕ) where
   n = threadCount b
 
   abbrev thread : ℕ → Thread
-  thread i = threadIn w (11 * i)
+  thread i = threadIn w (12 * i)
 
   -- the threads after i
   abbrev after : ℕ → List Thread
-  after i = threadsIn w (11 * i) (n - i)
+  after i = threadsIn w (12 * i) (n - i)
 
   abbrev meetsWith : Thread → Thread → Bool
   meetsWith t r = isMeeting (acting C n (madeOf b) t (With r))
@@ -91,7 +91,7 @@ module _ (C : Clinic) (w b : List ℕ) where
   unfolding threadsIn
   some-after i h =
       let c : n - i ≡ suc (n - (i + 1)) = omega arith in
-      let z : 11 * i + 11 ≡ 11 * (i + 1) = omega arith in
+      let z : 12 * i + 12 ≡ 12 * (i + 1) = omega arith in
       rw (c, z)
 
   none-after : (i : ℕ) → n ≤ i → after i ≡ []

@@ -48,23 +48,23 @@ made-end b l whole n i p h inv = let z : n - i ≡ 0 = omega arith in puts-end l
 
 -- a thread more
 abbrev threadsAfter : List ℕ → ℕ → ℕ → List ℕ
-threadsAfter w n i = threadWords (threadsIn w (11 * i) (n - i))
+threadsAfter w n i = threadWords (threadsIn w (12 * i) (n - i))
 
-threads-more : (w : List ℕ) (n i : ℕ) → i < n → threadsAfter w n i ≡ threadWords (threadIn w (11 * i) ∷ []) ++ threadsAfter w n (i + 1)
+threads-more : (w : List ℕ) (n i : ℕ) → i < n → threadsAfter w n i ≡ threadWords (threadIn w (12 * i) ∷ []) ++ threadsAfter w n (i + 1)
 unfolding threadWords threadsIn
 threads-more w n i h =
     let c : n - i ≡ suc (n - (i + 1)) = omega arith in
-    let z : 11 * i + 11 ≡ 11 * (i + 1) = omega arith in
+    let z : 12 * i + 12 ≡ 12 * (i + 1) = omega arith in
     rw (c, z)
 
 pub threads-begin : (w out : List ℕ) (base n : ℕ) → sets out (2 * (base + 12 * 0)) (bytesOf (threadsAfter w n 0)) ≡ sets out (2 * base) (bytesOf (threadWords (threadsIn w 0 n)))
 threads-begin w out base n = let c : n - 0 ≡ n = omega arith in let z : base + 12 * 0 ≡ base = omega arith in rw (c, z)
 
-pub threads-turn : (w l m whole : List ℕ) (base n i : ℕ) (t : Thread) → i < n → t ≡ threadIn w (11 * i) → m ≡ sets l (2 * (base + 12 * i)) (bytesOf (threadWords (t ∷ [])))
+pub threads-turn : (w l m whole : List ℕ) (base n i : ℕ) (t : Thread) → i < n → t ≡ threadIn w (12 * i) → m ≡ sets l (2 * (base + 12 * i)) (bytesOf (threadWords (t ∷ [])))
     → sets l (2 * (base + 12 * i)) (bytesOf (threadsAfter w n i)) ≡ whole → sets m (2 * (base + 12 * (i + 1))) (bytesOf (threadsAfter w n (i + 1))) ≡ whole
 unfolding threadWords
 threads-turn w l m whole base n i t h et e inv =
-    puts-turn l m whole (base + 12 * i) (base + 12 * (i + 1)) (threadWords (threadIn w (11 * i) ∷ [])) (threadsAfter w n (i + 1)) (threadsAfter w n i)
+    puts-turn l m whole (base + 12 * i) (base + 12 * (i + 1)) (threadWords (threadIn w (12 * i) ∷ [])) (threadsAfter w n (i + 1)) (threadsAfter w n i)
     (e ∙ ap (λ (x : Thread). sets l (2 * (base + 12 * i)) (bytesOf (threadWords (x ∷ [])))) et) (omega arith) (threads-more w n i h) inv
 
 pub threads-end : (w l whole : List ℕ) (n i p : ℕ) → n ≤ i → sets l p (bytesOf (threadsAfter w n i)) ≡ whole → l ≡ whole

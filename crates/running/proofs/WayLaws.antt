@@ -183,10 +183,10 @@ module _ (F : Contents) (made : List Made) (t : Thread) (n : Node) (over : ℕ) 
       go false z = sym (ne-eqb over 0 some)
 
 -- a table with a word of one thread more
-pub each-more : (word : Thread → ℕ) (w l : List ℕ) (i v : ℕ) → i < length l → v ≡ word (threadIn w (11 * i)) → OfEach word w i l → OfEach word w (i + 1) (set l i v)
+pub each-more : (word : Thread → ℕ) (w l : List ℕ) (i v : ℕ) → i < length l → v ≡ word (threadIn w (12 * i)) → OfEach word w i l → OfEach word w (i + 1) (set l i v)
 each-more word w l i v h e f k b = go (eqb k i) refl
   where
-    go : (x : Bool) → eqb k i ≡ x → getD (set l i v) k 0 ≡ word (threadIn w (11 * k))
+    go : (x : Bool) → eqb k i ≡ x → getD (set l i v) k 0 ≡ word (threadIn w (12 * k))
     go true q = let s : k ≡ i = eqb-true k i q in rw s (getD-set-same l i v 0 h ∙ e)
     go false q = let d : k ≡ i → ⊥ = eqb-false k i q in getD-set-other l i k v 0 d ∙ f k (omega (arith, d))
 

@@ -21,7 +21,7 @@ pub fn seat_answer(
     limit: u16,
     k: u16,
 ) -> u16
-    requires { ⌜ (11 * count ≤ length (now threads)) × (count ≤ length (now owners)) × LineRows (now lines) × (1 ≤ role .0) × (role .0 ≤ 16) ⌝ }
+    requires { ⌜ (12 * count ≤ length (now threads)) × (count ≤ length (now owners)) × LineRows (now lines) × (1 ≤ role .0) × (role .0 ≤ 16) ⌝ }
     ensures { λ r. ⌜ r ≡ seatAnswer (threadsIn (now (threads .entry)) 0 count) (now (owners .entry)) (lineIn (now (lines .entry)) (role .0)) (role .0) limit k ⌝ }
 {
     let sessions = sessions_in(threads, owners, count, role);

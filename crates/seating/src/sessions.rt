@@ -34,13 +34,13 @@ fn put_session(mask: u32, active: u16, role: UserRole, k: u16) -> u32
 
 // Of so many threads the sessions that have the role.
 pub fn sessions_in(threads: &[u16], owners: &[u16], count: usize, role: UserRole) -> u32
-    requires { ⌜ (11 * count ≤ length (now threads)) × (count ≤ length (now owners)) ⌝ }
+    requires { ⌜ (12 * count ≤ length (now threads)) × (count ≤ length (now owners)) ⌝ }
     ensures { λ r. ⌜ r ≡ gathered (threadsIn (now (threads .entry)) 0 count) (now (owners .entry)) (role .0) 0 ⌝ }
 {
     let mut m: u32 = 0;
     let mut i: usize = 0;
     while i < count {
-        m = put_session(m, threads[11 * i + 2], role, owners[i]);
+        m = put_session(m, threads[12 * i + 2], role, owners[i]);
         i += 1;
     }
     m

@@ -147,33 +147,33 @@ stored-length w p t = simp length-set
 pub threads-length : (w : List ℕ) (p k : ℕ) → length (threadsIn w p k) ≡ k
 unfolding threadsIn
 threads-length w p zero = refl
-threads-length w p (suc k) = ap suc (threads-length w (p + 11) k)
+threads-length w p (suc k) = ap suc (threads-length w (p + 12) k)
 
-pub thread-get : (w : List ℕ) (p k j : ℕ) → j < k → getD (threadsIn w p k) j noThread ≡ threadIn w (p + 11 * j)
+pub thread-get : (w : List ℕ) (p k j : ℕ) → j < k → getD (threadsIn w p k) j noThread ≡ threadIn w (p + 12 * j)
 unfolding threadsIn
 thread-get w p zero j lt = let none : ⊥ = omega (arith, lt) in absurd none
-thread-get w p (suc k) zero lt = let e : p ≡ p + 11 * 0 = omega arith in ap (threadIn w) e
+thread-get w p (suc k) zero lt = let e : p ≡ p + 12 * 0 = omega arith in ap (threadIn w) e
 thread-get w p (suc k) (suc j) lt =
-    let e : p + 11 + 11 * j ≡ p + 11 * suc j = omega arith in
-    thread-get w (p + 11) k j (omega (arith, lt)) ∙ ap (threadIn w) e
+    let e : p + 12 + 12 * j ≡ p + 12 * suc j = omega arith in
+    thread-get w (p + 12) k j (omega (arith, lt)) ∙ ap (threadIn w) e
 
-pub threads-same : (w v : List ℕ) (p q k : ℕ) → ((j : ℕ) → j < 11 * k → getD w (p + j) 0 ≡ getD v (q + j) 0) → threadsIn w p k ≡ threadsIn v q k
+pub threads-same : (w v : List ℕ) (p q k : ℕ) → ((j : ℕ) → j < 12 * k → getD w (p + j) 0 ≡ getD v (q + j) 0) → threadsIn w p k ≡ threadsIn v q k
 unfolding threadsIn
 threads-same w v p q zero h = refl
 threads-same w v p q (suc k) h =
     ap₂ (λ (t : Thread) (ts : List Thread). t ∷ ts) (thread-same w v p q (λ j lt. h j (omega (arith, lt))))
-    (threads-same w v (p + 11) (q + 11) k (λ j lt. ap (λ (x : ℕ). getD w x 0) (there p j) ∙ h (11 + j) (omega (arith, lt)) ∙ ap (λ (x : ℕ). getD v x 0) (sym (there q j))))
+    (threads-same w v (p + 12) (q + 12) k (λ j lt. ap (λ (x : ℕ). getD w x 0) (there p j) ∙ h (12 + j) (omega (arith, lt)) ∙ ap (λ (x : ℕ). getD v x 0) (sym (there q j))))
   where
-    there : (p j : ℕ) → p + 11 + j ≡ p + (11 + j)
+    there : (p j : ℕ) → p + 12 + j ≡ p + (12 + j)
     there p j = omega arith
 
-pub threads-split : (w : List ℕ) (p a b : ℕ) → threadsIn w p (a + b) ≡ threadsIn w p a ++ threadsIn w (p + 11 * a) b
+pub threads-split : (w : List ℕ) (p a b : ℕ) → threadsIn w p (a + b) ≡ threadsIn w p a ++ threadsIn w (p + 12 * a) b
 unfolding threadsIn
 threads-split w p zero b =
     let e : 0 + b ≡ b = omega arith in
-    let q : p ≡ p + 11 * 0 = omega arith in
+    let q : p ≡ p + 12 * 0 = omega arith in
     ap₂ (threadsIn w) refl e ∙ ap (λ (x : ℕ). threadsIn w x b) q
 threads-split w p (suc a) b =
     let e : suc a + b ≡ suc (a + b) = omega arith in
-    let q : p + 11 + 11 * a ≡ p + 11 * suc a = omega arith in
-    ap (threadsIn w p) e ∙ ap (λ (ts : List Thread). threadIn w p ∷ ts) (threads-split w (p + 11) a b ∙ ap (λ (x : ℕ). threadsIn w (p + 11) a ++ threadsIn w x b) q)
+    let q : p + 12 + 12 * a ≡ p + 12 * suc a = omega arith in
+    ap (threadsIn w p) e ∙ ap (λ (ts : List Thread). threadIn w p ∷ ts) (threads-split w (p + 12) a b ∙ ap (λ (x : ℕ). threadsIn w (p + 12) a ++ threadsIn w x b) q)

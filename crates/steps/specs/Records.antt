@@ -1,19 +1,19 @@
--- Threads as words in a table, eleven each: user, node, mask, eight variables.
+-- Threads as words in a table, twelve words each: user, node, mask, eight variables, and one that is not used.
 use Prim.Native.Nat.{ℕ, zero, suc, _+_, _*_}
 use mathlib.Core.List.{List, [], _∷_}
 use lib.ListN.{getD, set}
 use Rattle.steps.specs.declared.Thread.{Thread}
 
 abbrev pub recordWords : ℕ
-recordWords = 11
+recordWords = 12
 
 -- a table of 64 threads
 abbrev pub threadTableWords : ℕ
-threadTableWords = 704
+threadTableWords = 768
 
 -- where the words of the thread of an index begin, from 0 on
 abbrev pub recordAt : ℕ → ℕ
-recordAt i = 11 * i
+recordAt i = 12 * i
 
 -- the thread whose words stand from p on
 abbrev pub threadIn : List ℕ → ℕ → Thread
@@ -27,7 +27,7 @@ threadIn w p = record {
 -- so many threads from p on
 unfoldable pub threadsIn : List ℕ → ℕ → ℕ → List Thread
 threadsIn w p zero = []
-threadsIn w p (suc k) = threadIn w p ∷ threadsIn w (p + 11) k
+threadsIn w p (suc k) = threadIn w p ∷ threadsIn w (p + 12) k
 
 -- a table with another thread from p on
 abbrev pub stored : List ℕ → ℕ → Thread → List ℕ

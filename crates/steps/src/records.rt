@@ -1,4 +1,4 @@
-// Threads as words in a table, eleven each.
+// Threads as words in a table, twelve each: eleven of the thread and one that is not used. So the place of a thread is a shift of three times its index.
 use super::Thread;
 ghost use mathlib.Core.Path.{_≡_};
 ghost use Prim.Native.Nat.{_+_, _*_, _-_, _≤_, _<_};
@@ -6,10 +6,10 @@ ghost use lib.ListN.{length, drop};
 ghost use lib.Seq.{paste};
 ghost use Rattle.steps.specs.Records.{recordWords, recordAt, threadIn, stored};
 
-// The words of a thread, and of a table of 64 threads.
-pub const RECORD: usize = 11;
+// The words from one thread to the next, and of a table of 64 threads.
+pub const RECORD: usize = 12;
 
-pub const TABLE: usize = 704;
+pub const TABLE: usize = 768;
 
 // The thread of an index, from 0 on.
 pub fn thread_at(threads: &[u16], i: usize) -> Thread

@@ -26,7 +26,7 @@ use Rattle.steps.proofs.records.put_thread.Reads as put-thread-reads
 
 abbrev Inv-loop : tie.InvT-loop
 Inv-loop file head table threads₀ beside n i₀ threads i =
-    (i ≤ n) × (length threads ≡ 704) × Opened (contentsAt file head .sessions) threads i
+    (i ≤ n) × (length threads ≡ 768) × Opened (contentsAt file head .sessions) threads i
 
 abbrev μ-loop : tie.MeasureT-loop
 μ-loop file head table threads₀ beside n i₀ threads i = n - i
@@ -68,7 +68,7 @@ loop-again c =
     let few = c .before .before .before .before .before .before .before .before .before .before .before .before .before .pre .0 .sessions in
     let all = c .before .before .before .before .before .before .before .before .wide .ensures .0 in (
       omega arith,
-      ap length (put .0) ∙ stored-length (l .threads) (11 * l .i) t ∙ l .inv .1,
+      ap length (put .0) ∙ stored-length (l .threads) (12 * l .i) t ∙ l .inv .1,
       open-more ss (l .threads) _ (l .i) t (omega (arith, few, all, l .inv .1)) (omega (arith, held, all)) is put (l .inv .2),
     )
 

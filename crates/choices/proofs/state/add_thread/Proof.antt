@@ -42,7 +42,7 @@ returns c =
     let count = c .before .before .before .before .before .before .before .before .before .thread-count .ensures in
     let beside = c .before .before .set-threads .ensures ∙ ap (λ (n : ℕ). withThreads (a .beside .now) (n + 1)) count in
     let added = add-state (a .threads .now) _ (a .beside .now) _ (a .t) (p .0) (p .1) (put .1)
-    (put .0 ∙ ap (λ (x : ℕ). stored (a .threads .now) (11 * x) (a .t)) (c .before .before .before .before .before .before .before .wide .ensures .0 ∙ count)) beside in
+    (put .0 ∙ ap (λ (x : ℕ). stored (a .threads .now) (12 * x) (a .t)) (c .before .before .before .before .before .before .before .wide .ensures .0 ∙ count)) beside in
     (added .0, beside, added .1)
 
 pub add-thread-spec : {M : Type 1} → statement M

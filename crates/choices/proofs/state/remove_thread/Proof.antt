@@ -47,7 +47,7 @@ returns c =
     let count = c .before .before .before .before .before .before .before .before .before .before .thread-count .ensures in
     let beside = c .before .before .set-threads .ensures ∙ ap (λ (n : ℕ). withThreads (a .beside .now) (n - 1)) count in
     let moved = c .before .before .before .before .before .before .close-gap .ensures
-    ∙ ap₂ (λ (n i : ℕ). down (a .threads .now) (11 * i) 11 (11 * (n - 1) - 11 * i)) (c .before .before .before .before .before .before .before .before .wide .ensures .0 ∙ count) (c .before .before .before .before .before .before .before .wide2 .ensures .0) in
+    ∙ ap₂ (λ (n i : ℕ). down (a .threads .now) (12 * i) 12 (12 * (n - 1) - 12 * i)) (c .before .before .before .before .before .before .before .before .wide .ensures .0 ∙ count) (c .before .before .before .before .before .before .before .wide2 .ensures .0) in
     let gone = remove-state (a .threads .now) _ (a .beside .now) _ (a .i) (p .0) (p .1) (p .2) (search needs) moved beside in
     (gone .0, beside, gone .1)
 

@@ -18,7 +18,7 @@ use Rattle.steps.proofs.records.thread_at.Reads as thread-at-reads
 abbrev Inv-loop : tie.InvT-loop
 Inv-loop threads count out₀ base i₀ out i =
     (i ≤ count) × (length out ≡ length out₀)
-    × (sets out (2 * (base + 12 * i)) (bytesOf (threadWords (threadsIn threads (11 * i) (count - i)))) ≡ sets out₀ (2 * base) (bytesOf (threadWords (threadsIn threads 0 count))))
+    × (sets out (2 * (base + 12 * i)) (bytesOf (threadWords (threadsIn threads (12 * i) (count - i)))) ≡ sets out₀ (2 * base) (bytesOf (threadWords (threadsIn threads 0 count))))
 
 abbrev μ-loop : tie.MeasureT-loop
 μ-loop threads count out₀ base i₀ out i = count - i

@@ -13,7 +13,7 @@ use Rattle.steps.proofs.records.close_gap.Lts as lts
 
 abbrev Inv-loop : tie.InvT-loop
 Inv-loop threads₀ count i end k₀ threads k =
-    (11 * i ≤ k) × (k ≤ end) × (end + 11 ≤ length threads₀) × (length threads ≡ length threads₀) × (threads ≡ down threads₀ (11 * i) 11 (k - 11 * i))
+    (12 * i ≤ k) × (k ≤ end) × (end + 12 ≤ length threads₀) × (length threads ≡ length threads₀) × (threads ≡ down threads₀ (12 * i) 12 (k - 12 * i))
 
 abbrev μ-loop : tie.MeasureT-loop
 μ-loop threads₀ count i end k₀ threads k = end - k
@@ -31,8 +31,8 @@ loop-holds : tie.Need-loop-holds Inv-loop μ-loop
 loop-holds c =
     let a = c .args in
     let l = a .threads .now in
-    let none : 0 ≡ 11 * a .i - 11 * a .i = omega arith in
-    (omega arith, omega arith, omega arith, refl, paste-zero l (11 * a .i) (drop (11 * a .i + 11) l) ∙ ap (down l (11 * a .i) 11) none)
+    let none : 0 ≡ 12 * a .i - 12 * a .i = omega arith in
+    (omega arith, omega arith, omega arith, refl, paste-zero l (12 * a .i) (drop (12 * a .i + 12) l) ∙ ap (down l (12 * a .i) 12) none)
 
 add-threads : tie.Need-add-threads Inv-loop μ-loop
 add-threads c = omega arith
@@ -59,7 +59,7 @@ loop-again : tie.Need-loop-again Inv-loop μ-loop
 loop-again c =
     let a = c .before .before .before .args in
     let l = c .before .before .loop in
-    (omega arith, omega arith, l .inv .2, simp length-set (l .inv .3), down-more (a .threads .now) (l .threads) (11 * a .i) 11 (l .k) 0 (l .inv .0) (omega arith) (l .inv .4))
+    (omega arith, omega arith, l .inv .2, simp length-set (l .inv .3), down-more (a .threads .now) (l .threads) (12 * a .i) 12 (l .k) 0 (l .inv .0) (omega arith) (l .inv .4))
 
 same-length : tie.Need-same-length Inv-loop μ-loop
 same-length c = search needs
@@ -68,8 +68,8 @@ returns : tie.Need-returns Inv-loop μ-loop
 returns c =
     let a = c .before .before .args in
     let l = c .before .loop in
-    let all : l .k - 11 * a .i ≡ 11 * (a .count - 1) - 11 * a .i = omega arith in
-    l .inv .4 ∙ ap (down (a .threads .now) (11 * a .i) 11) all
+    let all : l .k - 12 * a .i ≡ 12 * (a .count - 1) - 12 * a .i = omega arith in
+    l .inv .4 ∙ ap (down (a .threads .now) (12 * a .i) 12) all
 
 pub close-gap-spec : {M : Type 1} → statement M
 close-gap-spec =
