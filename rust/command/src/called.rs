@@ -58,6 +58,14 @@ impl<'a> Called<'a> {
         }
     }
 
+    /// A thread as a list has it: `ask.2`, or `3`.
+    pub fn listed(&self, roll: &Roll, number: u16) -> String {
+        match self.told() {
+            Some(_) => self.thread(roll, number),
+            None => number.to_string(),
+        }
+    }
+
     /// `line 18`, or `node 5`.
     pub fn place(&self, node: u16) -> String {
         self.told()
@@ -86,6 +94,26 @@ impl<'a> Called<'a> {
             Some(_) => self.input.role(number),
             None => format!("role {number}"),
         }
+    }
+
+    /// `request`, or `kind 1`.
+    pub fn kind(&self, number: u16) -> String {
+        match self.told() {
+            Some(_) => self.input.kind(number),
+            None => format!("kind {number}"),
+        }
+    }
+
+    /// The kind of the channel of this number.
+    pub fn kind_of(&self, channel: u16) -> Option<u16> {
+        let index = usize::from(channel).checked_sub(1)?;
+        let &[_, kind] = self.clinic.channels.get(index)?;
+        Some(kind)
+    }
+
+    /// The roles that may do what a send or a receive does, by its tag, on a kind.
+    pub fn permitting(&self, tag: u16, kind: u16) -> u16 {
+        self.clinic.permitting(tag, kind)
     }
 
     /// `caller, keeper`, or `roles 1, 2`; `no role`.

@@ -184,6 +184,26 @@ impl Clinic {
         head_words(self.version()) + records.sum::<usize>()
     }
 
+    /// The roles that may send (tag 6) or receive (tag 5) on a kind, by their own record or
+    /// by a junior's.
+    pub fn permitting(&self, tag: u16, kind: u16) -> u16 {
+        let mut may = 0;
+        for (index, &[low, high, low_in, high_in]) in self.roles.iter().enumerate() {
+            let [low, high] = match tag {
+                6 => [low, high],
+                _ => [low_in, high_in],
+            };
+            let kinds = u32::from(high) << 16 | u32::from(low);
+            let own = crate::names::items(kinds).any(|item| item == u32::from(kind));
+            // Juniors stand before their seniors, so that it is known of them.
+            let [juniors] = self.juniors.get(index).copied().unwrap_or_default();
+            if own || juniors & may != 0 {
+                may |= 1 << index;
+            }
+        }
+        may
+    }
+
     /// How many nodes put a role on.
     pub fn on_steps(&self) -> usize {
         self.nodes.iter().filter(|&&[tag, ..]| tag == 7).count()

@@ -1,6 +1,7 @@
 //! A run that is followed choice by choice, and what each choice does in words.
 
 use crate::called::Called;
+use crate::names;
 use crate::roll::Roll;
 use crate::seats::Table;
 use pilzdamo::{Desk, Thread, Verdict};
@@ -139,21 +140,110 @@ impl<'a> Course<'a> {
         format!("{name} begins at {}", self.called.place(node))
     }
 
-    /// Why a choice was refused with this number, by where its threads stand.
-    pub fn why(&self, number: u16, thread: u16, partner: u16) -> String {
-        let threads = [thread, partner].into_iter().filter(|&number| number != 0);
+    /// Why a choice was refused with this number: where its threads stand, and what is
+    /// wrong with that.
+    pub fn why(&self, number: u16, choice: [u16; 2]) -> String {
+        let stand = self.stand(number, choice).join(", and ");
+        let wrong = self.wrong(number, choice).join(", and ");
+        match wrong.is_empty() {
+            true => stand,
+            false => format!("{stand}; {wrong}"),
+        }
+    }
+
+    /// Where the threads of a choice stand that was refused with this number.
+    pub fn stand(&self, number: u16, [thread, partner]: [u16; 2]) -> Vec<String> {
+        let partner = Some(partner).filter(|&partner| partner != 0);
         let stands = |one| match self.thread(one) {
-            None => format!("there is no thread {one}"),
+            None => {
+                let there = names::several(self.desk.threads().len(), "thread");
+                format!("there is no thread {one}: the list has {there}")
+            }
             Some(thread) => {
                 let name = self.called.thread(&self.roll, one);
                 let more = self.more(number, &thread);
                 format!("{name} stands at {}{more}", self.called.stands(&thread))
             }
         };
-        match threads.map(stands).collect::<Vec<_>>() {
-            none if none.is_empty() => "there is no thread 0".to_string(),
-            stand => stand.join(", and "),
+        [thread].into_iter().chain(partner).map(stands).collect()
+    }
+
+    /// What is wrong with where they stand, as far as that doesn't say it.
+    pub fn wrong(&self, number: u16, choice: [u16; 2]) -> Vec<String> {
+        match number {
+            13 => choice
+                .map(|one| self.unpermitted(one))
+                .into_iter()
+                .flatten()
+                .collect(),
+            18 => self.unfit(choice).into_iter().collect(),
+            20 => vec![self.full()],
+            _ => Vec::new(),
         }
+    }
+
+    /// That no role that a thread holds permits its step, and which roles would.
+    fn unpermitted(&self, one: u16) -> Option<String> {
+        let thread = self.thread(one)?;
+        let [tag, f1, _] = self.called.node(thread.node);
+        let act = match tag {
+            5 => "receive",
+            6 => "send",
+            _ => return None,
+        };
+        let kind = self.kind(&thread, f1)?;
+        let may = self.called.permitting(tag, kind);
+        let roles = match may {
+            0 => "none".to_string(),
+            may => self.called.roles(may),
+        };
+        let (name, kind) = (self.called.thread(&self.roll, one), self.called.kind(kind));
+        (thread.mask & may == 0).then(|| {
+            format!("{name} holds no role that may {act} on {kind} (roles that may: {roles})")
+        })
+    }
+
+    /// The kind of the channel that an operand of a thread's step names.
+    fn kind(&self, thread: &Thread, word: u16) -> Option<u16> {
+        let value = match word {
+            512..=519 => thread.vars[usize::from(word - 512)],
+            _ => word,
+        };
+        match value {
+            named @ 257..=320 => self.called.kind_of(named - 256),
+            made @ 385..=448 => {
+                let channel = self.desk.made().nth(usize::from(made - 385))?;
+                Some(channel.kind)
+            }
+            _ => None,
+        }
+    }
+
+    /// Why the threads of a choice, which are there, can't do it from where they stand.
+    fn unfit(&self, [thread, partner]: [u16; 2]) -> Option<String> {
+        let tag = |one| Some(self.called.node(self.thread(one)?.node)[0]);
+        let listed = |one| self.called.listed(&self.roll, one);
+        let sends = "a send takes a partner that stands at a receive";
+        match (tag(thread)?, tag(partner)) {
+            (6, None) if partner == 0 => Some(format!("{sends}: {} -> T", listed(thread))),
+            (6, Some(_)) => Some(sends.to_string()),
+            (5, Some(6)) => {
+                let [sender, receiver] = [partner, thread].map(listed);
+                Some(format!("the sender is named first: {sender} -> {receiver}"))
+            }
+            (5, _) => Some(format!(
+                "a receive is not named first, its sender is: T -> {}",
+                listed(thread)
+            )),
+            _ => None,
+        }
+    }
+
+    /// How many threads there are, and how many made channels, where that is too many.
+    fn full(&self) -> String {
+        let threads = names::several(self.desk.threads().len(), "thread");
+        let made = names::several(self.desk.made().len(), "made channel");
+        format!("there are {threads} and {made}: at most 64 of each")
     }
 
     /// The roles that a thread holds where these are wrong, and the values where those are.

@@ -218,10 +218,10 @@ impl<'a> Driven<'a> {
     }
 
     /// Says why a choice behind those that are done is refused.
-    fn refused(&self, refusal: Verdict, [thread, partner]: [u16; 2]) {
+    fn refused(&self, refusal: Verdict, choice: [u16; 2]) {
         let number = refusal.number;
         let place = u16::try_from(self.done.len() + 1).unwrap_or(u16::MAX);
-        let why = self.course.why(number, thread, partner);
+        let why = self.course.why(number, choice);
         let below = report::below_choice(Verdict { number, place });
         output::say(&format!("refused {number}: {why}\n  {below}"));
     }

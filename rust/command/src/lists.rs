@@ -8,11 +8,16 @@ use crate::lines::Lines;
 use crate::seats::Table;
 use crate::threads::{named, over, tokens, Choice, Thread, Who};
 use crate::WrongUse;
+use pilzdamo::Desk;
 use std::ops::Range;
 use text::At;
 
 /// The most choices of a run.
 pub const MOST: usize = 65_535;
+
+/// Said of names that bytes don't have.
+const NAMES: &str =
+    "bytes have no names, and their sessions are s1, s2 and so on; --names NAMES gives them names";
 
 /// A list, in the engine's words.
 pub struct List {
@@ -76,8 +81,17 @@ impl List {
         table: Option<&Table>,
     ) -> Result<List, WrongUse> {
         let text = decoded(&name, bytes)?;
-        let choices = named(&tokens(text), &input.sessions());
-        let choices = choices.map_err(|flaws| flawed(&name, text, &flaws))?;
+        let (tokens, sessions) = (tokens(text), input.sessions());
+        // Of a refused file that refusal is told, whatever names the list has.
+        let known = Desk::start(input).is_ok().then_some(&sessions[..]);
+        let choices = named(&tokens, known).map_err(|flaws| {
+            let WrongUse(why) = flawed(&name, text, &flaws);
+            let only_names = named(&tokens, None).is_ok();
+            match only_names && input.text.is_none() && !sessions.is_empty() {
+                true => WrongUse(format!("{why}\n  {NAMES}")),
+                false => WrongUse(why),
+            }
+        })?;
         let mut followed = follow(input, &choices, table);
         Ok(List {
             name,

@@ -3,9 +3,10 @@
 use crate::clinic::{Clinic, Section};
 use crate::clinic::{CHANNELS, KINDS, NODES, ROLES, SESSIONS, USERS};
 use crate::input::Input;
-use crate::names::{carries, grants, planned, several};
+use crate::names::{carries, grants, items, planned, several};
 use crate::report;
 use pilzdamo::{Verdict, ROOM_1};
+use text::At;
 
 /// The two files, with their names.
 pub type Files<'a> = [(String, &'a Input); 2];
@@ -30,9 +31,9 @@ pub fn size(merged: &[u8]) -> String {
 
 /// The message for two files that are refused.
 pub fn refused(files: &Files, verdict: Verdict) -> String {
-    for (name, bytes) in files {
-        if own(bytes) == Some(verdict) {
-            return of_one(name, bytes, verdict);
+    for (_, input) in files {
+        if own(input) == Some(verdict) {
+            return of_one(input, verdict);
         }
     }
     let clinics = files.each_ref().map(|(_, bytes)| Clinic::of(*bytes));
@@ -53,9 +54,9 @@ fn own(bytes: &[u8]) -> Option<Verdict> {
         .then(|| written.verdict())
 }
 
-fn of_one(name: &str, bytes: &Input, verdict: Verdict) -> String {
-    let message = report::of_file(name, bytes, verdict);
-    match (verdict.number, Clinic::of(bytes).version()) {
+fn of_one(input: &Input, verdict: Verdict) -> String {
+    let message = input.refused(verdict);
+    match (verdict.number, Clinic::of(input).version()) {
         (2, version @ (2 | 3)) => {
             message
                 + &format!(
@@ -72,41 +73,96 @@ fn difference(files: &Files, [first, second]: &[Clinic; 2]) -> Vec<String> {
     let kinds = [first, second].map(|clinic| clinic.count(KINDS));
     let say = |what: String, told: [String; 2]| {
         let lines = files.iter().zip(told);
-        let lines = lines.map(|((name, _), told)| format!("  in {name}: {told}"));
+        let lines = lines.map(|((name, _), told)| format!("  in {name}{told}"));
         std::iter::once(format!("{what} differs"))
             .chain(lines)
             .collect()
     };
     let counts = |section: Section| {
-        let told = [first, second].map(|clinic| several(clinic.count(section), section.one));
+        let count = |clinic: &Clinic| several(clinic.count(section), section.one);
+        let told = [first, second].map(|clinic| format!(": {}", count(clinic)));
         say(format!("the number of {}", section.name), told)
     };
+    let [(_, one), (_, other)] = files;
     if first.count(ROLES) != second.count(ROLES) {
         return counts(ROLES);
     }
     if let Some((number, roles)) = unequal(&first.roles, &second.roles) {
-        let [one, other] = roles;
-        let told = [grants(one, kinds[0]), grants(other, kinds[1])];
-        return say(format!("role {number}"), told);
+        let told = [
+            role(one, number, roles[0], kinds[0]),
+            role(other, number, roles[1], kinds[1]),
+        ];
+        return say(format!("role {}", one.role(number)), told);
     }
     if first.count(KINDS) != second.count(KINDS) {
         return counts(KINDS);
     }
     match unequal(&first.kinds, &second.kinds) {
-        Some((number, [one, other])) => {
-            let told = [carries(one, kinds[0]), carries(other, kinds[1])];
-            say(format!("kind {number}"), told)
+        Some((number, records)) => {
+            let told = [
+                kind(one, number, records[0], kinds[0]),
+                kind(other, number, records[1], kinds[1]),
+            ];
+            say(format!("kind {}", one.kind(number)), told)
         }
         None => Vec::new(),
     }
 }
 
 /// The first two records of one number that aren't the same.
-fn unequal<const W: usize>(one: &[[u16; W]], other: &[[u16; W]]) -> Option<(usize, [[u16; W]; 2])> {
+fn unequal<const W: usize>(one: &[[u16; W]], other: &[[u16; W]]) -> Option<(u16, [[u16; W]; 2])> {
     let pairs = (1..).zip(one.iter().zip(other));
     let mut unequal = pairs.filter(|(_, (one, other))| one != other);
     let (number, (one, other)) = unequal.next()?;
     Some((number, [*one, *other]))
+}
+
+/// What a role may, behind the file's name: of a text at its place and in its names. The
+/// kinds' numbers stand with them, since those are what is compared.
+fn role(input: &Input, number: u16, record: [u16; 4], kinds: usize) -> String {
+    let Some(text) = &input.text else {
+        return format!(": {}", grants(record, kinds));
+    };
+    let at = place(&text.packed.source.roles, number);
+    let [low, high, low_in, high_in] = record;
+    let [sends, receives] = [(low, high), (low_in, high_in)].map(|(low, high)| {
+        let kinds = items(u32::from(high) << 16 | u32::from(low));
+        let kinds: Vec<String> = kinds.map(|kind| numbered(input, kind as u16)).collect();
+        match &kinds[..] {
+            [] => "no kind".to_string(),
+            kinds => kinds.join(", "),
+        }
+    });
+    let name = input.role(number);
+    format!("{at}: {name} sends on {sends}; receives on {receives}")
+}
+
+/// What a kind carries, in the same way.
+fn kind(input: &Input, number: u16, record: [u16; 1], kinds: usize) -> String {
+    let Some(text) = &input.text else {
+        return format!(": {}", carries(record, kinds));
+    };
+    let at = place(&text.packed.source.kinds, number);
+    let name = input.kind(number);
+    match record {
+        [0] => format!("{at}: {name} carries a plain value"),
+        [kind] => format!(
+            "{at}: {name} carries a channel of {}",
+            numbered(input, kind)
+        ),
+    }
+}
+
+/// A text's kind by its name and number.
+fn numbered(input: &Input, kind: u16) -> String {
+    format!("{} (kind {kind})", input.kind(kind))
+}
+
+/// The line and column of the record of this number.
+fn place(places: &[At], number: u16) -> String {
+    let index = usize::from(number).checked_sub(1);
+    let at = index.and_then(|index| places.get(index));
+    at.map_or(String::new(), |at| format!(":{}:{}", at.line, at.column))
 }
 
 /// The sums that are too large, a line each.

@@ -1,11 +1,11 @@
 //! Text to bytes and back, and texts that are answered with texts.
 
-use crate::input::{read_names, Input, Text};
+use crate::input::{read_names, words_at, Input, Text};
 use crate::names;
 use crate::output::{self, Out, Ready};
 use crate::source::Source;
 use crate::{Outcome, WrongUse};
-use text::Records;
+use text::{At, Records};
 
 /// `pack TEXT`: writes the file that a text says, and its names if that is wanted.
 pub fn pack(source: &Source, out: &Out, names: Option<&Out>) -> Result<Outcome, WrongUse> {
@@ -90,5 +90,18 @@ pub fn deliver_placed(from: &Text, placed: &[u8], out: &Out) -> Result<(), Wrong
     let placed = records.and_then(|records| text::placed(text, packed, &records));
     let why = "what was placed is not this text with on and off put in";
     let placed = placed.ok_or_else(|| WrongUse(why.to_string()))?;
+    let placed = match packed.bytes()[..] {
+        [] => without_records(&placed, packed.source.clinic),
+        _ => placed,
+    };
     output::deliver_text(&from.marked(&placed), out)
+}
+
+/// The text of a file without records, for that of zero bytes, which placing makes it.
+fn without_records(text: &str, clinic: At) -> String {
+    let mut lines: Vec<String> = text.split('\n').map(str::to_string).collect();
+    if let Some(line) = lines.get_mut(clinic.line.saturating_sub(1)) {
+        *line = line.replacen(&words_at(line, clinic), "clinic 1", 1);
+    }
+    lines.join("\n")
 }

@@ -134,13 +134,19 @@ pub fn below_choice(verdict: Verdict) -> String {
     lines.join("\n  ")
 }
 
-/// Who can mend it.
-fn mend(verdict: Verdict) -> Option<String> {
-    let number = verdict.number;
-    refusals::of(number).map(|refusal| {
+/// What takes out what is there before placing, and who can mend it.
+fn mend(verdict: Verdict) -> Vec<String> {
+    let Verdict { number, place } = verdict;
+    let out = match (number, place) {
+        (14, 0) => Some("the roles that this session starts with are to be taken out by hand"),
+        (14, _) => Some("pilzdamo strip FILE takes on and off out"),
+        _ => None,
+    };
+    let who = refusals::of(number).map(|refusal| {
         let who = refusal.who;
         format!("{who} can mend it; more: pilzdamo explain {number}")
-    })
+    });
+    out.map(str::to_string).into_iter().chain(who).collect()
 }
 
 /// The sentence, what more there is to say of the place, and who can mend it.

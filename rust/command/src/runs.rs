@@ -1,13 +1,14 @@
 //! A run of a text, told in its names.
 
+use crate::called::Called;
 use crate::clinic::Clinic;
+use crate::course::Course;
 use crate::input::{Input, Text};
 use crate::listed::Listed;
-use crate::lists::List;
 use crate::report;
 use crate::state;
 use crate::threads::Thread;
-use pilzdamo::{State, Verdict, RUN_ROOM};
+use pilzdamo::{State, Verdict};
 use text::NodeAt;
 
 /// The state in the output of a run, in lines: of a text in its names.
@@ -83,38 +84,33 @@ pub fn not_there(sessions: &[String], threads: &[Thread], missing: Thread) -> St
     format!("there is no thread {missing} here ({there})")
 }
 
-/// Where the threads of a choice stand in a text.
+/// Where the threads of a refused choice stand in a text, and what is wrong with that.
 fn stand(listed: &Listed, verdict: Verdict) -> Option<String> {
-    let Listed { input, list, .. } = listed;
-    let text = input.text.as_ref()?;
-    let state = &State::of(&halted(listed, verdict)?)?;
-    let told = Told { text };
-    let threads = list.choice(verdict.place)?.into_iter();
-    let stands = threads
-        .filter(|&number| number != 0)
-        .map(|number| told.numbered(number, list, state));
-    Some(stands.collect::<Vec<_>>().join(", and "))
+    listed.input.text.as_ref()?;
+    let called = Called::of(&listed.input);
+    let (course, choice) = halted(&called, listed, verdict)?;
+    Some(course.why(verdict.number, choice))
 }
 
-/// Where the threads of a refused choice stand, in numbers.
+/// The same in numbers, a line each.
 pub fn stand_in_numbers(listed: &Listed, verdict: Verdict) -> Option<String> {
-    let room = halted(listed, verdict)?;
-    let [thread, partner] = listed.list.choice(verdict.place)?;
-    let (state, clinic) = (state::State::of(&room), Clinic::of(&listed.input));
-    let mut stands = vec![state.stands(&clinic, thread)];
-    if partner != 0 {
-        stands.push(state.stands(&clinic, partner));
-    }
-    if verdict.number == 20 {
-        stands.push(state.full());
-    }
-    Some(stands.join("\n  "))
+    let called = Called::of(&listed.input);
+    let (course, choice) = halted(&called, listed, verdict)?;
+    let mut lines = course.stand(verdict.number, choice);
+    lines.extend(course.wrong(verdict.number, choice));
+    Some(lines.join("\n  "))
 }
 
-/// The output of a run that halts so.
-fn halted(listed: &Listed, verdict: Verdict) -> Option<[u8; RUN_ROOM]> {
-    let mut room = [0; RUN_ROOM];
-    (listed.run(&mut room) == verdict).then_some(room)
+/// Where a list halts, and the choice that is refused there.
+fn halted<'a>(
+    called: &'a Called<'a>,
+    listed: &Listed,
+    verdict: Verdict,
+) -> Option<(Course<'a>, [u16; 2])> {
+    let choice = listed.list.choice(verdict.place)?;
+    let mut course = Course::start(called).ok()?;
+    let done = course.through(&listed.list.words, &listed.waited());
+    (done.len() + 1 == usize::from(verdict.place)).then_some((course, choice))
 }
 
 /// What a run has, in a text's names.
@@ -132,17 +128,6 @@ impl Told<'_> {
 
     pub fn thread(&self, thread: Thread) -> String {
         thread.name(&self.text.sessions())
-    }
-
-    /// A thread by its number, and where it stands.
-    fn numbered(&self, number: u16, list: &List, state: &State) -> String {
-        let index = usize::from(number) - 1;
-        let Some(thread) = state.threads.get(index) else {
-            return format!("there is no thread {number}");
-        };
-        let name = list.followed.threads.get(index);
-        let name = name.map_or(format!("thread {number}"), |&name| self.thread(name));
-        format!("{name} stands at {}", self.stands(thread.node))
     }
 
     /// A node's line, or its number if there are no lines.

@@ -62,28 +62,6 @@ impl State {
         line + &variables(&values)
     }
 
-    /// Where the thread of a number stands.
-    pub fn stands(&self, clinic: &Clinic, number: u16) -> String {
-        let threads = self.threads();
-        let index = usize::from(number).checked_sub(1);
-        let Some(i) = index.filter(|&i| i < threads) else {
-            let there = names::several(threads, "thread");
-            return format!("there is no thread {number}: the list has {there}");
-        };
-        let at = 4 + 2 * self.made() + THREAD * i;
-        let values: Vec<u16> = (4..THREAD).map(|word| self.word(at + word)).collect();
-        let node = self.word(at + 1);
-        let step = step(clinic, node, bound(&values));
-        format!("thread {number} stands at node {node}{step}")
-    }
-
-    /// How many threads there are, and how many made channels, where that is too many.
-    pub fn full(&self) -> String {
-        let threads = names::several(self.threads(), "thread");
-        let made = names::several(self.made(), "made channel");
-        format!("there are {threads} and {made}: at most 64 of each")
-    }
-
     fn channel(&self, i: usize) -> String {
         let [owner, kind] = [4, 5].map(|word| self.word(2 * i + word));
         format!("  made channel {}: owner user {owner}, kind {kind}", i + 1)

@@ -56,8 +56,9 @@ pub fn over(tokens: &[Token]) -> At {
     }
 }
 
-/// The choices of a list with names.
-pub fn named(tokens: &[Token], sessions: &[String]) -> Result<Vec<Choice>, Vec<Flaw>> {
+/// The choices of a list with names. Where the sessions aren't known, any name is taken for
+/// that of one.
+pub fn named(tokens: &[Token], sessions: Option<&[String]>) -> Result<Vec<Choice>, Vec<Flaw>> {
     let mut reader = Reader {
         tokens,
         next: 0,
@@ -85,7 +86,7 @@ pub fn asked(tokens: &[Token], sessions: &[String]) -> Result<Choice, Flaw> {
     let mut reader = Reader {
         tokens,
         next: 0,
-        sessions,
+        sessions: Some(sessions),
     };
     let thread = reader.who(THREAD)?;
     let partner = match reader.takes("->") || reader.next < tokens.len() {
@@ -107,7 +108,7 @@ const THREAD: &str = "a thread: a session's name, with .2 for its second thread,
 struct Reader<'a> {
     tokens: &'a [Token],
     next: usize,
-    sessions: &'a [String],
+    sessions: Option<&'a [String]>,
 }
 
 impl Reader<'_> {
@@ -163,14 +164,7 @@ impl Reader<'_> {
         if !token.is_name() {
             return self.expected(due);
         }
-        let Some(session) = self.sessions.iter().position(|name| *name == token.text) else {
-            let sessions = match self.sessions {
-                [] => "there are no sessions".to_string(),
-                sessions => format!("sessions: {}", sessions.join(", ")),
-            };
-            let what = format!("there is no session '{}' ({sessions})", shown(&token.text));
-            return Err(Flaw { at: token.at, what });
-        };
+        let session = self.session(token)?;
         self.next += 1;
         let mut number = 1;
         if self.takes(".") {
@@ -182,6 +176,22 @@ impl Reader<'_> {
             self.next += 1;
         }
         Ok(Who::Named(Thread { session, number }))
+    }
+
+    /// The index of the session of this name.
+    fn session(&self, token: &Token) -> Result<usize, Flaw> {
+        let Some(sessions) = self.sessions else {
+            return Ok(0);
+        };
+        let found = sessions.iter().position(|name| *name == token.text);
+        found.ok_or_else(|| {
+            let sessions = match sessions {
+                [] => "there are no sessions".to_string(),
+                sessions => format!("sessions: {}", sessions.join(", ")),
+            };
+            let what = format!("there is no session '{}' ({sessions})", shown(&token.text));
+            Flaw { at: token.at, what }
+        })
     }
 
     fn expected<T>(&self, what: &str) -> Result<T, Flaw> {

@@ -62,7 +62,7 @@ fn path(line: &str) -> Result<Typed, String> {
 }
 
 fn choices(tokens: &[Token], sessions: &[String]) -> Result<Typed, String> {
-    named(tokens, sessions)
+    named(tokens, Some(sessions))
         .map(Typed::Choices)
         .map_err(|flaws| flaws.into_iter().map(|flaw| flaw.what).next())
         .map_err(|what| what.unwrap_or_default() + "; help lists what can be typed")

@@ -72,7 +72,7 @@ fn placed_texts() {
             let out = &out[..answer.length.into()];
             let records = Records::of(out).expect("records");
             let with_roles = placed(&text, &packed, &records).expect("a placement");
-            // Zero bytes are placed as 26.
+            // Zero bytes are placed as 26, for which the command writes `clinic 1`.
             let again = pack(&with_roles).expect("a file");
             if !file.is_empty() {
                 assert_eq!(again.bytes(), out, "{with_roles}");

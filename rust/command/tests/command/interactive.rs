@@ -109,7 +109,8 @@ fn why_not() {
     for typed in ["ask serve", "ask -> serve", "1 2", "1 -> serve"] {
         assert_eq!(said("", typed), refused(18, 1, stand), "{typed}");
     }
-    let stand = "ask stands at line 17 (send reply on inbox)";
+    let stand = "ask stands at line 17 (send reply on inbox); a send takes a partner that stands \
+                 at a receive: ask -> T";
     for typed in ["ask", "ask 0", "1 0", "1"] {
         assert_eq!(said("ask ask ask", typed), refused(18, 4, stand), "{typed}");
     }
@@ -124,7 +125,8 @@ fn why_not() {
     );
     let missing = "there is no thread ask.2 here (threads: ask, serve)\n";
     assert_eq!(said("", "ask.2 serve"), missing);
-    assert_eq!(said("", "9"), refused(18, 1, "there is no thread 9"));
+    let missing = "there is no thread 9: the list has 2 threads";
+    assert_eq!(said("", "9"), refused(18, 1, missing));
     for (typed, due) in [
         ("", "expected a thread: "),
         ("serv", "there is no session 'serv' (sessions: ask, serve)"),
@@ -147,7 +149,9 @@ fn why_not_for_roles_and_values() {
     let answer = driven(&[&bare], "ask ask serve ask -> serve.2\n");
     let due =
         "refused 13: ask stands at line 16 (send reply on inbox), holds no role, and serve.2 \
-               stands at line 22 (receive back on inbox), holds no role\n";
+               stands at line 22 (receive back on inbox), holds no role; ask holds no role that \
+               may send on request (roles that may: caller), and serve.2 holds no role that may \
+               receive on request (roles that may: keeper)\n";
     assert!(answer.err.contains(due), "{}", answer.err);
     assert_eq!(answer.text(), "ask\nask\nserve\n");
     let answer = driven(&[&example("refused/choices.clinic")], "why not 1 0\n");

@@ -162,7 +162,8 @@ made channels: 1
 ";
     assert_eq!((answer.status, answer.text()), (0, due), "{}", answer.err);
     let answer = ward.ask("run", &["-"], "ask ask ask ask");
-    let due = "standard input:1:13: refused 18: ask stands at node 4 (send reply on inbox)\n";
+    let due = "standard input:1:13: refused 18: ask stands at node 4 (send reply on inbox); \
+               a send takes a partner that stands at a receive: ask -> T\n";
     assert_eq!(answer.status, 1);
     assert!(answer.err.starts_with(due), "{}", answer.err);
     let answer = ward.ask("run", &["-"], "ask nobody");

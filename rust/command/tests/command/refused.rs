@@ -91,7 +91,8 @@ const FILES: [(&str, &str, u16, &str, &str); 17] = [
         "place",
         14,
         "node 1, an on",
-        "node 1: on role 2\n  on and off are put in by placing, and this one stands there already",
+        "node 1: on role 2\n  on and off are put in by placing, and this one stands there \
+         already\n  pilzdamo strip FILE takes on and off out",
     ),
     (
         "15-no-role",
@@ -271,7 +272,8 @@ fn lists() {
             "19-unequal",
             19,
             "choice 2",
-            "choice 2: thread 1, partner 0\n  thread 1 stands at node 1 (compare user 1 with user 2)",
+            "choice 2: thread 1, partner 0\n  thread 1 stands at node 1 (compare user 1 with \
+             user 2), compares user 1 with user 2",
         ),
         (
             "20-thread",

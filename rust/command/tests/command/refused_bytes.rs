@@ -163,10 +163,12 @@ fn roles() {
     };
     let due = "on and off are put in by placing, and this one stands there already";
     let file = ward().session(1, &[on(1), END]);
-    place(file, 14, &["node 1: on role 1", due]);
+    let strip = "pilzdamo strip FILE takes on and off out";
+    place(file, 14, &["node 1: on role 1", due, strip]);
     let file = ward().session(1, &[END]).session_with(2, &[2], &[END]);
     let due = "session 2 starts with role 2, and one that is to be placed starts with none";
-    place(file, 14, &[due]);
+    let by_hand = "the roles that this session starts with are to be taken out by hand";
+    place(file, 14, &[due, by_hand]);
     let due = "user 2 has no role that may send on kind 1 (roles that may: role 1)";
     place(ward().session(2, &sends), 15, &[step, due]);
     let file = example("refused/16-too-long.clinic");
@@ -262,8 +264,9 @@ fn choices() {
             13,
             &[
                 "choice 2: thread 1, partner 2",
-                "thread 1 stands at node 2 (send user 1 on channel 1)",
-                "thread 2 stands at node 4 (receive variable 1 on channel 1)",
+                "thread 1 stands at node 2 (send user 1 on channel 1), holds role 1",
+                "thread 2 stands at node 4 (receive variable 1 on channel 1), holds no role",
+                "thread 2 holds no role that may receive on kind 1 (roles that may: role 2)",
             ],
         ),
         (
@@ -272,6 +275,7 @@ fn choices() {
             &[
                 "choice 2: thread 1, partner 0",
                 "thread 1 stands at node 2 (send user 1 on channel 1)",
+                "a send takes a partner that stands at a receive: 1 -> T",
             ],
         ),
     ];

@@ -61,7 +61,7 @@ fn a_halted_run_prints_its_state() {
         "pilzdamo: {file}, {list}: Refused 19: the values compared are not equal, or the two \
          channels differ at choice 2.\n  \
          choice 2: thread 1, partner 0\n  \
-         thread 1 stands at node 1 (compare user 1 with user 2)\n  \
+         thread 1 stands at node 1 (compare user 1 with user 2), compares user 1 with user 2\n  \
          the caller can mend it; more: pilzdamo explain 19\n"
     );
     assert_eq!(answer.err, due);

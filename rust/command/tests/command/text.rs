@@ -385,9 +385,9 @@ fn choices_that_are_refused() {
     let file = folder.file("ward.txt", placed_ward());
     let cases = [
         ("ask ask\nask\nask -> serve.2", "3:1: refused 18: there is no thread serve.2 here (threads: ask, serve, ask.2)", 18),
-        ("1 0 7 0", "1:5: refused 18: there is no thread 7", 18),
+        ("1 0 7 0", "1:5: refused 18: there is no thread 7: the list has 2 threads", 18),
         ("ask ask ask -> serve", "1:9: refused 18: ask stands at line 15 (fork), and serve stands at line 25 (repeat)", 18),
-        ("ask ask ask\nask -> ask.2", "2:1: refused 19: ask stands at line 18 (send reply on inbox), and ask.2 stands at line 21 (receive found on reply)", 19),
+        ("ask ask ask\nask -> ask.2", "2:1: refused 19: ask stands at line 18 (send reply on inbox), sends on inbox, and ask.2 stands at line 21 (receive found on reply), receives on reply (made channel 1)", 19),
     ];
     for (list, due, number) in cases {
         let answer = fed(&["run", &file, "-"], list);
@@ -468,6 +468,49 @@ fn nothing_planned() {
     assert_eq!(fed(&["pack", "-"], "clinic nothing planned").out, b"");
     let answer = fed(&["check", "-"], "clinic nothing planned");
     assert_eq!(answer.status, 0);
+}
+
+/// Zero bytes are placed as the file without records, of a text as of bytes.
+#[test]
+fn nothing_planned_is_placed() {
+    let folder = Folder::new("nothing placed");
+    let bytes = pilzdamo(&["place", &example("nothing.clinic")]).out;
+    assert_eq!(bytes.len(), 26);
+    for (text, due) in [
+        ("clinic nothing planned", "clinic 1"),
+        (
+            "# clinic nothing planned\r\n\r\nclinic nothing  planned # yet\r\n# more\r\n",
+            "# clinic nothing planned\r\n\r\nclinic 1 # yet\r\n# more\r\n",
+        ),
+        ("\u{feff}clinic nothing planned\n", "\u{feff}clinic 1\n"),
+    ] {
+        let out = folder.at("placed.txt");
+        let answer = fed(&["place", "-", "-o", &out], text);
+        let told = format!(
+            "standard input: placed, 0 on steps, 26 bytes when packed; the text is in {out} \
+             (zero bytes: nothing is planned)\n"
+        );
+        assert_eq!((answer.status, answer.err), (0, told));
+        let placed = fs::read_to_string(&out).expect("a text");
+        assert_eq!(placed, due);
+        assert_eq!(fed(&["pack", "-"], &placed).out, bytes);
+        assert_eq!(fed(&["place", "-", "--bytes"], text).out, bytes);
+    }
+}
+
+/// What is in the way of placing, and what takes it out.
+#[test]
+fn placed_already() {
+    let strip = "\n  pilzdamo strip FILE takes on and off out\n";
+    let by_hand = "\n  the roles that this session starts with are to be taken out by hand\n";
+    let started = WARD.replace("by desk", "by desk as keeper");
+    for (text, due) in [(placed_ward(), strip), (started, by_hand)] {
+        for word in ["place", "measure"] {
+            let answer = fed(&[word, "-"], &text);
+            assert_eq!(answer.status, 1);
+            assert!(answer.err.contains(due), "{}", answer.err);
+        }
+    }
 }
 
 #[test]
