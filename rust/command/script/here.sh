@@ -31,46 +31,54 @@ put() { # FROM FOLDER NAME MODE
     local part=$2/.$3.$$
     mkdir -p -- "$2" && [[ ! -d $2/$3 ]] && cp -- "$1" "$part" && chmod "$4" "$part" && mv -f -- "$part" "$2/$3" && return
     rm -f -- "$part"
-    misused "install: $2/$3 can't be written"
+    misused "install: $(shown "$2/$3") can't be written"
 }
 
 # Puts the program and its man page where they are found, and says where that is.
 install_into() { # DIR
-    local folder pages
-    mkdir -p -- "$1" || misused "install: $1 can't be made"
+    local folder pages shown
+    mkdir -p -- "$1" || misused "install: $(shown "$1") can't be made"
     folder=$(cd -- "$1" && pwd)
-    [[ ! $folder -ef $root ]] || misused "install: $1 is the checkout, and pilzdamo there is the script that builds"
+    [[ ! $folder -ef $root ]] || misused "install: $(shown "$1") is the checkout, and pilzdamo there is the script that builds"
     pages=$folder
     if [[ ${folder##*/} == bin ]]; then pages=${folder%/*}/share/man/man1; fi
     put "$program" "$folder" pilzdamo 755
     put "$root/docs/pilzdamo.1" "$pages" pilzdamo.1 644
+    shown=$(shown "$folder")
     {
-        printf 'the program is %s\nits man page is %s\n' "$folder/pilzdamo" "$pages/pilzdamo.1"
+        printf 'the program is %s\nits man page is %s\n' "$shown/pilzdamo" "$(shown "$pages/pilzdamo.1")"
         case :$PATH: in
-        *:"$folder":*) printf '%s is on the PATH\n' "$folder" ;;
-        *) printf '%s is not on the PATH: put it there, or call the program by its whole name\n' "$folder" ;;
+        *:"$folder":*) printf '%s is on the PATH\n' "$shown" ;;
+        *) printf '%s is not on the PATH: put it there, or call the program by its whole name\n' "$shown" ;;
         esac
     } | print
 }
 
 # The words that only this script has.
 carry_out_here() { # WORD [DIR]
-    local word=$1 operand most=0
+    local word=$1 most=0
+    operands=()
     shift
-    for operand; do
-        case $operand in
+    while (($#)); do
+        case $1 in
+        --)
+            shift
+            operands+=("$@")
+            break
+            ;;
         -h | --help)
             help_here "$word"
             exit
             ;;
-        -*) misused "$word has no option ${operand@Q}" ;;
+        -*) misused "$word has no option '$(shown "$1")'" ;;
+        *) operands+=("$1") ;;
         esac
+        shift
     done
     if [[ $word == install ]]; then most=1; fi
-    operand=${*:most+1:1}
-    (($# <= most)) || misused "$word: ${operand@Q} is too many"
-    if [[ $word == install && -z ${1-} && -z ${HOME-} ]]; then misused "install: DIR is missing, and HOME isn't set"; fi
+    ((${#operands[@]} <= most)) || misused "$word: '$(shown "${operands[most]}")' is too many"
+    if [[ $word == install && -z ${operands[0]-} && -z ${HOME-} ]]; then misused "install: DIR is missing, and HOME isn't set"; fi
     is_built || build || exit 3
-    if [[ $word == install ]]; then install_into "${1:-${HOME-}/.local/bin}"; fi
+    if [[ $word == install ]]; then install_into "${operands[0]:-${HOME-}/.local/bin}"; fi
     exit
 }

@@ -24,7 +24,7 @@ is_word() { [[ $1 != */* && -f $texts/help/$1.txt ]]; }
 no_word() { # WORD
     local all
     all=$(words)
-    misused "there is no word ${1@Q}; the words are ${all//$'\n'/, }, and here build and install"
+    misused "there is no word '$(shown "$1")'; the words are ${all//$'\n'/, }, and here build and install"
 }
 
 # The help of a word, or the whole page.
@@ -48,7 +48,7 @@ explain() { # N [--json]
         number=${BASH_REMATCH[1]}
         page=$texts/explain/$number.txt
     fi
-    [[ -f ${page-} ]] || misused "explain: the refusals have the numbers 1 to ${#all[@]}, not ${1@Q}"
+    [[ -f ${page-} ]] || misused "explain: the refusals have the numbers 1 to ${#all[@]}, not '$(shown "$1")'"
     if [[ ${2-} ]]; then object "$number" "$page" | print; else print "$page"; fi
 }
 
@@ -71,26 +71,59 @@ object() { # NUMBER PAGE
     printf '%s"}\n' "$object"
 }
 
-has_option() { grep -qwF -e "$2" -- "$texts/help/$1.txt"; } # WORD OPTION
+# Of the word's options: how messages call each, and what it wants behind it, if it does. And those that are given, with their values.
+declare -A called=() wants=() given=()
 
-# What an option wants behind it, if it does.
-value_of() { # WORD OPTION
-    local found
-    found=$(grep -o -m 1 -e "$2 [A-Z][A-Z]*" -- "$texts/help/$1.txt") || return 0
-    printf '%s' "${found##* }"
+# Reads the options that a word's help describes: "  -o OUT, --output OUT".
+read_options() { # WORD
+    local line parts part name option value
+    while IFS= read -r line; do
+        [[ $line == '  -'* ]] || continue
+        line=${line#  }
+        IFS=, read -r -a parts <<<"${line%%  *}"
+        read -r name _ <<<"${parts[0]}"
+        for part in "${parts[@]}"; do
+            read -r option value <<<"$part"
+            called[$option]=$name
+            wants[$option]=$value
+        done
+    done <"$texts/help/$1.txt"
 }
 
-# Tells the operands behind a word from its options, and keeps both. Ends at an option that stands nowhere in the word's help, and at
+has() { [[ ${given[$1]+there} ]]; } # OPTION
+
+# Keeps an option that is there, with its value, which may be the next word.
+keep_option() { # WORD OPTION TYPED [NEXT]
+    local name=${called[$2]} value=
+    if [[ -z ${wants[$2]} ]]; then
+        [[ $3 != *=* ]] || misused "$1: $2 stands by itself, not as '$(shown "$3")'"
+    else
+        case $3 in
+        "$2")
+            local due='the name of a file'
+            if [[ ${wants[$2]} == TIME ]]; then due='a day and a time'; fi
+            (($# > 3)) || misused "$1: $2 wants $due behind it"
+            value=$4
+            ;;
+        --*) value=${3#*=} ;;
+        *) value=${3#"$2"} ;;
+        esac
+        ! has "$name" || misused "$1: $name stands there twice"
+    fi
+    given[$name]=$value
+}
+
+# Tells the operands behind a word from its options, and keeps both. Ends at an option that the word's help doesn't describe, and at
 # --help, which is answered.
 sort_operands() { # WORD OPERAND...
-    local word=$1 next option value
-    operands=() options=()
+    local word=$1 next option
+    operands=()
+    read_options "$word"
     shift
     while (($#)); do
         next=$1
         shift
-        option=${next%%=*}
-        if [[ $next == -o?* ]]; then option=-o; fi
+        option=
         case $next in
         --)
             operands+=("$@")
@@ -100,38 +133,103 @@ sort_operands() { # WORD OPERAND...
             help "$word"
             exit
             ;;
-        -?*) ;;
-        *) option= ;;
+        --*) option=${next%%=*} ;;
+        -o?*) option=-o ;;
+        -?*) option=$next ;;
         esac
-        if [[ -z $option ]]; then
-            operands+=("$next")
-        elif has_option "$word" "$option"; then
-            options+=("$option")
-            value=$(value_of "$word" "$option")
-            [[ $value || $next != *=* ]] || misused "$word: $option stands by itself, not as ${next@Q}"
-            if [[ $next == "$option" && $value ]]; then
-                (($#)) || misused "$word: $option wants $value behind it"
-                shift
-            fi
-        elif [[ $word == explain || $word == reason ]]; then
+        if [[ $option && ${called[$option]-} ]]; then
+            keep_option "$word" "$option" "$next" "${@:1:1}"
+            if [[ $next == "$option" && ${wants[$option]} ]]; then shift; fi
+        elif [[ -z $option || $word == explain || $word == reason ]]; then
             operands+=("$next")
         else
-            misused "$word has no option ${next@Q}"
+            misused "$word has no option '$(shown "$next")'"
         fi
     done
+}
+
+# Ends where options don't go together.
+fit_options() { # WORD
+    local other
+    case $1 in
+    place)
+        ! has --json || [[ ${given[-o]--} != - ]] ||
+            misused "place: --json wants -o OUT: the placed file goes there, and the object to standard output"
+        ;;
+    run)
+        for other in --trace --json; do
+            ! has -i || ! has "$other" || misused "run: -i and $other don't go together"
+        done
+        ! has --trace || ! has --json || misused "run: --trace and --json don't go together"
+        ;;
+    show)
+        ! has --svg || ! has --json || misused "show: --svg and --json don't go together"
+        ! has -o || has --svg || has --json || misused "show: -o goes with --svg or --json"
+        ;;
+    esac
 }
 
 # Ends where a word has too few operands or too many, by the first line of its help.
 count_operands() { # WORD
     local names least=0 name
     read -r _ _ names <"$texts/help/$1.txt"
+    if has -i; then names='FILE [CHOICES]'; fi
     read -r -a names <<<"${names%%\[-*}"
     for name in "${names[@]}"; do
         if [[ $name != \[* ]]; then least=$((least + 1)); fi
     done
     ((${#operands[@]} >= least)) || misused "$1: ${names[${#operands[@]}]%...} is missing"
     [[ ${names[*]: -1} == *... ]] || ((${#operands[@]} <= ${#names[@]})) ||
-        misused "$1: ${operands[${#names[@]}]@Q} is too many"
+        misused "$1: '$(shown "${operands[${#names[@]}]}")' is too many"
+}
+
+# Whether a word is a number from LEAST to 65535.
+is_number() { # WORD LEAST
+    [[ $1 =~ ^0*([0-9]{1,5})$ ]] && ((10#${BASH_REMATCH[1]} >= $2 && 10#${BASH_REMATCH[1]} <= 65535))
+}
+
+# Whether a word is a date that has a number.
+is_date() { # WORD
+    [[ $1 =~ ^([0-9]{4})-([0-9]{2})-([0-9]{2})$ ]] || return
+    local year=$((10#${BASH_REMATCH[1]})) month=$((10#${BASH_REMATCH[2]})) day=$((10#${BASH_REMATCH[3]})) days=31
+    case $month in
+    4 | 6 | 9 | 11) days=30 ;;
+    2) days=$((28 + (year % 4 == 0 && (year % 100 != 0 || year % 400 == 0)))) ;;
+    esac
+    ((1 <= month && month <= 12 && 1 <= day && day <= days)) && [[ ! $1 < 2000-01-01 && ! $1 > 2179-06-06 ]]
+}
+
+# Ends where DATE or DAY is no day.
+fit_day() { # WORD NAME
+    local day=${operands[0]} due="a date from 2000-01-01 to 2179-06-06, or a number of days from 0 to 65535"
+    is_number "$day" 0 || is_date "$day" || misused "$1: $2 is $due, not '$(shown "$day")'"
+}
+
+# Ends where one of --at and --hours is missing, or TIME is none.
+fit_hours() { # WORD
+    # White space may be any that the program knows, so all but letters and digits passes for it.
+    local space='[^a-z0-9:]' time
+    time="^$space*(mon|tue|wed|thu|fri|sat|sun)$space+([01]?[0-9]|2[0-3]):[0-5][0-9]$space*\$"
+    if has --at; then has --hours; else ! has --hours; fi || misused "$1: --at and --hours go together"
+    ! has --at || [[ ${given[--at],,} =~ $time ]] ||
+        misused "$1: --at wants a day and a time such as \"Mon 07:30\", not '$(shown "${given[--at]}")'"
+}
+
+# Ends where the operands don't fit the options, or say nothing.
+fit_operands() { # WORD
+    case $1 in
+    check)
+        ! has --names || ((${#operands[@]} < 2)) || misused "check: --names goes with one FILE"
+        fit_hours check
+        ;;
+    place | measure) fit_hours "$1" ;;
+    notice) fit_day notice DATE ;;
+    in-force) fit_day in-force DAY ;;
+    dispatch)
+        ((${#operands[@]} < 2)) || is_number "${operands[1]}" 1 ||
+            misused "dispatch: ROUNDS is a number from 1 to 65535, not '$(shown "${operands[1]}")'"
+        ;;
+    esac
 }
 
 # Ends with an answer if the texts have it.
@@ -152,15 +250,13 @@ answer_unbuilt() { # WORD...
     esac
     is_word "$1" || no_word "$1"
     sort_operands "$@"
-    # run -i has other operands than run.
-    case " ${options[*]} " in
-    *' -i '* | *' --interactive '*) return ;;
-    esac
+    fit_options "$1"
     count_operands "$1"
+    fit_operands "$1"
     case $1 in
     help) help "${operands[@]}" ;;
     explain)
-        explain "${operands[@]}" "${options[@]}" # --json, or nothing
+        explain "${operands[@]}" "${given[--json]+--json}"
         ;;
     *) return 0 ;;
     esac

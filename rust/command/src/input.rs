@@ -94,7 +94,8 @@ impl Input {
 
     /// What is to be a text.
     pub fn of_text(name: String, bytes: &[u8]) -> Result<Input, WrongUse> {
-        let text = decoded(&name, bytes)?;
+        let text =
+            text::decoded(bytes).map_err(|_| flawed(&name, bytes, &text::undecoded(bytes)))?;
         let packed = text::pack(text).map_err(|flaws| flawed(&name, text, &flaws))?;
         Ok(Input {
             name,

@@ -36,6 +36,7 @@ fn of_text(input: &Input, text: &Text) -> String {
             true => format!("{number:4}  "),
             false => String::new(),
         };
+        let line = safe(line);
         let shown = format!("  {node:>4}  {numbered}{held:width$}  {line}");
         page += shown.trim_end();
         page.push('\n');
@@ -47,6 +48,15 @@ fn of_text(input: &Input, text: &Text) -> String {
         page += &format!("!! {}\n", input.refused(verdict));
     }
     page
+}
+
+/// A line whose control characters but tabs are written out: a terminal would obey them.
+fn safe(line: &str) -> String {
+    let written = |c: char| match c.is_control() && c != '\t' {
+        true => text::printable(c.to_string()),
+        false => c.to_string(),
+    };
+    line.chars().map(written).collect()
 }
 
 /// What stands before a line: a step's node, and the roles that are held there.

@@ -11,6 +11,9 @@ use std::os::unix::ffi::OsStrExt;
 use std::os::unix::fs::MetadataExt;
 use std::path::{Path, PathBuf};
 
+/// The system's number for a stream that is closed, or open for something else (EBADF).
+const NOT_OPEN: i32 = 9;
+
 /// A file by its name, or standard input.
 #[derive(PartialEq)]
 pub enum Source {
@@ -92,7 +95,10 @@ impl Source {
     }
 
     fn unread(&self, error: &io::Error) -> WrongUse {
-        let why = reason(error);
+        let why = match error.raw_os_error() {
+            Some(NOT_OPEN) => "it isn't open for reading".to_string(),
+            _ => reason(error),
+        };
         WrongUse(format!("{}: can't be read: {why}", self.name()))
     }
 }

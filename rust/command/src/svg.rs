@@ -23,8 +23,8 @@ use xml::{cut, escaped, width, wrapped, Drawing, Size, Spot};
 /// Around the picture, and between frames.
 const MARGIN: usize = 20;
 
-/// How wide a picture may become before a session stands below those before it, if none
-/// is wider by itself; and how wide it is at least.
+/// How wide a picture may become, its margins counted, before a session stands below those
+/// before it, if none is wider by itself; and how wide it is at least, without them.
 const WIDE: usize = 1_600;
 const NARROW: usize = 560;
 
@@ -88,7 +88,7 @@ fn roles(clinic: &Clinic, figures: &[Figure]) -> Vec<u16> {
 /// Where each frame goes, beside the one before or below, and the size of all.
 fn shelves(blocks: &[Block]) -> (Vec<Spot>, Size) {
     let widest = blocks.iter().map(|block| block.size.wide).max();
-    let room = widest.unwrap_or(0).max(WIDE);
+    let room = widest.unwrap_or(0).max(WIDE - 2 * MARGIN);
     let mut places = Vec::new();
     let (mut corner, mut all) = (Spot { x: 0, y: 0 }, Size { wide: 0, high: 0 });
     for Block { size, .. } in blocks {

@@ -33,7 +33,7 @@ mod words;
 pub use edit::{placed, stripped};
 pub use fit::{misfit, several};
 pub use line::{shown, tokens, At, Flaw, Token};
-pub use mark::{decoded, is_text, told};
+pub use mark::{decoded, is_text, told, undecoded};
 pub use names::{Names, SessionNames};
 pub use pack::{pack, NodeAt, Packed, Source};
 pub use printable::printable;

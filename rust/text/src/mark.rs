@@ -1,7 +1,9 @@
 //! Texts told from bytes, and places in them shown.
 
 use crate::line::{At, Flaw};
+use crate::pack::pack;
 use crate::printable::units;
+use std::collections::HashSet;
 
 /// Whether these bytes are a text by its first word, `clinic`; comments and blank lines
 /// may stand before it. No binary file begins so: its second byte is 0.
@@ -29,7 +31,34 @@ fn without_mark(bytes: &[u8]) -> &[u8] {
 
 /// The characters of a text, without a mark of the byte order.
 pub fn decoded(bytes: &[u8]) -> Result<&str, Flaw> {
-    let bytes = without_mark(bytes);
+    characters(without_mark(bytes))
+}
+
+/// All flaws of a text that can't be decoded: in each line the first byte that is no
+/// character, or what else can't be understood in it.
+pub fn undecoded(bytes: &[u8]) -> Vec<Flaw> {
+    let (mut text, mut flaws) = (String::new(), Vec::new());
+    for (number, line) in (1..).zip(without_mark(bytes).split(|&byte| byte == b'\n')) {
+        if let Err(mut flaw) = characters(line) {
+            flaw.at.line = number;
+            flaws.push(flaw);
+        }
+        // Such bytes are mostly letters of Latin-1. Taken for them, names stay names, and
+        // other lines are told nothing wrong.
+        for chunk in line.utf8_chunks() {
+            text += chunk.valid();
+            text.extend(chunk.invalid().first().map(|&byte| char::from(byte)));
+        }
+        text.push('\n');
+    }
+    let told: HashSet<usize> = flaws.iter().map(|flaw| flaw.at.line).collect();
+    let others = pack(&text).err().unwrap_or_default().into_iter();
+    flaws.extend(others.filter(|flaw| !told.contains(&flaw.at.line)));
+    flaws.sort_by_key(|flaw| (flaw.at.line, flaw.at.column));
+    flaws
+}
+
+fn characters(bytes: &[u8]) -> Result<&str, Flaw> {
     std::str::from_utf8(bytes).map_err(|error| {
         let before = String::from_utf8_lossy(&bytes[..error.valid_up_to()]);
         let (line, last) = (1..).zip(before.split('\n')).last().unwrap_or((1, ""));

@@ -122,18 +122,18 @@ impl Names {
             Some("session") => {
                 cursor.skip();
                 let name = cursor.name("the session's name")?.text.clone();
-                let variables = match cursor.takes(":") {
-                    true => list(&mut cursor, "a variable's name")?,
-                    false => Vec::new(),
+                let (variables, more) = match cursor.takes(":") {
+                    true => (list(&mut cursor, "a variable's name")?, "',' or "),
+                    false => (Vec::new(), "':' or "),
                 };
                 self.sessions.push(SessionNames { name, variables });
-                return cursor.end();
+                return cursor.end_or(more);
             }
             _ => return cursor.expected("'kinds', 'roles', 'users', 'channels' or 'session'"),
         };
         cursor.skip();
         table.extend(list(&mut cursor, "a name")?);
-        cursor.end()
+        cursor.end_or("',' or ")
     }
 }
 

@@ -173,20 +173,18 @@ impl Reader<'_> {
         if cursor.takes("carries") {
             let carried = known(cursor, &self.tables.kinds)?;
             *last(&mut self.records.kinds) = carried as u16;
-        } else if cursor.token().is_some() {
-            return cursor.expected("'carries' or the end of the line");
+            return cursor.end();
         }
-        cursor.end()
+        cursor.end_or("'carries' or ")
     }
 
     fn role(&mut self, cursor: &mut Cursor) -> Result<(), Flaw> {
         self.records.roles.push(Role::default());
         self.source.juniors.push(Vec::new());
         cursor.name("a name for the role")?;
-        if cursor.token().is_none() {
-            return Ok(());
+        if !cursor.takes(":") {
+            return cursor.end_or("':' or ");
         }
-        cursor.word(":")?;
         let role = last(&mut self.records.roles);
         let mut said: Vec<&str> = Vec::new();
         loop {
@@ -220,22 +218,18 @@ impl Reader<'_> {
                 break;
             }
         }
-        match cursor.token() {
-            None => Ok(()),
-            Some(_) => cursor.expected("',' or ';' or the end of the line"),
-        }
+        cursor.end_or("',' or ';' or ")
     }
 
     fn user(&mut self, cursor: &mut Cursor) -> Result<(), Flaw> {
         self.records.users.push(0);
         cursor.name("a name for the user")?;
-        if cursor.token().is_none() {
-            return Ok(());
+        if !cursor.takes(":") {
+            return cursor.end_or("':' or ");
         }
-        cursor.word(":")?;
         let (roles, _) = mask(cursor, &self.tables.roles)?;
         *last(&mut self.records.users) = roles as u16;
-        cursor.end()
+        cursor.end_or("',' or ")
     }
 
     fn channel(&mut self, cursor: &mut Cursor) -> Result<(), Flaw> {
@@ -268,10 +262,9 @@ impl Reader<'_> {
             let (roles, places) = mask(cursor, &self.tables.roles)?;
             last(&mut self.records.sessions).mask = roles as u16;
             *last(&mut self.source.starts) = places;
-        } else if cursor.token().is_some() {
-            return cursor.expected("'as' or the end of the line");
+            return cursor.end_or("',' or ");
         }
-        cursor.end()
+        cursor.end_or("'as' or ")
     }
 
     /// A session's tree.
@@ -300,7 +293,8 @@ fn version(line: &Line) -> Result<Version, Flaw> {
         return cursor.expected("'clinic' and a version as the first line");
     }
     if line.indent > 0 {
-        let what = "indented, and the first line is not".to_string();
+        let what =
+            "indented; the first line stands at the margin, without spaces before it".to_string();
         return Err(Flaw {
             at: line.at(),
             what,

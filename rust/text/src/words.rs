@@ -71,9 +71,14 @@ impl<'a> Cursor<'a> {
 
     /// Nothing more is due.
     pub fn end(&self) -> Result<(), Flaw> {
+        self.end_or("")
+    }
+
+    /// Nothing more is due, but the line could have gone on with this word: `"':' or "`.
+    pub fn end_or(&self, word: &str) -> Result<(), Flaw> {
         match self.token() {
             None => Ok(()),
-            Some(_) => self.expected("the end of the line"),
+            Some(_) => self.expected(&format!("{word}the end of the line")),
         }
     }
 

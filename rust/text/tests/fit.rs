@@ -52,7 +52,7 @@ fn names_fit_their_own_file_and_no_other() {
     );
     assert_eq!(
         wrong(|names| names.roles[0] = "a, b".to_string()),
-        "expected ':', not ','"
+        "expected ':' or the end of the line, not ','"
     );
 }
 

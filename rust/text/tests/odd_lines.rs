@@ -1,6 +1,6 @@
 //! Texts whose lines end or begin otherwise than usual.
 
-use text::{pack, placed, stripped, Packed};
+use text::{pack, placed, stripped, undecoded, Names, Packed};
 
 fn read(text: &str) -> Packed {
     pack(text).unwrap_or_else(|flaws| panic!("{flaws:#?}"))
@@ -8,7 +8,10 @@ fn read(text: &str) -> Packed {
 
 /// What is said of a wrong text, as `line:column: what`.
 fn flaws(text: &str) -> Vec<String> {
-    let flaws = pack(text).expect_err("it is wrong");
+    lines(pack(text).expect_err("it is wrong"))
+}
+
+fn lines(flaws: Vec<text::Flaw>) -> Vec<String> {
     let one = |flaw: text::Flaw| format!("{}:{}: {}", flaw.at.line, flaw.at.column, flaw.what);
     flaws.into_iter().map(one).collect()
 }
@@ -55,7 +58,7 @@ fn tabs() {
 
 #[test]
 fn the_first_line_is_at_the_margin() {
-    let due = "2:3: indented, and the first line is not";
+    let due = "2:3: indented; the first line stands at the margin, without spaces before it";
     assert_eq!(flaws("# a clinic\n  clinic 1\n"), [due]);
 }
 
@@ -67,6 +70,85 @@ fn a_name_is_listed_once() {
         [
             "3:6: 'u' is the name of a user already (line 2)",
             "5:14: there is no user 'w' (users: u, v)",
+        ]
+    );
+}
+
+/// Where a line could go on, what it could go on with is told beside its end.
+#[test]
+fn a_sign_that_is_missing() {
+    let below = |line: &str| flaws(&format!("{HEAD}{line}\n"));
+    let due = |place: &str, words: &str| [format!("6:{place}: expected {words}")];
+    assert_eq!(
+        below("user v: r q"),
+        due("11", "',' or the end of the line, not 'q'")
+    );
+    assert_eq!(
+        below("session s by u as r r"),
+        due("21", "',' or the end of the line, not 'r'")
+    );
+    assert_eq!(
+        below("user v r"),
+        due("8", "':' or the end of the line, not 'r'")
+    );
+    assert_eq!(
+        below("role q send k"),
+        due("8", "':' or the end of the line, not 'send'")
+    );
+    assert_eq!(
+        below("kind q carries k k"),
+        due("18", "the end of the line, not 'k'")
+    );
+    assert_eq!(
+        below("kind q k"),
+        due("8", "'carries' or the end of the line, not 'k'")
+    );
+    assert_eq!(
+        below("session s by u r"),
+        due("16", "'as' or the end of the line, not 'r'")
+    );
+}
+
+#[test]
+fn a_sign_that_is_missing_in_names() {
+    let names = |line: &str| {
+        let flaws = Names::read(&format!("names\n{line}\n")).expect_err("they are wrong");
+        let [flaw] = &flaws[..] else {
+            panic!("{flaws:#?}");
+        };
+        format!("{}:{}: {}", flaw.at.line, flaw.at.column, flaw.what)
+    };
+    assert_eq!(
+        names("kinds answer request"),
+        "2:14: expected ',' or the end of the line, not 'request'"
+    );
+    assert_eq!(
+        names("session s: a b"),
+        "2:14: expected ',' or the end of the line, not 'b'"
+    );
+    assert_eq!(
+        names("session s a"),
+        "2:11: expected ':' or the end of the line, not 'a'"
+    );
+}
+
+/// A byte that is no character is told for its line, and what is wrong in others beside it.
+/// A name that has one is a name all the same.
+#[test]
+fn bytes_that_are_no_characters() {
+    let told = "a byte that is no character: a text is written in UTF-8";
+    let text = b"# \xe9t\xe9\nclinic 1\nkind k\nuser M\xfcller: x\nuser M\nusr y\n\
+        channel c: k, owner M\nsession s by M\xfcller\n  send M on d\n  send M on \xe2\x82\n";
+    assert_eq!(
+        lines(undecoded(text)),
+        [
+            format!("1:3: {told}"),
+            format!("4:7: {told}"),
+            "6:1: expected 'kind', 'role', 'user', 'channel' or 'session', not 'usr'".to_string(),
+            format!("8:15: {told}"),
+            "9:13: there is no user, channel or variable 'd' here (no variable is bound here)"
+                .to_string(),
+            format!("10:13: {told}"),
         ]
     );
 }

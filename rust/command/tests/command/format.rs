@@ -132,6 +132,8 @@ fn what_is_placed() {
 #[test]
 fn what_cannot_be_understood() {
     let folder = Folder::new("format flaws");
+    assert!(page(FORMAT).contains("Were line 9 of the text above `usr bed`, then\n"));
+    assert_eq!(example().lines().nth(8), Some("user bed"));
     folder.file("ward.txt", example().replace("user bed", "usr bed"));
     typed(&block("$ ./pilzdamo check ward.txt\n"), &folder);
 }
@@ -139,9 +141,11 @@ fn what_cannot_be_understood() {
 #[test]
 fn what_is_refused() {
     let folder = Folder::new("format refused");
+    let changed = "Had `nurse` the role `keeper` in place of `caller`, then\n";
+    assert!(page(FORMAT).contains(changed));
     folder.file(
         "ward.txt",
-        example().replace("user nurse: caller", "user nurse"),
+        example().replace("user nurse: caller", "user nurse: keeper"),
     );
     typed(&block("$ ./pilzdamo place ward.txt\n"), &folder);
 }

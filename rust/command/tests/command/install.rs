@@ -60,6 +60,43 @@ fn into_another_folder() {
     is_installed(&place, &tools.join("pilzdamo"), &tools.join("pilzdamo.1"));
 }
 
+/// Behind `--` a folder may begin with a hyphen.
+#[test]
+fn into_a_folder_behind_two_hyphens() {
+    let place = place("install hyphens");
+    for folder in ["-tools", "other"] {
+        let said = place.call(&["install", "--", folder]);
+        assert_eq!(said.status, 0, "{}", said.err);
+        let tools = place.folder.path().join(folder);
+        is_installed(&place, &tools.join("pilzdamo"), &tools.join("pilzdamo.1"));
+    }
+    let said = place.call(&["install", "--", "a", "-b"]);
+    assert_eq!((said.status, said.out.as_str()), (2, ""));
+    let due = "pilzdamo: install: '-b' is too many\n";
+    assert!(said.err.starts_with(due), "{}", said.err);
+}
+
+/// Control characters in the folder's name are written out.
+#[test]
+fn into_a_folder_with_hidden_characters() {
+    let place = place("install hidden");
+    let said = place.call(&["install", "a\u{1b}b\\"]);
+    assert_eq!(said.status, 0, "{}", said.err);
+    let here = fs::canonicalize(place.folder.path()).expect("a folder");
+    let told = format!("{}/a\\x1bb\\\\", here.display());
+    let due = format!(
+        "the program is {told}/pilzdamo\nits man page is {told}/pilzdamo.1\n{told} is not on \
+         the PATH: put it there, or call the program by its whole name\n"
+    );
+    assert_eq!(said.out, due);
+    fs::write(here.join("file"), "").expect("it can be written");
+    let said = place.call(&["install", "file/x\u{1b}y"]);
+    assert_eq!((said.status, said.out.as_str()), (2, ""));
+    assert!(!said.err.contains('\u{1b}'), "{}", said.err);
+    let due = "\npilzdamo: install: file/x\\x1by can't be made\n";
+    assert!(said.err.contains(due), "{}", said.err);
+}
+
 #[test]
 fn into_the_users_own() {
     let place = place("install home");

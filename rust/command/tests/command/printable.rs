@@ -121,6 +121,12 @@ fn bytes_that_are_no_characters() {
     let due = "standard input:2:7: a byte that is no character: a text is written in UTF-8\n     \
                2 | user d\\xffsk \\xc3(\n       |       ^^^^\n";
     assert!(answer.err.starts_with(due), "{}", answer.err);
+    let answer = pilzdamo_fed(&["check", "-"], b"clinic 1 # \xe9\nusr a\n");
+    let due = "standard input:1:12: a byte that is no character: a text is written in UTF-8\n     \
+               1 | clinic 1 # \\xe9\n       |            ^^^^\nstandard input:2:1: expected \
+               'kind', 'role', 'user', 'channel' or 'session', not 'usr'\n     2 | usr a\n       \
+               | ^^^\npilzdamo: standard input: 2 places can't be understood\n";
+    assert_eq!((answer.status, &*answer.err), (2, due));
     let folder = Folder::new("no characters");
     let file = example("desks.clinic");
     let list = folder.file("list", b"1 0\n\xff\x1b 0");
@@ -139,6 +145,17 @@ fn bytes_that_are_no_characters() {
     let answer = pilzdamo(&["seats", &file, &example("desks.choices"), &seats]);
     let due = format!("{seats}:1:3: '\\x9b' is no number from 0 to 65535\n     1 | 1 \\x9b\n");
     assert!(answer.err.starts_with(&due), "{}", answer.err);
+}
+
+/// Tabs and letters of any kind stay.
+#[test]
+fn in_the_lines_of_a_text_that_is_shown() {
+    let text = "clinic 1 # \u{1b}[2J\u{9b}\ta\rb\u{7f} \u{e9}\\\r\nuser u\n";
+    let answer = pilzdamo_fed(&["show", "-"], text.as_bytes());
+    let due = "check: passes\nlength: 28 bytes as a file\non steps: 0\n\n  node  line  held\n\
+               \x20          1        clinic 1 # \\x1b[2J\\u{9b}\ta\\rb\\x7f \u{e9}\\\n\
+               \x20          2        user u\n";
+    assert_eq!((answer.status, answer.text()), (0, due));
 }
 
 #[test]

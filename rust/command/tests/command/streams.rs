@@ -1,8 +1,10 @@
-//! Standard output that is gone, full or a terminal.
+//! Standard output that is gone, full or a terminal, and standard input that is closed.
 
 use crate::common::{example, example_bytes, Folder};
+use crate::script::{said, Place, RT};
 use std::fs::File;
 use std::io::Write;
+use std::path::Path;
 use std::process::{Command, Output, Stdio};
 
 /// Feeds a file to the command, whose standard output this is.
@@ -63,6 +65,47 @@ fn a_closed_output() {
             .expect("a shell");
         assert_eq!(output.status.code(), Some(2), "{words}");
         assert_eq!(output.stderr, b"pilzdamo: standard output is closed\n");
+    }
+}
+
+/// A standard input that can't be read is no file of zero bytes.
+#[test]
+fn an_input_that_is_not_open() {
+    let due = "pilzdamo: standard input: can't be read: it isn't open for reading\n";
+    let null = File::options().write(true).open("/dev/null");
+    let output = Command::new(env!("CARGO_BIN_EXE_pilzdamo"))
+        .args(["check", "-"])
+        .stdin(null.expect("the null device"))
+        .output()
+        .expect("the command starts");
+    assert_eq!(output.status.code(), Some(2));
+    assert_eq!((output.stdout, output.stderr), (Vec::new(), due.into()));
+    // The script gives the program such an input where its own is closed.
+    let cargo = format!(
+        "#!/bin/sh\nwhile [ \"$1\" != --target-dir ]; do shift; done\n\
+         mkdir -p \"$2/release\"\ncp '{}' \"$2/release\"\n",
+        env!("CARGO_BIN_EXE_pilzdamo")
+    );
+    let place = Place::new("closed input").with(&[("rt", RT), ("cargo", &cargo)]);
+    assert_eq!(place.call(&["build"]).status, 0);
+    for (words, due) in [
+        ("check - <&-", (2, "", due)),
+        (
+            "check - </dev/null",
+            (
+                0,
+                "standard input: passes (zero bytes: nothing is planned)\n",
+                "",
+            ),
+        ),
+        (
+            "--version <&-",
+            (0, concat!("pilzdamo ", env!("CARGO_PKG_VERSION"), "\n"), ""),
+        ),
+    ] {
+        let call = format!("exec './the root/pilzdamo' {words}");
+        let said = said(place.command(Path::new("sh")).args(["-c", &call]));
+        assert_eq!((said.status, &*said.out, &*said.err), due, "{words}");
     }
 }
 

@@ -162,6 +162,23 @@ fn large_files() {
     }
 }
 
+/// A picture of small sessions keeps to the width that the page names, and one of a wide
+/// session is as wide as that takes.
+#[test]
+fn how_wide_a_picture_is() {
+    let tables = Draft::default().user(&[]);
+    let mut small = tables.clone();
+    (0..32).for_each(|_| small = small.clone().session(1, &[END]));
+    let wide = |draft: Draft| picture(&["-"], &draft.bytes()).number("width");
+    assert_eq!(wide(small), 1_592);
+    let forks: Vec<_> = (0..20).map(|i| fork(41 - i)).collect();
+    let ends = [END; 21];
+    assert_eq!(
+        wide(tables.session(1, &[&forks[..], &ends].concat())),
+        1_820
+    );
+}
+
 /// The name of a file may have any characters; those that do not show are written out.
 #[test]
 fn any_name() {

@@ -158,6 +158,24 @@ fn a_placed_text_has_every_other_line() {
     );
 }
 
+/// As the help of `strip` says: what was placed can be placed anew, and roles that a session
+/// starts with stay and are refused.
+#[test]
+fn what_is_stripped_and_placed_again() {
+    let stripped = fed(&["strip", "-"], &placed_ward());
+    let again = fed(&["place", "-"], stripped.text());
+    assert_eq!((again.status, again.text()), (0, &placed_ward()[..]));
+    let starts = WARD.replace("session ask by nurse", "session ask by nurse as caller");
+    let stripped = fed(&["strip", "-"], &starts);
+    assert_eq!((stripped.status, stripped.text()), (0, &starts[..]));
+    let again = fed(&["place", "-"], stripped.text());
+    assert_eq!((again.status, again.text()), (1, ""));
+    assert!(again.err.contains(&sentence(14, "")), "{}", again.err);
+    assert!(pilzdamo(&["help", "strip"])
+        .text()
+        .contains("\nrefuses them (14).\n"));
+}
+
 #[test]
 fn names_go_beside_a_file() {
     let folder = Folder::new("names");

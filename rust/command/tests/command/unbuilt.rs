@@ -3,7 +3,9 @@
 
 use crate::common::pilzdamo;
 use crate::script::{repository, said, Place};
+use std::ffi::OsStr;
 use std::fs;
+use std::os::unix::ffi::OsStrExt;
 
 /// The words that have a page of help.
 pub fn words() -> Vec<String> {
@@ -89,6 +91,74 @@ fn operands_and_options_that_are_not_there() {
     }
 }
 
+#[test]
+fn options_that_do_not_fit() {
+    let place = Place::new("unbuilt options");
+    for words in [
+        &["run", "-i"][..],
+        &["run", "-i", "a", "b", "c"],
+        &["run", "--interactive", "a", "--trace"],
+        &["run", "a", "-i", "--json"],
+        &["run", "-i=1", "a"],
+        &["run", "a", "b", "--trace", "--json"],
+        &["check", "--at", "Mon", "a"],
+        &["check", "a", "--at", "noon", "--hours", "b"],
+        &["measure", "a", "--at", "Sun 24:00", "--hours", "b"],
+        &["place", "a", "--at=Mon 07:60", "--hours", "b"],
+        &["check", "a", "--at=Mon 07:30 x", "--hours", "b"],
+        &["check", "a", "b", "--names", "c"],
+        &["measure", "a", "--hours=b"],
+        &["place", "a", "--hours", "b"],
+        &["place", "a", "--json"],
+        &["place", "a", "--json", "-o", "-"],
+        &["place", "a", "-o", "b", "--output=c"],
+        &["place", "a", "-ob", "-oc"],
+        &["place", "a", "-o"],
+        &["check", "a", "--at"],
+        &["check", "a", "--at", "b", "--at", "c"],
+        &["round", "a", "b", "--seats"],
+        &["show", "a", "--svg", "--json"],
+        &["show", "a", "-o", "b"],
+        &["show", "a", "--svg=1"],
+    ] {
+        alike(&place, words);
+    }
+    // A word within an option's name is none.
+    let said = place.call(&["in-force", "2026-01-01", "f", "g", "-force", "v"]);
+    assert_eq!((said.status, said.out.as_str()), (2, ""));
+    let due = "pilzdamo: in-force has no option '-force'\n";
+    assert!(said.err.starts_with(due), "{}", said.err);
+}
+
+#[test]
+fn days_and_rounds() {
+    let place = Place::new("unbuilt days");
+    for day in [
+        "foo",
+        "",
+        "65536",
+        "99999999999999999999",
+        "+1",
+        "1 ",
+        "1999-12-31",
+        "2179-06-07",
+        "2026-02-29",
+        "2100-02-29",
+        "2026-04-31",
+        "2026-13-01",
+        "2026-00-10",
+        "2026-08-00",
+        "2026-8-09",
+        "a\u{1b}\\",
+    ] {
+        alike(&place, &["notice", day, "x"]);
+        alike(&place, &["in-force", day, "a", "b"]);
+    }
+    for rounds in ["y", "0", "000", "65536", "+2", "", "it's", "\u{9b}2J"] {
+        alike(&place, &["dispatch", "x", rounds]);
+    }
+}
+
 /// Whether a word takes as many files as there are.
 fn several(word: &str) -> bool {
     matches!(word, "check" | "sheet")
@@ -134,7 +204,26 @@ fn a_word_that_is_not_there() {
 fn control_characters() {
     let place = Place::new("unbuilt control");
     let typed = "a\u{1b}[31mb\nc";
-    for words in [&[typed][..], &["explain", typed], &["place", "a", typed]] {
+    for words in [
+        &["explain", typed][..],
+        &["place", "a", typed],
+        &[
+            "place",
+            "a",
+            "it's \u{e9}\u{9b}\u{7f}\\\t\r \u{65e5}\u{1f6cf}",
+        ],
+    ] {
+        alike(&place, words);
+    }
+    // Bytes that are no characters, in every language that the caller may have.
+    for language in ["C", "C.UTF-8"] {
+        let mut call = place.command(&place.at("pilzdamo"));
+        let word = OsStr::from_bytes(b"a\xff\x9b \xc2");
+        let said = said(call.args(["place", "a"]).arg(word).env("LC_ALL", language));
+        let due = "pilzdamo: place: 'a\\xff\\x9b \\xc2' is too many\n";
+        assert!(said.err.starts_with(due), "{}", said.err);
+    }
+    for words in [&[typed][..], &["help", typed]] {
         let said = place.call(words);
         assert_eq!((said.status, said.err.lines().count()), (2, 2));
         assert!(!said.err.contains('\u{1b}'), "{}", said.err);
@@ -183,6 +272,17 @@ fn words_that_are_right() {
         &["run", "a", "b", "--seats=c"],
         &["reason", "--frob"],
         &["dispatch", "a"],
+        &["dispatch", "a", "065535"],
+        &["run", "-i", "a", "b", "--seats", "c"],
+        &["check", "a", "--at", "Mon 07:30", "--hours", "b"],
+        &["check", "a", "--at", " tue \u{a0}7:30 ", "--hours", "b"],
+        &["place", "a", "--json", "-ob"],
+        &["place", "a", "--force", "--force"],
+        &["show", "a", "--svg", "-o", "b"],
+        &["notice", "2024-02-29", "a"],
+        &["notice", "2000-01-01", "a"],
+        &["in-force", "2179-06-06", "a", "b"],
+        &["in-force", "00065535", "a", "b"],
     ] {
         let said = place.call(words);
         assert_eq!((said.status, said.out.as_str()), (3, ""), "{words:?}");
