@@ -235,6 +235,10 @@ impl<'a> Course<'a> {
                 "a receive is not named first, its sender is: T -> {}",
                 listed(thread)
             )),
+            (0..=4 | 7 | 8, _) => {
+                let alone = self.choice(thread, 0);
+                Some(format!("a step that is no send takes no partner: {alone}"))
+            }
             _ => None,
         }
     }

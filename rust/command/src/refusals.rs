@@ -179,13 +179,14 @@ pub const ALL: [Refusal; 28] = [
             never come to this.",
     },
     Refusal {
-        place: "nodes, from 1: the on or off; or nothing, and is 0, for a starting mask",
+        place: "nodes, from 1: the on or off; or nothing, and is 0, for a starting role",
         who: AUTHOR,
-        wrong: "Placing puts every on and off in by itself. This file has some already, or a \
-            session that starts with a role.",
+        wrong: "Placing puts every on and off in by itself. This file or text has some already, \
+            or a session that starts with a role (`as` in a text, a starting mask in bytes).",
         mend:
-            "Take out the on and off nodes and set the starting masks to 0. A file that is placed \
-            already is left as it is; `pilzdamo check` judges it.",
+            "`pilzdamo strip` takes on and off out. Starting roles stay: take `as` and the roles \
+            behind it out of the session's line, or in bytes set the starting mask to 0. A file \
+            that is placed already is left as it is; `pilzdamo check` judges it.",
     },
     Refusal {
         place: NODE,

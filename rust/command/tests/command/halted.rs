@@ -131,6 +131,16 @@ fn threads_that_cannot_do_it() {
     }
 }
 
+#[test]
+fn a_step_that_takes_no_partner() {
+    let text = "clinic 1\nuser u\nsession s by u\n  repeat\n";
+    let s = "s stands at line 4 (repeat)";
+    let alone = "a step that is no send takes no partner: s";
+    assert_eq!(why(text, &["s -> s"]), format!("18: {s}, and {s}; {alone}"));
+    let due = format!("18: {s}, and there is no thread 7: the list has 1 thread; {alone}");
+    assert_eq!(why(text, &["s -> 7"]), due);
+}
+
 /// Of bytes the same is said in numbers, a line each.
 #[test]
 fn in_numbers() {

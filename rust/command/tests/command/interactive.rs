@@ -105,7 +105,8 @@ fn why_not() {
         let more = format!("the caller can mend it; more: pilzdamo explain {number}");
         format!("refused {number}: {why}\n  {sentence}\n  {more}\n")
     };
-    let stand = "ask stands at line 13 (new reply: answer), and serve stands at line 24 (repeat)";
+    let stand = "ask stands at line 13 (new reply: answer), and serve stands at line 24 \
+                 (repeat); a step that is no send takes no partner: ask";
     for typed in ["ask serve", "ask -> serve", "1 2", "1 -> serve"] {
         assert_eq!(said("", typed), refused(18, 1, stand), "{typed}");
     }
@@ -182,7 +183,7 @@ fn wrong_words() {
         "expected a thread to meet, but the list ends",
         "save wants the name of a file behind it\n",
         "there is no thread ask.2 here (threads: ask, serve)\n",
-        "refused 18: serve stands at line 24 (repeat), and ask stands at line 13 (new reply: answer)\n",
+        "refused 18: serve stands at line 24 (repeat), and ask stands at line 13 (new reply: answer); a step that is no send takes no partner: serve\n",
     ] {
         assert!(answer.err.contains(due), "{due}: {}", answer.err);
     }

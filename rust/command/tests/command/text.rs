@@ -404,7 +404,7 @@ fn choices_that_are_refused() {
     let cases = [
         ("ask ask\nask\nask -> serve.2", "3:1: refused 18: there is no thread serve.2 here (threads: ask, serve, ask.2)", 18),
         ("1 0 7 0", "1:5: refused 18: there is no thread 7: the list has 2 threads", 18),
-        ("ask ask ask -> serve", "1:9: refused 18: ask stands at line 15 (fork), and serve stands at line 25 (repeat)", 18),
+        ("ask ask ask -> serve", "1:9: refused 18: ask stands at line 15 (fork), and serve stands at line 25 (repeat); a step that is no send takes no partner: ask", 18),
         ("ask ask ask\nask -> ask.2", "2:1: refused 19: ask stands at line 18 (send reply on inbox), sends on inbox, and ask.2 stands at line 21 (receive found on reply), receives on reply (made channel 1)", 19),
     ];
     for (list, due, number) in cases {

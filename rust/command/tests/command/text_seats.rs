@@ -91,7 +91,7 @@ choices that got no seat: 2
     assert!(answer.text().contains(due), "{}", answer.text());
     // Where the list halts, its threads stand as the seats left them.
     let answer = seated("run", "first second second -> first");
-    let due = "standard input:1:14: refused 18: second stands at line 11 (on holder), and first stands at line 8 (off holder)\n";
+    let due = "standard input:1:14: refused 18: second stands at line 11 (on holder), and first stands at line 8 (off holder); a step that is no send takes no partner: second\n";
     assert!(answer.err.starts_with(due), "{}", answer.err);
     let answer = seated("round", "");
     let due = "round: first  second\n";
