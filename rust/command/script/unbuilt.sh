@@ -71,8 +71,9 @@ object() { # NUMBER PAGE
     printf '%s"}\n' "$object"
 }
 
-# Of the word's options: how messages call each, and what it wants behind it, if it does. And those that are given, with their values.
+# Of the word's options: how messages call each, and what it wants behind it, if it does. And those that are given, with their values, and in order.
 declare -A called=() wants=() given=()
+typed=()
 
 # Reads the options that a word's help describes: "  -o OUT, --output OUT".
 read_options() { # WORD
@@ -111,6 +112,7 @@ keep_option() { # WORD OPTION TYPED [NEXT]
         ! has "$name" || misused "$1: $name stands there twice"
     fi
     given[$name]=$value
+    typed+=("$name")
 }
 
 # Tells the operands behind a word from its options, and keeps both. Ends at an option that the word's help doesn't describe, and at
@@ -148,10 +150,56 @@ sort_operands() { # WORD OPERAND...
     done
 }
 
+# The names of a word's operands, by the first line of its help.
+operand_names() { # WORD
+    local line
+    read -r _ _ line <"$texts/help/$1.txt"
+    if has -i; then line='FILE [CHOICES]'; fi
+    read -r -a names <<<"${line%%\[-*}"
+}
+
+# Ends where more than one of the files that are read is standard input.
+one_standard_input() { # WORD
+    local names at name value all=() inputs=0
+    operand_names "$1"
+    for at in "${!operands[@]}"; do
+        name=${names[at]-}
+        if [[ -z $name && ${names[*]: -1} == *... ]]; then name=${names[*]: -1}; fi
+        name=${name//[\[\].]/}
+        case $name in
+        FILE | A | B | NOTICE | TEXT | CHOICES | SEATS) add_input "$name" "${operands[at]}" ;;
+        esac
+    done
+    for name in "${typed[@]}"; do
+        value=${given[$name]}
+        case $1$name in
+        pack--names) ;;
+        *--hours | *--seats | *--names)
+            name=${name#--}
+            add_input "${name^^}" "$value"
+            ;;
+        esac
+    done
+    ((inputs > 1)) || return 0
+    local last=${all[*]: -1} others=("${all[@]:0:${#all[@]}-1}") which
+    printf -v which '%s, ' "${others[@]}"
+    if ((${#others[@]})); then which="one of ${which%, } and $last"; else which="one $last"; fi
+    misused "$1: only $which can be standard input"
+}
+
+# Counts a file that is read, and keeps its name if that isn't the one before.
+add_input() { # NAME FILE
+    if [[ ${all[*]: -1} != "$1" ]]; then all+=("$1"); fi
+    if [[ $2 == - ]]; then inputs=$((inputs + 1)); fi
+}
+
 # Ends where options don't go together.
 fit_options() { # WORD
     local other
     case $1 in
+    pack)
+        [[ ${given[-o]--} != - || ${given[--names]-} != - ]] || misused "pack: only one of FILE and NAMES can be standard output"
+        ;;
     place)
         ! has --json || [[ ${given[-o]--} != - ]] ||
             misused "place: --json wants -o OUT: the placed file goes there, and the object to standard output"
@@ -172,9 +220,7 @@ fit_options() { # WORD
 # Ends where a word has too few operands or too many, by the first line of its help.
 count_operands() { # WORD
     local names least=0 name
-    read -r _ _ names <"$texts/help/$1.txt"
-    if has -i; then names='FILE [CHOICES]'; fi
-    read -r -a names <<<"${names%%\[-*}"
+    operand_names "$1"
     for name in "${names[@]}"; do
         if [[ $name != \[* ]]; then least=$((least + 1)); fi
     done
@@ -218,6 +264,12 @@ fit_hours() { # WORD
 # Ends where the operands don't fit the options, or say nothing.
 fit_operands() { # WORD
     case $1 in
+    run)
+        local file
+        for file in "${operands[@]}" "${given[--names]-}" "${given[--seats]-}"; do
+            ! has -i || [[ $file != - ]] || misused "run: with -i standard input is what is typed, and no file can be it"
+        done
+        ;;
     check)
         ! has --names || ((${#operands[@]} < 2)) || misused "check: --names goes with one FILE"
         fit_hours check
@@ -250,6 +302,7 @@ answer_unbuilt() { # WORD...
     esac
     is_word "$1" || no_word "$1"
     sort_operands "$@"
+    one_standard_input "$1"
     fit_options "$1"
     count_operands "$1"
     fit_operands "$1"

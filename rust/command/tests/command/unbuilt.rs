@@ -131,6 +131,31 @@ fn options_that_do_not_fit() {
 }
 
 #[test]
+fn one_standard_input() {
+    let place = Place::new("unbuilt inputs");
+    for words in [
+        &["merge", "-", "-"][..],
+        &["check", "-", "a", "-"],
+        &["run", "-", "-"],
+        &["run", "-", "a", "--seats=-"],
+        &["run", "-", "-", "c"],
+        &["run", "a", "-", "--names", "b", "--seats", "-"],
+        &["seats", "a", "-", "-"],
+        &["in-force", "x", "-", "-"],
+        &["place", "-", "--hours", "-", "--names", "-"],
+        &["run", "-i", "-"],
+        &["run", "-i", "a", "-"],
+        &["run", "-i", "a", "--seats", "-"],
+        &["run", "-i", "-", "-"],
+        &["pack", "a", "--names", "-"],
+        &["pack", "a", "-o", "-", "--names", "-"],
+        &["pack", "--names", "-"],
+    ] {
+        alike(&place, words);
+    }
+}
+
+#[test]
 fn days_and_rounds() {
     let place = Place::new("unbuilt days");
     for day in [
