@@ -36,9 +36,12 @@ put() { # FROM FOLDER NAME MODE
 
 # Puts the program and its man page where they are found, and says where that is.
 install_into() { # DIR
-    local folder pages shown
-    mkdir -p -- "$1" || misused "install: $(shown "$1") can't be made"
-    folder=$(cd -- "$1" && pwd)
+    local folder=$1 pages shown
+    # By its whole name, which no CDPATH leads elsewhere; its last letter may be a line's end.
+    if [[ $folder != /* ]]; then folder=$PWD/$folder; fi
+    mkdir -p -- "$folder" || misused "install: $(shown "$1") can't be made"
+    folder=$(cd -- "$folder" && pwd && printf .)
+    folder=${folder%$'\n.'}
     [[ ! $folder -ef $root ]] || misused "install: $(shown "$1") is the checkout, and pilzdamo there is the script that builds"
     pages=$folder
     if [[ ${folder##*/} == bin ]]; then pages=${folder%/*}/share/man/man1; fi

@@ -19,7 +19,7 @@ words() {
     done
 }
 
-is_word() { [[ $1 != */* && -f $texts/help/$1.txt ]]; }
+is_word() { [[ $1 && $1 != */* && -f $texts/help/$1.txt ]]; }
 
 no_word() { # WORD
     local all
@@ -30,9 +30,12 @@ no_word() { # WORD
 # The help of a word, or the whole page.
 help() { # [WORD]
     case ${1-} in
-    '') print "$texts/help.txt" ;;
     build | install) help_here "$1" ;;
     *)
+        if ((!$#)); then
+            print "$texts/help.txt"
+            return
+        fi
         is_word "$1" || no_word "$1"
         print "$texts/help/$1.txt"
         ;;
@@ -254,7 +257,7 @@ fit_day() { # WORD NAME
 # Ends where one of --at and --hours is missing, or TIME is none.
 fit_hours() { # WORD
     # White space may be any that the program knows, so all but letters and digits passes for it.
-    local space='[^a-z0-9:]' time
+    local LC_ALL=C space='[^a-z0-9:]' time
     time="^$space*(mon|tue|wed|thu|fri|sat|sun)$space+([01]?[0-9]|2[0-3]):[0-5][0-9]$space*\$"
     if has --at; then has --hours; else ! has --hours; fi || misused "$1: --at and --hours go together"
     ! has --at || [[ ${given[--at],,} =~ $time ]] ||
@@ -275,6 +278,7 @@ fit_operands() { # WORD
         fit_hours check
         ;;
     place | measure) fit_hours "$1" ;;
+    sheet) ((${#operands[@]} <= 1000)) || misused "sheet: a sheet has at most 1000 files, not ${#operands[@]}" ;;
     notice) fit_day notice DATE ;;
     in-force) fit_day in-force DAY ;;
     dispatch)
@@ -286,11 +290,11 @@ fit_operands() { # WORD
 
 # Ends with an answer if the texts have it.
 answer_unbuilt() { # WORD...
-    case ${1-} in
-    '')
+    if ((!$#)); then
         help >&2
         exit 2
-        ;;
+    fi
+    case $1 in
     -h | --help)
         help
         exit

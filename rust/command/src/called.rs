@@ -116,6 +116,22 @@ impl<'a> Called<'a> {
         self.clinic.permitting(tag, kind)
     }
 
+    /// `caller, keeper`, or `role 1, role 2`; `none`.
+    pub fn each_role(&self, mask: u16) -> String {
+        let roles = names::items(mask.into()).map(|role| self.role(role as u16));
+        match roles.collect::<Vec<_>>() {
+            none if none.is_empty() => "none".to_string(),
+            roles => roles.join(", "),
+        }
+    }
+
+    /// The roles that a user has.
+    pub fn assigned(&self, user: u16) -> u16 {
+        let index = usize::from(user).checked_sub(1);
+        let user = index.and_then(|index| self.clinic.users.get(index));
+        user.map_or(0, |&[mask]| mask)
+    }
+
     /// `caller, keeper`, or `roles 1, 2`; `no role`.
     pub fn roles(&self, mask: u16) -> String {
         match self.told() {

@@ -171,6 +171,7 @@ impl<'a> Course<'a> {
     /// What is wrong with where they stand, as far as that doesn't say it.
     pub fn wrong(&self, number: u16, choice: [u16; 2]) -> Vec<String> {
         match number {
+            11 => self.unassigned(choice[0]).into_iter().collect(),
             13 => choice
                 .map(|one| self.unpermitted(one))
                 .into_iter()
@@ -180,6 +181,17 @@ impl<'a> Course<'a> {
             20 => vec![self.full()],
             _ => Vec::new(),
         }
+    }
+
+    /// That the role which a thread would put on is none of its user's.
+    fn unassigned(&self, one: u16) -> Option<String> {
+        let thread = self.thread(one)?;
+        let [_, role, _] = self.called.node(thread.node);
+        let (role, user) = (self.called.role(role), self.called.value(thread.user));
+        let has = self.called.each_role(self.called.assigned(thread.user));
+        Some(format!(
+            "{role} is no role of {user} (roles of {user}: {has})"
+        ))
     }
 
     /// That no role that a thread holds permits its step, and which roles would.
@@ -193,10 +205,7 @@ impl<'a> Course<'a> {
         };
         let kind = self.kind(&thread, f1)?;
         let may = self.called.permitting(tag, kind);
-        let roles = match may {
-            0 => "none".to_string(),
-            may => self.called.roles(may),
-        };
+        let roles = self.called.each_role(may);
         let (name, kind) = (self.called.thread(&self.roll, one), self.called.kind(kind));
         (thread.mask & may == 0).then(|| {
             format!("{name} holds no role that may {act} on {kind} (roles that may: {roles})")
@@ -255,7 +264,7 @@ impl<'a> Course<'a> {
         let [tag, f1, f2] = self.called.node(thread.node);
         let operand = |word| self.called.operand(thread, word);
         match (number, tag) {
-            (11..=13, _) => format!(", holds {}", self.called.roles(thread.mask)),
+            (12 | 13, _) => format!(", holds {}", self.called.roles(thread.mask)),
             (19, 4) => format!(", compares {} with {}", operand(f1), operand(f2)),
             (19, 5) => format!(", receives on {}", operand(f1)),
             (19, 6) => format!(", sends on {}", operand(f1)),

@@ -53,6 +53,14 @@ const AT: [&str; 2] = [
 ];
 
 #[test]
+fn a_role_that_is_not_the_users() {
+    let text = |roles| format!("clinic 1\nrole r\nrole q\nuser u{roles}\nsession s by u\n  on q\n");
+    let at = "11: s stands at line 6 (on q); q is no role of u (roles of u: ";
+    assert_eq!(why(&text(": r"), &["s"]), format!("{at}r)"));
+    assert_eq!(why(&text(""), &["s"]), format!("{at}none)"));
+}
+
+#[test]
 fn whose_role_is_missing() {
     let [s, t] = AT;
     let no_s = "s holds no role that may send on k (roles that may: r, head)";

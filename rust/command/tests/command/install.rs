@@ -64,7 +64,7 @@ fn into_another_folder() {
 #[test]
 fn into_a_folder_behind_two_hyphens() {
     let place = place("install hyphens");
-    for folder in ["-tools", "other"] {
+    for folder in ["-tools", "other", "-", "a line\n"] {
         let said = place.call(&["install", "--", folder]);
         assert_eq!(said.status, 0, "{}", said.err);
         let tools = place.folder.path().join(folder);
@@ -74,6 +74,19 @@ fn into_a_folder_behind_two_hyphens() {
     assert_eq!((said.status, said.out.as_str()), (2, ""));
     let due = "pilzdamo: install: '-b' is too many\n";
     assert!(said.err.starts_with(due), "{}", said.err);
+}
+
+/// A folder of that name elsewhere, to which `cd` would go, is not meant.
+#[test]
+fn into_the_folder_that_is_here() {
+    let place = place("install here");
+    let elsewhere = place.folder.path().join("elsewhere");
+    fs::create_dir_all(elsewhere.join("tools")).expect("it can be made");
+    let mut command = place.command(&place.at("pilzdamo"));
+    let said = said(command.env("CDPATH", &elsewhere).args(["install", "tools"]));
+    assert_eq!(said.status, 0, "{}", said.err);
+    let tools = place.folder.path().join("tools");
+    is_installed(&place, &tools.join("pilzdamo"), &tools.join("pilzdamo.1"));
 }
 
 /// Control characters in the folder's name are written out.

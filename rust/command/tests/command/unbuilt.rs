@@ -156,6 +156,14 @@ fn one_standard_input() {
 }
 
 #[test]
+fn more_files_than_a_sheet_has() {
+    let place = Place::new("unbuilt sheet");
+    let mut words = vec!["a"; 1_002];
+    words[0] = "sheet";
+    alike(&place, &words);
+}
+
+#[test]
 fn days_and_rounds() {
     let place = Place::new("unbuilt days");
     for day in [
@@ -213,7 +221,7 @@ fn a_word_that_is_not_there() {
         }
         assert!(!place.at("target").exists());
     }
-    for word in ["../help", "check.txt", "/", ".", "--frob"] {
+    for word in ["../help", "check.txt", "/", ".", "--frob", ""] {
         let said = place.call(&[word]);
         let due = format!("pilzdamo: there is no word '{word}'; ");
         assert!(
