@@ -3,3 +3,4 @@ pub mod FitsLaws
 pub mod ShapeLaws
 pub mod SoundExact
 pub mod SoundLaws
+mod SumLaws

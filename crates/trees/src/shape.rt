@@ -46,7 +46,7 @@ pub fn binds_one(tag: u16) -> bool
 }
 
 // How many of its two fields a tag uses.
-fn used_by(tag: u16) -> u16
+pub fn used_by(tag: u16) -> u16
     ensures { λ r. ⌜ r ≡ used tag ⌝ }
 {
     if (tag == 0) | (tag == 2) {
@@ -58,7 +58,7 @@ fn used_by(tag: u16) -> u16
     1
 }
 
-pub fn unused_fit(n: Node) -> bool
+fn unused_fit(n: Node) -> bool
     ensures { λ r. ⌜ r ≡ unusedFit n ⌝ }
 {
     let k = used_by(n.tag);

@@ -1,7 +1,7 @@
 // A quicker look for 8: one pass in order, which tells whether anything is refused, and not where.
 use super::shape::binds_one;
 use super::shape::bound_below;
-use super::shape::unused_fit;
+use super::shape::used_by;
 use format::Head;
 use format::Node;
 use format::sections::node;
@@ -10,7 +10,7 @@ use format::words::narrow;
 use format::words::paired;
 use format::words::wide;
 ghost use mathlib.Core.Path.{_≡_};
-ghost use mathlib.Core.Bool.{not, _&&_};
+ghost use mathlib.Core.Bool.{cond, not, _&&_};
 ghost use Prim.Native.Nat.{_+_, _/_, _%_, _<_};
 ghost use lib.Dec.{eqb, leb};
 ghost use lib.ListN.{length};
@@ -31,11 +31,26 @@ fn bound_above(w: u32) -> u16
     (w / 65536) as u16
 }
 
-// Whether a node with one child fits, where so many variables are bound above it. No branch goes by the tag: it would be guessed wrong too often.
+// What is left over in a field: nothing where it is used.
+fn left_in(used: bool, field: u16) -> usize
+    ensures { λ r. ⌜ (r ≡ cond used 0 field) × (r < 65536) ⌝ }
+{
+    if used {
+        return 0;
+    }
+    wide(field)
+}
+
+// Whether a node with one child fits, where so many variables are bound above it. All that has to be 0 is one sum: no branch goes by the tag, which would be
+// guessed wrong too often.
 fn goes_on(n: Node, bound: u16) -> bool
     ensures { λ r. ⌜ r ≡ ((leb (n .tag) 8 && unusedFit n) && not (binds (n .tag) && leb 8 bound)) ⌝ }
 {
-    (n.tag <= 8) & unused_fit(n) & !(binds_one(n.tag) & (8 <= bound))
+    let k = used_by(n.tag);
+    let first = left_in(0 < k, n.f1);
+    let second = left_in(1 < k, n.f2);
+    let over = left_in(!binds_one(n.tag), bound / 8);
+    (n.tag <= 8) & (first + second + over == 0)
 }
 
 // The nodes in order. The stack has the trees that wait, each with the number that names it, and below them all the number after the last node;
