@@ -3,6 +3,7 @@ pub mod WaitLaws
 pub mod OwnerLaws
 pub mod ChoseLaws
 pub mod ListLaws
+pub mod OneLaws
 pub mod StartLaws
 pub mod OpenLaws
 pub mod BesideLaws

@@ -1,5 +1,5 @@
 -- The role for which a choice may ask for a seat.
-use Prim.Native.Nat.{ℕ, zero, suc, _+_, _*_, _-_, _≤_, _<_}
+use Prim.Native.Nat.{ℕ, zero, suc, _+_, _-_, _≤_, _<_}
 use mathlib.Core.Path.{_≡_, refl, sym, ap, ap₂, _∙_, subst}
 use mathlib.Core.Bool.{Bool, true, false, cond, not, _&&_, and-eq-true-iff, false≢true}
 use mathlib.Core.List.{List, [], _∷_}
@@ -14,7 +14,7 @@ use Rattle.format.proofs.ContentsLaws.{inCount-iff, in-count, item-zero, item-p
 use Rattle.steps.specs.declared.Thread.{Thread}
 use Rattle.steps.specs.Choice.{State, threadAt}
 use Rattle.steps.specs.Kept.{stateIn}
-use Rattle.steps.specs.Records.{threadIn}
+use Rattle.steps.specs.Records.{threadIn, recordAt}
 use Rattle.steps.specs.Beside.{threadCount}
 use Rattle.steps.proofs.TableLaws.{threads-length, thread-get}
 use Rattle.reading_exact.specs.File.{InCount}
@@ -174,13 +174,13 @@ module _ (C : Contents) (table w b : List ℕ) (i p : ℕ) (t : Bool) (count : �
       let (one, most) = in-count (length (s .threads)) i (and-eq-true-iff (inCount (length (s .threads)) i) (eqb p 0) .0 (sym test ∙ not-false (t && eqb p 0) h) .0) in
       (one, omega (arith, most, threads-length w 0 (threadCount b)))
 
-  module _ (yes : not (t && eqb p 0) ≡ false) (at : ℕ) (own : Thread) (nd : Node) (ea : at ≡ i - 1) (eo : own ≡ threadIn w (12 * at)) (en : nd ≡ item noNode (C .nodes) (own .node)) where
+  module _ (yes : not (t && eqb p 0) ≡ false) (at : ℕ) (own : Thread) (nd : Node) (ea : at ≡ i - 1) (eo : own ≡ threadIn w (recordAt at)) (en : nd ≡ item noNode (C .nodes) (own .node)) where
     in-list : (inCount (length (s .threads)) i && eqb p 0) ≡ true
     in-list = sym test ∙ not-false (t && eqb p 0) yes
 
     own-is : own ≡ threadAt s i
     own-is =
-        let e : 12 * at ≡ 0 + 12 * (i - 1) = omega (arith, ea) in
+        let e : recordAt at ≡ 0 + recordAt (i - 1) = omega (arith, ea) in
         eo ∙ ap (threadIn w) e ∙ sym (thread-get w 0 (threadCount b) (i - 1) (omega (arith, asked-there yes .0, asked-there yes .1)))
 
     node-is : nd ≡ limits .clinic .node (threadAt s i .node)

@@ -7,7 +7,7 @@ use dispatching::visits::receiver_for;
 use format::Head;
 use format::words::narrow;
 use seated::Sat;
-use seated::choice::choose_seated;
+use seated::list::choose_one;
 use steps::beside::thread_count;
 ghost use mathlib.Core.Path.{_≡_};
 ghost use Prim.Native.Nat.{_-_, _≤_, _<_};
@@ -69,7 +69,7 @@ fn meet_seated(
             moved,
         };
     }
-    choose_seated(
+    choose_one(
         file,
         head,
         sends,
@@ -114,7 +114,7 @@ pub fn visit_seated(
         (visit seatedThreads (seatedChoice (limitedOf (contentsAt (now (file .entry)) head) (now (seats .entry)))) (seatedIn (now (threads .entry)) (now (beside .entry)) (now (owners .entry)) (now (lines .entry))) (i - 1) (marksFrom 1 there moved))
         i there r (now (threads .exit)) (now (beside .exit)) (now (owners .exit)) (now (lines .exit)) ⌝ }
 {
-    let sat = choose_seated(
+    let sat = choose_one(
         file,
         head,
         sends,

@@ -6,9 +6,9 @@ use crate::sessions::sessions_in;
 use format::words::wide;
 use masks::UserRole;
 ghost use mathlib.Core.Path.{_≡_};
-ghost use Prim.Native.Nat.{_*_, _-_, _≤_};
+ghost use Prim.Native.Nat.{_≤_};
 ghost use lib.ListN.{length};
-ghost use Rattle.steps.specs.Records.{threadsIn};
+ghost use Rattle.steps.specs.Records.{threadsIn, recordAt};
 ghost use Rattle.seating.specs.SeatTables.{lineIn, LineRows, seatAnswer};
 
 // 0 where the session has the role, 1 where it gets a seat, 2 where it has to wait.
@@ -21,7 +21,7 @@ pub fn seat_answer(
     limit: u16,
     k: u16,
 ) -> u16
-    requires { ⌜ (12 * count ≤ length (now threads)) × (count ≤ length (now owners)) × LineRows (now lines) × (1 ≤ role .0) × (role .0 ≤ 16) ⌝ }
+    requires { ⌜ (recordAt count ≤ length (now threads)) × (count ≤ length (now owners)) × LineRows (now lines) × (1 ≤ role .0) × (role .0 ≤ 16) ⌝ }
     ensures { λ r. ⌜ r ≡ seatAnswer (threadsIn (now (threads .entry)) 0 count) (now (owners .entry)) (lineIn (now (lines .entry)) (role .0)) (role .0) limit k ⌝ }
 {
     let sessions = sessions_in(threads, owners, count, role);

@@ -1,12 +1,13 @@
 // The sessions that have a role, as a mask: bit k - 1 stands for session k.
 use masks::UserRole;
 use masks::has_role;
+use steps::records::RECORD;
 ghost use mathlib.Core.Path.{_≡_};
 ghost use mathlib.Core.Bool.{cond};
-ghost use Prim.Native.Nat.{_*_, _≤_};
+ghost use Prim.Native.Nat.{_≤_};
 ghost use lib.ListN.{length};
 ghost use Rattle.masks.specs.Mask.{has, held};
-ghost use Rattle.steps.specs.Records.{threadsIn};
+ghost use Rattle.steps.specs.Records.{threadsIn, recordAt};
 ghost use Rattle.seating.specs.SeatTables.{withSession, putSession, gathered};
 
 // The mask with a session put in: 0 and those above 32 change nothing.
@@ -34,13 +35,13 @@ fn put_session(mask: u32, active: u16, role: UserRole, k: u16) -> u32
 
 // Of so many threads the sessions that have the role.
 pub fn sessions_in(threads: &[u16], owners: &[u16], count: usize, role: UserRole) -> u32
-    requires { ⌜ (12 * count ≤ length (now threads)) × (count ≤ length (now owners)) ⌝ }
+    requires { ⌜ (recordAt count ≤ length (now threads)) × (count ≤ length (now owners)) ⌝ }
     ensures { λ r. ⌜ r ≡ gathered (threadsIn (now (threads .entry)) 0 count) (now (owners .entry)) (role .0) 0 ⌝ }
 {
     let mut m: u32 = 0;
     let mut i: usize = 0;
     while i < count {
-        m = put_session(m, threads[12 * i + 2], role, owners[i]);
+        m = put_session(m, threads[RECORD * i + 2], role, owners[i]);
         i += 1;
     }
     m

@@ -10,7 +10,7 @@ use Rattle.seated_rounds.proofs.visits.meet_seated.Reads as reads
 use Rattle.seated_rounds.proofs.visits.meet_seated.Lts as lts
 use Rattle.dispatching.proofs.marks.with_moved.Reads as with-moved-reads
 use Rattle.dispatching.proofs.visits.receiver_for.Reads as receiver-for-reads
-use Rattle.seated.proofs.choice.choose_seated.Reads as choose-seated-reads
+use Rattle.seated.proofs.list.choose_one.Reads as choose-one-reads
 
 receiver-for-requires : tie.Need-receiver-for-requires
 receiver-for-requires c κs = let q = c .before .before .before .before .before .before .before .before .before .before .before .pre in (q .0, q .1, q .2, q .4 .sized, q .5, omega (arith, q .6, q .7), q .7)
@@ -31,8 +31,8 @@ returns c =
     let is = receiver-is (contentsAt (a .file .now) (a .head)) (a .seats .now) (a .threads .now) (a .beside .now) (a .owners .now) (a .lines .now) (q .4) (a .i) (a .there) (a .moved) (q .5) (q .6) (q .7) (c .before .receiver-for .result) (c .before .receiver-for .ensures) in
     told-nothing (contentsAt (a .file .now) (a .head)) (a .seats .now) (a .threads .now) (a .beside .now) (a .owners .now) (a .lines .now) (q .4) (a .i) (a .there) (a .moved) (q .5) (q .6) (q .7) (c .before .receiver-for .result) is (c .if1 .taken)
 
-choose-seated-requires : tie.Need-choose-seated-requires
-choose-seated-requires c κs = let q = c .before .before .before .before .before .before .before .before .before .before .before .before .before .before .before .before .before .pre in (q .0, q .1, q .2, q .3, q .4)
+choose-one-requires : tie.Need-choose-one-requires
+choose-one-requires c κs = let q = c .before .before .before .before .before .before .before .before .before .before .before .before .before .before .before .before .before .pre in (q .0, q .1, q .2, q .3, q .4)
 
 add-t30 : tie.Need-add-t30
 add-t30 c = omega (arith, c .before .before .before .before .before .before .before .before .before .before .before .before .before .before .before .before .before .before .before .before .before .before .before .before .before .before .pre .5, c .before .before .before .before .before .before .before .before .before .before .before .before .before .before .before .before .before .before .before .before .before .before .before .before .before .before .pre .6, c .before .before .before .before .before .before .before .before .before .before .before .before .before .before .before .before .before .before .before .before .before .before .before .before .before .before .pre .7, c .before .before .before .before .before .before .before .before .before .before .before .before .before .before .before .before .before .before .before .before .before .before .before .before .before .before .pre .4 .sized .threads)
@@ -64,7 +64,7 @@ returns-2 : tie.Need-returns-2
 returns-2 c =
     let a = c .before .before .before .before .before .before .before .before .before .before .before .before .before .before .before .before .before .before .before .before .before .before .before .before .before .before .before .before .args in
     let q = c .before .before .before .before .before .before .before .before .before .before .before .before .before .before .before .before .before .before .before .before .before .before .before .before .before .before .before .before .pre in
-    let g = c .before .before .before .before .before .before .before .before .before .before .choose-seated in
+    let g = c .before .before .before .before .before .before .before .before .before .before .choose-one in
     let is = receiver-is (contentsAt (a .file .now) (a .head)) (a .seats .now) (a .threads .now) (a .beside .now) (a .owners .now) (a .lines .now) (q .4) (a .i) (a .there) (a .moved) (q .5) (q .6) (q .7) (c .before .before .before .before .before .before .before .before .before .before .before .before .before .before .before .before .receiver-for .result) (c .before .before .before .before .before .before .before .before .before .before .before .before .before .before .before .before .receiver-for .ensures) in
     told-met (contentsAt (a .file .now) (a .head)) (a .seats .now) (a .threads .now) (a .beside .now) (a .owners .now) (a .lines .now) (q .4) (a .i) (a .there) (a .moved) (q .5) (q .6) (q .7) (awaitedBy (a .table .now)) (g .result) _ _ _ _ (c .before .before .before .before .before .before .before .before .before .before .before .before .before .before .before .before .receiver-for .result) (g .ensures) (c .before .with-moved .result) (c .with-moved2 .result) is (c .before .before .before .before .before .before .before .before .before .before .before .before .before .before .before .if1 .left) (c .before .with-moved .ensures) (c .with-moved2 .ensures)
 
@@ -77,7 +77,7 @@ meet-seated-spec =
     same-length
     same-length-2
     returns
-    choose-seated-requires
+    choose-one-requires
     add-t30
     with-moved-requires
     with-moved-requires-2

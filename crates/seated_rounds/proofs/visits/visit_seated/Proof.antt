@@ -10,11 +10,11 @@ use Rattle.seated_rounds.proofs.visits.visit_seated.Reads as reads
 use Rattle.seated_rounds.proofs.visits.visit_seated.Lts as lts
 use Rattle.dispatching.proofs.marks.close_up.Reads as close-up-reads
 use Rattle.dispatching.proofs.marks.with_moved.Reads as with-moved-reads
-use Rattle.seated.proofs.choice.choose_seated.Reads as choose-seated-reads
+use Rattle.seated.proofs.list.choose_one.Reads as choose-one-reads
 use Rattle.seated_rounds.proofs.visits.meet_seated.Reads as meet-seated-reads
 
-choose-seated-requires : tie.Need-choose-seated-requires
-choose-seated-requires c κs = let q = c .before .before .before .before .before .before .before .before .before .before .before .before .before .pre in (q .0, q .1, q .2, q .3, q .4)
+choose-one-requires : tie.Need-choose-one-requires
+choose-one-requires c κs = let q = c .before .before .before .before .before .before .before .before .before .before .before .before .before .pre in (q .0, q .1, q .2, q .3, q .4)
 
 enum-told : tie.Need-enum-told
 enum-told c = search needs
@@ -23,7 +23,7 @@ meet-seated-requires : tie.Need-meet-seated-requires
 meet-seated-requires c κs =
     let a = c .before .before .before .before .before .before .before .before .before .before .before .before .before .before .before .before .before .before .before .before .before .before .before .before .before .before .before .before .args in
     let q = c .before .before .before .before .before .before .before .before .before .before .before .before .before .before .before .before .before .before .before .before .before .before .before .before .before .before .before .before .pre in
-    let g = c .before .before .before .before .before .before .before .before .before .before .before .before .before .before .choose-seated in
+    let g = c .before .before .before .before .before .before .before .before .before .before .before .before .before .before .choose-one in
     let (_, few, _) = lone-refused (contentsAt (a .file .now) (a .head)) (a .seats .now) (a .threads .now) (a .beside .now) (a .owners .now) (a .lines .now) (q .4) (a .i) (a .there) (a .moved) (q .5) (q .6) (q .7) (awaitedBy (a .table .now)) (g .result) _ _ _ _ (g .ensures) _ (c .before .before .before .before .enum-told .given .1) in
     (q .0, q .1, q .2, q .3, g .ensures .kept, q .5, q .6, few)
 
@@ -67,7 +67,7 @@ returns : tie.Need-returns
 returns c =
     let a = c .before .before .before .before .before .before .before .before .before .before .before .before .before .before .before .before .before .before .before .before .before .before .before .before .before .before .before .before .before .before .before .before .before .before .before .before .before .args in
     let q = c .before .before .before .before .before .before .before .before .before .before .before .before .before .before .before .before .before .before .before .before .before .before .before .before .before .before .before .before .before .before .before .before .before .before .before .before .before .pre in
-    let g = c .before .before .before .before .before .before .before .before .before .before .before .before .before .before .before .before .before .before .before .before .before .before .before .choose-seated in
+    let g = c .before .before .before .before .before .before .before .before .before .before .before .before .before .before .before .before .before .before .before .before .before .before .before .choose-one in
     let (same, _, by) = lone-refused (contentsAt (a .file .now) (a .head)) (a .seats .now) (a .threads .now) (a .beside .now) (a .owners .now) (a .lines .now) (q .4) (a .i) (a .there) (a .moved) (q .5) (q .6) (q .7) (awaitedBy (a .table .now)) (g .result) _ _ _ _ (g .ensures) _ (c .before .before .before .before .before .before .before .before .before .before .before .before .before .enum-told .given .1) in
     met-told (contentsAt (a .file .now) (a .head)) (a .seats .now) (a .threads .now) (a .beside .now) (a .owners .now) (a .lines .now) (q .4) (a .i) (a .there) (a .moved) (q .5) (q .6) (q .7) (awaitedBy (a .table .now)) (g .result) _ _ _ _ (g .ensures) (c .before .before .before .before .before .before .before .before .meet-seated .result) _ _ _ _ same by (c .before .before .before .before .before .before .before .before .meet-seated .ensures)
 
@@ -87,7 +87,7 @@ returns-2 : tie.Need-returns-2
 returns-2 c =
     let a = c .before .before .before .before .before .before .before .before .before .before .before .before .before .before .before .before .before .before .before .before .before .before .before .before .args in
     let q = c .before .before .before .before .before .before .before .before .before .before .before .before .before .before .before .before .before .before .before .before .before .before .before .before .pre in
-    let g = c .before .before .before .before .before .before .before .before .before .before .choose-seated in
+    let g = c .before .before .before .before .before .before .before .before .before .before .choose-one in
     lone-waits (contentsAt (a .file .now) (a .head)) (a .seats .now) (a .threads .now) (a .beside .now) (a .owners .now) (a .lines .now) (q .4) (a .i) (a .there) (a .moved) (q .5) (q .6) (q .7) (awaitedBy (a .table .now)) (g .result) _ _ _ _ (g .ensures) (c .enum-told2 .given .1)
 
 same-length-9 : tie.Need-same-length-9
@@ -106,7 +106,7 @@ returns-3 : tie.Need-returns-3
 returns-3 c =
     let a = c .before .before .before .before .before .before .before .before .before .before .before .before .before .before .before .before .before .before .before .before .before .before .before .before .before .args in
     let q = c .before .before .before .before .before .before .before .before .before .before .before .before .before .before .before .before .before .before .before .before .before .before .before .before .before .pre in
-    let g = c .before .before .before .before .before .before .before .before .before .before .before .choose-seated in
+    let g = c .before .before .before .before .before .before .before .before .before .before .before .choose-one in
     lone-ends (contentsAt (a .file .now) (a .head)) (a .seats .now) (a .threads .now) (a .beside .now) (a .owners .now) (a .lines .now) (q .4) (a .i) (a .there) (a .moved) (q .5) (q .6) (q .7) (awaitedBy (a .table .now)) (g .result) _ _ _ _ (g .ensures) (c .close-up .result) (c .before .enum-told3 .given .1) (c .close-up .ensures)
 
 same-length-13 : tie.Need-same-length-13
@@ -125,14 +125,14 @@ returns-4 : tie.Need-returns-4
 returns-4 c =
     let a = c .before .before .before .before .before .before .before .before .before .before .before .before .before .before .before .before .before .before .before .before .before .before .before .before .before .args in
     let q = c .before .before .before .before .before .before .before .before .before .before .before .before .before .before .before .before .before .before .before .before .before .before .before .before .before .pre in
-    let g = c .before .before .before .before .before .before .before .before .before .before .before .choose-seated in
+    let g = c .before .before .before .before .before .before .before .before .before .before .before .choose-one in
     lone-steps (contentsAt (a .file .now) (a .head)) (a .seats .now) (a .threads .now) (a .beside .now) (a .owners .now) (a .lines .now) (q .4) (a .i) (a .there) (a .moved) (q .5) (q .6) (q .7) (awaitedBy (a .table .now)) (g .result) _ _ _ _ (g .ensures) (c .with-moved .result) (c .before .enum-told4 .given .1) (c .with-moved .ensures)
 
 pub visit-seated-spec : {M : Type 1} → statement M
 visit-seated-spec =
     tie.close
     (tie.spec
-    choose-seated-requires
+    choose-one-requires
     enum-told
     meet-seated-requires
     enum-told-2

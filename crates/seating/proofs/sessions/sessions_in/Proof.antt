@@ -4,7 +4,7 @@ use mathlib.Core.Path.{_≡_, refl, sym, ap, _∙_}
 use native.Mathlib.Omega.{arith}
 use borrow.Author.Needs.{needs}
 use lib.ListN.{length, drop}
-use Rattle.steps.specs.Records.{threadsIn}
+use Rattle.steps.specs.Records.{threadsIn, recordAt}
 use Rattle.seating.specs.SeatTables.{gathered}
 use Rattle.seating.proofs.GatherLaws.{gather-step, gather-end}
 use Rattle.seating.proofs.sessions.sessions_in.Statement.{statement}
@@ -12,7 +12,7 @@ use Rattle.seating.proofs.sessions.sessions_in.Tie as tie
 
 abbrev Inv-loop : tie.InvT-loop
 Inv-loop threads owners count role m₀ i₀ m i =
-    (i ≤ count) × (gathered (threadsIn threads (12 * i) (count - i)) (drop i owners) (role .0) m ≡ gathered (threadsIn threads 0 count) owners (role .0) 0)
+    (i ≤ count) × (gathered (threadsIn threads (recordAt i) (count - i)) (drop i owners) (role .0) m ≡ gathered (threadsIn threads 0 count) owners (role .0) 0)
 
 abbrev μ-loop : tie.MeasureT-loop
 μ-loop threads owners count role m₀ i₀ m i = count - i
@@ -55,7 +55,7 @@ loop-again c =
     let a = c .before .before .before .before .before .before .before .args in
     let l = c .before .before .before .before .loop in (
       omega arith,
-      ap (λ (x : ℕ). gathered (threadsIn (a .threads .now) (12 * (l .i + 1)) (a .count - (l .i + 1))) (drop (l .i + 1) (a .owners .now)) (a .role .0) x) (c .put-session .ensures)
+      ap (λ (x : ℕ). gathered (threadsIn (a .threads .now) (recordAt (l .i + 1)) (a .count - (l .i + 1))) (drop (l .i + 1) (a .owners .now)) (a .role .0) x) (c .put-session .ensures)
           ∙ gather-step (a .threads .now) (a .owners .now) (a .count) (l .i) (a .role .0) (l .m) (omega arith) (omega arith) ∙ l .inv .1,
     )
 
@@ -63,7 +63,7 @@ returns : tie.Need-returns Inv-loop μ-loop
 returns c =
     let a = c .before .before .before .before .args in
     let l = c .before .loop in
-    sym (gather-end (a .threads .now) (drop (l .i) (a .owners .now)) (a .count) (l .i) (12 * l .i) (a .role .0) (l .m) (omega arith)) ∙ l .inv .1
+    sym (gather-end (a .threads .now) (drop (l .i) (a .owners .now)) (a .count) (l .i) (recordAt (l .i)) (a .role .0) (l .m) (omega arith)) ∙ l .inv .1
 
 pub sessions-in-spec : {M : Type 1} → statement M
 sessions-in-spec =
