@@ -1,6 +1,6 @@
 -- What a list of choices leaves beside the threads, and the answer of its last: what is left of it after some choices.
 use Prim.Native.Nat.{ℕ, _+_, _*_, _/_, _≤_, _<_}
-use mathlib.Core.Path.{_≡_, refl, sym, ap, _∙_}
+use mathlib.Core.Path.{_≡_, refl, sym, ap, _∙_, subst}
 use mathlib.Core.List.{List, [], _∷_}
 use native.Mathlib.Omega.{arith}
 use lib.ListN.{length, getD, drop, length-drop}
@@ -11,9 +11,9 @@ use Rattle.steps.specs.declared.Answer.the-variants as answers
 use Rattle.steps.specs.Acted.{actedOf}
 use Rattle.steps.specs.Choice.{Clinic, State, Chosen, done, outcome, choice}
 use Rattle.steps.specs.Kept.{stateIn, Sized, stateLeft}
-use Rattle.steps.specs.Beside.{besideBy}
+use Rattle.steps.specs.Beside.{besideBy, startBeside}
 use Rattle.choices.specs.Choices.{Ran, follow, run}
-use Rattle.choices.specs.Stored.{Tried, untried, triedBy, onFrom, tried, Chose, Gone, Through}
+use Rattle.choices.specs.Stored.{Tried, untried, triedBy, onFrom, tried, besideRun, Chose, Gone, Through}
 use Rattle.choices.specs.declared.Went.{Went}
 use Rattle.choices.proofs.RunLaws.{next, Refuses, refused-by}
 
@@ -112,3 +112,10 @@ one-chose kind C w b w′ b′ i p r (told, state, words, sized) =
 -- and without the last answer
 pub through-gone : (R : Ran) (T : Tried) (r : Went) (w b : List ℕ) → Through R T r w b → Gone R (T .beside) (record { count = r .count; refusal = r .refusal }) w b
 through-gone R T r w b (told, state, words, sized) = (ap (λ (x : Went). record { count = x .count; refusal = x .refusal }) told, state, sized, words)
+
+-- a list gone through from tables that hold the start
+pub gone-from : (kind : ℕ → ℕ) (C : Clinic) (s : State) (b₀ ws w b w′ b′ : List ℕ) (r : Went) → stateIn w b ≡ s → b ≡ startBeside kind b₀ (s .threads)
+    → Through (run C (stateIn w b) ws) (tried kind C (stateIn w b) (untried b) ws) r w′ b′ → Gone (run C s ws) (besideRun kind C s b₀ ws) (record { count = r .count; refusal = r .refusal }) w′ b′
+gone-from kind C s b₀ ws w b w′ b′ r state words through =
+    subst (λ (x : State). Gone (run C x ws) (tried kind C x (untried (startBeside kind b₀ (s .threads))) ws .beside) (record { count = r .count; refusal = r .refusal }) w′ b′) state
+    (subst (λ (l : List ℕ). Gone (run C (stateIn w b) ws) (tried kind C (stateIn w b) (untried l) ws .beside) (record { count = r .count; refusal = r .refusal }) w′ b′) words (through-gone _ _ r w′ b′ through))

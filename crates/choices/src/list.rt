@@ -208,7 +208,27 @@ fn open_threads(file: &[u8], head: Head, table: &[u64], threads: &mut [u16], bes
     start_beside(file, head, table, beside);
 }
 
-// The run of a file through a list of choices, which leaves the grants in the two tables. What the state's tables held before is of no account. The table has what each node is reached with.
+// The start of a run, with the grants in two tables. What the state's tables held before is of no account. The table has what each node is reached with.
+pub fn open_run(
+    file: &[u8],
+    head: Head,
+    sends: &mut [u16],
+    receives: &mut [u16],
+    table: &[u64],
+    threads: &mut [u16],
+    beside: &mut [u16],
+)
+    requires { ⌜ Laid (now file) head × (length (now sends) ≡ 33) × (length (now receives) ≡ 33) × (now sends ≡ replicate (length (now sends)) 0) × (now receives ≡ replicate (length (now receives)) 0)
+        × (length (now threads) ≡ threadTableWords) × (length (now beside) ≡ besideWords) ⌝ }
+    ensures { λ r. ⌜ (stateIn (now (threads .exit)) (now (beside .exit)) ≡ start (contentsAt (now (file .entry)) head)) × Sized (now (threads .exit)) (now (beside .exit))
+        × (now (beside .exit) ≡ startBeside (awaitedBy (now (table .entry))) (now (beside .entry)) (start (contentsAt (now (file .entry)) head) .threads))
+        × Granting (schemaOf (contentsAt (now (file .entry)) head)) Sends (now (sends .exit)) × Granting (schemaOf (contentsAt (now (file .entry)) head)) Receives (now (receives .exit)) ⌝ }
+{
+    fill_grants(file, head, sends, receives);
+    open_threads(file, head, table, threads, beside);
+}
+
+// The run of a file through a list of choices, which leaves the grants in the two tables.
 pub fn run_by(
     file: &[u8],
     head: Head,
@@ -225,8 +245,7 @@ pub fn run_by(
         (besideRun (awaitedBy (now (table .entry))) (clinicOf (contentsAt (now (file .entry)) head)) (start (contentsAt (now (file .entry)) head)) (now (beside .entry)) (now (choices .entry))) r (now (threads .exit)) (now (beside .exit))
         × Granting (schemaOf (contentsAt (now (file .entry)) head)) Sends (now (sends .exit)) × Granting (schemaOf (contentsAt (now (file .entry)) head)) Receives (now (receives .exit)) ⌝ }
 {
-    fill_grants(file, head, sends, receives);
-    open_threads(file, head, table, threads, beside);
+    open_run(file, head, sends, receives, table, threads, beside);
     let went = go_through(file, head, sends, receives, table, choices, threads, beside);
     Progress {
         count: went.count,

@@ -4,7 +4,8 @@ pub mod visits;
 
 use checking::enter;
 use choices::Progress;
-use choices::list::run_by;
+use choices::list::go_through;
+use choices::list::open_run;
 use format::Head;
 use format::Verdict;
 use reading::Opened;
@@ -117,11 +118,20 @@ fn round_into(file: &[u8], head: Head, choices: &[u16], out: &mut [u8]) -> Round
     let mut beside = [0u16; BESIDE];
     let mut words = [0u16; 128];
     let table = [0u64; 0];
-    let own = run_by(
+    open_run(
         file,
         head,
         &mut sends,
         &mut receives,
+        &table,
+        &mut threads,
+        &mut beside,
+    );
+    let own = go_through(
+        file,
+        head,
+        &sends,
+        &receives,
         &table,
         choices,
         &mut threads,

@@ -6,13 +6,11 @@ use mathlib.Core.List.{List, [], _∷_}
 use native.Mathlib.Omega.{arith}
 use lib.ListN.{length, getD, take, drop, replicate, length-replicate}
 use Rattle.format.specs.Contents.{Contents, inCount}
-use Rattle.steps.specs.Choice.{clinicOf, State}
+use Rattle.steps.specs.Choice.{State}
 use Rattle.steps.specs.Kept.{stateIn, Sized}
 use Rattle.steps.specs.Beside.{threadCount, startBeside}
 use Rattle.steps.proofs.TableLaws.{threads-length}
-use Rattle.choices.specs.declared.Progress.{Progress}
-use Rattle.choices.specs.Choices.{start, run}
-use Rattle.choices.specs.Stored.{Gone, tried, besideRun}
+use Rattle.choices.specs.Choices.{start}
 use Rattle.choices.proofs.RunLaws.{threads-from-length}
 use Rattle.rounds.specs.Rounds.{numbers}
 use Rattle.seats.specs.Seats.{Limited, limitedOf, SeatedState, seatedStart, overfilledAt}
@@ -23,11 +21,10 @@ use Rattle.seated.specs.declared.SeatedWent.{SeatedWent}
 use Rattle.seated.specs.SeatedTables.{linesIn, seatedIn, Seated}
 use Rattle.seated.specs.SeatedLists.{SeatedThrough, SeatedOpen}
 
--- a list of no choice leaves the start
-pub opened : (kind : ℕ → ℕ) (C : Contents) (b w′ b′ os′ : List ℕ) (x : ℕ) (r : Progress) → Gone (run (clinicOf C) (start C) (x ∷ [])) (besideRun kind (clinicOf C) (start C) b (x ∷ [])) r w′ b′
+-- the run's own start, with each thread's session
+pub opened : (kind : ℕ → ℕ) (C : Contents) (b w′ b′ os′ : List ℕ) → stateIn w′ b′ ≡ start C → Sized w′ b′ → b′ ≡ startBeside kind b (start C .threads)
     → (n : ℕ) → length (C .sessions) ≡ n → take n os′ ≡ numbers 1 n → length os′ ≡ 64 → SeatedOpen kind C b w′ b′ os′
-unfolding run tried
-opened kind C b w′ b′ os′ x r (told, state, sized, words) n e eo long =
+opened kind C b w′ b′ os′ state sized words n e eo long =
     let count : threadCount b′ ≡ n = sym (threads-length w′ 0 (threadCount b′)) ∙ ap (λ (s : State). length (s .threads)) state ∙ threads-from-length (C .sessions) ∙ e in
     record {
       state = state;

@@ -2,7 +2,7 @@
 use super::SeatedWent;
 use super::list::go_seated;
 use super::start::number_owners;
-use choices::list::run_by;
+use choices::list::open_run;
 use format::Head;
 ghost use mathlib.Core.Path.{_≡_};
 ghost use Prim.Native.Nat.{_≤_};
@@ -20,7 +20,7 @@ ghost use Rattle.seats.specs.Seats.{limitedOf, seatedStart, overfilledAt};
 ghost use Rattle.seated.specs.SeatedTables.{seatedIn, Seated};
 ghost use Rattle.seated.specs.SeatedLists.{SeatedThrough, SeatedOpen};
 
-// The start in the tables: the run's own (a list of no choice gone through), each thread's session, and lines in which nobody waits.
+// The start in the tables: the run's own, and each thread's session.
 fn open_seated(
     file: &[u8],
     head: Head,
@@ -36,8 +36,7 @@ fn open_seated(
     ensures { λ r. ⌜ SeatedOpen (awaitedBy (now (table .entry))) (contentsAt (now (file .entry)) head) (now (beside .entry)) (now (threads .exit)) (now (beside .exit)) (now (owners .exit))
         × Granting (schemaOf (contentsAt (now (file .entry)) head)) Sends (now (sends .exit)) × Granting (schemaOf (contentsAt (now (file .entry)) head)) Receives (now (receives .exit)) ⌝ }
 {
-    let none = [0u16; 1];
-    run_by(file, head, sends, receives, table, &none, threads, beside);
+    open_run(file, head, sends, receives, table, threads, beside);
     number_owners(owners, head.count.sessions);
 }
 
