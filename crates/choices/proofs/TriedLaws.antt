@@ -110,7 +110,7 @@ one-chose kind C w b w′ b′ i p r (told, state, words, sized) =
     )
 
 -- and without the last answer
-pub through-gone : (R : Ran) (T : Tried) (r : Went) (w b : List ℕ) → Through R T r w b → Gone R (T .beside) (record { count = r .count; refusal = r .refusal }) w b
+through-gone : (R : Ran) (T : Tried) (r : Went) (w b : List ℕ) → Through R T r w b → Gone R (T .beside) (record { count = r .count; refusal = r .refusal }) w b
 through-gone R T r w b (told, state, words, sized) = (ap (λ (x : Went). record { count = x .count; refusal = x .refusal }) told, state, sized, words)
 
 -- a list gone through from tables that hold the start

@@ -3,7 +3,7 @@ pub mod WaitLaws
 pub mod OwnerLaws
 pub mod ChoseLaws
 pub mod ListLaws
-pub mod OneLaws
+mod OneLaws
 pub mod StartLaws
 pub mod OpenLaws
 pub mod BesideLaws

@@ -1,5 +1,5 @@
 // Runs with seats: a choice that may have to wait, lists of such choices, and what a caller asks of them.
-pub mod choice;
+mod choice;
 pub mod list;
 mod read;
 pub mod runs;

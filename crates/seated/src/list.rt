@@ -89,7 +89,7 @@ pub fn go_seated(
     }
 }
 
-// One choice by itself, as a list of one: what carries it out has one caller, the loop, and is compiled into it.
+// One choice by itself, as a list of one, so that `choose_seated` has one caller and is compiled into the loop.
 pub fn choose_one(
     file: &[u8],
     head: Head,

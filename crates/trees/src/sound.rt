@@ -31,26 +31,26 @@ fn bound_above(w: u32) -> u16
     (w / 65536) as u16
 }
 
-// What is left over in a field: nothing where it is used.
-fn left_in(used: bool, field: u16) -> usize
-    ensures { λ r. ⌜ (r ≡ cond used 0 field) × (r < 65536) ⌝ }
+// What has to be 0 for a node to fit: nothing where it fits anyway.
+fn left_over(fits: bool, rest: u16) -> usize
+    ensures { λ r. ⌜ (r ≡ cond fits 0 rest) × (r < 65536) ⌝ }
 {
-    if used {
+    if fits {
         return 0;
     }
-    wide(field)
+    wide(rest)
 }
 
-// Whether a node with one child fits, where so many variables are bound above it. All that has to be 0 is one sum: no branch goes by the tag, which would be
-// guessed wrong too often.
+// Whether a node with one child fits, where so many variables are bound above it. An eighth of these is 0 exactly where there is room for one more. All that has
+// to be 0 is one sum, which is compiled without a branch by the tag: that would be guessed wrong too often.
 fn goes_on(n: Node, bound: u16) -> bool
     ensures { λ r. ⌜ r ≡ ((leb (n .tag) 8 && unusedFit n) && not (binds (n .tag) && leb 8 bound)) ⌝ }
 {
     let k = used_by(n.tag);
-    let first = left_in(0 < k, n.f1);
-    let second = left_in(1 < k, n.f2);
-    let over = left_in(!binds_one(n.tag), bound / 8);
-    (n.tag <= 8) & (first + second + over == 0)
+    let first = left_over(0 < k, n.f1);
+    let second = left_over(1 < k, n.f2);
+    let full = left_over(!binds_one(n.tag), bound / 8);
+    (n.tag <= 8) & (first + second + full == 0)
 }
 
 // The nodes in order. The stack has the trees that wait, each with the number that names it, and below them all the number after the last node;

@@ -11,22 +11,22 @@ use Rattle.trees.proofs.sound.goes_on.Reads as reads
 use Rattle.trees.proofs.sound.goes_on.Lts as lts
 use Rattle.trees.proofs.shape.binds_one.Reads as binds-one-reads
 use Rattle.trees.proofs.shape.used_by.Reads as used-by-reads
-use Rattle.trees.proofs.sound.left_in.Reads as left-in-reads
+use Rattle.trees.proofs.sound.left_over.Reads as left-over-reads
 
 used-by-requires : tie.Need-used-by-requires
 used-by-requires c κs = search needs
 
-left-in-requires : tie.Need-left-in-requires
-left-in-requires c κs = search needs
+left-over-requires : tie.Need-left-over-requires
+left-over-requires c κs = search needs
 
-left-in-requires-2 : tie.Need-left-in-requires-2
-left-in-requires-2 c κs = search needs
+left-over-requires-2 : tie.Need-left-over-requires-2
+left-over-requires-2 c κs = search needs
 
 binds-one-requires : tie.Need-binds-one-requires
 binds-one-requires c κs = search needs
 
-left-in-requires-3 : tie.Need-left-in-requires-3
-left-in-requires-3 c κs = search needs
+left-over-requires-3 : tie.Need-left-over-requires-3
+left-over-requires-3 c κs = search needs
 
 add-result : tie.Need-add-result
 add-result c = search needs
@@ -39,10 +39,10 @@ returns c =
     let n = c .before .before .before .before .before .before .args .n in
     let bound = c .before .before .before .before .before .before .args .bound in
     let k = c .before .before .before .before .before .used-by .ensures in
-    let first = c .before .before .before .before .left-in .ensures .0 ∙ ap (λ x. cond (ltb 0 x) 0 (n .f1)) k in
-    let second = c .before .before .before .left-in2 .ensures .0 ∙ ap (λ x. cond (ltb 1 x) 0 (n .f2)) k in
-    let over = c .before .left-in3 .ensures .0 ∙ ap (λ (b : Bool). cond (not b) 0 (bound / 8)) (c .before .before .binds-one .ensures) in
-    ap (λ x. leb (n .tag) 8 && eqb x 0) (ap₂ _+_ (ap₂ _+_ first second) over)
+    let first = c .before .before .before .before .left-over .ensures .0 ∙ ap (λ x. cond (ltb 0 x) 0 (n .f1)) k in
+    let second = c .before .before .before .left-over2 .ensures .0 ∙ ap (λ x. cond (ltb 1 x) 0 (n .f2)) k in
+    let full = c .before .left-over3 .ensures .0 ∙ ap (λ (b : Bool). cond (not b) 0 (bound / 8)) (c .before .before .binds-one .ensures) in
+    ap (λ x. leb (n .tag) 8 && eqb x 0) (ap₂ _+_ (ap₂ _+_ first second) full)
     ∙ sum-exact (leb (n .tag) 8) (ltb 0 (used (n .tag))) (ltb 1 (used (n .tag))) (binds (n .tag)) (n .f1) (n .f2) bound
 
 pub goes-on-spec : {M : Type 1} → statement M
@@ -50,10 +50,10 @@ goes-on-spec =
     tie.close
     (tie.spec
     used-by-requires
-    left-in-requires
-    left-in-requires-2
+    left-over-requires
+    left-over-requires-2
     binds-one-requires
-    left-in-requires-3
+    left-over-requires-3
     add-result
     add-result-2
     returns)
