@@ -19,7 +19,7 @@ use Rattle.running_exact.proofs.StepsChosen.{steps-choice}
 use Rattle.running_exact.proofs.RunChain.{run-chain, run-whole, chain-run}
 use Rattle.running_exact.proofs.RunSafe.{run-kept}
 use Rattle.rounds.specs.Round.{Rounded}
-use Rattle.rounds.specs.Rounds.{Midway, Here, Path}
+use Rattle.rounds.specs.Rounds.{RoundState, Here, Path}
 use Rattle.rounds.proofs.Rounding.{round-is, round-path, round-length, round-empty}
 use Rattle.rounds.proofs.Living.{round-lively}
 use Rattle.dispatching.specs.Dispatch.{threadsOf, comesTo, roundOf}
@@ -80,14 +80,14 @@ module _ (C : Clinic) where
   -- 3. Of each thread that could do a lone step at the round's start: the round splits in two. After the first part, the visits of the threads before it, the thread, in
   -- the place where it then stands, is the same record; then its lone choice comes and is a step, or refusal 20 is what that choice gets.
   pub lone-done : (s : State) (v : ℕ) (s₁ : State) → Steps C s v 0 s₁
-      → (xs : List ℕ) × (ys : List ℕ) × (g : Midway State) × (i : ℕ) × (roundOf C s .words ≡ xs ++ ys)
+      → (xs : List ℕ) × (ys : List ℕ) × (g : RoundState State) × (i : ℕ) × (roundOf C s .words ≡ xs ++ ys)
       × VisitsOf C s (v - 1) xs g × Chain C s xs (g .state) × Here g v i × (threadAt (g .state) i ≡ threadAt s v)
       × (((zs : List ℕ) × (s′ : State) × (ys ≡ i ∷ 0 ∷ zs) × Steps C (g .state) i 0 s′) ⊎ (choice C (g .state) i 0 ≡ halts 20))
   lone-done s v s₁ st =
       let (xs, ys, g, i, e, f, p, h, m, t) = round-lively threadsOf (comesTo C) (Steps C) NoWait (lawful C) threadAt (λ s i. choice C s i 0 ≡ halts 20) (recorded C) s v s₁ st in
       (xs, ys, g, i, e, f, path-chain xs s (g .state) p, h, m, never-waits ys g i t)
     where
-      never-waits : (ys : List ℕ) (g : Midway State) (i : ℕ)
+      never-waits : (ys : List ℕ) (g : RoundState State) (i : ℕ)
           → ((zs : List ℕ) × (s′ : State) × (ys ≡ i ∷ 0 ∷ zs) × Steps C (g .state) i 0 s′)
           ⊎ (((zs : List ℕ) × (s′ : State) × (ys ≡ i ∷ 0 ∷ zs) × NoWait (g .state) i s′) ⊎ (choice C (g .state) i 0 ≡ halts 20))
           → ((zs : List ℕ) × (s′ : State) × (ys ≡ i ∷ 0 ∷ zs) × Steps C (g .state) i 0 s′) ⊎ (choice C (g .state) i 0 ≡ halts 20)
@@ -119,7 +119,7 @@ module _ (C : Clinic) (s : State) where
       subst (λ (x : List ℕ). Chain C s x s′) (sym p) (subst (λ (t : State). Chain C s (roundOf C s .words) t) (sym q) (round-chain C s))
 
   pub lone-in-round : (v : ℕ) (s₁ : State) → Steps C s v 0 s₁ → (rs : List ℕ) (s′ : State) → IsRound C s rs s′
-      → (xs ys : List ℕ) × (g : Midway State) × (i : ℕ) × (rs ≡ xs ++ ys) × VisitsOf C s (v - 1) xs g × Chain C s xs (g .state) × Here g v i × (threadAt (g .state) i ≡ threadAt s v)
+      → (xs ys : List ℕ) × (g : RoundState State) × (i : ℕ) × (rs ≡ xs ++ ys) × VisitsOf C s (v - 1) xs g × Chain C s xs (g .state) × Here g v i × (threadAt (g .state) i ≡ threadAt s v)
       × (((zs : List ℕ) × (s″ : State) × (ys ≡ i ∷ 0 ∷ zs) × Steps C (g .state) i 0 s″) ⊎ (choice C (g .state) i 0 ≡ halts 20))
   lone-in-round v s₁ st rs s′ is =
       let (xs, ys, g, i, e, visits, chain, here, same, done) = lone-done C s v s₁ st in

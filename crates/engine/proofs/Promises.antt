@@ -126,7 +126,7 @@ use Rattle.hours_exact.proofs.CasesShown.{hours-shown}
 use Rattle.engine.specs.Alike.{AlikeBesideForm, AlikeBesideBytes, Alike, ColumnsOf}
 use Rattle.engine.proofs.SameContents.{alike-beside-form, alike-beside-bytes, alike, second-alike}
 use Rattle.engine.proofs.Columns.{columns-alike, rows-alike, notices-alike}
-use Rattle.rounds.specs.Rounds.{Midway, Here, Path}
+use Rattle.rounds.specs.Rounds.{RoundState, Here, Path}
 use Rattle.dispatching.specs.Dispatch.{rounding, roundOver}
 use Rattle.dispatching_exact.specs.IsRound.{IsRound, VisitsOf}
 use Rattle.dispatching_exact.specs.Answered.{RoundUnfit, RoundFit, noRoundAt, Answered, Stopped}
@@ -876,7 +876,7 @@ round-of-a-run = round-answered
 -- "A thread that could do a lone step at the round's start has done it by the end, unless refusal 20 held it at its visit": the round splits at its visit. The visits before it leave it as it was, in the place where it
 -- then stands; then its lone choice comes and is a step, or that choice is refused with 20.
 pub lone-step-done : (C : Clinic) (s : State) (v : ℕ) (s₁ : State) → Steps C s v 0 s₁ → (rs : List ℕ) (s′ : State) → IsRound C s rs s′
-    → (xs ys : List ℕ) × (g : Midway State) × (i : ℕ) × (rs ≡ xs ++ ys) × VisitsOf C s (v - 1) xs g × Chain C s xs (g .state) × Here g v i × (threadAt (g .state) i ≡ threadAt s v)
+    → (xs ys : List ℕ) × (g : RoundState State) × (i : ℕ) × (rs ≡ xs ++ ys) × VisitsOf C s (v - 1) xs g × Chain C s xs (g .state) × Here g v i × (threadAt (g .state) i ≡ threadAt s v)
     × (((zs : List ℕ) × (s″ : State) × (ys ≡ i ∷ 0 ∷ zs) × Steps C (g .state) i 0 s″) ⊎ (choice C (g .state) i 0 ≡ halts 20))
 lone-step-done = lone-in-round
 
@@ -1278,7 +1278,7 @@ seated-round-goes-on = seated-path
 
 -- .. of each thread that could do a lone step at the round's start: the visits before its own leave it as it was; then its lone choice comes and goes on, or comes and gets no seat, or is refused with 20.
 pub seated-lone-step-done : (L : Limited) (S : SeatedState) (v : ℕ) (S₁ : SeatedState) → GoesOn L S v 0 S₁ → (rs : List ℕ) (S′ : SeatedState) → IsSeatedRound L S rs S′
-    → (xs ys : List ℕ) × (g : Midway SeatedState) × (i : ℕ) × (rs ≡ xs ++ ys)
+    → (xs ys : List ℕ) × (g : RoundState SeatedState) × (i : ℕ) × (rs ≡ xs ++ ys)
     × SeatedVisits L S (v - 1) xs g × Path seatedThreads (GoesOn L) (GetsNone L) S xs (g .state) × Here g v i × (threadAt (g .state .state) i ≡ threadAt (S .state) v)
     × (((zs : List ℕ) × (S″ : SeatedState) × (ys ≡ i ∷ 0 ∷ zs) × GoesOn L (g .state) i 0 S″)
     ⊎ (((zs : List ℕ) × (S″ : SeatedState) × (ys ≡ i ∷ 0 ∷ zs) × GetsNone L (g .state) i S″) ⊎ (choice (L .clinic) (g .state .state) i 0 ≡ halts 20)))

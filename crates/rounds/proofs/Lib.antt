@@ -1,6 +1,6 @@
 pub mod PlaceLaws
 pub mod Laws
-pub mod Midways
+pub mod RoundStates
 pub mod Searching
 pub mod Visiting
 pub mod Rounding

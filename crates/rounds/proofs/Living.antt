@@ -9,10 +9,10 @@ use lib.Dec.{eqb, ltb}
 use lib.ListN.{length, getD, take, drop, replicate}
 use borrow.Author.Tests.{eqb-true, eqb-false, ltb-true, ltb-false, lt-ltb, le-ltb}
 use Rattle.rounds.specs.Round.{Taken, refuses, waits, steps, Visited, nothingDone, waited, alone, met, withoutItem, Going, Rounded, going, visited, visit, roundFrom, round}
-use Rattle.rounds.specs.Rounds.{In, Midway, Here, relabelled, numbers, Visits, lone, wait, meet, nothing, VisitsFrom, begun, Path}
+use Rattle.rounds.specs.Rounds.{In, RoundState, Here, relabelled, numbers, Visits, lone, wait, meet, nothing, VisitsFrom, begun, Path}
 use Rattle.rounds.proofs.PlaceLaws.{withoutItem-below, withoutItem-above, getD-snoc, numbers-at, numbers-past}
 use Rattle.rounds.proofs.Laws.{Lawful, Recorded}
-use Rattle.rounds.proofs.Midways.{Keeping, inside}
+use Rattle.rounds.proofs.RoundStates.{Keeping, inside}
 use Rattle.rounds.proofs.Searching.{View, steps-alone, waits-alone, meets-first, does-nothing, view}
 use Rattle.rounds.proofs.Visiting.{Keeps, stood, here, unrivalled}
 use Rattle.rounds.proofs.Rounding.{come, next, one-more, left-start, from-path}
@@ -20,10 +20,10 @@ use Rattle.rounds.proofs.Rounding.{come, next, one-more, left-start, fr
 module _ {S : Type 0} (count : S → ℕ) (choose : S → ℕ → ℕ → Taken S) (Step : S → ℕ → ℕ → S → Type 0) (Wait : S → ℕ → S → Type 0)
     (W : Lawful count choose Step Wait) {R : Type 0} (at : S → ℕ → R) (Excused : S → ℕ → Type 0) (T : Recorded count choose Step Wait at Excused) where
   -- the thread that had the number w holds r
-  abbrev Holds : Midway S → ℕ → R → Type 0
+  abbrev Holds : RoundState S → ℕ → R → Type 0
   Holds g w r = (i : ℕ) → Here g w i → at (g .state) i ≡ r
 
-  module _ (k a : ℕ) (ms : List Bool) (v : ℕ) (g : Midway S) (K : Keeping (suc k) a ms v (g .labels) (g .moved)) (few : length ms ≤ count (g .state)) (w : ℕ) (apart : w ≢ v) where
+  module _ (k a : ℕ) (ms : List Bool) (v : ℕ) (g : RoundState S) (K : Keeping (suc k) a ms v (g .labels) (g .moved)) (few : length ms ≤ count (g .state)) (w : ℕ) (apart : w ≢ v) where
     abbrev s : S
     s = g .state
 
@@ -96,7 +96,7 @@ module _ {S : Type 0} (count : S → ℕ) (choose : S → ℕ → ℕ → Taken 
   -- a thread j₀ that has a lone step in the state s₀
   module _ (s₀ : S) (j₀ : ℕ) (s₁ : S) (st₀ : Step s₀ j₀ 0 s₁) where
     -- it can't be met
-    holds : (k a : ℕ) (ms : List Bool) (v : ℕ) (g : Midway S) → Keeping (suc k) a ms v (g .labels) (g .moved) → length ms ≤ count (g .state) → (w : ℕ) → w ≢ v
+    holds : (k a : ℕ) (ms : List Bool) (v : ℕ) (g : RoundState S) → Keeping (suc k) a ms v (g .labels) (g .moved) → length ms ≤ count (g .state) → (w : ℕ) → w ≢ v
         → Holds g w (at s₀ j₀) → (o : Visited S) → View count choose (g .state) a ms o → Holds (stood count choose Step Wait W v g a o) w (at s₀ j₀)
     holds k a ms v g K few w apart H o view j f = go (was k a ms v g K few w apart o view j f)
       where
@@ -105,18 +105,18 @@ module _ {S : Type 0} (count : S → ℕ) (choose : S → ℕ → ℕ → Taken 
         go (i, h, z, inr (s′, l, d, st)) = absurd (T .no-receiver s₀ (g .state) j₀ (suc a) i s₁ s′ st₀ l st (H i h))
 
     -- its lone choice comes next and is a step or waits, or it is excused
-    abbrev pub Then : List ℕ → Midway S → ℕ → Type 0
+    abbrev pub Then : List ℕ → RoundState S → ℕ → Type 0
     Then ys g i =
         ((zs : List ℕ) × (s′ : S) × (ys ≡ i ∷ 0 ∷ zs) × Step (g .state) i 0 s′)
         ⊎ (((zs : List ℕ) × (s′ : S) × (ys ≡ i ∷ 0 ∷ zs) × Wait (g .state) i s′) ⊎ Excused (g .state) i)
 
     -- the list splits in two at its visit
-    abbrev pub Splits : ℕ → ℕ → Midway S → ℕ → List ℕ → Type 0
+    abbrev pub Splits : ℕ → ℕ → RoundState S → ℕ → List ℕ → Type 0
     Splits d v g w ws =
-        (xs : List ℕ) × (ys : List ℕ) × (g′ : Midway S) × (i : ℕ) × (ws ≡ xs ++ ys) × VisitsFrom count Step Wait v d g xs g′ × Here g′ w i × (at (g′ .state) i ≡ at s₀ j₀)
+        (xs : List ℕ) × (ys : List ℕ) × (g′ : RoundState S) × (i : ℕ) × (ws ≡ xs ++ ys) × VisitsFrom count Step Wait v d g xs g′ × Here g′ w i × (at (g′ .state) i ≡ at s₀ j₀)
         × Then ys g′ i
 
-    now : (k a : ℕ) (ms : List Bool) (v : ℕ) (g : Midway S) → Keeps count choose Step Wait W (suc k) a ms v g → Holds g v (at s₀ j₀) → (ws : List ℕ)
+    now : (k a : ℕ) (ms : List Bool) (v : ℕ) (g : RoundState S) → Keeps count choose Step Wait W (suc k) a ms v g → Holds g v (at s₀ j₀) → (ws : List ℕ)
         → Splits 0 v g v (visit count choose (g .state) a ms .words ++ ws)
     unfolding visit
     now k a ms v g (K, few) H ws =
@@ -145,11 +145,11 @@ module _ {S : Type 0} (count : S → ℕ) (choose : S → ℕ → ℕ → Taken 
             inr (inl (ws, s″, ap (λ (x : List ℕ). x ++ ws) (sym e), st))
         go f (inr (inr x)) = inr (inr x)
 
-    further : (d v : ℕ) (g g′ : Midway S) (w : ℕ) (xs ws : List ℕ) → Visits count Step Wait v g xs g′ → Splits d (suc v) g′ w ws → Splits (suc d) v g w (xs ++ ws)
+    further : (d v : ℕ) (g g′ : RoundState S) (w : ℕ) (xs ws : List ℕ) → Visits count Step Wait v g xs g′ → Splits d (suc v) g′ w ws → Splits (suc d) v g w (xs ++ ws)
     further d v g g′ w xs ws st (ys, zs, g″, i, e, f, h, m, t) =
         (xs ++ ys, zs, g″, i, ap (λ (x : List ℕ). xs ++ x) e ∙ sym (append-assoc xs ys zs), (xs, ys, g′, refl, st, f), h, m, t)
 
-    split : (k a : ℕ) (ms : List Bool) (v : ℕ) (g : Midway S) → Keeps count choose Step Wait W k a ms v g → (d w : ℕ) → w ≡ v + d → d < k → Holds g w (at s₀ j₀)
+    split : (k a : ℕ) (ms : List Bool) (v : ℕ) (g : RoundState S) → Keeps count choose Step Wait W k a ms v g → (d w : ℕ) → w ≡ v + d → d < k → Holds g w (at s₀ j₀)
         → Splits d v g w (roundFrom count choose k a ms (g .state) .words)
     unfolding roundFrom
     split zero a ms v g K d w e l H = let never : ⊥ = omega (arith, l) in absurd never
@@ -160,7 +160,7 @@ module _ {S : Type 0} (count : S → ℕ) (choose : S → ℕ → ℕ → Taken 
         (now k a ms v g K (subst (λ (y : ℕ). Holds g y (at s₀ j₀)) (sym z) H) (roundFrom count choose k (x .place) (x .marks) (x .state) .words))
     split (suc k) a ms v g K (suc d) w e l H =
         let x : Going S = visit count choose (g .state) a ms in
-        let g′ : Midway S = next count choose Step Wait W a ms v g in
+        let g′ : RoundState S = next count choose Step Wait W a ms v g in
         let (st, L, c) = one-more count choose Step Wait W k a ms v g K in
         let H′ : Holds g′ w (at s₀ j₀) = holds k a ms v g (K .0) (K .1) w (λ z. omega (arith, e, z)) H (come count choose Step Wait W a ms g) (view count choose (g .state) a ms) in
         let f : Splits d (suc v) g′ w (roundFrom count choose k (x .place) (x .marks) (g′ .state) .words) =
@@ -171,7 +171,7 @@ module _ {S : Type 0} (count : S → ℕ) (choose : S → ℕ → ℕ → Taken 
   -- Of each thread that has a lone step in the round's first state: after the visits of those before it, it holds what it held; then its lone choice comes and is a
   -- step or waits, or it is excused.
   pub round-lively : (s : S) (w : ℕ) (s₁ : S) → Step s w 0 s₁
-      → (xs : List ℕ) × (ys : List ℕ) × (g : Midway S) × (i : ℕ) × (round count choose s .words ≡ xs ++ ys) × VisitsFrom count Step Wait 1 (w - 1) (begun count Step Wait s) xs g
+      → (xs : List ℕ) × (ys : List ℕ) × (g : RoundState S) × (i : ℕ) × (round count choose s .words ≡ xs ++ ys) × VisitsFrom count Step Wait 1 (w - 1) (begun count Step Wait s) xs g
       × Path count Step Wait s xs (g .state) × Here g w i × (at (g .state) i ≡ at s w)
       × (((zs : List ℕ) × (s′ : S) × (ys ≡ i ∷ 0 ∷ zs) × Step (g .state) i 0 s′)
       ⊎ (((zs : List ℕ) × (s′ : S) × (ys ≡ i ∷ 0 ∷ zs) × Wait (g .state) i s′) ⊎ Excused (g .state) i))

@@ -9,29 +9,29 @@ use lib.Dec.{eqb}
 use lib.ListN.{length, getD, replicate, length-append, length-replicate, getD-replicate}
 use borrow.Author.Tests.{eqb-true, eqb-false}
 use Rattle.rounds.specs.Round.{Taken, refuses, waits, steps, Visited, nothingDone, waited, alone, met, isStep, Going, Rounded, going, visited, visit, roundFrom, round}
-use Rattle.rounds.specs.Rounds.{In, Midway, Here, relabelled, Visits, lone, wait, meet, nothing, VisitsFrom, begun, Rounds, Path}
+use Rattle.rounds.specs.Rounds.{In, RoundState, Here, relabelled, Visits, lone, wait, meet, nothing, VisitsFrom, begun, Rounds, Path}
 use Rattle.rounds.proofs.Laws.{Lawful}
-use Rattle.rounds.proofs.Midways.{Keeping, keeping-start}
+use Rattle.rounds.proofs.RoundStates.{Keeping, keeping-start}
 use Rattle.rounds.proofs.Searching.{View, steps-alone, waits-alone, meets-first, does-nothing, view}
 use Rattle.rounds.proofs.Visiting.{Keeps, stood, stood-state, related, unrivalled, keeps}
 
 module _ {S : Type 0} (count : S → ℕ) (choose : S → ℕ → ℕ → Taken S) (Step : S → ℕ → ℕ → S → Type 0) (Wait : S → ℕ → S → Type 0)
     (W : Lawful count choose Step Wait) where
-  abbrev Left : ℕ → ℕ → List Bool → ℕ → Midway S → Type 0
+  abbrev Left : ℕ → ℕ → List Bool → ℕ → RoundState S → Type 0
   Left = Keeps count choose Step Wait W
 
   abbrev from : ℕ → ℕ → List Bool → S → Rounded S
   from = roundFrom count choose
 
   -- the visit of a state in the midst of a round
-  abbrev pub come : ℕ → List Bool → Midway S → Visited S
+  abbrev pub come : ℕ → List Bool → RoundState S → Visited S
   come a ms g = visited count choose (g .state) a ms
 
-  abbrev pub next : ℕ → List Bool → ℕ → Midway S → Midway S
+  abbrev pub next : ℕ → List Bool → ℕ → RoundState S → RoundState S
   next a ms v g = stood count choose Step Wait W v g a (come a ms g)
 
   -- one visit, and those after it
-  pub one-more : (k a : ℕ) (ms : List Bool) (v : ℕ) (g : Midway S) → Left (suc k) a ms v g
+  pub one-more : (k a : ℕ) (ms : List Bool) (v : ℕ) (g : RoundState S) → Left (suc k) a ms v g
       → Visits count Step Wait v g (visit count choose (g .state) a ms .words) (next a ms v g)
       × Left k (visit count choose (g .state) a ms .place) (visit count choose (g .state) a ms .marks) (suc v) (next a ms v g)
       × (next a ms v g .state ≡ visit count choose (g .state) a ms .state)
@@ -42,10 +42,10 @@ module _ {S : Type 0} (count : S → ℕ) (choose : S → ℕ → ℕ → Taken 
     stood-state count choose Step Wait W v g a ms (come a ms g),
   )
 
-  abbrev Related : ℕ → ℕ → Midway S → Rounded S → Type 0
-  Related k v g r = (g′ : Midway S) × VisitsFrom count Step Wait v k g (r .words) g′ × (g′ .state ≡ r .state)
+  abbrev Related : ℕ → ℕ → RoundState S → Rounded S → Type 0
+  Related k v g r = (g′ : RoundState S) × VisitsFrom count Step Wait v k g (r .words) g′ × (g′ .state ≡ r .state)
 
-  pub from-related : (k a : ℕ) (ms : List Bool) (v : ℕ) (g : Midway S) → Left k a ms v g → Related k v g (from k a ms (g .state))
+  pub from-related : (k a : ℕ) (ms : List Bool) (v : ℕ) (g : RoundState S) → Left k a ms v g → Related k v g (from k a ms (g .state))
   unfolding roundFrom
   from-related zero a ms v g K = (g, (refl, refl), refl)
   from-related (suc k) a ms v g K =
@@ -54,18 +54,18 @@ module _ {S : Type 0} (count : S → ℕ) (choose : S → ℕ → ℕ → Taken 
       let (g′, h, d) = subst (λ (y : S). Related k (suc v) (next a ms v g) (from k (x .place) (x .marks) y)) e (from-related k (x .place) (x .marks) (suc v) (next a ms v g) L) in
       (g′, (x .words, from k (x .place) (x .marks) (x .state) .words, next a ms v g, refl, st, h), d)
 
-  abbrev Told : List ℕ → Midway S → Rounded S → Type 0
+  abbrev Told : List ℕ → RoundState S → Rounded S → Type 0
   Told ws g r = (ws ≡ r .words) × (g .state ≡ r .state)
 
-  pub from-unrivalled : (k a : ℕ) (ms : List Bool) (v : ℕ) (g : Midway S) → Left k a ms v g → (ws : List ℕ) (g′ : Midway S)
+  pub from-unrivalled : (k a : ℕ) (ms : List Bool) (v : ℕ) (g : RoundState S) → Left k a ms v g → (ws : List ℕ) (g′ : RoundState S)
       → VisitsFrom count Step Wait v k g ws g′ → Told ws g′ (from k a ms (g .state))
   unfolding roundFrom visit
-  from-unrivalled zero a ms v g K ws g′ (e, d) = (e, ap (λ (x : Midway S). x .state) (sym d))
+  from-unrivalled zero a ms v g K ws g′ (e, d) = (e, ap (λ (x : RoundState S). x .state) (sym d))
   from-unrivalled (suc k) a ms v g K ws g″ (xs, ys, g′, e, st, h) =
       let (_, L, c) = one-more k a ms v g K in
       let x : Going S = visit count choose (g .state) a ms in
       let (p, q) = unrivalled count choose Step Wait W k a ms v g (K .0) (K .1) (come a ms g) (view count choose (g .state) a ms) xs g′ st in
-      let h′ : VisitsFrom count Step Wait (suc v) k (next a ms v g) ys g″ = subst (λ (y : Midway S). VisitsFrom count Step Wait (suc v) k y ys g″) q h in
+      let h′ : VisitsFrom count Step Wait (suc v) k (next a ms v g) ys g″ = subst (λ (y : RoundState S). VisitsFrom count Step Wait (suc v) k y ys g″) q h in
       let (m, n) = subst (λ (y : S). Told ys g″ (from k (x .place) (x .marks) y)) c (from-unrivalled k (x .place) (x .marks) (suc v) (next a ms v g) L ys g″ h′) in
       (e ∙ ap (λ (y : List ℕ). y ++ ys) p ∙ ap (λ (y : List ℕ). x .words ++ y) m, n)
 
@@ -94,15 +94,15 @@ module _ {S : Type 0} (count : S → ℕ) (choose : S → ℕ → ℕ → Taken 
   path-append (i ∷ []) ys s s′ s″ e h = absurd e
   path-append (i ∷ p ∷ xs) ys s s′ s″ (t, st, e) h = (t, st, path-append xs ys t s′ s″ e h)
 
-  visits-path : (v : ℕ) (g : Midway S) (ws : List ℕ) (g′ : Midway S) → Visits count Step Wait v g ws g′ → Path count Step Wait (g .state) ws (g′ .state)
+  visits-path : (v : ℕ) (g : RoundState S) (ws : List ℕ) (g′ : RoundState S) → Visits count Step Wait v g ws g′ → Path count Step Wait (g .state) ws (g′ .state)
   visits-path v g ws g′ (lone i s′ at st) = (s′, inl st, refl)
   visits-path v g ws g′ (wait i s′ at st) = (s′, inr (refl, st), refl)
   visits-path v g ws g′ (meet i p u s′ at there out st least) = (s′, inl st, refl)
   visits-path v g ws g′ (nothing i at x y z) = refl
 
-  pub from-path : (k v : ℕ) (g : Midway S) (ws : List ℕ) (g′ : Midway S) → VisitsFrom count Step Wait v k g ws g′ → Path count Step Wait (g .state) ws (g′ .state)
+  pub from-path : (k v : ℕ) (g : RoundState S) (ws : List ℕ) (g′ : RoundState S) → VisitsFrom count Step Wait v k g ws g′ → Path count Step Wait (g .state) ws (g′ .state)
   from-path zero v g ws g′ (e, d) =
-      subst (λ (x : List ℕ). Path count Step Wait (g .state) x (g′ .state)) (sym e) (ap (λ (x : Midway S). x .state) d)
+      subst (λ (x : List ℕ). Path count Step Wait (g .state) x (g′ .state)) (sym e) (ap (λ (x : RoundState S). x .state) d)
   from-path (suc k) v g ws g″ (xs, ys, g′, e, st, h) =
       subst (λ (x : List ℕ). Path count Step Wait (g .state) x (g″ .state)) (sym e)
       (path-append xs ys (g .state) (g′ .state) (g″ .state) (visits-path v g xs g′ st) (from-path k (suc v) g′ ys g″ h))
@@ -113,13 +113,13 @@ module _ {S : Type 0} (count : S → ℕ) (choose : S → ℕ → ℕ → Taken 
       let (g, h, e) = round-is s (round count choose s .words) (round count choose s .state) .1 (refl, refl) in
       subst (λ (x : S). Path count Step Wait s (round count choose s .words) x) e (from-path (count s) 1 (begun count Step Wait s) (round count choose s .words) g h)
 
-  visits-length : (v : ℕ) (g : Midway S) (ws : List ℕ) (g′ : Midway S) → Visits count Step Wait v g ws g′ → (length ws ≡ 0) ⊎ (length ws ≡ 2)
+  visits-length : (v : ℕ) (g : RoundState S) (ws : List ℕ) (g′ : RoundState S) → Visits count Step Wait v g ws g′ → (length ws ≡ 0) ⊎ (length ws ≡ 2)
   visits-length v g ws g′ (lone i s′ at st) = inr refl
   visits-length v g ws g′ (wait i s′ at st) = inr refl
   visits-length v g ws g′ (meet i p u s′ at there out st least) = inr refl
   visits-length v g ws g′ (nothing i at x y z) = inl refl
 
-  from-length : (k v : ℕ) (g : Midway S) (ws : List ℕ) (g′ : Midway S) → VisitsFrom count Step Wait v k g ws g′ → (length ws ≤ 2 * k) × (length ws % 2 ≡ 0)
+  from-length : (k v : ℕ) (g : RoundState S) (ws : List ℕ) (g′ : RoundState S) → VisitsFrom count Step Wait v k g ws g′ → (length ws ≤ 2 * k) × (length ws % 2 ≡ 0)
   from-length zero v g ws g′ (e, d) = let z : length ws ≡ 0 = ap (λ (x : List ℕ). length x) e in (omega (arith, z), omega (arith, z))
   from-length (suc k) v g ws g″ (xs, ys, g′, e, st, h) = go (visits-length v g xs g′ st) (from-length k (suc v) g′ ys g″ h)
     where

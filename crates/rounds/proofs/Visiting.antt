@@ -9,10 +9,10 @@ use lib.Dec.{eqb, ltb}
 use lib.ListN.{length, getD, set, take, drop, length-set}
 use borrow.Author.Tests.{ltb-true, ltb-false, lt-ltb, le-ltb}
 use Rattle.rounds.specs.Round.{Taken, refuses, waits, steps, Visited, nothingDone, waited, alone, met, isStep, withoutItem, Going, going}
-use Rattle.rounds.specs.Rounds.{In, Midway, Here, relabelled, Visits, lone, wait, meet, nothing}
+use Rattle.rounds.specs.Rounds.{In, RoundState, Here, relabelled, Visits, lone, wait, meet, nothing}
 use Rattle.rounds.proofs.PlaceLaws.{length-withoutItem}
 use Rattle.rounds.proofs.Laws.{Lawful}
-use Rattle.rounds.proofs.Midways.{Keeping, inside, injective, unmarked, not-marked, skip, mark, longer, shorter}
+use Rattle.rounds.proofs.RoundStates.{Keeping, inside, injective, unmarked, not-marked, skip, mark, longer, shorter}
 use Rattle.rounds.proofs.Searching.{View, steps-alone, waits-alone, meets-first, does-nothing}
 
 abbrev Kind : {S : Type 0} → Taken S → ℕ
@@ -26,23 +26,23 @@ step-is o f s e = false≢true (sym f ∙ ap isStep e)
 module _ {S : Type 0} (count : S → ℕ) (choose : S → ℕ → ℕ → Taken S) (Step : S → ℕ → ℕ → S → Type 0) (Wait : S → ℕ → S → Type 0)
     (W : Lawful count choose Step Wait) where
   -- the marks of a computed round stand so beside the labels
-  abbrev pub Keeps : ℕ → ℕ → List Bool → ℕ → Midway S → Type 0
+  abbrev pub Keeps : ℕ → ℕ → List Bool → ℕ → RoundState S → Type 0
   Keeps k a ms v g = Keeping k a ms v (g .labels) (g .moved) × (length ms ≤ count (g .state))
 
   -- what a visit leaves
-  abbrev pub stood : ℕ → Midway S → ℕ → Visited S → Midway S
+  abbrev pub stood : ℕ → RoundState S → ℕ → Visited S → RoundState S
   stood v g a nothingDone = g
   stood v g a (waited s′) = record { state = s′; labels = g .labels; moved = g .moved }
   stood v g a (alone s′) = record { state = s′; labels = relabelled (count (g .state)) (count s′) (suc a) (g .labels); moved = v ∷ g .moved }
   stood v g a (met p s′) = record { state = s′; labels = g .labels; moved = v ∷ getD (g .labels) (p - 1) 0 ∷ g .moved }
 
-  pub stood-state : (v : ℕ) (g : Midway S) (a : ℕ) (ms : List Bool) (o : Visited S) → stood v g a o .state ≡ going count choose (g .state) a ms o .state
+  pub stood-state : (v : ℕ) (g : RoundState S) (a : ℕ) (ms : List Bool) (o : Visited S) → stood v g a o .state ≡ going count choose (g .state) a ms o .state
   stood-state v g a ms nothingDone = refl
   stood-state v g a ms (waited s′) = refl
   stood-state v g a ms (alone s′) = refl
   stood-state v g a ms (met p s′) = refl
 
-  module _ (k a : ℕ) (ms : List Bool) (v : ℕ) (g : Midway S) (K : Keeping (suc k) a ms v (g .labels) (g .moved)) (few : length ms ≤ count (g .state)) where
+  module _ (k a : ℕ) (ms : List Bool) (v : ℕ) (g : RoundState S) (K : Keeping (suc k) a ms v (g .labels) (g .moved)) (few : length ms ≤ count (g .state)) where
     abbrev s : S
     s = g .state
 
@@ -95,7 +95,7 @@ module _ {S : Type 0} (count : S → ℕ) (choose : S → ℕ → ℕ → Taken 
     one-wait : (s′ s″ : S) → choose s (suc a) 0 ≡ waits s″ → Wait s (suc a) s′ → s′ ≡ s″
     one-wait s′ s″ e st = cc (e, W .waiting s (suc a) s′ .1 st)
 
-    abbrev Same : List ℕ → Midway S → Visited S → Type 0
+    abbrev Same : List ℕ → RoundState S → Visited S → Type 0
     Same ws g′ o = (ws ≡ going count choose s a ms o .words) × (g′ ≡ stood v g a o)
 
     -- by numbers of the thread itself
@@ -144,7 +144,7 @@ module _ {S : Type 0} (count : S → ℕ) (choose : S → ℕ → ℕ → Taken 
         absurd (z r (getD (g .labels) (r - 1) 0) s″ (K .from-start (r - 1) h, l, refl) (unmarked K (r - 1) h m) (W .stepped s (suc a) r s″ .0 c))
     nothingDone-only x y z o (does-nothing n e f) = (refl, refl)
 
-    pub unrivalled : (o : Visited S) → View count choose s a ms o → (ws : List ℕ) (g′ : Midway S) → Visits count Step Wait v g ws g′ → Same ws g′ o
+    pub unrivalled : (o : Visited S) → View count choose s a ms o → (ws : List ℕ) (g′ : RoundState S) → Visits count Step Wait v g ws g′ → Same ws g′ o
     unrivalled o view ws g′ (lone i s′ h st) =
         subst (λ (x : ℕ). Step s x 0 s′ → Same (x ∷ 0 ∷ []) (record { state = s′; labels = relabelled (count s) (count s′) x (g .labels); moved = v ∷ g .moved }) o)
         (sym (only i h)) (λ d. lone-only s′ d o view) st

@@ -10,7 +10,7 @@ use Rattle.reading_exact.specs.File.{InCount}
 use Rattle.running_exact.specs.Steps.{Steps}
 use Rattle.running_exact.proofs.Agree.{refused-positive}
 use Rattle.rounds.specs.Round.{Taken, refuses, waits, steps, Rounded}
-use Rattle.rounds.specs.Rounds.{Midway, Here, Path}
+use Rattle.rounds.specs.Rounds.{RoundState, Here, Path}
 use Rattle.rounds.proofs.Laws.{Lawful, Recorded}
 use Rattle.rounds.proofs.Rounding.{round-is, round-path, round-length, round-empty}
 use Rattle.rounds.proofs.Living.{round-lively}
@@ -178,7 +178,7 @@ module _ (L : Limited) where
   -- thread, in the place where it then stands, is the same record; then its lone choice comes and goes on, or comes and gets no seat, or refusal 20 is what that
   -- choice gets.
   pub seated-lone-done : (S : SeatedState) (v : ℕ) (S₁ : SeatedState) → GoesOn L S v 0 S₁
-      → (xs : List ℕ) × (ys : List ℕ) × (g : Midway SeatedState) × (i : ℕ) × (seatedRoundOf L S .words ≡ xs ++ ys)
+      → (xs : List ℕ) × (ys : List ℕ) × (g : RoundState SeatedState) × (i : ℕ) × (seatedRoundOf L S .words ≡ xs ++ ys)
       × SeatedVisits L S (v - 1) xs g × SeatedPath S xs (g .state) × Here g v i × (threadAt (g .state .state) i ≡ threadAt (S .state) v)
       × (((zs : List ℕ) × (S′ : SeatedState) × (ys ≡ i ∷ 0 ∷ zs) × GoesOn L (g .state) i 0 S′)
       ⊎ (((zs : List ℕ) × (S′ : SeatedState) × (ys ≡ i ∷ 0 ∷ zs) × GetsNone L (g .state) i S′) ⊎ (choice (L .clinic) (g .state .state) i 0 ≡ halts 20)))
@@ -226,7 +226,7 @@ module _ (L : Limited) where
       subst (λ (x : List ℕ). SeatedPath S x S′) (sym e) (subst (λ (T : SeatedState). SeatedPath S (seatedRoundOf L S .words) T) (sym d) (seated-round-path S))
 
   pub seated-lone-of : (S : SeatedState) (v : ℕ) (S₁ : SeatedState) → GoesOn L S v 0 S₁ → (ws : List ℕ) (S′ : SeatedState) → IsSeatedRound L S ws S′
-      → (xs : List ℕ) × (ys : List ℕ) × (g : Midway SeatedState) × (i : ℕ) × (ws ≡ xs ++ ys)
+      → (xs : List ℕ) × (ys : List ℕ) × (g : RoundState SeatedState) × (i : ℕ) × (ws ≡ xs ++ ys)
       × SeatedVisits L S (v - 1) xs g × SeatedPath S xs (g .state) × Here g v i × (threadAt (g .state .state) i ≡ threadAt (S .state) v)
       × (((zs : List ℕ) × (S″ : SeatedState) × (ys ≡ i ∷ 0 ∷ zs) × GoesOn L (g .state) i 0 S″)
       ⊎ (((zs : List ℕ) × (S″ : SeatedState) × (ys ≡ i ∷ 0 ∷ zs) × GetsNone L (g .state) i S″) ⊎ (choice (L .clinic) (g .state .state) i 0 ≡ halts 20)))

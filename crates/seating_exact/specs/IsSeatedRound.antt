@@ -6,7 +6,7 @@ use lib.ListN.{length, replicate}
 use Rattle.format.specs.Answers.{fine, refused}
 use Rattle.running_exact.specs.Output.{stateBytes}
 use Rattle.rounds.specs.Round.{waits, steps}
-use Rattle.rounds.specs.Rounds.{Midway, VisitsFrom, begun, Rounds}
+use Rattle.rounds.specs.Rounds.{RoundState, VisitsFrom, begun, Rounds}
 use Rattle.dispatching.specs.declared.Round.{Round}
 use Rattle.seats.specs.Seats.{Limited, SeatedState, seatedRanOf}
 use Rattle.seats.specs.SeatOrder.{SeatedStep}
@@ -24,7 +24,7 @@ abbrev pub IsSeatedRound : Limited → SeatedState → List ℕ → SeatedState 
 IsSeatedRound L S ws S′ = Rounds seatedThreads (GoesOn L) (GetsNone L) S ws S′
 
 -- the first k visits of a round, what they add to its choices and what they leave
-abbrev pub SeatedVisits : Limited → SeatedState → ℕ → List ℕ → Midway SeatedState → Type 0
+abbrev pub SeatedVisits : Limited → SeatedState → ℕ → List ℕ → RoundState SeatedState → Type 0
 SeatedVisits L S k ws g = VisitsFrom seatedThreads (GoesOn L) (GetsNone L) 1 k (begun seatedThreads (GoesOn L) (GetsNone L) S) ws g
 
 -- after the list ws, which nothing stopped, the round has the choices rs: the run through both lists is done and written, and rs is handed back, 0 past the last

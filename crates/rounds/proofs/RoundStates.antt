@@ -11,7 +11,7 @@ use lib.ListN.{length, getD, set, take, drop, replicate, length-set, length-repl
 use lib.Seq.{getD-set-same, getD-set-other}
 use borrow.Author.Tests.{ltb-true, ltb-false, eqb-true, eqb-false, lt-ltb, le-ltb}
 use Rattle.rounds.specs.Round.{withoutItem}
-use Rattle.rounds.specs.Rounds.{In, Midway, Here, relabelled, numbers}
+use Rattle.rounds.specs.Rounds.{In, RoundState, Here, relabelled, numbers}
 use Rattle.rounds.proofs.PlaceLaws.{withoutItem-below, withoutItem-above, getD-snoc, length-withoutItem, numbers-at, numbers-past}
 
 -- k threads are left to visit, the first in place a, with the number v at the start
