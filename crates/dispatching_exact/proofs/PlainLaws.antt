@@ -71,6 +71,10 @@ module _ (C : Clinic) where
           lone-tag (L .node .tag) 6 (inr refl) (L .tag) (ap (λ (x : Node). x .tag) (sym (L .stands .2) ∙ M .stands .2) ∙ M .six)
       apart s i p s′ s″ l st (inr at) = at
 
+  -- the thread could do a lone step
+  abbrev pub Able : State → ℕ → Type 0
+  Able s j = (s′ : State) × Steps C s j 0 s′
+
   -- refusal 20 is what the thread's lone choice gets
   abbrev pub Full : State → ℕ → Type 0
   Full s i = choice C s i 0 ≡ halts 20
@@ -117,7 +121,7 @@ module _ (C : Clinic) where
   again s s₁ _ _ i s′ z (end j n st e) c q = inl (_, end i n (same-node s s₁ j i n c q st) e)
   again s s₁ _ _ i s′ z (meet j p n m st six at five x y w) c q = let l : 1 ≤ p = at .0 .0 in let never : ⊥ = omega (arith, l, z) in absurd never
 
-  pub recorded : Recorded threadsOf (comesTo C) (Steps C) NoWait threadAt Full
+  pub recorded : Recorded threadsOf (comesTo C) (Steps C) NoWait threadAt Able Full
   recorded = record {
     others = λ s i j s′ st m l h z.
         let L : LoneStep C s i s′ = lone-step C s i s′ st in
@@ -141,12 +145,13 @@ module _ (C : Clinic) where
         ∙ getD-set-other (set (s .threads) (i - 1) (M .first)) (p - 1) (j - 1) (M .second) noThread (λ w. y (omega (arith, w, lj, l)))
         ∙ getD-set-other (s .threads) (i - 1) (j - 1) (M .first) noThread (λ w. z (omega (arith, w, lj, li)));
     unmoved = λ s i j s′ st. absurd st;
-    no-receiver = λ s s₁ j i p s′ s″ st l at e.
+    able-counted = λ s j (s′, st). let (l, h, _) = step-counted C s j 0 s′ st in (l, h);
+    no-receiver = λ s s₁ j i p s″ (s′, st) l at e.
         let M : Meeting C s₁ i p s″ = meeting-step C s₁ i p s″ l at in
         let L : LoneStep C s j s′ = lone-step C s j s′ st in
         lone-tag (L .node .tag) 5 (inl refl) (L .tag)
         (ap (λ (x : Node). x .tag) (sym (L .stands .2) ∙ ap (λ (t : Thread). C .node (t .node)) (sym e) ∙ M .there .2) ∙ M .five);
-    again = λ s s₁ j i s′ st l h e. nor-waits (again s s₁ j 0 i s′ refl st (l, h) e);
+    again = λ s s₁ j i (s′, st) l h e. nor-waits (again s s₁ j 0 i s′ refl st (l, h) e);
   }
     where
       nor-waits : {s : State} {i : ℕ} → Again s i → ((s″ : State) × Steps C s i 0 s″) ⊎ (((s″ : State) × NoWait s i s″) ⊎ Full s i)

@@ -1,11 +1,13 @@
 -- A column file is answered as its row file, and placed it is the columns of the placed row file.
 use Prim.Native.Nat.{ℕ, _<_}
 use mathlib.Core.Path.{_≡_, refl, sym, ap, _∙_, subst}
-use mathlib.Core.Logic.{_⊎_, inl, inr}
+use mathlib.Core.Logic.{_⊎_, inl, inr, _≢_}
 use mathlib.Core.Bool.{Bool, true, false, true≢false}
 use mathlib.Core.List.{List, [], _∷_}
 use lib.ListN.{length}
-use Rattle.format.specs.Header.{hasJuniors, headAt, versionAt, roomFor}
+use Rattle.format.specs.Header.{hasJuniors, headAt, versionAt, headOf, roomFor}
+use Rattle.format.specs.declared.HeadAnswer.{HeadAnswer}
+use Rattle.format.specs.declared.HeadAnswer.the-variants.{Fine, Refused}
 use Rattle.format.specs.Contents.{Contents, contentsOf}
 use Rattle.format.specs.Writing.{encoded}
 use Rattle.format.proofs.HeadLaws.{Headed}
@@ -17,12 +19,14 @@ use Rattle.groups.specs.Groups.{startsOf, placedContents}
 use Rattle.placing.specs.Placing.{turnsFor, bytesBy, placing, placedBytes, placedOver}
 use Rattle.hours.specs.Hours.{shut}
 use Rattle.placing_at.specs.PlaceAt.{openContents, placingAt, placedBytesAt, placedOverAt}
+use Rattle.reading.proofs.ReadingLaws.{refused-by-head}
 use Rattle.reading_exact.specs.Lists.{All}
 use Rattle.reading_exact.proofs.Places.{encoded-back}
-use Rattle.turning.specs.Turning.{turnedTo, inColumns, inRows, turning}
-use Rattle.turning_exact.proofs.Turned.{turned-holds, turned-length, turned-version, turned-headed, turned-read, turned-clean, there-and-back}
-use Rattle.engine.specs.Alike.{AlikeBesideBytes, ColumnsOf}
+use Rattle.turning.specs.Turning.{headNumber, turnedTo, inColumns, inRows, turning}
+use Rattle.turning_exact.proofs.Turned.{turned-holds, turned-length, turned-version, turned-headed, turned-read, turned-clean, there-and-back, same-head-refusals}
+use Rattle.engine.specs.Alike.{AlikeBesideBytes, Alike, ColumnsOf}
 use Rattle.engine.proofs.SameContents.{wanted, over-alike, alike-beside-bytes}
+use Rattle.engine.proofs.Unread.{loud-head, unread-alike}
 
 -- a version with masks of juniors wants as much output as the other
 room-large : (h : List ℕ) → Headed h → hasJuniors (versionAt h) ≡ true → roomFor h ≡ 6908
@@ -84,6 +88,20 @@ rows-alike c bytes room zero =
     let (l, d, three) = turned-clean 3 c room zero in
     subst (λ (g : List ℕ). ColumnsOf g (inRows c)) (there-and-back 3 2 refl refl c bytes room zero .1)
     (columns-of (inRows c) (turned-headed c 2 d (ap hasJuniors three) refl) (turned-version c 2))
+
+-- bytes of version 3 that 1 to 5 refuse, and the same of version 2
+pub heads-refused : (bs : List ℕ) → headNumber (headOf (3 ∷ 0 ∷ bs)) ≢ 0 → Alike (3 ∷ 0 ∷ bs) (2 ∷ 0 ∷ bs)
+heads-refused bs bad =
+    let f : List ℕ = 3 ∷ 0 ∷ bs in
+    let g : List ℕ = 2 ∷ 0 ∷ bs in
+    let n : ℕ = headNumber (headOf f) in
+    let by-f : headOf f ≡ Refused n = by (headOf f) n refl bad in
+    let by-g : headOf g ≡ Refused n = by (headOf g) n (sym (same-head-refusals bs)) bad in
+    unread-alike f g (refused-by-head f n by-f ∙ sym (refused-by-head g n by-g)) (loud-head g n by-g) refl
+  where
+    by : (a : HeadAnswer) (n : ℕ) → headNumber a ≡ n → n ≢ 0 → a ≡ Refused n
+    by (Fine h) n e bad = absurd (bad (sym e))
+    by (Refused m) n e bad = ap Refused e
 
 -- a notice is answered alike with a file that is as long and is read alike
 notice-alike : (g f : List ℕ) → length g ≡ length f → readingNames g ≡ readingNames f → (a b c d : ℕ) (n : List ℕ) (day : ℕ)

@@ -1,7 +1,6 @@
 pub mod SameContents
+pub mod Unread
 pub mod Columns
-pub mod LongHours
-pub mod LongSeats
 pub mod LongInputs
 pub mod NothingPlanned
 pub mod Promises

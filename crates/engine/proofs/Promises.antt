@@ -42,7 +42,7 @@ use Rattle.rules.specs.Juniors.{Granted}
 use Rattle.rules.specs.Names.{Bound}
 use Rattle.rules.specs.Schema.{Schema, schemaOf, Permitted}
 use Rattle.reading_exact.specs.Tree.{on, Tree, switch, past, write}
-use Rattle.placing.specs.Placing.{measuring, placing, noPlace, placedBytes, placedOver}
+use Rattle.placing.specs.Placing.{turnsFor, measuring, placing, noPlace, placedBytes, placedOver}
 use Rattle.placing_exact.specs.Placement.{onSteps, onStepsOf, Placement, PlacementByRoles}
 use Rattle.checking_exact.specs.Tables.{schemaFor}
 use Rattle.placing_exact.specs.Placed.{AllStates, listedAll, insertAll, Bare}
@@ -53,7 +53,7 @@ use Rattle.placing_exact.specs.Cases.{Shown, cases, juniorCases, columnCases, n
 use Rattle.format.specs.declared.Node.{Node}
 use Rattle.rules.specs.Rules.{Context, childOf}
 use Rattle.steps.specs.declared.Thread.{Thread}
-use Rattle.steps.specs.Threads.{noThread, firstFree, value}
+use Rattle.steps.specs.Threads.{noThread, noMade, firstFree, value}
 use Rattle.steps.specs.Beside.{threadCount, madeCount, countWords, usedWords, totalIn}
 use Rattle.lending_exact.specs.Waiting.{waitingIn}
 use Rattle.lending_exact.proofs.WaitingCounts.{rule-one}
@@ -97,11 +97,12 @@ use Rattle.running_exact.proofs.StepEffects.{step-effect}
 use Rattle.running_exact.proofs.RunChain.{run-chain, run-stopped, run-whole}
 use Rattle.running_exact.proofs.ReadyPair.{ready-done, ready-lowest, ready-none, ready-zero}
 use Rattle.running_exact.proofs.StartThreads.{start-seats}
-use Rattle.running_exact.proofs.RunSafe.{run-kept, next-free, run-safe, placed-safe, placed-unbarred}
+use Rattle.running_exact.proofs.RunSafe.{run-kept, next-free, run-safe, answers as run-answers, placed-safe, placed-unbarred}
 use Rattle.running_exact.proofs.RunAnswers.{run-unfit, run-seventeen, run-names, run-through, run-halted, run-unwritten, run-written}
 use Rattle.running_exact.proofs.ReadyAnswers.{ready-unlisted, ready-seventeen, ready-names, ready-halted, ready-found}
 use Rattle.running_exact.proofs.RunsShown.{runs-shown}
-use Rattle.lending_exact.proofs.LendableLaws.{eighteen-zero, ten-first, past-ten-one, choosing-fine}
+use Rattle.lending_exact.proofs.LendableLaws.{lending-exactly, eighteen-zero, ten-first, past-ten-one, choosing-fine}
+use Rattle.lending_exact.proofs.LentWords.{made-counted, made-by-words}
 use Rattle.lending_exact.proofs.LentRuns.{kept-lendable, lent-next, whole-run, lent-again}
 use Rattle.lending_exact.proofs.LentSteps.{lent-free, lent-steps}
 use Rattle.lending_exact.proofs.Unchanged.{refused-unchanged, past-kept}
@@ -124,8 +125,9 @@ use Rattle.hours_exact.proofs.PlaceAtExact.{roomless-at, well-at, fewest-at, le
 use Rattle.hours_exact.proofs.EmptyTable.{check-empty, place-empty, over-empty}
 use Rattle.hours_exact.proofs.CasesShown.{hours-shown}
 use Rattle.engine.specs.Alike.{AlikeBesideForm, AlikeBesideBytes, Alike, ColumnsOf}
-use Rattle.engine.proofs.SameContents.{alike-beside-form, alike-beside-bytes, alike, second-alike}
-use Rattle.engine.proofs.Columns.{columns-alike, rows-alike, notices-alike}
+use Rattle.engine.proofs.SameContents.{alike-beside-form, alike-beside-bytes, alike, second-alike, second-placed}
+use Rattle.engine.proofs.Unread.{unread-alike}
+use Rattle.engine.proofs.Columns.{columns-alike, rows-alike, heads-refused, notices-alike}
 use Rattle.rounds.specs.Rounds.{RoundState, Here, Path}
 use Rattle.dispatching.specs.Dispatch.{rounding, roundOver}
 use Rattle.dispatching_exact.specs.IsRound.{IsRound, VisitsOf}
@@ -175,19 +177,20 @@ use Rattle.seats.proofs.SeatedStart.{start-sits}
 use Rattle.seats.proofs.OwnerTrees.{owners-descend}
 use Rattle.seating.specs.SeatedRunning.{seatedRunning, seatedLength, seatedOver}
 use Rattle.seating.specs.SeatsRead.{seatedStepsOf, seatsAfter}
+use Rattle.seated.specs.SeatedEntry.{seatedWritten}
 use Rattle.seating.specs.SeatedRound.{seatedThreads, seatedRounding, seatedRoundOver}
 use Rattle.seating_exact.specs.SeatTable.{SeatTableFits, SeatTableMisfits, OverfullAt, StartFits, SeatsBar}
 use Rattle.seating_exact.specs.SeatsTold.{SeatsTold, ReadsPlainly, noSeatsAt}
 use Rattle.seating_exact.specs.IsSeatedRound.{GoesOn, GetsNone, IsSeatedRound, SeatedVisits, SeatedRoundTold, SeatedRoundStopped}
 use Rattle.seating_exact.specs.SeatCases.{SeatShown, seatCases}
 use Rattle.seating_exact.proofs.SeatedFiles.{table-word, wait-is-done, not-its-word, file-never-over, file-lines, file-stands, file-before, file-moves, file-alone, file-has, file-moves-up}
-use Rattle.seating_exact.proofs.SeatedAnswers.{seated-seventeen, seated-names, seated-start, seated-through, seated-halted, seated-unwritten, seated-written}
+use Rattle.seating_exact.proofs.SeatedAnswers.{seated-seventeen, seated-no-room, seated-names, seated-start, seated-through, seated-halted, seated-unwritten, seated-written}
 use Rattle.seating_exact.proofs.SeatedZeros.{zeros-answer, zeros-output, zeros-length}
 use Rattle.seating_exact.proofs.ZeroRounds.{zeros-round, zeros-round-output, zeros-read}
 use Rattle.seating_exact.proofs.SeatedRounds.{some-seated-round, one-seated-round, seated-path, seated-lone-of, seated-idle-of}
-use Rattle.seating_exact.proofs.SeatedRoundAnswers.{seated-round-seventeen, seated-round-names, seated-round-start, seated-round-none, seated-round-unwritten, seated-round-stopped, seated-round-answered}
-use Rattle.seating_exact.proofs.SeatsAnswers.{seats-seventeen, seats-names, seats-start, seats-none, seats-verdict, seats-told, taken-within}
-use Rattle.seating_exact.proofs.SeatedSafe.{placed-file-safe}
+use Rattle.seating_exact.proofs.SeatedRoundAnswers.{seated-round-seventeen, seated-round-no-room, seated-round-names, seated-round-start, seated-round-none, seated-round-unwritten, seated-round-stopped, seated-round-answered}
+use Rattle.seating_exact.proofs.SeatsAnswers.{seats-seventeen, seats-no-room, seats-names, seats-start, seats-none, seats-verdict, seats-told, taken-within}
+use Rattle.seating_exact.proofs.SeatedSafe.{passed-safe, placed-file-safe}
 use Rattle.seating_exact.proofs.SeatsShown.{seats-shown}
 use Rattle.notices.specs.Notices.{planInForce, ofNotice, partOf, placeOf}
 use Rattle.notices.specs.declared.InForce.{InForce}
@@ -215,7 +218,7 @@ use Rattle.sheets_exact.specs.Records.{recordsOf, WholeFiles}
 use Rattle.sheets_exact.specs.Owed.{sessionsPlaced, Owed}
 use Rattle.sheets_exact.specs.SheetCases.{SheetShown, sheetCases}
 use Rattle.sheets_exact.proofs.FilesLaws.{some-files, one-split}
-use Rattle.sheets_exact.proofs.Orders.{orders, orders-of-records}
+use Rattle.sheets_exact.proofs.Orders.{orders, orders-of-records, one-exchanged}
 use Rattle.sheets_exact.proofs.SheetOwed.{sheet-says, refused-alone, number-counted}
 use Rattle.sheets_exact.proofs.SheetsShown.{sheets-shown}
 
@@ -320,6 +323,10 @@ little-kept n = omega arith
 -- file returned"; "Among placements with fewest on steps, those with the fewest nodes of tags 0 to 4 in a state other than 0 are taken, and only then the smallest list" (02, K4): each is a field of `WellPlaced`.
 pub places-well : (f : List ℕ) → All (λ b. b < 256) f → (room : ℕ) → placing f room .number ≡ 0 → WellPlaced f (placing f room) (placedBytes f)
 places-well = placed-well
+
+-- A refusal of placing is its number and place, with length 0 and 0 on steps; every promise on a refusal of placing names it by `noPlace`.
+pub refused-places-nothing : (n p : ℕ) → noPlace n p ≡ record { number = n; place = p; length = 0; «on_steps» = 0 }
+refused-places-nothing n p = refl
 
 -- "A file that nothing earlier refuses is refused for want of a role exactly when it has no such placement."
 pub no-role-exactly : (f : List ℕ) → All (λ b. b < 256) f → (room : ℕ) → ((p : ℕ) × (placing f room ≡ noPlace 15 p)) ↔ (Unrefused f room × NoPlacement f)
@@ -597,6 +604,19 @@ lent-choice-is-a-step = lent-steps
 pub lent-exactly : (f : List ℕ) (l : List Thread) → All Eight l → (b : List ℕ) (i p : ℕ) → (choosing f l b i p ≡ refused 18 0) ↔ ((readingNames f ≡ fine) × (Lendable (contentsOf f) l b → ⊥))
 lent-exactly = eighteen-zero
 
+-- Nothing refuses before the choice exactly where the file passes 1 to 10 and what is lent is `Lendable`; so "11 to 13 may then stop" a list that is no state of a run
+-- (`choice-has-place-one`), and such a list is refused nowhere else.
+pub lendable-exactly : (f : List ℕ) (l : List Thread) → All Eight l → (b : List ℕ) → (lending f l b ≡ fine) ↔ ((readingNames f ≡ fine) × Lendable (contentsOf f) l b)
+lendable-exactly = lending-exactly
+
+-- "64 records, the thread count and made channels beside it": the state that is lent, by its words. Word 0 counts the threads, which are the first records, word 1 the made
+-- channels; made channel j has its owner at word 2 j and its kind at word 2 j + 1.
+pub lent-by-words : (l : List Thread) (b : List ℕ)
+    → (stateOf l b .threads ≡ take (getD b 0 0) l) × (length (stateOf l b .made) ≡ getD b 1 0)
+    × ((j : ℕ) → InCount (getD b 1 0) j
+    → item noMade (stateOf l b .made) j ≡ record { owner = getD b (2 * j) 0; kind = record { 0 = getD b (2 * j + 1) 0 } })
+lent-by-words l b = (refl, made-counted b, made-by-words b)
+
 -- "the file is judged by 1 to 10 first", and "the choice itself has place 1": what a choice in the state that is lent is refused with.
 pub file-first : (f : List ℕ) (l : List Thread) (b : List ℕ) (i p n q : ℕ) → OfFile n → (choosing f l b i p ≡ refused n q) ↔ (readingNames f ≡ refused n q)
 file-first = ten-first
@@ -676,9 +696,23 @@ same-lengths = alike-beside-bytes
 pub same-contents : (f g : List ℕ) → reading f ≡ reading g → contentsOf f ≡ contentsOf g → roomFor f ≡ roomFor g → versionAt f ≡ versionAt g → Alike f g
 same-contents = alike
 
+-- Two files that 1 to 8 refuse alike have the same answers, whatever else they are, where placing wants as much output of both.
+pub same-refusals : (f g : List ℕ) → reading f ≡ reading g → eqb (reading g .number) 0 ≡ false → roomFor f ≡ roomFor g → Alike f g
+same-refusals = unread-alike
+
 -- Request K1, version 2. "Version 1 still reads, as if all masks were 0": a file of version 1 and the same in version 2 with all masks 0 hold the same, and are answered alike.
 pub first-as-second : (F : File) → WellFormed F → (contentsOf (encode (asSecond F)) ≡ contentsOf (encode F)) × AlikeBesideForm (encode (asSecond F)) (encode F)
 first-as-second = second-alike
+
+-- .. and placed it is the placed file of version 1, in version 2 with all masks 0, with as many on steps (`measured` above); for a minute too.
+pub first-placed-as-second : (F G : File) → encode G ≡ placedBytes (encode F) → encode (asSecond G) ≡ placedBytes (encode (asSecond F))
+unfolding placedBytes
+first-placed-as-second F G writes = second-placed F G turnsFor writes
+
+pub first-placed-as-second-at : (F G : File) (t : List ℕ) (m : ℕ)
+    → encode G ≡ placedBytesAt (encode F) t m → encode (asSecond G) ≡ placedBytesAt (encode (asSecond F)) t m
+unfolding placedBytesAt
+first-placed-as-second-at F G t m writes = second-placed F G (λ C. turnsFor (openContents (shut t m) C)) writes
 
 -- In literal words: a chain of juniors in the check and in placing, the placed file with its version and masks, 11 for on of a junior, and 21 at its places.
 pub junior-cases : All Shown juniorCases
@@ -804,17 +838,29 @@ pub without-rows : (f : List ℕ) (m : ℕ) → m ≤ 10079
     → (checkingAt f [] m ≡ checking f) × ((room : ℕ) → placingAt f [] m room ≡ placing f room) × ((out : List ℕ) → placedOverAt f [] m out ≡ placedOver f out)
 without-rows f m week = (check-empty f m week, place-empty f m week, over-empty f m week)
 
+-- What passes for some minute passes the check without hours, and so does what is placed for one.
+pub checked-at-checked : (f t : List ℕ) (m : ℕ) → checkingAt f t m ≡ fine → checking f ≡ fine
+checked-at-checked = passes-plain
+
+pub placed-at-checked : (f : List ℕ) → All (λ b. b < 256) f → (t : List ℕ) (m room : ℕ)
+    → placingAt f t m room .number ≡ 0 → checking (placedBytesAt f t m) ≡ fine
+placed-at-checked f bytes t m room placed = passes-plain (placedBytesAt f t m) t m (well-at f bytes t m room placed .passes)
+
 -- Runs know no hours, and a file placed for a minute is not stopped for a role in any of them, whatever the list; nor is any file that passes for some minute.
 pub never-for-a-role-at : (f : List ℕ) → All (λ b. b < 256) f → (t : List ℕ) (m room : ℕ) → placingAt f t m room .number ≡ 0 → (ws : List ℕ)
     → (ranOf (placedBytesAt f t m) ws .refusal ≢ 11) × (ranOf (placedBytesAt f t m) ws .refusal ≢ 12) × (ranOf (placedBytesAt f t m) ws .refusal ≢ 13)
-never-for-a-role-at f bytes t m room placed = run-safe (placedBytesAt f t m) (passes-plain (placedBytesAt f t m) t m (well-at f bytes t m room placed .passes))
+never-for-a-role-at f bytes t m room placed = run-safe (placedBytesAt f t m) (placed-at-checked f bytes t m room placed)
 
 pub checked-at-never-for-a-role : (f t : List ℕ) (m : ℕ) → checkingAt f t m ≡ fine → (ws : List ℕ) → (ranOf f ws .refusal ≢ 11) × (ranOf f ws .refusal ≢ 12) × (ranOf f ws .refusal ≢ 13)
 checked-at-never-for-a-role f t m passes = run-safe f (passes-plain f t m passes)
 
--- What passes for some minute passes the check without hours.
-pub checked-at-checked : (f t : List ℕ) (m : ℕ) → checkingAt f t m ≡ fine → checking f ≡ fine
-checked-at-checked = passes-plain
+-- The run of a file placed for a minute is answered 0, 18, 19 or 20 where output and list fit.
+pub placed-at-run-answers : (f : List ℕ) → All (λ b. b < 256) f → (t : List ℕ) (m room : ℕ) → placingAt f t m room .number ≡ 0
+    → (ws : List ℕ) (room′ : ℕ) → 1800 ≤ room′ → listed (length ws) ≡ true
+    → (running (placedBytesAt f t m) ws room′ .number ≡ 0)
+    ⊎ ((running (placedBytesAt f t m) ws room′ .number ≡ 18)
+    ⊎ ((running (placedBytesAt f t m) ws room′ .number ≡ 19) ⊎ (running (placedBytesAt f t m) ws room′ .number ≡ 20)))
+placed-at-run-answers f bytes t m room placed = run-answers (placedBytesAt f t m) (placed-at-checked f bytes t m room placed)
 
 -- Files, tables and minutes in literal words.
 pub hours-in-words : All HourShown hour-cases
@@ -1258,12 +1304,19 @@ pub placed-file-still-safe : (f : List ℕ) → All (λ b. b < 256) f → (room 
 placed-file-still-safe = placed-file-safe
 
 -- .. also of a file placed for a minute.
-pub placed-at-still-safe : (f : List ℕ) → All (λ b. b < 256) f → (t : List ℕ) (m room : ℕ) → placingAt f t m room .number ≡ 0 → (table ws : List ℕ)
-    → (seatedRanOf (placedBytesAt f t m) table ws .refusal ≢ 11) × (seatedRanOf (placedBytesAt f t m) table ws .refusal ≢ 12) × (seatedRanOf (placedBytesAt f t m) table ws .refusal ≢ 13)
-placed-at-still-safe f bytes t m room placed table ws =
-    let g : List ℕ = placedBytesAt f t m in
-    subst (λ (n : ℕ). (n ≢ 11) × (n ≢ 12) × (n ≢ 13)) (run-alike (limitedOf (contentsOf g) table) ws (seatedStart (contentsOf g)) .refusal)
-    (never-for-a-role-at f bytes t m room placed (seatedStepsOf g table ws))
+pub placed-at-still-safe : (f : List ℕ) → All (λ b. b < 256) f → (t : List ℕ) (m room : ℕ) → placingAt f t m room .number ≡ 0
+    → (table ws : List ℕ) (room′ : ℕ)
+    → ((seatedRunning (placedBytesAt f t m) ws table room′ .number ≢ 11)
+    × (seatedRunning (placedBytesAt f t m) ws table room′ .number ≢ 12)
+    × (seatedRunning (placedBytesAt f t m) ws table room′ .number ≢ 13))
+    × ((seatedRounding (placedBytesAt f t m) ws table room′ .number ≢ 11)
+    × (seatedRounding (placedBytesAt f t m) ws table room′ .number ≢ 12)
+    × (seatedRounding (placedBytesAt f t m) ws table room′ .number ≢ 13))
+    × ((seatsAfter (placedBytesAt f t m) ws table .number ≢ 11)
+    × (seatsAfter (placedBytesAt f t m) ws table .number ≢ 12)
+    × (seatsAfter (placedBytesAt f t m) ws table .number ≢ 13))
+placed-at-still-safe f bytes t m room placed table ws room′ =
+    passed-safe (placedBytesAt f t m) (placed-at-checked f bytes t m room placed) table ws room′
 
 -- "A dispatcher visit that gets no seat is in the round's list and excuses its thread from doing its step": `IsSeatedRound` is K5's round with that case, and every state has one and no other. Its choices go on or get no seat,
 -- one after the other.
@@ -1276,8 +1329,9 @@ only-one-seated-round = one-seated-round
 pub seated-round-goes-on : (L : Limited) (S : SeatedState) (rs : List ℕ) (S′ : SeatedState) → IsSeatedRound L S rs S′ → Path seatedThreads (GoesOn L) (GetsNone L) S rs S′
 seated-round-goes-on = seated-path
 
--- .. of each thread that could do a lone step at the round's start: the visits before its own leave it as it was; then its lone choice comes and goes on, or comes and gets no seat, or is refused with 20.
-pub seated-lone-step-done : (L : Limited) (S : SeatedState) (v : ℕ) (S₁ : SeatedState) → GoesOn L S v 0 S₁ → (rs : List ℕ) (S′ : SeatedState) → IsSeatedRound L S rs S′
+-- .. of each thread that could do a lone step at the round's start, but for a seat that it may lack there: the visits before its own leave it as it was; then its lone choice
+-- comes and goes on, or comes and gets no seat, or is refused with 20.
+pub seated-lone-step-done : (L : Limited) (S : SeatedState) (v : ℕ) (s₁ : State) → Steps (L .clinic) (S .state) v 0 s₁ → (rs : List ℕ) (S′ : SeatedState) → IsSeatedRound L S rs S′
     → (xs ys : List ℕ) × (g : RoundState SeatedState) × (i : ℕ) × (rs ≡ xs ++ ys)
     × SeatedVisits L S (v - 1) xs g × Path seatedThreads (GoesOn L) (GetsNone L) S xs (g .state) × Here g v i × (threadAt (g .state .state) i ≡ threadAt (S .state) v)
     × (((zs : List ℕ) × (S″ : SeatedState) × (ys ≡ i ∷ 0 ∷ zs) × GoesOn L (g .state) i 0 S″)
@@ -1307,6 +1361,19 @@ seated-round-seventeen-exactly = seated-round-seventeen
 
 pub seats-seventeen-exactly : (f table ws : List ℕ) → (seatsAfter f ws table .number ≡ 17) ↔ (Unlisted ws ⊎ ((readingNames f ≡ fine) × SeatTableMisfits (contentsOf f) table))
 seats-seventeen-exactly = seats-seventeen
+
+-- .. and then at place 0, with nothing else ..
+pub seated-run-no-room : (f table ws : List ℕ) (room : ℕ) → Unfit ws room ⊎ ((readingNames f ≡ fine) × SeatTableMisfits (contentsOf f) table)
+    → seatedRunning f ws table room ≡ refused 17 0
+seated-run-no-room = seated-no-room
+
+pub seated-round-has-no-room : (f table ws : List ℕ) (room : ℕ) → RoundUnfit ws room ⊎ ((readingNames f ≡ fine) × SeatTableMisfits (contentsOf f) table)
+    → seatedRounding f ws table room ≡ noRoundAt 17 0
+seated-round-has-no-room = seated-round-no-room
+
+pub seats-read-no-room : (f table ws : List ℕ) → Unlisted ws ⊎ ((readingNames f ≡ fine) × SeatTableMisfits (contentsOf f) table)
+    → seatsAfter f ws table ≡ noSeatsAt 17 0
+seats-read-no-room = seats-no-room
 
 -- .. 1 to 10 exactly as the file is read, whatever the table ..
 pub seated-names-exactly : (f table ws : List ℕ) (room n p : ℕ) → OfFile n → (seatedRunning f ws table room ≡ refused n p) ↔ (Fit ws room × (readingNames f ≡ refused n p))
@@ -1365,6 +1432,12 @@ pub seated-run-written : (f table ws out : List ℕ) → Fit ws (length out) →
     → Written (plainly (seatedRanOf f table ws)) out (seatedOver f ws table out)
     × (seatedLength f ws table (length out) ≡ stateBytes (length (seatedRanOf f table ws .seating .state .made)) (length (seatedRanOf f table ws .seating .state .threads)))
 seated-run-written = seated-written
+
+-- What `pilzdamo_run_seated` hands back (`seatedWritten`, its contract) is that number and place, and that length.
+pub seated-run-answers : (f table ws : List ℕ) (room : ℕ)
+    → seatedWritten f ws table room
+    ≡ record { number = seatedRunning f ws table room .number; place = seatedRunning f ws table room .place; length = seatedLength f ws table room }
+seated-run-answers f table ws room = refl
 
 -- In literal words: a line of two, a free seat that goes to the head alone, a refused choice after one answered 26, the start, each wrong table, and rounds.
 pub seats-in-words : All SeatShown seatCases
@@ -1443,9 +1516,18 @@ pub column-notices : (f : List ℕ) (room : ℕ) → turning 2 f room .number �
     → (planInForce (a ∷ b ∷ c ∷ d ∷ inColumns f) n day ≡ planInForce (a ∷ b ∷ c ∷ d ∷ f) n day) × (planInForce n (a ∷ b ∷ c ∷ d ∷ inColumns f) day ≡ planInForce n (a ∷ b ∷ c ∷ d ∷ f) day)
 column-notices = notices-alike
 
--- Where turning does not take a file for 1 to 5, bytes of version 3 are refused as the same bytes of version 2.
+-- Where turning does not take a file for 1 to 5, bytes of version 3 are refused as the same bytes of version 2, with the same answers to every caller.
 pub heads-alike : (bs : List ℕ) → headNumber (headOf (3 ∷ 0 ∷ bs)) ≡ headNumber (headOf (2 ∷ 0 ∷ bs))
 heads-alike = same-head-refusals
+
+pub refused-heads-alike : (bs : List ℕ) → headNumber (headOf (3 ∷ 0 ∷ bs)) ≢ 0 → Alike (3 ∷ 0 ∷ bs) (2 ∷ 0 ∷ bs)
+refused-heads-alike = heads-refused
+
+-- A sheet doesn't tell a column file from its row file: two inputs that differ in the layout of one record have the same sheet.
+pub sheet-of-columns : (f : List ℕ) (room : ℕ) → turning 2 f room .number ≡ 0 → (fs gs : List (List ℕ)) (a b x y : List ℕ)
+    → All (λ n. n < 256) a → All (λ n. n < 256) b → WholeFiles 1000 a (fs ++ (inColumns f ∷ gs)) x → WholeFiles 1000 b (fs ++ (f ∷ gs)) y
+    → sheetOf entryOf a ≡ sheetOf entryOf b
+sheet-of-columns f room zero = one-exchanged entryOf (inColumns f) f (columns-alike f room zero .answers .answers .adds)
 
 -- "the output that placing needs included": the largest file is no larger.
 pub largest-third : (n : Six) → Counted n → (lengthOf 3 n ≡ lengthOf 2 n) × (lengthOf 3 n ≤ 6908)

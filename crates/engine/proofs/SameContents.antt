@@ -19,6 +19,8 @@ use Rattle.format.specs.Header.{hasJuniors, WithJuniors, Laid, headAt, versionA
 use Rattle.format.specs.declared.Verdict.{Verdict}
 use Rattle.rules.specs.Checking.{namesAnswer}
 use Rattle.states.specs.declared.Turn.{Turn}
+use Rattle.groups.specs.Groups.{startsOf, placedContents}
+use Rattle.format.specs.Writing.{encoded}
 use Rattle.hours.specs.Hours.{tableAnswer, rowsAnswer, shut}
 use Rattle.format.specs.Contents.{Contents, contentsOf}
 use Rattle.reading.specs.Reading.{reading}
@@ -34,8 +36,9 @@ use Rattle.seating.specs.SeatsRead.{seatsAfter}
 use Rattle.seating.specs.SeatedRound.{seatedRounding, seatedRoundOver}
 use Rattle.lending.specs.Lent.{lending, choosing, recordsOver, besideOver}
 use Rattle.lending.specs.Starting.{starting, recordsStarted, besideStarted}
-use Rattle.reading_exact.specs.File.{File, WellFormed, asSecond, encode}
-use Rattle.reading_exact.proofs.FileContents.{contents-back}
+use Rattle.reading_exact.specs.File.{Grants, first, second, third, versionOf, masksNone, File, WellFormed, asSecond, contentsFor, encode}
+use Rattle.reading_exact.proofs.Places.{Formed, encoded-back}
+use Rattle.reading_exact.proofs.FileContents.{formed-by, contents-back, version-back}
 use Rattle.reading_exact.proofs.Exact.{complete}
 use Rattle.reading_exact.proofs.AsSecond.{as-second-held, as-second-read}
 use Rattle.merging_exact.proofs.SameMerging.{same-own, merged-alike}
@@ -206,3 +209,33 @@ pub second-alike : (F : File) → WellFormed F → (contentsOf (encode (asSecond
 second-alike F w =
     let held : contentsOf (encode (asSecond F)) ≡ contentsOf (encode F) = contents-back (asSecond F) ∙ as-second-held F ∙ sym (contents-back F) in
     (held, alike-beside-form (encode (asSecond F)) (encode F) (as-second-read F w ∙ sym (complete F w)) held)
+
+-- placed it is the placed file in version 2, whatever the turns
+module _ (F G : File) (turns : Contents → List Turn)
+    (writes : encode G ≡ bytesBy (versionAt (encode F)) (contentsOf (encode F)) (turns (contentsOf (encode F)))) where
+  pub second-placed : encode (asSecond G) ≡ bytesBy (versionAt (encode (asSecond F))) (contentsOf (encode (asSecond F))) (turns (contentsOf (encode (asSecond F))))
+  unfolding encode
+  second-placed = (λ i. encoded (is-second (G .grants) i) (whole i)) ∙ sym (λ i. bytesBy (two i) (held i) (turns (held i)))
+    where
+      f : List ℕ
+      f = encode F
+
+      is-second : (g : Grants) → versionOf (masksNone g) ≡ 2
+      is-second (first rs) = refl
+      is-second (second rs) = refl
+      is-second (third rs) = refl
+
+      two : versionAt (encode (asSecond F)) ≡ 2
+      two = version-back (asSecond F) ∙ is-second (F .grants)
+
+      held : contentsOf (encode (asSecond F)) ≡ contentsOf f
+      held = contents-back (asSecond F) ∙ as-second-held F ∙ sym (contents-back F)
+
+      P : Contents
+      P = placedContents (contentsOf f) (turns (contentsOf f)) (startsOf (turns (contentsOf f)))
+
+      formed : Formed (versionAt f) P
+      formed = subst (λ (v : ℕ). Formed v P) (sym (version-back F)) (subst (Formed (versionOf (F .grants))) (sym (contents-back F)) (formed-by F))
+
+      whole : contentsFor (asSecond G) ≡ P
+      whole = as-second-held G ∙ sym (contents-back G) ∙ ap (λ (g : List ℕ). contentsOf g) writes ∙ encoded-back (versionAt f) P formed

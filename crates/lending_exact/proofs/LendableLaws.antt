@@ -207,10 +207,13 @@ module _ (f : List ℕ) (clean : readingNames f ≡ fine) where
               ∙ sym (counts-same f clean made k (inside .0) (stateOf l b .threads) fitting);
         }
 
--- The test is what the paper says may be lent.
-pub lendable-exactly : (f : List ℕ) → readingNames f ≡ fine → (l : List Thread) → All Eight l → (b : List ℕ)
-    → (mayBeLent (contentsOf f) l b ≡ true) ↔ Lendable (contentsOf f) l b
-lendable-exactly f clean l eights b = (judged-lendable f clean l b eights, lendable-judged f clean l b)
+-- Nothing refuses before the choice exactly where the file passes 1 to 10 and what is lent is what the paper says may be.
+pub lending-exactly : (f : List ℕ) (l : List Thread) → All Eight l → (b : List ℕ)
+    → (lending f l b ≡ fine) ↔ ((readingNames f ≡ fine) × Lendable (contentsOf f) l b)
+lending-exactly f l eights b = (
+  λ h. let (clean, may) = lending-fine f l b .0 h in (clean, judged-lendable f clean l b eights may),
+  λ (clean, L). lending-fine f l b .1 (clean, lendable-judged f clean l b L),
+)
 
 -- Which answer comes where.
 
@@ -219,9 +222,6 @@ pub eighteen-zero : (f : List ℕ) (l : List Thread) → All Eight l → (b : Li
     → (choosing f l b i p ≡ refused 18 0) ↔ ((readingNames f ≡ fine) × (Lendable (contentsOf f) l b → ⊥))
 eighteen-zero f l eights b i p = (to (of-choice f l b i p), from (of-choice f l b i p))
   where
-    unlent : readingNames f ≡ fine → lending f l b ≡ fine → Lendable (contentsOf f) l b
-    unlent clean h = judged-lendable f clean l b eights (lending-fine f l b .0 h .1)
-
     to : OfChoice f l b i p → choosing f l b i p ≡ refused 18 0 → (readingNames f ≡ fine) × (Lendable (contentsOf f) l b → ⊥)
     to (unread n q o e h S) z = absurd (not-of-file n 18 o (omega arith) (omega arith) (number-of (sym (S .answer) ∙ z)))
     to (unfit e h k S) z = (e, λ L. false≢true (sym h ∙ lendable-judged f e l b L))
@@ -231,8 +231,8 @@ eighteen-zero f l eights b i p = (to (of-choice f l b i p), from (of-choice f l 
     from : OfChoice f l b i p → (readingNames f ≡ fine) × (Lendable (contentsOf f) l b → ⊥) → choosing f l b i p ≡ refused 18 0
     from (unread n q o e h S) (clean, never) = absurd (omega (arith, some-of-file n o, number-of (sym e ∙ clean)))
     from (unfit e h k S) (clean, never) = S .answer
-    from (halted n over e h S) (clean, never) = absurd (never (unlent clean e))
-    from (carried s e h S) (clean, never) = absurd (never (unlent clean e))
+    from (halted n over e h S) (clean, never) = absurd (never (lending-exactly f l eights b .0 e .1))
+    from (carried s e h S) (clean, never) = absurd (never (lending-exactly f l eights b .0 e .1))
 
 -- 1 to 10 come first, and are the file's.
 pub ten-first : (f : List ℕ) (l : List Thread) (b : List ℕ) (i p n q : ℕ) → OfFile n

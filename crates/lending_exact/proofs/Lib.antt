@@ -3,6 +3,7 @@ pub mod LentAnswers
 pub mod LendableLaws
 pub mod LentRuns
 pub mod LentSteps
+pub mod LentWords
 pub mod LentStarts
 pub mod StartAnswers
 pub mod Unchanged

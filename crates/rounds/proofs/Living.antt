@@ -18,7 +18,8 @@ use Rattle.rounds.proofs.Visiting.{Keeps, stood, here, unrivalled}
 use Rattle.rounds.proofs.Rounding.{come, next, one-more, left-start, from-path}
 
 module _ {S : Type 0} (count : S → ℕ) (choose : S → ℕ → ℕ → Taken S) (Step : S → ℕ → ℕ → S → Type 0) (Wait : S → ℕ → S → Type 0)
-    (W : Lawful count choose Step Wait) {R : Type 0} (at : S → ℕ → R) (Excused : S → ℕ → Type 0) (T : Recorded count choose Step Wait at Excused) where
+    (W : Lawful count choose Step Wait) {R : Type 0} (at : S → ℕ → R) (Able Excused : S → ℕ → Type 0)
+    (T : Recorded count choose Step Wait at Able Excused) where
   -- the thread that had the number w holds r
   abbrev Holds : RoundState S → ℕ → R → Type 0
   Holds g w r = (i : ℕ) → Here g w i → at (g .state) i ≡ r
@@ -93,8 +94,8 @@ module _ {S : Type 0} (count : S → ℕ) (choose : S → ℕ → ℕ → Taken 
     was o (meets-first n p s′ e l h m c d) j f = met-was p s′ l (W .stepped s (suc a) p s′ .0 c) j f (eqb j p) refl
     was o (does-nothing n e d) j f = (j, f, other j f, inl refl)
 
-  -- a thread j₀ that has a lone step in the state s₀
-  module _ (s₀ : S) (j₀ : ℕ) (s₁ : S) (st₀ : Step s₀ j₀ 0 s₁) where
+  -- a thread j₀ that could do a lone step in the state s₀
+  module _ (s₀ : S) (j₀ : ℕ) (able : Able s₀ j₀) where
     -- it can't be met
     holds : (k a : ℕ) (ms : List Bool) (v : ℕ) (g : RoundState S) → Keeping (suc k) a ms v (g .labels) (g .moved) → length ms ≤ count (g .state) → (w : ℕ) → w ≢ v
         → Holds g w (at s₀ j₀) → (o : Visited S) → View count choose (g .state) a ms o → Holds (stood count choose Step Wait W v g a o) w (at s₀ j₀)
@@ -102,7 +103,7 @@ module _ {S : Type 0} (count : S → ℕ) (choose : S → ℕ → ℕ → Taken 
       where
         go : Was k a ms v g K few w apart j o → at (stood count choose Step Wait W v g a o .state) j ≡ at s₀ j₀
         go (i, h, z, inl e) = e ∙ H i h
-        go (i, h, z, inr (s′, l, d, st)) = absurd (T .no-receiver s₀ (g .state) j₀ (suc a) i s₁ s′ st₀ l st (H i h))
+        go (i, h, z, inr (s′, l, d, st)) = absurd (T .no-receiver s₀ (g .state) j₀ (suc a) i s′ able l st (H i h))
 
     -- its lone choice comes next and is a step or waits, or it is excused
     abbrev pub Then : List ℕ → RoundState S → ℕ → Type 0
@@ -130,7 +131,7 @@ module _ {S : Type 0} (count : S → ℕ) (choose : S → ℕ → ℕ → Taken 
           (refl, refl),
           f,
           H (suc a) f,
-          go f (T .again s₀ (g .state) j₀ (suc a) s₁ st₀ (omega arith) n (H (suc a) f)),
+          go f (T .again s₀ (g .state) j₀ (suc a) able (omega arith) n (H (suc a) f)),
         )
       where
         go : Here g v (suc a) → ((s″ : S) × Step (g .state) (suc a) 0 s″) ⊎ (((s″ : S) × Wait (g .state) (suc a) s″) ⊎ Excused (g .state) (suc a))
@@ -168,17 +169,17 @@ module _ {S : Type 0} (count : S → ℕ) (choose : S → ℕ → ℕ → Taken 
         further d v g g′ w (x .words) (roundFrom count choose k (x .place) (x .marks) (x .state) .words) st
         (subst (λ (y : S). Splits d (suc v) g′ w (roundFrom count choose k (x .place) (x .marks) y .words)) c f)
 
-  -- Of each thread that has a lone step in the round's first state: after the visits of those before it, it holds what it held; then its lone choice comes and is a
+  -- Of each thread that could do a lone step in the round's first state: after the visits of those before it, it holds what it held; then its lone choice comes and is a
   -- step or waits, or it is excused.
-  pub round-lively : (s : S) (w : ℕ) (s₁ : S) → Step s w 0 s₁
+  pub round-lively : (s : S) (w : ℕ) → Able s w
       → (xs : List ℕ) × (ys : List ℕ) × (g : RoundState S) × (i : ℕ) × (round count choose s .words ≡ xs ++ ys) × VisitsFrom count Step Wait 1 (w - 1) (begun count Step Wait s) xs g
       × Path count Step Wait s xs (g .state) × Here g w i × (at (g .state) i ≡ at s w)
       × (((zs : List ℕ) × (s′ : S) × (ys ≡ i ∷ 0 ∷ zs) × Step (g .state) i 0 s′)
       ⊎ (((zs : List ℕ) × (s′ : S) × (ys ≡ i ∷ 0 ∷ zs) × Wait (g .state) i s′) ⊎ Excused (g .state) i))
   unfolding round
-  round-lively s w s₁ st =
-      let (l, h, _) = W .counted s w 0 s₁ st in
-      let (xs, ys, g, i, e, f, at-i, m, t) = split s w s₁ st (count s) 0 (replicate (count s) false) 1 (begun count Step Wait s) (left-start count choose Step Wait W s) (w - 1) w
+  round-lively s w able =
+      let (l, h) = T .able-counted s w able in
+      let (xs, ys, g, i, e, f, at-i, m, t) = split s w able (count s) 0 (replicate (count s) false) 1 (begun count Step Wait s) (left-start count choose Step Wait W s) (w - 1) w
       (omega (arith, l)) (omega (arith, l, h)) first in
       (xs, ys, g, i, e, f, from-path count choose Step Wait W (w - 1) 1 (begun count Step Wait s) xs g f, at-i, m, t)
     where

@@ -71,14 +71,33 @@ module _ (f table ws : List ℕ) where
       go true e R = ran R (eqb-true (u .number) 0 e)
       go false e R = before R (eqb-false (u .number) 0 e)
 
-  module _ {Yes No : Type 0} (apart : Yes → No → ⊥) {v : Verdict} where
-    pub end-seventeen : SeatedEnd Yes No f table ws v → (v .number ≡ 17) ↔ (No ⊎ ((readingNames f ≡ fine) × SeatTableMisfits C table))
-    end-seventeen E = (to E, from E)
-      where
-        clean-not : readingNames f ≡ fine → OfFile (readingNames f .number) → ⊥
-        clean-not c o = omega (arith, number-of c, some-of-file (readingNames f .number) o)
+  -- what is 17: the list or the output, or, of a file that 1 to 10 leave clean, the table
+  abbrev pub Seventeen : Type 0 → Type 0
+  Seventeen No = No ⊎ ((readingNames f ≡ fine) × SeatTableMisfits C table)
 
-        to : SeatedEnd Yes No f table ws v → v .number ≡ 17 → No ⊎ ((readingNames f ≡ fine) × SeatTableMisfits C table)
+  pub seventeen-bars : {No : Type 0} → Seventeen No → SeatsBar No f table
+  seventeen-bars (inl n) = inl n
+  seventeen-bars (inr (c, m)) = inr (inr (inl m))
+
+  module _ {Yes No : Type 0} (apart : Yes → No → ⊥) {v : Verdict} where
+    pub end-no-room : SeatedEnd Yes No f table ws v → Seventeen No → v ≡ refused 17 0
+    end-no-room (before (unlisted n e) z) w = e
+    end-no-room (before (misread y o e) z) (inl n) = absurd (apart y n)
+    end-no-room (before (misread y o e) z) (inr (c, t)) =
+        let never : ⊥ = omega (arith, number-of c, some-of-file (readingNames f .number) o) in absurd never
+    end-no-room (before (misfits y c t e) z) w = e
+    end-no-room (before (overfull y c t k o e) z) (inl n) = absurd (apart y n)
+    end-no-room (before (overfull y c t k o e) z) (inr (c′, m)) = absurd (never-fits C table t m)
+    end-no-room (before (readied y c t s e) z) w = absurd (z (number-of e))
+    end-no-room (whole y c t s h e) (inl n) = absurd (apart y n)
+    end-no-room (whole y c t s h e) (inr (c′, m)) = absurd (never-fits C table t m)
+    end-no-room (stops y c t s h e) (inl n) = absurd (apart y n)
+    end-no-room (stops y c t s h e) (inr (c′, m)) = absurd (never-fits C table t m)
+
+    pub end-seventeen : SeatedEnd Yes No f table ws v → (v .number ≡ 17) ↔ Seventeen No
+    end-seventeen E = (to E, λ w. number-of (end-no-room E w))
+      where
+        to : SeatedEnd Yes No f table ws v → v .number ≡ 17 → Seventeen No
         to (before (unlisted n e) z) q = inl n
         to (before (misread y o e) z) q = absurd (not-of-file _ 17 o (omega arith) (omega arith) (sym (number-of e) ∙ q))
         to (before (misfits y c t e) z) q = inr (c, t)
@@ -86,19 +105,6 @@ module _ (f table ws : List ℕ) where
         to (before (readied y c t s e) z) q = absurd (z (number-of e))
         to (whole y c t s h e) q = let never : ⊥ = omega (arith, number-of e, q) in absurd never
         to (stops y c t s (l, h, d) e) q = absurd (d (sym (number-of e) ∙ q))
-
-        from : SeatedEnd Yes No f table ws v → No ⊎ ((readingNames f ≡ fine) × SeatTableMisfits C table) → v .number ≡ 17
-        from (before (unlisted n e) z) w = number-of e
-        from (before (misread y o e) z) (inl n) = absurd (apart y n)
-        from (before (misread y o e) z) (inr (c, t)) = absurd (clean-not c o)
-        from (before (misfits y c t e) z) w = number-of e
-        from (before (overfull y c t k o e) z) (inl n) = absurd (apart y n)
-        from (before (overfull y c t k o e) z) (inr (c′, m)) = absurd (never-fits C table t m)
-        from (before (readied y c t s e) z) w = absurd (z (number-of e))
-        from (whole y c t s h e) (inl n) = absurd (apart y n)
-        from (whole y c t s h e) (inr (c′, m)) = absurd (never-fits C table t m)
-        from (stops y c t s h e) (inl n) = absurd (apart y n)
-        from (stops y c t s h e) (inr (c′, m)) = absurd (never-fits C table t m)
 
     pub end-names : (n p : ℕ) → OfFile n → SeatedEnd Yes No f table ws v → (v ≡ refused n p) ↔ (Yes × (readingNames f ≡ refused n p))
     end-names n p o E = (to E, λ (y, q). from E y q)
@@ -199,9 +205,12 @@ module _ (f table ws : List ℕ) where
     unfolding seatedRunning
     seated-run-ends = ends-by (Fit ws room) (Unfit ws room) (seatedUnreadyIn f ws table room) run-ready
 
-    -- 17 exactly where the list or the output doesn't fit, or, of a file that 1 to 10 leave clean, the table.
-    pub seated-seventeen : (seatedRunning f ws table room .number ≡ 17) ↔ (Unfit ws room ⊎ ((readingNames f ≡ fine) × SeatTableMisfits C table))
+    -- 17 exactly where the list or the output doesn't fit, or, of a file that 1 to 10 leave clean, the table; its place is 0.
+    pub seated-seventeen : (seatedRunning f ws table room .number ≡ 17) ↔ Seventeen (Unfit ws room)
     seated-seventeen = end-seventeen (never-fit ws room) seated-run-ends
+
+    pub seated-no-room : Seventeen (Unfit ws room) → seatedRunning f ws table room ≡ refused 17 0
+    seated-no-room = end-no-room (never-fit ws room) seated-run-ends
 
     -- 1 to 10 exactly where the list and the output fit and the file is refused so, whatever the table.
     pub seated-names : (n p : ℕ) → OfFile n → (seatedRunning f ws table room ≡ refused n p) ↔ (Fit ws room × (readingNames f ≡ refused n p))

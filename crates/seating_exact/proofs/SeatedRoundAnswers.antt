@@ -33,10 +33,10 @@ use Rattle.seats.proofs.SeatedPlain.{run-alike}
 use Rattle.seating.specs.SeatedRunning.{seatedUnready, seatedOver}
 use Rattle.seating.specs.SeatsRead.{seatedStepsOf}
 use Rattle.seating.specs.SeatedRound.{seatedRoundOf, afterSeatedList, seatedBothBy, seatedRoundUnready, seatedRounding, seatedRoundOver}
-use Rattle.seating_exact.specs.SeatTable.{SeatTableFits, SeatTableMisfits, OverfullAt, StartFits, SeatsBar}
+use Rattle.seating_exact.specs.SeatTable.{SeatTableFits, OverfullAt, StartFits, SeatsBar}
 use Rattle.seating_exact.specs.IsSeatedRound.{IsSeatedRound, SeatedRoundTold, SeatedRoundStopped}
 use Rattle.seating_exact.proofs.SeatedCases.{Readied, readied-by}
-use Rattle.seating_exact.proofs.SeatedAnswers.{SeatedEnd, ends-by, end-seventeen, end-names, end-start, seated-through, seated-halted, ready-quiet, barred-loud, over-ready}
+use Rattle.seating_exact.proofs.SeatedAnswers.{SeatedEnd, ends-by, Seventeen, seventeen-bars, end-no-room, end-seventeen, end-names, end-start, seated-through, seated-halted, ready-quiet, barred-loud, over-ready}
 use Rattle.seating_exact.proofs.SeatedRounds.{the-seated-round, seated-round-few, seated-round-after, seated-whole}
 
 never-fit : (ws : List ℕ) (room : ℕ) → RoundFit ws room → RoundUnfit ws room → ⊥
@@ -84,7 +84,7 @@ module _ (f table ws : List ℕ) where
         (ends-by f table ws (RoundFit ws room) (RoundUnfit ws room) (seatedRoundUnready f ws table room) ready)
 
     -- 17 exactly where the list or the output doesn't fit, or, of a file that 1 to 10 leave clean, the table
-    pub seated-round-seventeen : (seatedRounding f ws table room .number ≡ 17) ↔ (RoundUnfit ws room ⊎ ((readingNames f ≡ fine) × SeatTableMisfits C table))
+    pub seated-round-seventeen : (seatedRounding f ws table room .number ≡ 17) ↔ Seventeen f table ws (RoundUnfit ws room)
     seated-round-seventeen = end-seventeen f table ws (never-fit ws room) seated-round-ends
 
     -- then 1 to 10, as they are read
@@ -101,6 +101,12 @@ module _ (f table ws : List ℕ) where
     pub seated-round-none : SeatsBar (RoundUnfit ws room) f table → seatedRounding f ws table room ≡ noRoundAt (seatedRounding f ws table room .number) (seatedRounding f ws table room .place)
     unfolding seatedRounding
     seated-round-none w = rw (ne-eqb (seatedRoundUnready f ws table room .number) 0 (barred-loud f table ws (never-fit ws room) ready w))
+
+    -- 17 has place 0
+    pub seated-round-no-room : Seventeen f table ws (RoundUnfit ws room) → seatedRounding f ws table room ≡ noRoundAt 17 0
+    seated-round-no-room w =
+        seated-round-none (seventeen-bars f table ws w)
+        ∙ ap (λ (v : Verdict). noRoundAt (v .number) (v .place)) (end-no-room f table ws (never-fit ws room) seated-round-ends w)
 
   -- and nothing is written
   pub seated-round-unwritten : (out : List ℕ) → SeatsBar (RoundUnfit ws (length out)) f table → seatedRoundOver f ws table out ≡ out

@@ -53,20 +53,24 @@ module _ (L : Limited) where
       apart S i p S′ S″ l st (inr at) =
           base.lawful C .apart (S .state) i p (S′ .state) (putOn L S i 0) l (on-base S i p S′ st) (inl (asks-steps L S i 0 (none-asks S i S″ at)))
 
-  -- refusal 20 is what the thread's lone choice gets
-  abbrev Full : SeatedState → ℕ → Type 0
-  Full S i = choice C (S .state) i 0 ≡ halts 20
+  -- the thread could do a lone step, but for a seat; and refusal 20 is what its lone choice gets
+  abbrev Able : SeatedState → ℕ → Type 0
+  Able S j = base.Able C (S .state) j
 
-  recorded : Recorded seatedThreads (seatedChoice L) (GoesOn L) (GetsNone L) (λ (S : SeatedState) (i : ℕ). threadAt (S .state) i) Full
+  abbrev Full : SeatedState → ℕ → Type 0
+  Full S i = base.Full C (S .state) i
+
+  recorded : Recorded seatedThreads (seatedChoice L) (GoesOn L) (GetsNone L) (λ (S : SeatedState) (i : ℕ). threadAt (S .state) i) Able Full
   recorded = record {
     others = λ S i j S′ st m l h z. base.recorded C .others (S .state) i j (S′ .state) (on-base S i 0 S′ st) m l h z;
     before = λ S i j S′ st m l h. base.recorded C .before (S .state) i j (S′ .state) (on-base S i 0 S′ st) m l h;
     after = λ S i j S′ st m l. base.recorded C .after (S .state) i j (S′ .state) (on-base S i 0 S′ st) m l;
     unmet = λ S i p j S′ l st lj z y. base.recorded C .unmet (S .state) i p j (S′ .state) l (on-base S i p S′ st) lj z y;
     unmoved = λ S i j S′ st. ap (λ (s : State). threadAt s j) (none-same S i S′ st);
-    no-receiver = λ S S₁ j i p S′ S″ st l on e.
-        base.recorded C .no-receiver (S .state) (S₁ .state) j i p (S′ .state) (S″ .state) (on-base S j 0 S′ st) l (on-base S₁ i p S″ on) e;
-    again = λ S S₁ j i S′ st l h e. again S₁ i (base.recorded C .again (S .state) (S₁ .state) j i (S′ .state) (on-base S j 0 S′ st) l h e);
+    able-counted = λ S j able. base.recorded C .able-counted (S .state) j able;
+    no-receiver = λ S S₁ j i p S″ able l on e.
+        base.recorded C .no-receiver (S .state) (S₁ .state) j i p (S″ .state) able l (on-base S₁ i p S″ on) e;
+    again = λ S S₁ j i able l h e. again S₁ i (base.recorded C .again (S .state) (S₁ .state) j i able l h e);
   }
     where
       seated : (S : SeatedState) (i : ℕ) (s : State) → Steps C (S .state) i 0 s → AsksSeat L S i 0 ⊎ (AsksSeat L S i 0 → ⊥) → GetsSeat L S i ⊎ (GetsSeat L S i → ⊥)
@@ -174,16 +178,16 @@ module _ (L : Limited) where
       run-append ws (seatedRoundOf L T .words) S z even .1
       ∙ ap (λ (r : SeatedRan). record { count = seatedRun L S ws .count + r .count; refusal = r .refusal; seating = r .seating }) (seated-round-run T)
 
-  -- 3. Of each thread that could do a lone step at the round's start: the round splits in two. After the first part, the visits of the threads before it, the
+  -- 3. Of each thread that could do a lone step at the round's start, but for a seat: the round splits in two. After the first part, the visits of the threads before it, the
   -- thread, in the place where it then stands, is the same record; then its lone choice comes and goes on, or comes and gets no seat, or refusal 20 is what that
   -- choice gets.
-  pub seated-lone-done : (S : SeatedState) (v : ℕ) (S₁ : SeatedState) → GoesOn L S v 0 S₁
+  pub seated-lone-done : (S : SeatedState) (v : ℕ) (s₁ : State) → Steps (L .clinic) (S .state) v 0 s₁
       → (xs : List ℕ) × (ys : List ℕ) × (g : RoundState SeatedState) × (i : ℕ) × (seatedRoundOf L S .words ≡ xs ++ ys)
       × SeatedVisits L S (v - 1) xs g × SeatedPath S xs (g .state) × Here g v i × (threadAt (g .state .state) i ≡ threadAt (S .state) v)
       × (((zs : List ℕ) × (S′ : SeatedState) × (ys ≡ i ∷ 0 ∷ zs) × GoesOn L (g .state) i 0 S′)
       ⊎ (((zs : List ℕ) × (S′ : SeatedState) × (ys ≡ i ∷ 0 ∷ zs) × GetsNone L (g .state) i S′) ⊎ (choice (L .clinic) (g .state .state) i 0 ≡ halts 20)))
-  seated-lone-done S v S₁ st =
-      round-lively seatedThreads (seatedChoice L) (GoesOn L) (GetsNone L) lawful (λ (T : SeatedState) (i : ℕ). threadAt (T .state) i) Full recorded S v S₁ st
+  seated-lone-done S v s₁ st =
+      round-lively seatedThreads (seatedChoice L) (GoesOn L) (GetsNone L) lawful (λ (T : SeatedState) (i : ℕ). threadAt (T .state) i) Able Full recorded S v (s₁, st)
 
   -- 4. A round is empty exactly if no choice can be done.
   pub seated-round-idle : (S : SeatedState) → (seatedRoundOf L S .words ≡ []) ↔ ((i p : ℕ) → (n : ℕ) × (seatedChoice L S i p ≡ refuses n))
@@ -225,13 +229,13 @@ module _ (L : Limited) where
       let (e, d) = the-seated-round S ws S′ .0 h in
       subst (λ (x : List ℕ). SeatedPath S x S′) (sym e) (subst (λ (T : SeatedState). SeatedPath S (seatedRoundOf L S .words) T) (sym d) (seated-round-path S))
 
-  pub seated-lone-of : (S : SeatedState) (v : ℕ) (S₁ : SeatedState) → GoesOn L S v 0 S₁ → (ws : List ℕ) (S′ : SeatedState) → IsSeatedRound L S ws S′
+  pub seated-lone-of : (S : SeatedState) (v : ℕ) (s₁ : State) → Steps (L .clinic) (S .state) v 0 s₁ → (ws : List ℕ) (S′ : SeatedState) → IsSeatedRound L S ws S′
       → (xs : List ℕ) × (ys : List ℕ) × (g : RoundState SeatedState) × (i : ℕ) × (ws ≡ xs ++ ys)
       × SeatedVisits L S (v - 1) xs g × SeatedPath S xs (g .state) × Here g v i × (threadAt (g .state .state) i ≡ threadAt (S .state) v)
       × (((zs : List ℕ) × (S″ : SeatedState) × (ys ≡ i ∷ 0 ∷ zs) × GoesOn L (g .state) i 0 S″)
       ⊎ (((zs : List ℕ) × (S″ : SeatedState) × (ys ≡ i ∷ 0 ∷ zs) × GetsNone L (g .state) i S″) ⊎ (choice (L .clinic) (g .state .state) i 0 ≡ halts 20)))
-  seated-lone-of S v S₁ st ws S′ h =
-      let (xs, ys, g, i, e, seen, path, here, same, then) = seated-lone-done S v S₁ st in
+  seated-lone-of S v s₁ st ws S′ h =
+      let (xs, ys, g, i, e, seen, path, here, same, then) = seated-lone-done S v s₁ st in
       (xs, ys, g, i, the-seated-round S ws S′ .0 h .0 ∙ e, seen, path, here, same, then)
 
   pub seated-idle-of : (S : SeatedState) (ws : List ℕ) (S′ : SeatedState) → IsSeatedRound L S ws S′ → (ws ≡ []) ↔ ((i p : ℕ) → (n : ℕ) × (seatedChoice L S i p ≡ refuses n))

@@ -34,10 +34,10 @@ use Rattle.seats.proofs.SeatedLast.{last-answer}
 use Rattle.seating.specs.declared.Seats.{Seats}
 use Rattle.seating.specs.SeatedRunning.{seatedUnready}
 use Rattle.seating.specs.SeatsRead.{lineWords, linesFrom, seatedStepsOf, seatsAfter}
-use Rattle.seating_exact.specs.SeatTable.{SeatTableFits, SeatTableMisfits, OverfullAt, StartFits, SeatsBar}
+use Rattle.seating_exact.specs.SeatTable.{SeatTableFits, OverfullAt, StartFits, SeatsBar}
 use Rattle.seating_exact.specs.SeatsTold.{SeatsTold, noSeatsAt}
 use Rattle.seating_exact.proofs.SeatedCases.{Readied, readied-by}
-use Rattle.seating_exact.proofs.SeatedAnswers.{SeatedEnd, ends-by, end-seventeen, end-names, end-start, ready-quiet, barred-loud}
+use Rattle.seating_exact.proofs.SeatedAnswers.{SeatedEnd, ends-by, Seventeen, seventeen-bars, end-no-room, end-seventeen, end-names, end-start, ready-quiet, barred-loud}
 use Rattle.seating_exact.proofs.SeatedFiles.{file-ordered}
 
 get-tabled : (g : ℕ → ℕ) (k r : ℕ) → InCount k r → getD (tabled g 1 k) (r - 1) 0 ≡ g r
@@ -120,7 +120,7 @@ module _ (f table ws : List ℕ) where
       (ends-by f table ws (Listed ws) (Unlisted ws) (seatedUnready (listed (length ws)) f table) ready)
 
   -- 17 exactly where the list doesn't fit, or, of a file that 1 to 10 leave clean, the table; there is no output
-  pub seats-seventeen : (seatsAfter f ws table .number ≡ 17) ↔ (Unlisted ws ⊎ ((readingNames f ≡ fine) × SeatTableMisfits C table))
+  pub seats-seventeen : (seatsAfter f ws table .number ≡ 17) ↔ Seventeen f table ws (Unlisted ws)
   seats-seventeen = end-seventeen f table ws (never-listed ws) seats-ends
 
   pub seats-names : (n p : ℕ) → OfFile n → (verdictOf (seatsAfter f ws table) ≡ refused n p) ↔ (Listed ws × (readingNames f ≡ refused n p))
@@ -133,6 +133,12 @@ module _ (f table ws : List ℕ) where
   pub seats-none : SeatsBar (Unlisted ws) f table → seatsAfter f ws table ≡ noSeatsAt (seatsAfter f ws table .number) (seatsAfter f ws table .place)
   unfolding seatsAfter
   seats-none w = rw (ne-eqb (seatedUnready (listed (length ws)) f table .number) 0 (barred-loud f table ws (never-listed ws) ready w))
+
+  -- 17 has place 0
+  pub seats-no-room : Seventeen f table ws (Unlisted ws) → seatsAfter f ws table ≡ noSeatsAt 17 0
+  seats-no-room w =
+      seats-none (seventeen-bars f table ws w)
+      ∙ ap (λ (v : Verdict). noSeatsAt (v .number) (v .place)) (end-no-room f table ws (never-listed ws) seats-ends w)
 
   module _ (list : Listed ws) (clean : readingNames f ≡ fine) (fits : SeatTableFits C table) (starts : StartFits C table) where
     abbrev T : SeatedState

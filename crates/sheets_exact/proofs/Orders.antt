@@ -125,3 +125,17 @@ module _ (entry : List ℕ → Entry) where
       sheet-same a b
       (subst (λ (u : List (List ℕ)). Perm u (wholeFiles b)) (whole-only a fs x h s .0)
       (subst (λ (u : List (List ℕ)). Perm fs u) (whole-only b gs y k t .0) p))
+
+  -- One file in place of another that adds the same.
+
+  tally-exchanged : (f g : List ℕ) → entry f ≡ entry g → (xs ys : List (List ℕ)) (s : Sheet) → tally entry s (xs ++ (f ∷ ys)) ≡ tally entry s (xs ++ (g ∷ ys))
+  unfolding tally
+  tally-exchanged f g e [] ys s = ap (λ (v : Entry). tally entry (added s v) ys) e
+  tally-exchanged f g e (x ∷ xs) ys s = tally-exchanged f g e xs ys (added s (entry x))
+
+  pub one-exchanged : (f g : List ℕ) → entry f ≡ entry g → (xs ys : List (List ℕ)) (a b x y : List ℕ) → All (λ n. n < 256) a → All (λ n. n < 256) b
+      → WholeFiles 1000 a (xs ++ (f ∷ ys)) x → WholeFiles 1000 b (xs ++ (g ∷ ys)) y → sheetOf entry a ≡ sheetOf entry b
+  unfolding sheetOf sheetFor
+  one-exchanged f g e xs ys a b x y h k s t =
+      ap (sheetFor entry) (sym (whole-only a (xs ++ (f ∷ ys)) x h s .0)) ∙ ap closed (tally-exchanged f g e xs ys blank)
+      ∙ ap (sheetFor entry) (whole-only b (xs ++ (g ∷ ys)) y k t .0)
