@@ -1,5 +1,5 @@
 -- Rounds of plain runs.
-use Prim.Native.Nat.{ℕ, zero, suc, _+_, _*_, _/_, _%_, _-_, _≤_, _<_}
+use Prim.Native.Nat.{ℕ, _+_, _*_, _/_, _%_, _-_, _≤_}
 use mathlib.Core.Path.{_≡_, refl, sym, ap, _∙_, subst}
 use mathlib.Core.Logic.{_↔_, _⊎_, inl, inr}
 use mathlib.Core.List.{List, [], _∷_, _++_}
@@ -10,15 +10,12 @@ use Rattle.format.specs.Answers.{fine}
 use Rattle.format.specs.Contents.{contentsOf}
 use Rattle.checking.specs.Check.{readingNames}
 use Rattle.steps.specs.Choice.{Clinic, clinicOf, State, Chosen, halts, goes, threadAt, choice}
-use Rattle.choices.specs.Choices.{Ran, run, start, ranOf}
-use Rattle.reading_exact.specs.File.{InCount}
+use Rattle.choices.specs.Choices.{run, start, ranOf}
 use Rattle.running_exact.specs.Steps.{Steps, Chain}
-use Rattle.running_exact.specs.Keeps.{Kept}
 use Rattle.running_exact.proofs.Agree.{choice-steps, never-both}
 use Rattle.running_exact.proofs.StepsChosen.{steps-choice}
 use Rattle.running_exact.proofs.RunChain.{run-chain, run-whole, chain-run}
 use Rattle.running_exact.proofs.RunSafe.{run-kept}
-use Rattle.rounds.specs.Round.{Rounded}
 use Rattle.rounds.specs.Rounds.{RoundState, Here, Path}
 use Rattle.rounds.proofs.Rounding.{round-is, round-path, round-length, round-empty}
 use Rattle.rounds.proofs.Living.{round-lively}

@@ -2,8 +2,8 @@
 use Prim.Native.Nat.{ℕ, _<_}
 use mathlib.Core.Path.{_≡_, refl, sym, ap, _∙_, subst}
 use mathlib.Core.Logic.{_⊎_, inl, inr, _≢_}
-use mathlib.Core.Bool.{Bool, true, false, true≢false}
-use mathlib.Core.List.{List, [], _∷_}
+use mathlib.Core.Bool.{true, false, true≢false}
+use mathlib.Core.List.{List, _∷_}
 use lib.ListN.{length}
 use Rattle.format.specs.Header.{hasJuniors, headAt, versionAt, headOf, roomFor}
 use Rattle.format.specs.declared.HeadAnswer.{HeadAnswer}
@@ -22,7 +22,7 @@ use Rattle.placing_at.specs.PlaceAt.{openContents, placingAt, placedBytesAt, pl
 use Rattle.reading.proofs.ReadingLaws.{refused-by-head}
 use Rattle.reading_exact.specs.Lists.{All}
 use Rattle.reading_exact.proofs.Places.{encoded-back}
-use Rattle.turning.specs.Turning.{headNumber, turnedTo, inColumns, inRows, turning}
+use Rattle.turning.specs.Turning.{headNumber, inColumns, inRows, turning}
 use Rattle.turning_exact.proofs.Turned.{turned-holds, turned-length, turned-version, turned-headed, turned-read, turned-clean, there-and-back, same-head-refusals}
 use Rattle.engine.specs.Alike.{AlikeBesideBytes, Alike, ColumnsOf}
 use Rattle.engine.proofs.SameContents.{wanted, over-alike, alike-beside-bytes}

@@ -1,8 +1,8 @@
 -- What may be lent, as a test and in words; and which answer comes where.
-use Prim.Native.Nat.{ℕ, zero, suc, _+_, _-_, _≤_, _<_}
+use Prim.Native.Nat.{ℕ, zero, suc, _+_, _-_, _<_}
 use mathlib.Core.Path.{_≡_, refl, sym, ap, _∙_, subst}
 use mathlib.Core.Logic.{_↔_, _≢_, inl, inr}
-use mathlib.Core.Bool.{Bool, true, false, cond, _&&_, and-eq-true-iff, or-true, false≢true}
+use mathlib.Core.Bool.{Bool, true, false, _&&_, and-eq-true-iff, or-true, false≢true}
 use mathlib.Core.List.{List, [], _∷_}
 use native.Mathlib.Omega.{arith}
 use lib.Dec.{eqb, leb, ltb}
@@ -17,7 +17,7 @@ use Rattle.format.proofs.BoolLaws.{eq-iff, and-iff, or-resolve}
 use Rattle.format.proofs.ContentsLaws.{inCount-iff}
 use Rattle.rules.specs.Schema.{Schema, schemaOf}
 use Rattle.rules.specs.Names.{Bound, isUser, isChannel}
-use Rattle.rules.specs.Rules.{Context, bind, activate, childOf}
+use Rattle.rules.specs.Rules.{Context}
 use Rattle.rules.specs.Checking.{openings}
 use Rattle.rules.proofs.NameLaws.{between}
 use Rattle.checking.specs.Check.{readingNames}
@@ -25,9 +25,7 @@ use Rattle.reading_exact.specs.Lists.{All}
 use Rattle.reading_exact.specs.Order.{OfFile}
 use Rattle.reading_exact.proofs.Turns.{not-of-file, some-of-file}
 use Rattle.reading_exact.specs.File.{InCount}
-use Rattle.reading_exact.specs.Refusals.{nth}
 use Rattle.reading_exact.proofs.AllLaws.{all-map, all-both}
-use Rattle.checking_exact.specs.Faults.{nowhere, InContext, root, child, first-child, second-child}
 use Rattle.steps.specs.declared.Thread.{Thread}
 use Rattle.steps.specs.declared.Made.{Made}
 use Rattle.steps.specs.Choice.{clinicOf, kindHeld, State, halts, goes, choice}

@@ -262,17 +262,6 @@ stands-over out kept input s =
     refused-over : (f : List ℕ) (n : ℕ) → headOf f ≡ Refused n → over out f ≡ out
     refused-over f n h = rw (head-refused f n h, ne-eqb n 0 (λ z. let no-way : ⊥ = omega (arith, head-number f n h, z) in no-way))
 
--- the output, by room and verdict
-pub over-room : (short : Bool) (v : ℕ) (C : Contents) (ts : List Turn) (x : Verdict) (out : List ℕ)
-    → cond (eqb (cond short (noPlace 17 0) (answerBy v C ts x) .number) 0) (sets out 0 (bytesBy v C ts)) out ≡ cond short out (overBy v C ts x out)
-over-room true v C ts x out = refl
-over-room false v C ts x out = go (eqb (x .number) 0) refl
-  where
-    go : (b : Bool) → eqb (x .number) 0 ≡ b
-        → cond (eqb (cond b (placedBy v C ts) (noPlace (x .number) (x .place)) .number) 0) (sets out 0 (bytesBy v C ts)) out ≡ cond b (sets out 0 (bytesBy v C ts)) out
-    go true e = refl
-    go false e = rw e
-
 -- no answer is longer than the largest file, nor than the room that was asked for it
 pub length-within : (f : List ℕ) (room : ℕ) → placing f room .length ≤ roomFor f
 unfolding judging placeable

@@ -2,14 +2,14 @@
 use Prim.Native.Nat.{ℕ, zero, suc, _+_, _-_, _≤_, _<_}
 use mathlib.Core.Path.{_≡_, refl, sym, ap, _∙_, subst}
 use mathlib.Core.Logic.{_⊎_, inl, inr, _≢_}
-use mathlib.Core.Bool.{Bool, true, false, cond}
+use mathlib.Core.Bool.{Bool, true, false}
 use mathlib.Core.List.{List, [], _∷_, _++_, append-assoc}
 use native.Mathlib.Omega.{arith}
 use lib.Dec.{eqb, ltb}
 use lib.ListN.{length, getD, take, drop, replicate}
 use borrow.Author.Tests.{eqb-true, eqb-false, ltb-true, ltb-false, lt-ltb, le-ltb}
-use Rattle.rounds.specs.Round.{Taken, refuses, waits, steps, Visited, nothingDone, waited, alone, met, withoutItem, Going, Rounded, going, visited, visit, roundFrom, round}
-use Rattle.rounds.specs.Rounds.{In, RoundState, Here, relabelled, numbers, Visits, lone, wait, meet, nothing, VisitsFrom, begun, Path}
+use Rattle.rounds.specs.Round.{Taken, waits, Visited, alone, met, withoutItem, Going, visited, visit, roundFrom, round}
+use Rattle.rounds.specs.Rounds.{RoundState, Here, relabelled, numbers, Visits, lone, wait, VisitsFrom, begun, Path}
 use Rattle.rounds.proofs.PlaceLaws.{withoutItem-below, withoutItem-above, getD-snoc, numbers-at, numbers-past}
 use Rattle.rounds.proofs.Laws.{Lawful, Recorded}
 use Rattle.rounds.proofs.RoundStates.{Keeping, inside}

@@ -1,9 +1,9 @@
 -- What a run with seats answers and writes, for every file, list and table.
-use Prim.Native.Nat.{ℕ, zero, suc, _+_, _*_, _≤_, _<_}
+use Prim.Native.Nat.{ℕ, _+_, _≤_, _<_}
 use mathlib.Core.Path.{_≡_, refl, sym, ap, _∙_, subst}
 use mathlib.Core.Logic.{_⊎_, inl, inr, _≢_, _↔_}
-use mathlib.Core.Bool.{Bool, true, false, cond, _&&_, false≢true}
-use mathlib.Core.List.{List, [], _∷_}
+use mathlib.Core.Bool.{Bool, true, false, cond, _&&_}
+use mathlib.Core.List.{List}
 use native.Mathlib.Omega.{arith}
 use lib.Dec.{eqb, leb}
 use lib.ListN.{length}
@@ -13,11 +13,8 @@ use Rattle.format.specs.Words.{bytesOf}
 use Rattle.format.specs.Answers.{fine, refused, orElse}
 use Rattle.format.specs.Contents.{Contents, contentsOf}
 use Rattle.format.specs.declared.Verdict.{Verdict}
-use Rattle.format.proofs.AnswerLaws.{loud-first}
 use Rattle.checking.specs.Check.{readingNames}
 use Rattle.steps.specs.declared.Thread.{Thread}
-use Rattle.steps.specs.Choice.{State}
-use Rattle.choices.specs.Choices.{Ran, ranOf}
 use Rattle.running.specs.Run.{ranWords, listed, stopped}
 use Rattle.reading_exact.specs.Order.{OfFile}
 use Rattle.reading_exact.proofs.AllLaws.{all-map}
@@ -28,7 +25,7 @@ use Rattle.running_exact.specs.Output.{Written, stateBytes}
 use Rattle.running_exact.specs.Keeps.{Kept}
 use Rattle.running_exact.proofs.RunSafe.{run-kept}
 use Rattle.running_exact.proofs.OutputWords.{written, words-length}
-use Rattle.running_exact.proofs.AnswerCases.{Decided, fit-or, never-fit}
+use Rattle.running_exact.proofs.AnswerCases.{fit-or, never-fit}
 use Rattle.seats.specs.Seats.{limitedOf, seatedStart, SeatedRan, plainly, seatedRanOf}
 use Rattle.seats.proofs.SeatedPlain.{run-alike}
 use Rattle.seating.specs.SeatedRunning.{seatedUnreadyIn, seatedRunning, seatedOver, seatedLength}

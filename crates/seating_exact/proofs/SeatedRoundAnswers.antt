@@ -1,8 +1,8 @@
 -- What a seated round of any bytes after any list answers and writes.
-use Prim.Native.Nat.{ℕ, _+_, _*_, _-_, _/_, _%_, _≤_, _<_}
+use Prim.Native.Nat.{ℕ, _+_, _*_, _-_, _/_, _%_, _≤_}
 use mathlib.Core.Path.{_≡_, refl, sym, ap, ap₂, _∙_, subst}
-use mathlib.Core.Logic.{_⊎_, inl, inr, _≢_, _↔_}
-use mathlib.Core.Bool.{Bool, true, false, cond, _&&_}
+use mathlib.Core.Logic.{inl, inr, _≢_, _↔_}
+use mathlib.Core.Bool.{Bool, true, false, _&&_}
 use mathlib.Core.List.{List, [], _++_}
 use native.Mathlib.Omega.{arith}
 use lib.Dec.{eqb, leb}
@@ -22,22 +22,20 @@ use Rattle.reading_exact.specs.Order.{OfFile}
 use Rattle.running_exact.specs.Output.{stateBytes}
 use Rattle.running_exact.specs.Keeps.{Kept}
 use Rattle.running_exact.proofs.RunSafe.{run-kept}
-use Rattle.running_exact.proofs.AnswerCases.{Decided, yes, no, listed-to, with-room}
+use Rattle.running_exact.proofs.AnswerCases.{Decided, no, listed-to, with-room}
 use Rattle.running_exact.proofs.OutputWords.{words-length}
-use Rattle.rounds.specs.Round.{Rounded}
 use Rattle.dispatching.specs.declared.Round.{Round}
-use Rattle.dispatching.specs.Dispatch.{roundListed, roundAnswer, noRound}
+use Rattle.dispatching.specs.Dispatch.{roundListed, roundAnswer}
 use Rattle.dispatching_exact.specs.Answered.{RoundUnfit, RoundFit, noRoundAt}
 use Rattle.seats.specs.Seats.{Limited, limitedOf, SeatedState, SeatedRan, plainly, seatedStart, seatedRanOf}
 use Rattle.seats.proofs.SeatedPlain.{run-alike}
-use Rattle.seating.specs.SeatedRunning.{seatedUnready, seatedOver}
 use Rattle.seating.specs.SeatsRead.{seatedStepsOf}
 use Rattle.seating.specs.SeatedRound.{seatedRoundOf, afterSeatedList, seatedBothBy, seatedRoundUnready, seatedRounding, seatedRoundOver}
 use Rattle.seating_exact.specs.SeatTable.{SeatTableFits, OverfullAt, StartFits, SeatsBar}
 use Rattle.seating_exact.specs.IsSeatedRound.{IsSeatedRound, SeatedRoundTold, SeatedRoundStopped}
 use Rattle.seating_exact.proofs.SeatedCases.{Readied, readied-by}
 use Rattle.seating_exact.proofs.SeatedAnswers.{SeatedEnd, ends-by, Seventeen, seventeen-bars, end-no-room, end-seventeen, end-names, end-start, seated-through, seated-halted, ready-quiet, barred-loud, over-ready}
-use Rattle.seating_exact.proofs.SeatedRounds.{the-seated-round, seated-round-few, seated-round-after, seated-whole}
+use Rattle.seating_exact.proofs.SeatedRounds.{the-seated-round, seated-round-few, seated-round-after}
 
 never-fit : (ws : List ℕ) (room : ℕ) → RoundFit ws room → RoundUnfit ws room → ⊥
 never-fit ws room (a, (b, c)) (inl u) = omega (arith, a, u)

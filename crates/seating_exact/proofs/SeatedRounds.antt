@@ -1,23 +1,22 @@
 -- Rounds of seated runs: seated choices meet what the theorems on rounds ask of choices.
-use Prim.Native.Nat.{ℕ, zero, suc, _+_, _*_, _/_, _%_, _-_, _≤_, _<_}
+use Prim.Native.Nat.{ℕ, suc, _+_, _*_, _/_, _%_, _-_, _≤_}
 use mathlib.Core.Path.{_≡_, refl, sym, ap, _∙_, subst}
 use mathlib.Core.Logic.{_↔_, _⊎_, inl, inr}
 use mathlib.Core.List.{List, [], _∷_, _++_}
 use native.Mathlib.Omega.{arith}
 use lib.ListN.{length}
 use Rattle.steps.specs.Choice.{Clinic, State, halts, threadAt, choice}
-use Rattle.reading_exact.specs.File.{InCount}
 use Rattle.running_exact.specs.Steps.{Steps}
 use Rattle.running_exact.proofs.Agree.{refused-positive}
-use Rattle.rounds.specs.Round.{Taken, refuses, waits, steps, Rounded}
+use Rattle.rounds.specs.Round.{Taken, refuses, waits, steps}
 use Rattle.rounds.specs.Rounds.{RoundState, Here, Path}
 use Rattle.rounds.proofs.Laws.{Lawful, Recorded}
 use Rattle.rounds.proofs.Rounding.{round-is, round-path, round-length, round-empty}
 use Rattle.rounds.proofs.Living.{round-lively}
 use Rattle.dispatching_exact.specs.IsRound.{NoWait}
 use Rattle.dispatching_exact.proofs.PlainLaws as base
-use Rattle.seats.specs.Seats.{Limited, SeatedState, ownersBy, standInLine, seatedChoice, SeatedRan, oneDone, followSeated, seatedRun}
-use Rattle.seats.specs.SeatOrder.{AsksSeat, GetsSeat, SeatedStep, gotNone, tookSeat, askedNone, refusedPlainly}
+use Rattle.seats.specs.Seats.{Limited, SeatedState, seatedChoice, SeatedRan, oneDone, followSeated, seatedRun}
+use Rattle.seats.specs.SeatOrder.{AsksSeat, GetsSeat, SeatedStep, gotNone, tookSeat, askedNone}
 use Rattle.seats.proofs.SeatedTold.{putOn, asks-steps, asks-or, gets-or, choice-seated, seated-agrees, goes-iff, waits-iff, waits-only-line, halts-iff}
 use Rattle.seating.specs.SeatedRound.{seatedThreads, seatedRoundOf}
 use Rattle.seating_exact.specs.IsSeatedRound.{GoesOn, GetsNone, IsSeatedRound, SeatedVisits}

@@ -1,8 +1,8 @@
 -- What is read of the seats after any list, of any bytes and with any table.
 use Prim.Native.Nat.{ℕ, zero, suc, _+_, _*_, _-_, _≤_, _<_}
 use mathlib.Core.Path.{_≡_, refl, sym, ap, _∙_, subst}
-use mathlib.Core.Logic.{_⊎_, inl, inr, _≢_, _↔_}
-use mathlib.Core.Bool.{Bool, true, false, cond, _&&_}
+use mathlib.Core.Logic.{_↔_}
+use mathlib.Core.Bool.{Bool, true, false}
 use mathlib.Core.List.{List, [], _∷_, _++_}
 use native.Mathlib.Omega.{arith}
 use lib.Dec.{eqb, ltb}
@@ -10,12 +10,11 @@ use lib.ListN.{length, getD, drop, replicate, length-append, length-replicate, L
 use lib.Seq.{getD-take, getD-drop, getD-append-add}
 use borrow.Author.Tests.{eq-eqb, ne-eqb, ltb-true, ltb-false}
 use Rattle.format.specs.Answers.{fine, refused, orElse}
-use Rattle.format.specs.Contents.{Contents, contentsOf, tabled, item}
+use Rattle.format.specs.Contents.{Contents, contentsOf, tabled}
 use Rattle.format.specs.declared.Verdict.{Verdict}
 use Rattle.format.proofs.ContentsLaws.{item-get, item-made, sessions-held}
 use Rattle.checking.specs.Check.{readingNames}
 use Rattle.steps.specs.Choice.{clinicOf, State}
-use Rattle.choices.specs.Choices.{ranOf}
 use Rattle.running.specs.Run.{listed, stopped, besideOfRun}
 use Rattle.reading_exact.specs.File.{InCount}
 use Rattle.reading_exact.specs.Order.{OfFile}
@@ -25,8 +24,8 @@ use Rattle.running_exact.proofs.FileNodes.{laid}
 use Rattle.format.specs.Header.{headAt}
 use Rattle.lending_exact.specs.Waiting.{waitingIn}
 use Rattle.lending_exact.proofs.RunTotals.{kept-totals}
-use Rattle.seats.specs.Seats.{Limited, limitedOf, seatsIn, SeatedState, seatsTaken, SeatedRan, plainly, waitsIn, lastIn, seatedStart, seatedRanOf}
-use Rattle.seats.specs.SeatOrder.{SessionsIn, LastAnswer, Ordered}
+use Rattle.seats.specs.Seats.{Limited, limitedOf, seatsIn, SeatedState, seatsTaken, SeatedRan, plainly, seatedStart, seatedRanOf}
+use Rattle.seats.specs.SeatOrder.{SessionsIn, Ordered}
 use Rattle.seats.proofs.SeatedPlain.{run-alike}
 use Rattle.seats.proofs.SeatedRuns.{line-fits}
 use Rattle.seats.proofs.SessionCounts.{taken-counts}

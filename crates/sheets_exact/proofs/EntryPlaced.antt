@@ -6,15 +6,11 @@ use mathlib.Core.List.{List, map}
 use native.Mathlib.Omega.{arith}
 use lib.Dec.{eqb}
 use lib.ListN.{length}
-use borrow.Author.Tests.{eqb-true, eqb-false, eq-eqb}
-use Rattle.format.specs.Header.{versionAt, headOf}
-use Rattle.format.specs.Answers.{refused, orElse}
+use borrow.Author.Tests.{eqb-true, eq-eqb}
+use Rattle.format.specs.Header.{versionAt}
+use Rattle.format.specs.Answers.{refused}
 use Rattle.format.specs.declared.Verdict.{Verdict}
-use Rattle.format.specs.declared.HeadAnswer.the-variants.{Refused}
-use Rattle.format.proofs.AnswerLaws.{NoRefusal, loud-first}
-use Rattle.format.proofs.HeadLaws.{head-number}
 use Rattle.format.specs.Contents.{Contents, contentsOf}
-use Rattle.checking.proofs.CheckLaws.{names-refused}
 use Rattle.groups.specs.Groups.{onsOf}
 use Rattle.reading_exact.specs.Lists.{All}
 use Rattle.reading_exact.specs.Tree.{Tree}
@@ -22,17 +18,15 @@ use Rattle.reading_exact.specs.File.{Routine, File, nodesOf, contentsFor, Reads
 use Rattle.reading_exact.proofs.Exact.{one-read}
 use Rattle.reading_exact.proofs.FileContents.{contents-held}
 use Rattle.checking_exact.specs.Tables.{schemaFor}
-use Rattle.states.specs.declared.Turn.{Turn}
-use Rattle.placing.specs.Placing.{turnsFor, placeable, judging, placedBy, noPlace, measuring, placedBytes}
+use Rattle.placing.specs.Placing.{turnsFor, judging, placedBy, noPlace, measuring, placedBytes}
 use Rattle.placing.specs.declared.Placed.{Placed}
 use Rattle.placing.proofs.PlaceLaws.{room-most, answers}
-use Rattle.placing_exact.specs.Placed.{placedTrees, placedFile, insertAll, takingAll}
+use Rattle.placing_exact.specs.Placed.{placedFile, insertAll, takingAll}
 use Rattle.placing_exact.proofs.SwitchFree.{bare-free}
 use Rattle.placing_exact.proofs.GroupSessions.{placed-inserted}
 use Rattle.placing_exact.proofs.BytesPlaced.{turns-read}
 use Rattle.placing_exact.proofs.PlacingExact.{grafted-trees, found, placed-written}
 use Rattle.sheets.specs.Entries.{mostFrom, refusedAt, entryBy, entryOf}
-use Rattle.sheets.proofs.EntryLaws.{entry-refused}
 use Rattle.sheets.specs.declared.Entry.{Entry}
 use Rattle.sheets_exact.specs.Owed.{placedAlone, sessionsPlaced}
 use Rattle.sheets_exact.proofs.MostTrees.{peak, all-most}
@@ -125,10 +119,3 @@ module _ (f : List ℕ) where
 pub entry-same : (f g : List ℕ) → contentsOf f ≡ contentsOf g → judging f ≡ judging g → entryOf f ≡ entryOf g
 unfolding entryOf
 entry-same f g c j = ap₂ (λ (C : Contents) (v : Verdict). entryBy C (turnsFor C) v) c j
-
--- a file without a head
-pub entry-head : (f : List ℕ) (n : ℕ) → headOf f ≡ Refused n → entryOf f ≡ refusedAt n
-unfolding judging
-entry-head f n e =
-    let loud : NoRefusal (refused n 0) → ⊥ = λ z. let no-way : ⊥ = omega (arith, head-number f n e, z) in no-way in
-    entry-refused f (refused n 0) (ap (λ (v : Verdict). orElse v (placeable (contentsOf f))) (names-refused f n e) ∙ loud-first (refused n 0) (placeable (contentsOf f)) loud) loud
