@@ -8,7 +8,7 @@ use Rattle.format.specs.declared.Node.{Node}
 use Rattle.format.specs.declared.Session.{Session}
 use Rattle.reading_exact.specs.Tree.{Step, repeat, new, compare, receive, send, Tree, end, fork, step, switch, on, off, Switch, words, stepNode, switchNode, past, write, flatten}
 use Rattle.reading_exact.specs.File.{rolesOf, juniorsOf, Routine, File, nodesOf, rooted, contentsFor}
-use Rattle.reading_exact.proofs.TreeEnds.{past-length}
+use Rattle.reading_exact.proofs.TreeEnds.{past-length, write-before}
 use Rattle.reading_exact.proofs.FileContents.{treesOf}
 use Rattle.merging_exact.specs.Moved.{movedStep, movedTree}
 use Rattle.merging.specs.Merged.{Shifts, shifted, movedNode, movedSession, mergedContents}
@@ -63,16 +63,6 @@ module _ (far : Shifts) where
       let e : suc (k + i) ≡ k + suc i = omega arith in
       ap₂ {C = List Node} (λ (n : Node) (h : ℕ). n ∷ write h (movedTree σ t) (map (movedNode far) ns)) (switch-moved w r) e
       ∙ ap {B = List Node} (λ l. movedNode far (switchNode w r) ∷ l) (write-moved (suc i) t ns)
-
--- what follows a tree follows its nodes
-pub write-before : (i : ℕ) (t : Tree) (ns ms : List Node) → write i t (ns ++ ms) ≡ write i t ns ++ ms
-unfolding write
-write-before i end ns ms = refl
-write-before i (fork a b) ns ms =
-    let j : ℕ = past (suc i) a in
-    ap {B = List Node} (λ l. words 1 j 0 ∷ l) (ap (write (suc i) a) (write-before j b ns ms) ∙ write-before (suc i) a (write j b ns) ms)
-write-before i (step s t) ns ms = ap {B = List Node} (λ l. stepNode s ∷ l) (write-before (suc i) t ns ms)
-write-before i (switch w r t) ns ms = ap {B = List Node} (λ l. switchNode w r ∷ l) (write-before (suc i) t ns ms)
 
 -- after so many users and channels
 module _ (n m : ℕ) where

@@ -90,7 +90,7 @@ module _ (D : Schema) where
   grafted-length ss = ap (λ (ts : List Tree). length (grafted ss ts)) (placed-inserted D ss) ∙ length-states D ss (takingAll D ss)
 
   -- users and masks stay
-  grafted-same : (P : ℕ → ℕ → Type 0) (ss : List Routine) → All (λ s. P (s .user) (s .mask)) ss → All (λ s. P (s .user) (s .mask)) (grafted ss (placedTrees D ss))
+  pub grafted-same : (P : ℕ → ℕ → Type 0) (ss : List Routine) → All (λ s. P (s .user) (s .mask)) ss → All (λ s. P (s .user) (s .mask)) (grafted ss (placedTrees D ss))
   unfolding grafted placedTrees
   grafted-same P [] h = tt
   grafted-same P (s ∷ ss) h = (h .0, grafted-same P ss (h .1))

@@ -42,7 +42,7 @@ pub mod AnswerStages
 pub mod PlacingExact
 -- the answer is the first refusal in order that has a cause (placing-first)
 pub mod PlacingFirst
--- a session that one role covers (one-role-written)
+-- a session that one role covers (covered-once, one-role-written)
 pub mod OneRole
 -- A rival that is asked for rules 5 and 6 alone obeys every rule (rivals-by-roles, rivals-all): the fewest on steps of all, and 15 where there is none at all
 -- (fewest-of-all, none-at-all)

@@ -23,7 +23,7 @@ use Rattle.checking_exact.proofs.TreeRules.{by-roles-iff}
 use Rattle.checking_exact.proofs.FileRules.{ranged}
 use Rattle.placing_exact.specs.Placement.{onSteps, grafted}
 use Rattle.placing_exact.specs.Placed.{labels, varsBelow, placedTree, placedTrees, placedFile, Bare}
-use Rattle.placing_exact.specs.Promised.{session, Covers}
+use Rattle.placing_exact.specs.Promised.{noRoutine, session, Covers}
 use Rattle.placing_exact.proofs.HeldRole.{Is, is-empty, is-with}
 use Rattle.placing_exact.proofs.StateRules.{Role, at, role-end, role-fork, step-suits, child-step}
 use Rattle.placing_exact.proofs.SoundSessions.{Sound, sound, roles-fit}
@@ -44,29 +44,28 @@ throughout D u m r vs (step s t) f i q h =
 throughout D u m r vs (switch w x t) f i q h = absurd f
 
 -- the tree written for a session is its own, placed
-tree-placed : (D : Schema) (d : Routine) (ss : List Routine) (j : ℕ) → j < length ss
-    → getD (grafted ss (placedTrees D ss)) j d .tree ≡ placedTree D (getD ss j d .user) (getD ss j d .tree)
+pub tree-placed : (D : Schema) (ss : List Routine) (j : ℕ) → j < length ss
+    → getD (grafted ss (placedTrees D ss)) j noRoutine .tree ≡ placedTree D (getD ss j noRoutine .user) (getD ss j noRoutine .tree)
 unfolding grafted placedTrees
-tree-placed D d [] j l = absurd (omega (arith, l))
-tree-placed D d (s ∷ ss) zero l = refl
-tree-placed D d (s ∷ ss) (suc j) l = tree-placed D d ss j (omega (arith, l))
+tree-placed D [] j l = absurd (omega (arith, l))
+tree-placed D (s ∷ ss) zero l = refl
+tree-placed D (s ∷ ss) (suc j) l = tree-placed D ss j (omega (arith, l))
 
 module _ (F : File) (W : WellFormed F) (N : WellKinded F) (B : Bare F) where
-  covered-once : (k r : ℕ) → InCount (length (F .sessions)) k → Covers F k r → onSteps (session (placedFile F) k .tree) ≤ 1
+  pub covered-once : (k r : ℕ) → InCount (length (F .sessions)) k → Covers F k r → onSteps (session (placedFile F) k .tree) ≤ 1
   covered-once k zero c (a, h) = let never : ⊥ = omega (arith, has-pos (schemaFor F .assigned (session F k .user)) 0 a) in absurd never
   covered-once k (suc r) c (a, h) =
       let D : Schema = schemaFor F in
-      let none : Routine = record { user = 0; mask = 0; tree = end } in
       let s : Routine = session F k in
       let at-k : k - 1 < length (F .sessions) = omega (arith, c) in
-      let seat = all-get _ (F .sessions) (k - 1) none at-k (W .sessions-fit) in
-      let kinded = all-get _ (F .sessions) (k - 1) none at-k N in
-      let free : Free (s .tree) = all-get (λ (s : Routine). Free (s .tree)) (F .sessions) (k - 1) none at-k (bare-free F B) in
+      let seat = all-get _ (F .sessions) (k - 1) noRoutine at-k (W .sessions-fit) in
+      let kinded = all-get _ (F .sessions) (k - 1) noRoutine at-k N in
+      let free : Free (s .tree) = all-get (λ (s : Routine). Free (s .tree)) (F .sessions) (k - 1) noRoutine at-k (bare-free F B) in
       let low : suc r ≤ 16 = omega (arith, W .few-roles, roles-fit F W (s .user) (seat .0) (suc r) a) in
       let clear = by-roles-iff D (ranged F W) (s .user) [] (with 0 (suc r)) (s .tree) kinded .1 h in
       let all : Throughout (suc r) (labels D (s .user) [] (s .tree)) = throughout D (s .user) (with 0 (suc r)) (suc r) [] (s .tree) free (is-with 0 r is-empty) a clear in
-      let S : Sound D s = all-get (Sound D) (F .sessions) (k - 1) none at-k (sound F W N B) in
-      omega (arith, ap onSteps (tree-placed D none (F .sessions) (k - 1) at-k), one-role D (ranged F W) (W .few-roles) s S (suc r) low all)
+      let S : Sound D s = all-get (Sound D) (F .sessions) (k - 1) noRoutine at-k (sound F W N B) in
+      omega (arith, ap onSteps (tree-placed D (F .sessions) (k - 1) at-k), one-role D (ranged F W) (W .few-roles) s S (suc r) low all)
 
 pub one-role-written : (f : List ℕ) → All (λ b. b < 256) f → (room : ℕ) → placing f room .number ≡ 0 → (F G : File) → ReadsAs f F → encode G ≡ placedBytes f
     → (k r : ℕ) → InCount (length (F .sessions)) k → Covers F k r → onSteps (session G k .tree) ≤ 1

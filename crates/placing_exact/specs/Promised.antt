@@ -81,9 +81,13 @@ pub record Unrefused (f : List ℕ) (room : ℕ) : Type 0 where
 abbrev pub NoPlacement : List ℕ → Type 0
 NoPlacement f = (F : File) → ReadsAs f F → (ts : List Tree) → Placement F ts → ⊥
 
+-- what stands for a session out of count
+abbrev pub noRoutine : Routine
+noRoutine = record { user = 0; mask = 0; tree = end }
+
 -- a session by its number
 abbrev pub session : File → ℕ → Routine
-session F k = getD (F .sessions) (k - 1) (record { user = 0; mask = 0; tree = end })
+session F k = getD (F .sessions) (k - 1) noRoutine
 
 -- one role of the user permits every send and receive of a session: rule 6 holds all over its tree with that role alone active
 abbrev pub Covers : File → ℕ → ℕ → Type 0

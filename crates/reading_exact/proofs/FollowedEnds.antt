@@ -15,7 +15,9 @@ use Rattle.format.specs.Contents.{noNode}
 use Rattle.format.specs.declared.Node.{Node}
 use Rattle.format.proofs.ContentsLaws.{from-item}
 use Rattle.reading_exact.specs.File.{InCount}
+use Rattle.reading_exact.specs.Tree.{Tree, past, write}
 use Rattle.reading_exact.specs.Refusals.{nth, OneChild, Follows, at-end, at-step, at-fork}
+use Rattle.reading_exact.proofs.TreeEnds.{past-more, following-write}
 
 -- a tree ends after its first node, and no tree ends at 0
 pub follows-on : {ns : List Node} {i e : ℕ} → Follows ns i e → i < e
@@ -94,3 +96,13 @@ module _ (ns : List Node) where
 
   pub follows-top : {i e : ℕ} → Follows ns i e → top (endsFrom i) ≡ e
   follows-top h = ap top (follows-ends h)
+
+  -- a tree is followed to one end
+  pub one-end : {i d e : ℕ} → Follows ns i d → Follows ns i e → d ≡ e
+  one-end h g = sym (follows-top h) ∙ follows-top g
+
+  -- a written tree is followed to where it is written to
+  pub written-follows : (i : ℕ) (t : Tree) (more : List Node) → 1 ≤ i → drop (i - 1) ns ≡ write i t more → Follows ns i (past i t)
+  unfolding endsFrom
+  written-follows i t more pos w =
+      ends-follow i (past i t) pos (rw (w, following-write i t more)) (λ z. omega (arith, z, past-more i t))

@@ -1,16 +1,19 @@
 -- Trees one after the other against what is due: each root word is the number of its root, and no path binds a ninth variable.
-use Prim.Native.Nat.{ℕ, _-_, _≤_}
+use Prim.Native.Nat.{ℕ, zero, suc, _+_, _-_, _≤_, _<_}
 use mathlib.Core.Path.{_≡_, refl, ap, ap₂}
 use mathlib.Core.Bool.{true}
 use mathlib.Core.List.{List, [], _∷_, map}
 use native.Mathlib.Omega.{arith}
+use lib.ListN.{length, getD, drop}
+use lib.Seq.{drop-drop}
 use borrow.Author.Tests.{eqb-true, eq-eqb}
 use Rattle.trees.specs.Shape.{boundOf, rootFits, roots}
 use Rattle.format.specs.declared.Session.{Session}
 use Rattle.trees.specs.declared.Due.{Due}
 use Rattle.trees.specs.declared.Due.the-variants.{Root}
 use Rattle.reading_exact.specs.Lists.{All}
-use Rattle.reading_exact.specs.Tree.{Tree, past, height}
+use Rattle.reading_exact.specs.Tree.{Tree, past, height, write, flatten}
+use Rattle.reading_exact.proofs.TreeEnds.{past-more, write-rest}
 
 -- the sessions' root words, which are what is due at the start
 abbrev pub rootsIn : List Session → List ℕ
@@ -25,6 +28,18 @@ roots-due (s ∷ ss) = ap {B = List Due} (λ l. Root (s .root) ∷ l) (roots-due
 unfoldable pub rootsOf : ℕ → List Tree → List ℕ
 rootsOf at [] = []
 rootsOf at (t ∷ ts) = at ∷ rootsOf (past at t) ts
+
+-- from the root of a tree on stand the trees from that one on
+pub flatten-from : (at : ℕ) (ts : List Tree) (n : ℕ) → n < length ts
+    → (at ≤ getD (rootsOf at ts) n 0) × (drop (getD (rootsOf at ts) n 0 - at) (flatten at ts) ≡ flatten (getD (rootsOf at ts) n 0) (drop n ts))
+unfolding rootsOf flatten
+flatten-from at [] n l = let never : ⊥ = omega arith in absurd never
+flatten-from at (t ∷ ts) zero l = let e : at - at ≡ 0 = omega arith in (omega arith, rw e)
+flatten-from at (t ∷ ts) (suc n) l =
+    let (low, w) = flatten-from (past at t) ts n (omega arith) in
+    let r : ℕ = getD (rootsOf (past at t) ts) n 0 in
+    let e : r - at ≡ (past at t - at) + (r - past at t) = omega (arith, past-more at t) in
+    (omega (arith, past-more at t), rw (e, ← drop-drop (r - past at t) (past at t - at), write-rest) w)
 
 -- trees that stand one after the other are those that are due
 abbrev pub DueTrees : ℕ → List Due → List Tree → Type 0

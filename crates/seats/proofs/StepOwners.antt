@@ -54,6 +54,14 @@ pub length-snoc : {A : Type 0} (xs : List A) (x : A) → length (xs ++ (x ∷ []
 length-snoc [] x = refl
 length-snoc (y ∷ xs) x = ap suc (length-snoc xs x)
 
+-- off adds no role
+pub fewer : (m x r : ℕ) → has (without m x) r ≡ true → has m r ≡ true
+fewer m x r h = by (eqb x r) refl
+  where
+    by : (b : Bool) → eqb x r ≡ b → has m r ≡ true
+    by true z = never (subst (λ (y : ℕ). has (without m y) r ≡ true) (eqb-true x r z) h) (has-without-same m r)
+    by false z = sym (has-without-other m x r (eqb-false x r z)) ∙ h
+
 module _ (C : Clinic) (s : State) (os : List ℕ) (len : length os ≡ length (s .threads)) where
   abbrev tagOf : ℕ → ℕ
   tagOf i = C .node (threadAt s i .node) .tag
@@ -166,13 +174,6 @@ module _ (C : Clinic) (s : State) (os : List ℕ) (len : length os ≡ length (s
               })
           by false z =
               inl (subst (λ (y : ℕ). Sitting (s .threads) os y r) d (get-sits (s .threads) os (i - 1) r len (at-thread i (st .0)) (sym (has-with-other (threadAt s i .mask) (n .f1) r (eqb-false (n .f1) r z)) ∙ x)))
-
-  fewer : (m x r : ℕ) → has (without m x) r ≡ true → has m r ≡ true
-  fewer m x r h = by (eqb x r) refl
-    where
-      by : (b : Bool) → eqb x r ≡ b → has m r ≡ true
-      by true z = never (subst (λ (y : ℕ). has (without m y) r ≡ true) (eqb-true x r z) h) (has-without-same m r)
-      by false z = sym (has-without-other m x r (eqb-false x r z)) ∙ h
 
   -- who has a role after a step had it before, or is the session that is put on it
   pub step-sits : (i p k r : ℕ) (s′ : State) → Steps C s i p s′ → Sitting (s′ .threads) (ownersBy os i (tagOf i)) k r → Sitting (s .threads) os k r ⊎ Puts i p k r

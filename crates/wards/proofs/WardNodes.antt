@@ -1,29 +1,30 @@
 -- In words: the nodes of a session counted from its own root are those of its tree written from 0, wherever the session stands in its file.
-use Prim.Native.Nat.{ℕ, zero, suc, _+_, _-_, _≤_, _<_}
+use Prim.Native.Nat.{ℕ, suc, _+_, _-_, _<_}
 use mathlib.Core.Path.{_≡_, refl, sym, ap, ap₂, _∙_}
 use mathlib.Core.List.{List, [], _∷_, _++_, map}
 use native.Mathlib.Omega.{arith}
-use lib.ListN.{length, getD, take, drop}
-use lib.Seq.{take-append-seam, drop-append-add}
+use lib.ListN.{length, getD, take, drop, length-map, List·getD-map}
+use lib.Seq.{take-append-seam, drop-cons}
 use Rattle.format.specs.Contents.{Contents, noSession, contentsOf}
 use Rattle.format.specs.declared.Node.{Node}
+use Rattle.format.specs.declared.Session.{Session}
 use Rattle.placing.specs.Placing.{placing, placedBytes}
 use Rattle.placing_at.specs.PlaceAt.{placingAt, placedBytesAt}
 use Rattle.reading_exact.specs.Tree.{Step, repeat, new, compare, receive, send, Switch, on, off, Tree, end, fork, step, switch, words, stepNode, switchNode, past, write, flatten}
 use Rattle.reading_exact.specs.Lists.{All}
 use Rattle.reading_exact.specs.File.{Routine, File, InCount, rooted, encode, ReadsAs}
-use Rattle.reading_exact.proofs.TreeEnds.{past-length, past-more}
-use Rattle.reading_exact.proofs.FileContents.{treesOf, contents-back}
+use Rattle.reading_exact.proofs.TreeEnds.{past-length, write-before}
+use Rattle.reading_exact.proofs.Standing.{rootsOf, flatten-from}
+use Rattle.reading_exact.proofs.FileContents.{treesOf, roots-rooted, contents-back}
 use Rattle.placing_exact.specs.Placement.{graft}
 use Rattle.placing_exact.specs.Placed.{placedTrees}
-use Rattle.placing_exact.specs.Promised.{session}
+use Rattle.placing_exact.specs.Promised.{noRoutine, session}
 use Rattle.placing_exact.proofs.FormedTrees.{grafted-length}
 use Rattle.hours_exact.specs.OpenFile.{openFile}
 use Rattle.merging_exact.proofs.MergedFormed.{past-anywhere}
-use Rattle.merging_exact.proofs.MergedContents.{write-before}
 use Rattle.wards.specs.Ward.{SameWard, counted, fromRoot}
 use Rattle.wards.proofs.WardLabels.{tablesWith}
-use Rattle.wards.proofs.Wards.{noRoutine, placed-data, placed-data-at, isolated, isolated-at}
+use Rattle.wards.proofs.Wards.{placed-data, placed-data-at, isolated, isolated-at}
 
 step-counted : (r : ℕ) (s : Step) → counted r (stepNode s) ≡ stepNode s
 unfolding counted
@@ -57,37 +58,24 @@ counted-write r i (switch w x t) ns =
     ap₂ {C = List Node} (λ (n : Node) (h : ℕ). n ∷ map (counted r) (write h t ns)) (switch-counted r w x) e
     ∙ ap {B = List Node} (λ l. switchNode w x ∷ l) (counted-write r (suc i) t ns)
 
--- no root stands before the first
-root-later : (at : ℕ) (ss : List Routine) (i : ℕ) → i < length ss → at ≤ getD (rooted at ss) i noSession .root
-unfolding rooted
-root-later at [] i l = let none : ⊥ = omega arith in absurd none
-root-later at (s ∷ ss) zero l = omega arith
-root-later at (s ∷ ss) (suc i) l = omega (arith, past-more at (s .tree), root-later (past at (s .tree)) ss i (omega arith))
-
 -- a session's nodes stand at its root
 write-there : (at : ℕ) (ss : List Routine) (i : ℕ) → i < length ss
     → take (past 0 (getD ss i noRoutine .tree)) (drop (getD (rooted at ss) i noSession .root - at) (flatten at (treesOf ss)))
     ≡ write (getD (rooted at ss) i noSession .root) (getD ss i noRoutine .tree) []
-unfolding rooted flatten
-write-there at [] i l = let none : ⊥ = omega arith in absurd none
-write-there at (s ∷ ss) zero l =
-    let t : Tree = s .tree in
-    let ns : List Node = flatten (past at t) (treesOf ss) in
-    let e : at - at ≡ 0 = omega arith in
-    let f : past 0 t ≡ length (write at t []) = omega (arith, past-length at t [], past-anywhere at 0 t) in
-    ap (λ (k : ℕ). take (past 0 t) (drop k (write at t ns))) e
-    ∙ ap₂ {C = List Node} (λ (k : ℕ) (l : List Node). take k l) f (write-before at t [] ns)
-    ∙ take-append-seam (write at t []) ns
-write-there at (s ∷ ss) (suc i) l =
-    let t : Tree = s .tree in
-    let b : ℕ = past at t in
-    let ns : List Node = flatten b (treesOf ss) in
-    let r : ℕ = getD (rooted b ss) i noSession .root in
-    let k : ℕ = past 0 (getD ss i noRoutine .tree) in
-    let e : r - at ≡ length (write at t []) + (r - b) = omega (arith, root-later b ss i (omega arith), past-length at t [], past-more at t) in
-    ap₂ {C = List Node} (λ (x : ℕ) (l : List Node). take k (drop x l)) e (write-before at t [] ns)
-    ∙ ap (take k) (drop-append-add (write at t []) ns (r - b))
-    ∙ write-there b ss i (omega arith)
+unfolding flatten
+write-there at ss i l =
+    let ts : List Tree = treesOf ss in
+    let t : Tree = getD ss i noRoutine .tree in
+    let r : ℕ = getD (rooted at ss) i noSession .root in
+    let more : List Node = flatten (past r t) (drop (suc i) ts) in
+    let due : r ≡ getD (rootsOf at ts) i 0 =
+    sym (List·getD-map (λ (s : Session). s .root) (rooted at ss) i noSession) ∙ ap (λ (rs : List ℕ). getD rs i 0) (roots-rooted at ss) in
+    let in-trees : i < length ts = omega (arith, length-map ss (λ (s : Routine). s .tree)) in
+    let this : getD ts i end ≡ t = List·getD-map (λ (s : Routine). s .tree) ss i noRoutine in
+    let long : past 0 t ≡ length (write r t []) = omega (arith, past-length r t [], past-anywhere r 0 t) in
+    let from : drop i ts ≡ t ∷ drop (suc i) ts = rw (drop-cons ts i end in-trees, this) in
+    let stands : drop (r - at) (flatten at ts) ≡ flatten r (drop i ts) = rw due (flatten-from at ts i in-trees .1) in
+    rw (stands, from, long, write-before r t [] more, take-append-seam)
 
 -- and counted from it are the tree's own
 pub from-root : (P : File) (g : List ℕ) → encode P ≡ g → (i : ℕ) → InCount (length (P .sessions)) i

@@ -1,9 +1,9 @@
 -- What another ward can change in mine: nothing of a session's placed tree, whatever the other users and sessions are.
-use Prim.Native.Nat.{ℕ, zero, suc, _-_, _<_}
-use mathlib.Core.Path.{_≡_, refl, sym, ap, ap₂, _∙_, subst}
-use mathlib.Core.List.{List, [], _∷_}
+use Prim.Native.Nat.{ℕ, _-_, _<_}
+use mathlib.Core.Path.{_≡_, sym, ap, ap₂, _∙_, subst}
+use mathlib.Core.List.{List, []}
 use native.Mathlib.Omega.{arith}
-use lib.ListN.{length, getD}
+use lib.ListN.{length}
 use Rattle.masks.specs.Mask.{minus}
 use Rattle.format.specs.Contents.{item}
 use Rattle.rules.specs.Schema.{Schema}
@@ -12,7 +12,7 @@ use Rattle.placing.specs.Placing.{placing, placedBytes}
 use Rattle.placing_at.specs.PlaceAt.{placingAt, placedBytesAt}
 use Rattle.placing_at.proofs.OpenLaws.{item-minus}
 use Rattle.reading_exact.specs.Lists.{All}
-use Rattle.reading_exact.specs.Tree.{Tree, end}
+use Rattle.reading_exact.specs.Tree.{Tree}
 use Rattle.reading_exact.specs.File.{Routine, File, WellFormed, encode, ReadsAs}
 use Rattle.reading_exact.proofs.AllLaws.{all-get}
 use Rattle.reading_exact.proofs.FileContents.{single}
@@ -20,27 +20,17 @@ use Rattle.checking_exact.specs.Tables.{schemaFor}
 use Rattle.checking_exact.specs.Typing.{Kinded, WellKinded}
 use Rattle.checking_exact.proofs.OperandKinds.{Ranged}
 use Rattle.checking_exact.proofs.FileRules.{ranged}
-use Rattle.placing_exact.specs.Placement.{onSteps, grafted, graft}
+use Rattle.placing_exact.specs.Placement.{onSteps, graft}
 use Rattle.placing_exact.specs.Placed.{placedTree, placedTrees, placedFile}
-use Rattle.placing_exact.specs.Promised.{session}
+use Rattle.placing_exact.specs.Promised.{noRoutine, session}
 use Rattle.placing_exact.proofs.PlacingExact.{named-file, placed-exactly, placed-written}
+use Rattle.placing_exact.proofs.OneRole.{tree-placed}
 use Rattle.hours_exact.specs.OpenFile.{openFile}
 use Rattle.hours_exact.proofs.OpenFiles.{ranged-open, kinded-open}
 use Rattle.hours_exact.proofs.StandingPlaced.{Left, left-at, written-at}
 use Rattle.hours_exact.proofs.PlaceAtExact.{placed-at}
 use Rattle.wards.specs.Ward.{SameWard}
 use Rattle.wards.proofs.WardLabels.{withUsers, tablesWith, placed-alike}
-
-abbrev pub noRoutine : Routine
-noRoutine = record { user = 0; mask = 0; tree = end }
-
--- the tree of a session that has its placed tree
-tree-placed : (D : Schema) (ss : List Routine) (i : ℕ) → i < length ss
-    → getD (grafted ss (placedTrees D ss)) i noRoutine .tree ≡ placedTree D (getD ss i noRoutine .user) (getD ss i noRoutine .tree)
-unfolding grafted placedTrees
-tree-placed D [] i l = let none : ⊥ = omega arith in absurd none
-tree-placed D (s ∷ ss) zero l = refl
-tree-placed D (s ∷ ss) (suc i) l = tree-placed D ss i (omega arith)
 
 abbrev Naming : Schema → Routine → Type 0
 Naming D s = Kinded D (s .user) [] (s .tree)
