@@ -35,18 +35,19 @@ use Rattle.reading_exact.proofs.FirstLaws.{number-of}
 use Rattle.reading_exact.proofs.EncodedBytes.{encode-bytes}
 use Rattle.reading_exact.proofs.Exact.{one-read}
 use Rattle.reading_exact.proofs.Places.{length-encoded}
-use Rattle.reading_exact.proofs.FileContents.{version-back, version-read, formed-by, contents-back, contents-held}
+use Rattle.reading_exact.proofs.FileContents.{version-back, version-read, formed-by, contents-back, contents-held, single}
 use Rattle.checking_exact.specs.Tables.{schemaFor}
 use Rattle.checking_exact.specs.Typing.{Obeys}
 use Rattle.checking_exact.proofs.CheckExact.{names-exact}
 use Rattle.checking_exact.proofs.CheckFirst.{names-fine}
-use Rattle.placing_exact.specs.Placement.{graft, Placement}
+use Rattle.placing_exact.specs.Placement.{onSteps, graft, Placement}
 use Rattle.placing_exact.specs.Placed.{placedTrees, placedFile, Bare, servedAll}
 use Rattle.placing_exact.specs.Counts.{onNodes}
-use Rattle.placing_exact.specs.Promised.{WellPlaced, Clean, Unrefused}
+use Rattle.placing_exact.specs.Promised.{WellPlaced, Clean, Unrefused, session, Covers}
 use Rattle.placing_exact.proofs.FilePlaced.{placed-good}
 use Rattle.placing_exact.proofs.BytesPlaced.{placed-contents, placed-formed}
 use Rattle.placing_exact.proofs.PlacingExact.{Ready, named-file, bare-exactly, found, placed-well, placed-written}
+use Rattle.placing_exact.proofs.OneRole.{covered-once}
 use Rattle.hours_exact.specs.OpenFile.{openFile, RowsFit}
 use Rattle.hours_exact.specs.PromisedAt.{WellPlacedAt, UnrefusedAt}
 use Rattle.hours_exact.proofs.OpenFiles.{users-open, ready-open}
@@ -101,8 +102,8 @@ unfolding placing measuring
 room-answer g room wide = rw (le-ltb room (roomFor g) wide)
 
 -- what a file holds with other users
-abbrev withUsers : List ℕ → Contents → Contents
-withUsers us C = record { users = us; roles = C .roles; juniors = C .juniors; kinds = C .kinds; channels = C .channels; sessions = C .sessions; nodes = C .nodes }
+abbrev contentsWith : List ℕ → Contents → Contents
+contentsWith us C = record { users = us; roles = C .roles; juniors = C .juniors; kinds = C .kinds; channels = C .channels; sessions = C .sessions; nodes = C .nodes }
 
 module _ (f : List ℕ) (bytes : All (λ b. b < 256) f) (t : List ℕ) (m : ℕ) where
   -- what 1 to 10 and 14 leave of a file
@@ -170,9 +171,16 @@ module _ (f : List ℕ) (bytes : All (λ b. b < 256) f) (t : List ℕ) (m : ℕ)
     pub written-at : placedBytesAt f t m ≡ encode (graft F (placedTrees (schemaFor (openFile t m F)) (F .sessions)))
     unfolding placedBytesAt encode
     written-at =
-        let whole : Contents → Contents = withUsers (F .users) in
+        let whole : Contents → Contents = contentsWith (F .users) in
         ap (λ (C : Contents). encoded (versionAt f) (placedContents C (turnsFor (openContents (shut t m) C)) (startsOf (turnsFor (openContents (shut t m) C))))) (contents-held F f (l .reads))
         ∙ (λ i. encoded (read-version i) (whole (placed-contents G (stood .formed) (stood .named) (stood .bare) i)))
+
+    -- a session that one open role covers has at most one on step
+    pub one-role-at : (X : File) → encode X ≡ placedBytesAt f t m → (k r : ℕ) → InCount (length (F .sessions)) k → Covers (openFile t m F) k r
+        → onSteps (session X k .tree) ≤ 1
+    one-role-at X writes k r c h =
+        let whole : X ≡ graft F trees = single X (graft F trees) (writes ∙ written-at) in
+        subst (λ (Y : File). onSteps (session Y k .tree) ≤ 1) (sym whole) (covered-once G (stood .formed) (stood .named) (stood .bare) k r c h)
 
     -- the file written is well formed, and passes for the minute
     module _ {room : ℕ} (u : UnrefusedAt f t m room) (placed : placingAt f t m room .number ≡ 0) where
@@ -188,7 +196,7 @@ module _ (f : List ℕ) (bytes : All (λ b. b < 256) f) (t : List ℕ) (m : ℕ)
       in-bytes : placedBytes g ≡ encode (graft G trees)
       in-bytes = placed-written g standing-bytes (roomFor g) there G (sent refl)
 
-      served : (servedAll (schemaFor G) (G .sessions) ≡ true) × (length (nodesOf (placedFile G)) ≤ 1024)
+      pub served : (servedAll (schemaFor (openFile t m F)) (F .sessions) ≡ true) × (length (nodesOf (placedFile (openFile t m F))) ≤ 1024)
       served =
           let (X, e, _, s, few) = found g standing-bytes (roomFor g) there in
           subst (λ (Y : File). (servedAll (schemaFor Y) (Y .sessions) ≡ true) × (length (nodesOf (placedFile Y)) ≤ 1024)) (one-read g X G e (sent refl)) (s, few)

@@ -10,7 +10,7 @@ use Rattle.reading_exact.proofs.FileContents.{treesOf}
 use Rattle.placing_exact.specs.Placement.{onSteps, onStepsOf}
 use Rattle.placing_exact.specs.Counts.{onNodes}
 
-tree-on-nodes : (i : ℕ) (t : Tree) (ns : List Node) → onNodes (write i t ns) ≡ onSteps t + onNodes ns
+pub tree-on-nodes : (i : ℕ) (t : Tree) (ns : List Node) → onNodes (write i t ns) ≡ onSteps t + onNodes ns
 unfolding write onSteps onNodes
 tree-on-nodes i end ns = omega arith
 tree-on-nodes i (fork a b) ns = omega (arith, tree-on-nodes (suc i) a (write (past (suc i) a) b ns), tree-on-nodes (past (suc i) a) b ns)

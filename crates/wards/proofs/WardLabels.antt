@@ -14,14 +14,11 @@ use Rattle.checking_exact.proofs.OperandKinds.{Ranged}
 use Rattle.optimum.specs.Optimum.{Bin, States, choose}
 use Rattle.states.specs.States.{Label, cost}
 use Rattle.placing_exact.specs.Placed.{labels, insert, taking, placedTree}
+use Rattle.hours_exact.specs.OpenFile.{withUsers}
 use Rattle.merging_exact.proofs.MovedTrees.{moved-same}
 use Rattle.merging_exact.proofs.MovedRules.{Moves}
 use Rattle.merging_exact.proofs.MovedLabels.{labels-moved}
 use Rattle.merging_exact.proofs.MovedPlaced.{inserted, insert-inserted}
-
--- a file with other users
-abbrev pub withUsers : List ℕ → File → File
-withUsers us F = record { users = us; grants = F .grants; kinds = F .kinds; channels = F .channels; sessions = F .sessions }
 
 abbrev pub tablesWith : List ℕ → File → Schema
 tablesWith us F = schemaFor (withUsers us F)

@@ -30,7 +30,7 @@ use Rattle.hours_exact.proofs.OpenFiles.{ranged-open, kinded-open}
 use Rattle.hours_exact.proofs.StandingPlaced.{Left, left-at, written-at}
 use Rattle.hours_exact.proofs.PlaceAtExact.{placed-at}
 use Rattle.wards.specs.Ward.{SameWard}
-use Rattle.wards.proofs.WardLabels.{withUsers, tablesWith, placed-alike}
+use Rattle.wards.proofs.WardLabels.{tablesWith, placed-alike}
 
 abbrev Naming : Schema → Routine → Type 0
 Naming D s = Kinded D (s .user) [] (s .tree)

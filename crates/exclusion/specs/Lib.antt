@@ -1,0 +1,2 @@
+pub mod Exclusion
+pub mod SpringCases
