@@ -119,7 +119,7 @@ use Rattle.hours_exact.specs.HourCases.{Shown as HourShown, cases as hour-cases
 use Rattle.hours_exact.proofs.OpenFiles.{open-masks, users-open}
 use Rattle.hours_exact.proofs.CheckAtExact.{check-at-exact, passes-plain}
 use Rattle.hours_exact.proofs.CheckAtFirst.{check-at-first}
-use Rattle.hours_exact.proofs.StandingPlaced.{left-at, placed-standing}
+use Rattle.hours_exact.proofs.StandingPlaced.{left-at, placed-standing, one-role-at}
 use Rattle.hours_exact.proofs.PlaceAtFirst.{place-at-first}
 use Rattle.hours_exact.proofs.PlaceAtExact.{roomless-at, well-at, fewest-at, least-idle-at, fifteen-at, none-at, fifteen-place-at, ruled-at, sixteen-at, seventeen-at, placed-at, written-over-at, kept-at}
 use Rattle.hours_exact.proofs.EmptyTable.{check-empty, place-empty, over-empty}
@@ -192,6 +192,13 @@ use Rattle.seating_exact.proofs.SeatedRoundAnswers.{seated-round-seventeen, sea
 use Rattle.seating_exact.proofs.SeatsAnswers.{seats-seventeen, seats-no-room, seats-names, seats-start, seats-none, seats-verdict, seats-told, taken-within}
 use Rattle.seating_exact.proofs.SeatedSafe.{passed-safe, placed-file-safe}
 use Rattle.seating_exact.proofs.SeatsShown.{seats-shown}
+use Rattle.exclusion.specs.Exclusion.{SwitchesOn, Midway, CoversAlone, Alone, AloneWhileMidway, NeverBothMidway}
+use Rattle.exclusion.specs.Exclusion.{AloneSince, UnderOneOn}
+use Rattle.exclusion.specs.SpringCases.{written as springWritten, asPlaced as springPlaced, cut as springCut, oneSeat}
+use Rattle.exclusion.specs.SpringCases.{springDay, placedDay}
+use Rattle.exclusion.proofs.PlacedFrom.{placed-from, placed-from-at}
+use Rattle.exclusion.proofs.MidwayAlone.{alone-since, under-one, role-alone, never-two, never-two-on}
+use Rattle.exclusion.proofs.SpringShown.{both-midway, placed-so, one-alone}
 use Rattle.notices.specs.Notices.{planInForce, ofNotice, partOf, placeOf}
 use Rattle.notices.specs.declared.InForce.{InForce}
 use Rattle.notices_exact.specs.Supersedes.{Sound, Unsound, Supersedes}
@@ -1295,6 +1302,113 @@ who-waits-stands-at-an-on = file-stands
 pub lines-move-so : (f table : List ℕ) → StartFits (contentsOf f) table → (ws : List ℕ)
     → Between (λ T T′. (i : ℕ) × ((r : ℕ) → LineStep (limitedOf (contentsOf f) table) T T′ i r)) (limitedOf (contentsOf f) table) (seatedStart (contentsOf f)) ws
 lines-move-so = file-moves
+
+-- "Bed holder has one seat" (K10), and what that excludes. A session is midway while a thread of it has done an on,
+-- send or receive and has a send or receive still to do. Let role r, and no other role of its user, permit every send
+-- and receive of a session (`CoversAlone`). With one seat for r, in every state of every run of what is placed, while
+-- the session is midway it has r and no other session has it; so no other makes a step that only r permits.
+pub alone-until-done : (f : List ℕ) → All (λ b. b < 256) f → (room : ℕ) → placing f room .number ≡ 0
+    → (F : File) → ReadsAs f F → (k r : ℕ) → InCount (length (F .sessions)) k → CoversAlone F k r
+    → (table : List ℕ) → seatsIn table r ≡ 1 → AloneWhileMidway (placedBytes f) table k r
+alone-until-done f bytes room placed F reads k r c (covers, only) =
+    role-alone (placedBytes f) F (placed-from f bytes room placed F reads) k r c covers only
+
+-- .. of a file placed for a minute it is the open roles that count: `openFile t m F` is the file as it stands then.
+pub alone-until-done-at : (f : List ℕ) → All (λ b. b < 256) f → (t : List ℕ) (m room : ℕ)
+    → placingAt f t m room .number ≡ 0
+    → (F : File) → ReadsAs f F → (k r : ℕ) → InCount (length (F .sessions)) k → CoversAlone (openFile t m F) k r
+    → (table : List ℕ) → seatsIn table r ≡ 1 → AloneWhileMidway (placedBytesAt f t m) table k r
+alone-until-done-at f bytes t m room placed F reads k r c (covers, only) =
+    role-alone (placedBytesAt f t m) (openFile t m F) (placed-from-at f bytes t m room placed F reads) k r c covers only
+
+-- The incident of spring: two schedulers had read the same free bed before either wrote. Of two such sessions never
+-- both are midway.
+pub never-two-midway : (f : List ℕ) → All (λ b. b < 256) f → (room : ℕ) → placing f room .number ≡ 0
+    → (F : File) → ReadsAs f F → (k l r : ℕ) → InCount (length (F .sessions)) k → InCount (length (F .sessions)) l
+    → k ≢ l → CoversAlone F k r → CoversAlone F l r → (table : List ℕ) → seatsIn table r ≡ 1
+    → NeverBothMidway (placedBytes f) table k l
+never-two-midway f bytes room placed F reads k l r c d other =
+    never-two (placedBytes f) F (placed-from f bytes room placed F reads) k l c d other r
+
+pub never-two-midway-at : (f : List ℕ) → All (λ b. b < 256) f → (t : List ℕ) (m room : ℕ)
+    → placingAt f t m room .number ≡ 0
+    → (F : File) → ReadsAs f F → (k l r : ℕ) → InCount (length (F .sessions)) k → InCount (length (F .sessions)) l
+    → k ≢ l → CoversAlone (openFile t m F) k r → CoversAlone (openFile t m F) l r → (table : List ℕ)
+    → seatsIn table r ≡ 1 → NeverBothMidway (placedBytesAt f t m) table k l
+never-two-midway-at f bytes t m room placed F reads k l r c d other =
+    never-two (placedBytesAt f t m) (openFile t m F) (placed-from-at f bytes t m room placed F reads) k l c d other r
+
+-- Where several roles of the user cover the session, what counts is the role of its on step, which is one of them
+-- (`UnderOneOn`): every send and receive stands below that one step; whoever is midway has its role, with any table of
+-- seats; and is alone in it with one seat for it.
+pub under-one-on : (f : List ℕ) → All (λ b. b < 256) f → (room : ℕ) → placing f room .number ≡ 0
+    → (F : File) → ReadsAs f F → (k r : ℕ) → InCount (length (F .sessions)) k → Covers F k r
+    → UnderOneOn (placedBytes f) F k
+under-one-on f bytes room placed F reads = under-one (placedBytes f) F (placed-from f bytes room placed F reads)
+
+pub under-one-on-at : (f : List ℕ) → All (λ b. b < 256) f → (t : List ℕ) (m room : ℕ) → placingAt f t m room .number ≡ 0
+    → (F : File) → ReadsAs f F → (k r : ℕ) → InCount (length (F .sessions)) k → Covers (openFile t m F) k r
+    → UnderOneOn (placedBytesAt f t m) (openFile t m F) k
+under-one-on-at f bytes t m room placed F reads =
+    under-one (placedBytesAt f t m) (openFile t m F) (placed-from-at f bytes t m room placed F reads)
+
+-- .. so of two sessions whose on steps are of one role never both are midway.
+pub never-two-in-one-role : (f : List ℕ) → All (λ b. b < 256) f → (room : ℕ) → placing f room .number ≡ 0
+    → (F : File) → ReadsAs f F → (k l : ℕ) → InCount (length (F .sessions)) k → InCount (length (F .sessions)) l → k ≢ l
+    → (r s : ℕ) → Covers F k r → Covers F l s → (a b x : ℕ) → SwitchesOn (contentsOf (placedBytes f)) k x a
+    → SwitchesOn (contentsOf (placedBytes f)) l x b → (table : List ℕ) → seatsIn table x ≡ 1
+    → NeverBothMidway (placedBytes f) table k l
+never-two-in-one-role f bytes room placed F reads =
+    never-two-on (placedBytes f) F (placed-from f bytes room placed F reads)
+
+pub never-two-in-one-role-at : (f : List ℕ) → All (λ b. b < 256) f → (t : List ℕ) (m room : ℕ)
+    → placingAt f t m room .number ≡ 0
+    → (F : File) → ReadsAs f F → (k l : ℕ) → InCount (length (F .sessions)) k → InCount (length (F .sessions)) l → k ≢ l
+    → (r s : ℕ) → Covers (openFile t m F) k r → Covers (openFile t m F) l s → (a b x : ℕ)
+    → SwitchesOn (contentsOf (placedBytesAt f t m)) k x a → SwitchesOn (contentsOf (placedBytesAt f t m)) l x b
+    → (table : List ℕ) → seatsIn table x ≡ 1 → NeverBothMidway (placedBytesAt f t m) table k l
+never-two-in-one-role-at f bytes t m room placed F reads =
+    never-two-on (placedBytesAt f t m) (openFile t m F) (placed-from-at f bytes t m room placed F reads)
+
+-- A session that one open role covers has at most one on step in the file written for the minute, as `one-role-once`
+-- has it without hours.
+pub one-role-once-at : (f : List ℕ) → All (λ b. b < 256) f → (t : List ℕ) (m room : ℕ)
+    → placingAt f t m room .number ≡ 0 → (F G : File) → ReadsAs f F → encode G ≡ placedBytesAt f t m
+    → (k r : ℕ) → InCount (length (F .sessions)) k → Covers (openFile t m F) k r → onSteps (session G k .tree) ≤ 1
+one-role-once-at f bytes t m room placed F G reads =
+    one-role-at f bytes t m F (left-at f bytes t m (placed-at f bytes t m room .0 placed .0) F reads) G
+
+-- Any session, also one that no single role covers, is alone from an on step to each send or receive below it that no
+-- other on step parts from it.
+pub alone-since-its-on : (f : List ℕ) → All (λ b. b < 256) f → (room : ℕ) → placing f room .number ≡ 0
+    → (k a x : ℕ) → SwitchesOn (contentsOf (placedBytes f)) k x a → (table : List ℕ) → seatsIn table x ≡ 1
+    → AloneSince (placedBytes f) table k x a
+alone-since-its-on f bytes room placed =
+    let W = placed-well f bytes room placed in
+    alone-since (placedBytes f) (W .file) (placed-from f bytes room placed (W .file) (W .reads))
+
+pub alone-since-its-on-at : (f : List ℕ) → All (λ b. b < 256) f → (t : List ℕ) (m room : ℕ)
+    → placingAt f t m room .number ≡ 0 → (k a x : ℕ) → SwitchesOn (contentsOf (placedBytesAt f t m)) k x a
+    → (table : List ℕ) → seatsIn table x ≡ 1 → AloneSince (placedBytesAt f t m) table k x a
+alone-since-its-on-at f bytes t m room placed =
+    let W = well-at f bytes t m room placed in
+    alone-since (placedBytesAt f t m) (openFile t m (W .file)) (placed-from-at f bytes t m room placed (W .file) (W .reads))
+
+-- In literal words: in the routine as it was cut in spring, which passes the check, both schedulers are midway, with
+-- one seat; and what placing writes of the routine as its author wrote it, where the first scheduler is midway and alone
+-- in its role, and the second waits for it.
+pub spring-in-words : (checking springCut ≡ fine)
+    × Midway (contentsOf springCut) (seatedRanOf springCut oneSeat springDay .seating) 1 1
+    × Midway (contentsOf springCut) (seatedRanOf springCut oneSeat springDay .seating) 2 2
+spring-in-words = both-midway
+
+pub spring-placed : (placing springWritten 6874 .number ≡ 0) × (placedBytes springWritten ≡ springPlaced)
+spring-placed = placed-so
+
+pub spring-excluded : Midway (contentsOf springPlaced) (seatedRanOf springPlaced oneSeat placedDay .seating) 1 1
+    × Alone (contentsOf springPlaced) (seatedRanOf springPlaced oneSeat placedDay .seating) 1 1 1
+    × (seatedRanOf springPlaced oneSeat placedDay .seating .lines 1 ≡ 2 ∷ [])
+spring-excluded = one-alone
 
 -- "A placed file may now wait for a seat; it still never halts for 11, 12 or 13": with any table and any list, whichever function is asked.
 pub placed-file-still-safe : (f : List ℕ) → All (λ b. b < 256) f → (room : ℕ) → placing f room .number ≡ 0 → (table ws : List ℕ) (room′ : ℕ)

@@ -1,5 +1,5 @@
 -- With one seat for the role that a session has switched on, the session is alone in it until its last send or receive.
-use Prim.Native.Nat.{ℕ, suc, _-_}
+use Prim.Native.Nat.{ℕ, suc, _-_, _<_}
 use mathlib.Core.Path.{_≡_, refl, sym, ap, _∙_, subst}
 use mathlib.Core.Logic.{_≢_}
 use mathlib.Core.Bool.{Bool, true, false, false≢true}
@@ -29,7 +29,8 @@ use Rattle.running_exact.proofs.Agree.{agree}
 use Rattle.running_exact.proofs.RunSafe.{passes-names, start-kept, choice-kept}
 use Rattle.rounds.specs.Round.{Taken}
 use Rattle.seats.specs.Seats.{Limited, limitedOf, seatsIn, SeatedState, ownerOf, seatedChoice, seatedStart}
-use Rattle.seats.specs.SeatOrder.{SeatedStep, gotNone, tookSeat, askedNone, refusedPlainly, Ordered, AfterAnswer, Always}
+use Rattle.seats.specs.SeatOrder.{SeatedStep, gotNone, tookSeat, askedNone, refusedPlainly, Ordered, AfterAnswer}
+use Rattle.seats.specs.SeatOrder.{Always}
 use Rattle.seats.proofs.SeatedTold.{choice-seated}
 use Rattle.seats.proofs.SeatedRuns.{after-map, always-both, always-ordered, one-seat}
 use Rattle.seats.proofs.SessionCounts.{sits-iff}
@@ -48,7 +49,8 @@ meeting C s j p s′ h t = go h t
     K : Clinic
     K = clinicOf C
 
-    other : (i v : ℕ) (n : Node) → StandsAt K s i n → n .tag ≡ v → v ≢ 6 → nth (C .nodes) (threadAt s i .node) .tag ≡ 6 → ⊥
+    other : (i v : ℕ) (n : Node) → StandsAt K s i n → n .tag ≡ v → v ≢ 6 → nth (C .nodes) (threadAt s i .node) .tag ≡ 6
+        → ⊥
     other i v n st e z t = z (sym e ∙ sym (ap (λ (m : Node). m .tag) (st .2)) ∙ t)
 
     able : (i : ℕ) (w : Way) (n : Node) → StandsAt K s i n → Able K s (threadAt s i) w (n .f1) → Meets C s i w
@@ -82,7 +84,8 @@ module _ (g : List ℕ) (passes : checking g ≡ fine) (table : List ℕ) where
   abbrev KeptIn : SeatedState → Type 0
   KeptIn T = Kept C (T .state)
 
-  kept-after : (S : SeatedState) → KeptIn S → (i p : ℕ) (a : Taken SeatedState) → SeatedStep L S i p a → AfterAnswer a KeptIn
+  kept-after : (S : SeatedState) → KeptIn S → (i p : ℕ) (a : Taken SeatedState) → SeatedStep L S i p a
+      → AfterAnswer a KeptIn
   kept-after S K i p a (gotNone A G) = K
   kept-after S K i p a (tookSeat A G s st) = choice-kept g clean K i p (agree (clinicOf C) (S .state) i p s .1 st)
   kept-after S K i p a (askedNone A s st) = choice-kept g clean K i p (agree (clinicOf C) (S .state) i p s .1 st)
@@ -101,13 +104,15 @@ module _ (g : List ℕ) (passes : checking g ≡ fine) (table : List ℕ) where
 
   pub always-sound : Ordered L (seatedStart C) → EveryState g table Sound
   always-sound O ws =
-      always-both L (Ordered L) KeptIn Sound (λ T P K. (P, K)) ws (seatedStart C) (always-ordered L ws (seatedStart C) O)
-      (always-kept ws (seatedStart C) (start-kept g clean))
+      always-both L (Ordered L) KeptIn Sound (λ T P K. (P, K)) ws (seatedStart C)
+      (always-ordered L ws (seatedStart C) O) (always-kept ws (seatedStart C) (start-kept g clean))
 
   -- one state, in which thread i of session k has the role x, for which there is one seat
-  module _ (T : SeatedState) (O : Ordered L T) (k x i : ℕ) (one : seatsIn table x ≡ 1) (c : InCount (length (T .state .threads)) i)
-      (owner : ownerOf T i ≡ k) (held : has (threadAt (T .state) i .mask) x ≡ true) where
-    no-other : (j : ℕ) → InCount (length (T .state .threads)) j → ownerOf T j ≢ k → has (threadAt (T .state) j .mask) x ≡ false
+  module _ (T : SeatedState) (O : Ordered L T) (k x i : ℕ) (one : seatsIn table x ≡ 1)
+      (c : InCount (length (T .state .threads)) i) (owner : ownerOf T i ≡ k)
+      (held : has (threadAt (T .state) i .mask) x ≡ true) where
+    no-other : (j : ℕ) → InCount (length (T .state .threads)) j → ownerOf T j ≢ k
+        → has (threadAt (T .state) j .mask) x ≡ false
     no-other j d z = go (has (threadAt (T .state) j .mask) x) refl
       where
         go : (b : Bool) → has (threadAt (T .state) j .mask) x ≡ b → b ≡ false
@@ -130,17 +135,21 @@ module _ (g : List ℕ) (passes : checking g ≡ fine) (table : List ℕ) where
     }
 
   -- a thread that is underway, with no other on step before its send or receive, has the role
-  module _ (lone : LoneOns C) (k : ℕ) (bare : item noSession (C .sessions) k .mask ≡ 0) (a x : ℕ) (on : SwitchesOn C k x a) where
+  module _ (lone : LoneOns C) (k : ℕ) (bare : item noSession (C .sessions) k .mask ≡ 0) (a x : ℕ)
+      (on : SwitchesOn C k x a) where
     pub thread-holds : (T : SeatedState) → KeptIn T → (i : ℕ) → InCount (length (T .state .threads)) i
         → (U : Underway ns a (threadAt (T .state) i .node)) → NoOnFrom ns (suc a) (U .next)
         → has (threadAt (T .state) i .mask) x ≡ true
     thread-holds T K i c U stop =
-        let (d, (_, h), _, m) = all-get _ (T .state .threads) (i - 1) noThread (omega (arith, c .0, c .1)) (K .threads) in
+        let low : i - 1 < length (T .state .threads) = omega (arith, c .0, c .1) in
+        let (d, (_, h), _, m) = all-get _ (T .state .threads) (i - 1) noThread low (K .threads) in
         let (b, h′, w) = held-through g passes lone k a x bare on (threadAt (T .state) i .node) U stop in
         let same : d ≡ b = reached-single (contexts (schemaOf C) (openings C)) ns h h′ in
         ap (λ (v : ℕ). has v x) (m ∙ ap (λ (v : Context). v .mask) same) ∙ w
 
     -- so with one seat its session is alone in it
-    pub underway-alone : (T : SeatedState) → Sound T → seatsIn table x ≡ 1 → (i : ℕ) → InCount (length (T .state .threads)) i
-        → ownerOf T i ≡ k → (U : Underway ns a (threadAt (T .state) i .node)) → NoOnFrom ns (suc a) (U .next) → Alone C T k x i
+    pub underway-alone : (T : SeatedState) → Sound T → seatsIn table x ≡ 1 → (i : ℕ)
+        → InCount (length (T .state .threads)) i
+        → ownerOf T i ≡ k → (U : Underway ns a (threadAt (T .state) i .node)) → NoOnFrom ns (suc a) (U .next)
+        → Alone C T k x i
     underway-alone T (O, K) one i c e U stop = alone T O k x i one c e (thread-holds T K i c U stop)

@@ -4,7 +4,8 @@ pub mod NodesBelow
 pub mod SessionNodes
 -- one on step in a tree is one node of tag 7 (one-on)
 pub mod OneOnNode
--- a role in the active set comes from an on step above, and is kept to the last send or receive (come-from, held-through)
+-- a role in the active set comes from an on step above, and is kept to the last send or receive (come-from,
+-- held-through)
 pub mod RolesAbove
 -- nothing else is active at an on step of a placed file (lone-ons)
 pub mod OnsAlone
@@ -16,3 +17,5 @@ pub mod PlacedFrom
 pub mod AloneInRole
 -- the theorems (alone-since, under-one, role-alone, never-two, never-two-on)
 pub mod MidwayAlone
+-- the day in spring in literal words (both-midway, placed-so, one-alone)
+pub mod SpringShown

@@ -10,7 +10,6 @@ use lib.ListN.{length, getD, drop}
 use borrow.Author.Tests.{eqb-true, eqb-false}
 use Rattle.masks.specs.Mask.{has}
 use Rattle.masks.proofs.Laws.{has-none}
-use Rattle.format.specs.Answers.{fine}
 use Rattle.format.specs.Contents.{Contents, contentsOf, item, noSession}
 use Rattle.format.specs.declared.Node.{Node}
 use Rattle.format.specs.declared.Session.{Session}
@@ -37,12 +36,14 @@ use Rattle.seats.specs.Seats.{limitedOf, seatsIn, SeatedState, sits, countTo, s
 use Rattle.seats.specs.SeatOrder.{InTreeOf, Ordered}
 use Rattle.seats.proofs.SeatedRuns.{always-map, always-both}
 use Rattle.seats.proofs.SeatedStart.{table-roles, seats-first, start-sits, start-ordered}
-use Rattle.exclusion.specs.Exclusion.{AtOrBelow, here, by-child, Exchange, NoOnFrom, Underway, SwitchesOn, Midway, CoversAlone, Alone, EveryState, HoldsWhileMidway, AloneWhileMidway, NeverBothMidway, AloneSince, UnderOneOn}
+use Rattle.exclusion.specs.Exclusion.{AtOrBelow, here, by-child, Exchange, NoOnFrom, Underway, SwitchesOn, Midway}
+use Rattle.exclusion.specs.Exclusion.{CoversAlone, Alone, EveryState, HoldsWhileMidway, AloneWhileMidway}
+use Rattle.exclusion.specs.Exclusion.{NeverBothMidway, AloneSince, UnderOneOn}
 use Rattle.exclusion.proofs.NodesBelow.{below-later, below-join, below-inside, tree-counted}
-use Rattle.exclusion.proofs.SessionNodes.{WrittenAt, root-begins, tree-written, in-span}
+use Rattle.exclusion.proofs.SessionNodes.{WrittenAt, InSpan, root-begins, tree-written, in-span}
 use Rattle.exclusion.proofs.OneOnNode.{some-on, one-on}
 use Rattle.exclusion.proofs.RolesAbove.{there, LoneOns, come-from, some-role}
-use Rattle.exclusion.proofs.OnsAlone.{HoldsNamed, on-names, lone-ons}
+use Rattle.exclusion.proofs.OnsAlone.{on-names, lone-ons}
 use Rattle.exclusion.proofs.OnCovers.{OnlyOn, only-on, covered-by}
 use Rattle.exclusion.proofs.PlacedFrom.{PlacedFrom}
 use Rattle.exclusion.proofs.AloneInRole.{Sound, always-sound, thread-holds, underway-alone}
@@ -88,13 +89,14 @@ module _ (g : List ℕ) (F : File) (P : PlacedFrom g F) where
   lone =
       lone-ons g (P .passes) G (P .contents)
       (all-map (λ s (t, h). (on-names (t .1), h)) (G .sessions)
-      (all-both (λ (s : Routine). Typed D (s .user) [] (s .mask) (s .tree)) (λ (s : Routine). Holds (s .mask) (s .tree)) (G .sessions)
-      (placement .passes) (placement .holds)))
+      (all-both (λ (s : Routine). Typed D (s .user) [] (s .mask) (s .tree)) (λ (s : Routine). Holds (s .mask) (s .tree))
+      (G .sessions) (placement .passes) (placement .holds)))
 
   -- as many sessions as before
   many : length (C .sessions) ≡ length (F .sessions)
   many =
-      ap (λ (X : Contents). length (X .sessions)) (P .contents) ∙ length-rooted 1 (G .sessions) ∙ grafted-length D (F .sessions)
+      ap (λ (X : Contents). length (X .sessions)) (P .contents) ∙ length-rooted 1 (G .sessions)
+      ∙ grafted-length D (F .sessions)
 
   -- no session starts with a role, so that any table of seats fits the start
   bare : (k : ℕ) → InCount (length (C .sessions)) k → item noSession (C .sessions) k .mask ≡ 0
@@ -126,10 +128,12 @@ module _ (g : List ℕ) (F : File) (P : PlacedFrom g F) where
   bare-tree k j r = bare k (tree-counted C r)
 
   -- Any session: from an on step to a send or receive that no other on step parts from it.
-  pub alone-since : (k a x : ℕ) → SwitchesOn (contentsOf g) k x a → (table : List ℕ) → seatsIn table x ≡ 1 → AloneSince g table k x a
+  pub alone-since : (k a x : ℕ) → SwitchesOn (contentsOf g) k x a → (table : List ℕ) → seatsIn table x ≡ 1
+      → AloneSince g table k x a
   alone-since k a x on table one ws =
       always-map (limitedOf C table) _ _
-      (λ T S. underway-alone g (P .passes) table lone k (bare-tree k a (on .inside)) a x on T S one) ws (seatedStart C) (sound table ws)
+      (λ T S. underway-alone g (P .passes) table lone k (bare-tree k a (on .inside)) a x on T S one) ws
+      (seatedStart C) (sound table ws)
 
   -- A session that some role covers.
   module _ (k r : ℕ) (c : InCount (length (F .sessions)) k) (covers : Covers F k r) where
@@ -177,20 +181,24 @@ module _ (g : List ℕ) (F : File) (P : PlacedFrom g F) where
     on-covers a x on =
         let s : Routine = session G k in
         let low : k - 1 < length (G .sessions) = omega (arith, c .0, c .1, grafted-length D (F .sessions)) in
+        let before : k - 1 < length (F .sessions) = omega (arith, c .0, c .1) in
         let (user, mask, back) = regrown (F .sessions) ts (placement .back) (k - 1) in
-        let typed = all-get (λ (s : Routine). Typed D (s .user) [] (s .mask) (s .tree)) (G .sessions) (k - 1) noRoutine low (placement .passes) .1 in
-        let zeroed = all-get (λ (s : Routine). (s .mask ≡ 0) × (plain (s .tree) ≡ s .tree)) (F .sessions) (k - 1) noRoutine
-        (omega (arith, c .0, c .1)) (P .ready .bare) .0 in
+        let (_, typed) = all-get (λ (s : Routine). Typed D (s .user) [] (s .mask) (s .tree)) (G .sessions) (k - 1)
+        noRoutine low (placement .passes) in
+        let (zeroed, _) = all-get (λ (s : Routine). (s .mask ≡ 0) × (plain (s .tree) ≡ s .tree)) (F .sessions) (k - 1)
+        noRoutine before (P .ready .bare) in
         let all : (b : ℕ) → InTreeOf C k b → nth ns b .tag ≡ 7 → nth ns b .f1 ≡ x =
         λ b r t. ap (λ (n : ℕ). nth ns n .f1) (one-node b a r (on .inside) t (on .tag)) ∙ on .role in
         let ons : OnlyOn x tree = only-on C k x all tree rt stands (root c-in (root-begins g (P .passes) k c-in)) in
-        let some : 1 ≤ onSteps tree = some-on ns tree rt stands a (in-span g (P .passes) G (P .contents) (on .inside)) (on .tag) in
+        let span : InSpan tree rt a = in-span g (P .passes) G (P .contents) (on .inside) in
+        let some : 1 ≤ onSteps tree = some-on ns tree rt stands a span (on .tag) in
         rw (← user, ← back) (covered-by D (s .user) x typed (mask ∙ zeroed) ons some)
 
     -- who is midway has done that step
     abbrev Since : SeatedState → ℕ → Type 0
     Since T i =
-        (a x : ℕ) × SwitchesOn C k x a × (U : Underway ns a (threadAt (T .state) i .node)) × NoOnFrom ns (suc a) (U .next)
+        (a x : ℕ) × SwitchesOn C k x a
+        × (U : Underway ns a (threadAt (T .state) i .node)) × NoOnFrom ns (suc a) (U .next)
 
     since-on : (T : SeatedState) (i : ℕ) → Midway C T k i → Since T i
     since-on T i M = go (eqb t 7) refl (eqb t 5) refl
@@ -223,20 +231,26 @@ module _ (g : List ℕ) (F : File) (P : PlacedFrom g F) where
     holds : (a x : ℕ) → SwitchesOn C k x a → (table : List ℕ) → HoldsWhileMidway g table k x
     holds a x on table ws = always-map (limitedOf C table) _ _ held ws (seatedStart C) (sound table ws)
       where
-        held : (T : SeatedState) → Sound g (P .passes) table T → (i : ℕ) → Midway C T k i → has (threadAt (T .state) i .mask) x ≡ true
+        held : (T : SeatedState) → Sound g (P .passes) table T → (i : ℕ) → Midway C T k i
+            → has (threadAt (T .state) i .mask) x ≡ true
         held T S i M =
-            let (b, y, at, U, stop) = since-on T i M in
-            let it = thread-holds g (P .passes) table lone k (bare-tree k b (at .inside)) b y at T (S .1) i (M .thread) U stop in
-            rw (single b a y x at on .1) at it
+            let (b, y, done, U, stop) = since-on T i M in
+            let none : item noSession (C .sessions) k .mask ≡ 0 = bare-tree k b (done .inside) in
+            rw (single b a y x done on .1) at
+            (thread-holds g (P .passes) table lone k none b y done T (S .1) i (M .thread) U stop)
 
     -- .. and with one seat for it the session is alone in it
     alone-midway : (table : List ℕ) (T : SeatedState) → Sound g (P .passes) table T → (i : ℕ) → Midway C T k i
         → (a x : ℕ) × SwitchesOn C k x a × (seatsIn table x ≡ 1 → Alone C T k x i)
     alone-midway table T S i M =
         let (a, x, on, U, stop) = since-on T i M in
-        (a, x, on, λ one. underway-alone g (P .passes) table lone k (bare-tree k a (on .inside)) a x on T S one i (M .thread) (M .owner) U stop)
+        let none : item noSession (C .sessions) k .mask ≡ 0 = bare-tree k a (on .inside) in
+        let is : seatsIn table x ≡ 1 → Alone C T k x i =
+        λ one. underway-alone g (P .passes) table lone k none a x on T S one i (M .thread) (M .owner) U stop in
+        (a, x, on, is)
 
-    alone-by : (x : ℕ) (table : List ℕ) → ((a y : ℕ) → SwitchesOn C k y a → y ≡ x) → seatsIn table x ≡ 1 → AloneWhileMidway g table k x
+    alone-by : (x : ℕ) (table : List ℕ) → ((a y : ℕ) → SwitchesOn C k y a → y ≡ x) → seatsIn table x ≡ 1
+        → AloneWhileMidway g table k x
     alone-by x table same one ws = always-map (limitedOf C table) _ _ by ws (seatedStart C) (sound table ws)
       where
         by : (T : SeatedState) → Sound g (P .passes) table T → (i : ℕ) → Midway C T k i → Alone C T k x i
@@ -255,7 +269,8 @@ module _ (g : List ℕ) (F : File) (P : PlacedFrom g F) where
     }
 
     -- Where no other role covers it, that role is the one that does.
-    pub role-alone : ((y : ℕ) → Covers F k y → y ≡ r) → (table : List ℕ) → seatsIn table r ≡ 1 → AloneWhileMidway g table k r
+    pub role-alone : ((y : ℕ) → Covers F k y → y ≡ r) → (table : List ℕ) → seatsIn table r ≡ 1
+        → AloneWhileMidway g table k r
     role-alone only table = alone-by r table (λ a y on. only y (on-covers a y on))
 
 -- So two sessions that are each alone in one role while they are midway are never both midway.
@@ -271,9 +286,11 @@ module _ (g : List ℕ) (F : File) (P : PlacedFrom g F) (k m : ℕ) (c : InCount
   pub never-two : (r : ℕ) → CoversAlone F k r → CoversAlone F m r → (table : List ℕ) → seatsIn table r ≡ 1
       → NeverBothMidway g table k m
   never-two r (k-covered, k-only) (m-covered, m-only) table one =
-      never-both g table k m r other (role-alone g F P k r c k-covered k-only table one) (role-alone g F P m r d m-covered m-only table one)
+      never-both g table k m r other (role-alone g F P k r c k-covered k-only table one)
+      (role-alone g F P m r d m-covered m-only table one)
 
   pub never-two-on : (r s : ℕ) → Covers F k r → Covers F m s → (a b x : ℕ) → SwitchesOn (contentsOf g) k x a
       → SwitchesOn (contentsOf g) m x b → (table : List ℕ) → seatsIn table x ≡ 1 → NeverBothMidway g table k m
   never-two-on r s k-covered m-covered a b x on at table one =
-      never-both g table k m x other (under-one g F P k r c k-covered .alone a x on table one) (under-one g F P m s d m-covered .alone b x at table one)
+      never-both g table k m x other (under-one g F P k r c k-covered .alone a x on table one)
+      (under-one g F P m s d m-covered .alone b x at table one)

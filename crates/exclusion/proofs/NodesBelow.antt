@@ -7,7 +7,8 @@ use lib.ListN.{length}
 use Rattle.format.specs.Contents.{Contents}
 use Rattle.format.specs.declared.Node.{Node}
 use Rattle.reading_exact.specs.File.{InCount}
-use Rattle.reading_exact.specs.Refusals.{nth, OneChild, Follows, at-end, at-step, at-fork, root, child, first-child, second-child}
+use Rattle.reading_exact.specs.Refusals.{nth, OneChild, Follows, at-end, at-step, at-fork, root, child, first-child}
+use Rattle.reading_exact.specs.Refusals.{second-child}
 use Rattle.reading_exact.proofs.FollowedEnds.{follows-on}
 use Rattle.seats.specs.SeatOrder.{InTreeOf}
 use Rattle.exclusion.specs.Exclusion.{AtOrBelow, here, by-child, by-first, by-second}

@@ -14,10 +14,12 @@ use Rattle.rules.specs.declared.Way.{Way}
 use Rattle.rules.specs.declared.Way.the-variants.{Sends, Receives}
 use Rattle.rules.specs.Schema.{Schema, Permitted}
 use Rattle.rules.specs.Names.{Bound}
-use Rattle.reading_exact.specs.Tree.{Tree, end, fork, step, switch, on, off, Step, repeat, new, compare, receive, send, stepNode, past}
+use Rattle.reading_exact.specs.Tree.{Tree, end, fork, step, switch, on, off, Step, repeat, new, compare, receive, send}
+use Rattle.reading_exact.specs.Tree.{stepNode, past}
 use Rattle.reading_exact.specs.Refusals.{nth, OneChild, child, first-child, second-child}
 use Rattle.reading_exact.proofs.FollowedEnds.{written-follows}
-use Rattle.checking_exact.specs.Typing.{ByRoles, r-end, r-fork, r-repeat, r-new, r-compare, r-receive, r-send, r-on, r-off}
+use Rattle.checking_exact.specs.Typing.{ByRoles, r-end, r-fork, r-repeat, r-new, r-compare, r-receive, r-send, r-on}
+use Rattle.checking_exact.specs.Typing.{r-off}
 use Rattle.placing_exact.specs.Placement.{plain, onSteps}
 use Rattle.seats.specs.SeatOrder.{InTreeOf}
 use Rattle.seats.proofs.StepOwners.{fewer}
@@ -86,7 +88,8 @@ module _ (D : Schema) (u x : ℕ) where
       → (has (D .assigned u) x ≡ true) × ByRoles D u [] (with 0 x) (plain t)
   covered-by {m} h bare o l =
       let held : has (D .assigned u) x ≡ true = assigned-by h o l in
-      (held, plain-roles (has-pos (D .assigned u) x held) h o (λ y v. absurd (false≢true (sym (has-none y) ∙ (rw bare at v)))))
+      let none : OnlyIn x m = λ y v. absurd (false≢true (sym (has-none y) ∙ (rw bare at v))) in
+      (held, plain-roles (has-pos (D .assigned u) x held) h o none)
 
 one-child : (s : Step) → OneChild (stepNode s .tag)
 one-child repeat = (omega arith, omega arith)
@@ -96,7 +99,8 @@ one-child (receive c) = (omega arith, omega arith)
 one-child (send c v) = (omega arith, omega arith)
 
 -- what is said of a session's nodes of tag 7 is said of its tree's on steps
-module _ (C : Contents) (k x : ℕ) (all : (b : ℕ) → InTreeOf C k b → nth (C .nodes) b .tag ≡ 7 → nth (C .nodes) b .f1 ≡ x) where
+module _ (C : Contents) (k x : ℕ)
+    (all : (b : ℕ) → InTreeOf C k b → nth (C .nodes) b .tag ≡ 7 → nth (C .nodes) b .f1 ≡ x) where
   abbrev ns : List Node
   ns = C .nodes
 
@@ -112,7 +116,8 @@ module _ (C : Contents) (k x : ℕ) (all : (b : ℕ) → InTreeOf C k b → nth 
   only-on (switch on v t) i W r =
       let (c, n, T) = switch-written ns i on v t W in
       let e : nth ns i .tag ≡ 7 = ap (λ (m : Node). m .tag) n in
-      (sym (ap (λ (m : Node). m .f1) n) ∙ all i r e, only-on t (suc i) T (child c (omega (arith, e), omega (arith, e)) r))
+      let below : InTreeOf C k (suc i) = child c (omega (arith, e), omega (arith, e)) r in
+      (sym (ap (λ (m : Node). m .f1) n) ∙ all i r e, only-on t (suc i) T below)
   only-on (switch off v t) i W r =
       let (c, n, T) = switch-written ns i off v t W in
       let e : nth ns i .tag ≡ 8 = ap (λ (m : Node). m .tag) n in

@@ -40,7 +40,8 @@ unfolding onNodes
 two-in [] n p q k l s t = let never : ⊥ = omega (arith, t) in absurd never
 two-in (x ∷ xs) zero p q k l s t = let never : ⊥ = omega (arith, l) in absurd never
 two-in (x ∷ xs) (suc n) zero zero k l s t = let never : ⊥ = omega (arith, k) in absurd never
-two-in (x ∷ xs) (suc n) zero (suc q) k l s t = rw (eq-eqb (x .tag) 7 s) (omega (arith, one-in xs n q (omega (arith, l)) t))
+two-in (x ∷ xs) (suc n) zero (suc q) k l s t =
+    rw (eq-eqb (x .tag) 7 s) (omega (arith, one-in xs n q (omega (arith, l)) t))
 two-in (x ∷ xs) (suc n) (suc p) zero k l s t = let never : ⊥ = omega (arith, k) in absurd never
 two-in (x ∷ xs) (suc n) (suc p) (suc q) k l s t =
     omega (arith, two-in xs n p q (omega (arith, k)) (omega (arith, l)) s t)
@@ -68,8 +69,9 @@ module _ (ns : List Node) (t : Tree) (i : ℕ) (W : WrittenAt ns t i) where
 
   two-ons : (a b : ℕ) → a < b → InSpan t i a → InSpan t i b → nth ns a .tag ≡ 7 → nth ns b .tag ≡ 7 → 2 ≤ onSteps t
   two-ons a b l s u d e =
-      let more = two-in nodes (past i t - i) (a - i) (b - i) (omega (arith, l, s)) (omega (arith, u)) (on-tag a s d) (on-tag b u e) in
-      omega (arith, counted, more)
+      let first : a - i < b - i = omega (arith, l, s) in
+      let last : b - i < past i t - i = omega (arith, u) in
+      omega (arith, counted, two-in nodes (past i t - i) (a - i) (b - i) first last (on-tag a s d) (on-tag b u e))
 
   -- so one on step at most is one node of tag 7 at most
   pub one-on : onSteps t ≤ 1 → (a b : ℕ) → InSpan t i a → InSpan t i b → nth ns a .tag ≡ 7 → nth ns b .tag ≡ 7 → a ≡ b

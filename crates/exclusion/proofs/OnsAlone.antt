@@ -7,7 +7,8 @@ use native.Mathlib.Omega.{arith}
 use lib.Dec.{eqb}
 use borrow.Author.Tests.{eqb-true, eqb-false, eq-eqb}
 use Rattle.masks.specs.Mask.{has, with, without, AtMostOne}
-use Rattle.masks.proofs.Laws.{has-none, has-pos, has-with-same, has-with-other, has-without-same, has-without-other, empty}
+use Rattle.masks.proofs.Laws.{has-none, has-pos, has-with-same, has-with-other, has-without-same, has-without-other}
+use Rattle.masks.proofs.Laws.{empty}
 use Rattle.format.specs.Answers.{fine}
 use Rattle.format.specs.Contents.{Contents, contentsOf}
 use Rattle.format.specs.declared.Node.{Node}
@@ -22,7 +23,8 @@ use Rattle.reading_exact.specs.Tree.{Tree, end, fork, step, switch, on, off, re
 use Rattle.reading_exact.specs.Refusals.{nth}
 use Rattle.reading_exact.proofs.AllLaws.{all-map}
 use Rattle.checking_exact.specs.Tables.{schemaFor}
-use Rattle.checking_exact.specs.Typing.{ByRoles, r-end, r-fork, r-repeat, r-new, r-compare, r-receive, r-send, r-on, r-off}
+use Rattle.checking_exact.specs.Typing.{ByRoles, r-end, r-fork, r-repeat, r-new, r-compare, r-receive, r-send, r-on}
+use Rattle.checking_exact.specs.Typing.{r-off}
 use Rattle.checking_exact.proofs.ClearTrees.{opening, Clear, all-clear}
 use Rattle.checking_exact.proofs.FileRules.{openings-for}
 use Rattle.checking_exact.proofs.FirstNode.{all-held}

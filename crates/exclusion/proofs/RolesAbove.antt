@@ -1,7 +1,7 @@
--- In a file that passes the check: a role in the active set at a node comes from an on step above it, and is active until
--- the last send or receive that needs it.
+-- In a file that passes the check: a role in the active set at a node comes from an on step above it, and is active
+-- until the last send or receive that needs it.
 use Prim.Native.Nat.{ℕ, suc, _-_, _≤_}
-use mathlib.Core.Path.{_≡_, refl, sym, ap, _∙_, subst}
+use mathlib.Core.Path.{_≡_, refl, sym, ap, _∙_}
 use mathlib.Core.Logic.{_⊎_, inl, inr, _≢_}
 use mathlib.Core.Bool.{Bool, true, false, false≢true}
 use mathlib.Core.List.{List}
@@ -31,7 +31,8 @@ use Rattle.running_exact.proofs.NodeSteps.{receive-barred, send-barred}
 use Rattle.running_exact.proofs.RunSafe.{passes-names}
 use Rattle.seats.specs.SeatOrder.{InTreeOf}
 use Rattle.seats.proofs.StepOwners.{fewer}
-use Rattle.exclusion.specs.Exclusion.{AtOrBelow, here, by-child, by-first, by-second, Exchange, NoOnFrom, Underway, SwitchesOn}
+use Rattle.exclusion.specs.Exclusion.{AtOrBelow, here, by-child, by-first, by-second, Exchange, NoOnFrom}
+use Rattle.exclusion.specs.Exclusion.{Underway, SwitchesOn}
 use Rattle.exclusion.proofs.NodesBelow.{below-join}
 
 -- the role y was active above node n, or n switches it on
@@ -99,7 +100,8 @@ module _ (g : List ℕ) (passes : checking g ≡ fine) where
   lower : (k i j : ℕ) (c : Context) → AtOrBelow ns i j → Comes k i c → Comes k j c
   lower k i j c l from y w = let (a, on, m) = from y w in (a, on, below-join m l)
 
-  pub come-from : {j k : ℕ} → InTreeOf C k j → item noSession (C .sessions) k .mask ≡ 0 → (c : Context) × In j c × Comes k j c
+  pub come-from : {j k : ℕ} → InTreeOf C k j → item noSession (C .sessions) k .mask ≡ 0
+      → (c : Context) × In j c × Comes k j c
   come-from (root {k = k} {i = i} c b) bare =
       (getD (openings C) (k - 1) nowhere, root (c .0, omega (arith, c .1, openings-length (C .sessions))) b, none)
     where
@@ -138,7 +140,8 @@ module _ (g : List ℕ) (passes : checking g ≡ fine) where
       (λ e. omega (arith, receive-barred D c (nth ns n) t e, clear))
   some-role n c h (inr t) =
       let clear = roles-clear g clean passes n c (there ns n (omega (arith, t)), h) in
-      able-some (c .mask) Sends (kindOf D (c .vars) (nth ns n .f1)) (λ e. omega (arith, send-barred D c (nth ns n) t e, clear))
+      able-some (c .mask) Sends (kindOf D (c .vars) (nth ns n .f1))
+      (λ e. omega (arith, send-barred D c (nth ns n) t e, clear))
 
   -- with no on step on the way to it, it is active before it too
   kept-role : {j n : ℕ} → AtOrBelow ns j n → (c : Context) → In j c → NoOnFrom ns j n → Exchange (nth ns n)
@@ -160,7 +163,8 @@ module _ (g : List ℕ) (passes : checking g ≡ fine) where
       → (d : Context) × In j d × Within (d .mask) (c .mask)
   none-added here ahead c h stop = (c, h, λ y w. w)
   none-added {i} {n = n} (by-child m o l) ahead c h stop =
-      let (d, k, w) = none-added l ahead (childOf D c (nth ns i)) (child m o h) (λ b g u t. stop b (by-child m o g) u t) in
+      let after : NoOnFrom ns (suc i) n = λ b g u t. stop b (by-child m o g) u t in
+      let (d, k, w) = none-added l ahead (childOf D c (nth ns i)) (child m o h) after in
       (d, k, λ y v. go y (child-mask D c (nth ns i) y (w y v)))
     where
       go : (y : ℕ) → Before (c .mask) (nth ns i) y → has (c .mask) y ≡ true
@@ -171,10 +175,11 @@ module _ (g : List ℕ) (passes : checking g ≡ fine) where
   none-added (by-second m t e l) ahead c h stop =
       none-added l ahead c (second-child m t h e) (λ b g u z. stop b (by-second m t e g) u z)
 
-  -- So where nothing else is active at an on step, its role is active from there to each send or receive below it that no
-  -- other on step parts from it.
+  -- So where nothing else is active at an on step, its role is active from there to each send or receive below it
+  -- that no other on step parts from it.
   pub held-through : LoneOns C → (k a x : ℕ) → item noSession (C .sessions) k .mask ≡ 0 → SwitchesOn C k x a
-      → (j : ℕ) → (U : Underway ns a j) → NoOnFrom ns (suc a) (U .next) → (c : Context) × In j c × (has (c .mask) x ≡ true)
+      → (j : ℕ) → (U : Underway ns a j) → NoOnFrom ns (suc a) (U .next)
+      → (c : Context) × In j c × (has (c .mask) x ≡ true)
   held-through lone k a x bare on j U stop =
       let (c, h, _) = come-from (on .inside) bare in
       let one : OneChild (nth ns a .tag) = (omega (arith, on .tag), omega (arith, on .tag)) in

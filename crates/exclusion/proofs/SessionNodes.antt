@@ -13,9 +13,11 @@ use Rattle.format.specs.Contents.{Contents, contentsOf, noNode}
 use Rattle.format.specs.declared.Node.{Node}
 use Rattle.format.proofs.ContentsLaws.{item-get}
 use Rattle.checking.specs.Check.{checking}
-use Rattle.reading_exact.specs.Tree.{Tree, end, fork, step, switch, Step, Switch, words, stepNode, switchNode, past, write, flatten}
+use Rattle.reading_exact.specs.Tree.{Tree, end, fork, step, switch, Step, Switch, words, stepNode, switchNode, past}
+use Rattle.reading_exact.specs.Tree.{write, flatten}
 use Rattle.reading_exact.specs.File.{Routine, File, InCount, contentsFor}
-use Rattle.reading_exact.specs.Refusals.{nth, Follows, Begins, root, child, first-child, second-child, Misshapen, not-due, misshapen}
+use Rattle.reading_exact.specs.Refusals.{nth, Follows, Begins, root, child, first-child, second-child, Misshapen}
+use Rattle.reading_exact.specs.Refusals.{not-due, misshapen}
 use Rattle.reading_exact.proofs.TreeEnds.{past-more, write-rest}
 use Rattle.reading_exact.proofs.Standing.{rootsIn, rootsOf, flatten-from}
 use Rattle.reading_exact.proofs.FileContents.{treesOf, length-rooted, roots-rooted}
@@ -25,7 +27,7 @@ use Rattle.running_exact.proofs.ReachedNodes.{reached-in, root-due}
 use Rattle.running_exact.proofs.FileNodes.{refusable-none, roots-length}
 use Rattle.running_exact.proofs.RunSafe.{passes-names}
 use Rattle.seats.specs.SeatOrder.{InTreeOf}
-use Rattle.exclusion.proofs.NodesBelow.{child-follows, fork-follows, tree-counted}
+use Rattle.exclusion.proofs.NodesBelow.{child-follows, fork-follows}
 
 -- the tree t is written from node i on
 pub record WrittenAt (ns : List Node) (t : Tree) (i : ℕ) : Type 0 where
@@ -87,7 +89,8 @@ module _ (ns : List Node) (i : ℕ) where
       let rest : List Node = write (suc i) a second in
       let w : drop (suc i - 1) ns ≡ rest = node-rest ns i n rest (W .positive) (W .written) in
       let e : p - 1 ≡ suc i - 1 + (p - suc i) = omega (arith, past-more (suc i) a) in
-      let v : drop (p - 1) ns ≡ second = rw (e, ← drop-drop (p - suc i) (suc i - 1) ns, w) (write-rest (suc i) a second) in (
+      let v : drop (p - 1) ns ≡ second =
+      rw (e, ← drop-drop (p - suc i) (suc i - 1) ns, w) (write-rest (suc i) a second) in (
         node-there ns i n rest (W .positive) (W .written),
         ap (λ (m : Node). m .tag) (node-is ns i n rest (W .positive) (W .written)),
         record { positive = omega arith; more = second; written = w },
@@ -135,14 +138,16 @@ module _ (g : List ℕ) (passes : checking g ≡ fine) where
         let t : Tree = session G k .tree in
         let same : roots ≡ rootsOf 1 ts = ap (λ (X : Contents). rootsIn (X .sessions)) whole ∙ roots-rooted 1 ss in
         let nodes : ns ≡ flatten 1 ts = ap (λ (X : Contents). X .nodes) whole in
-        let many : length (C .sessions) ≡ length ss = ap (λ (X : Contents). length (X .sessions)) whole ∙ length-rooted 1 ss in
+        let many : length (C .sessions) ≡ length ss =
+        ap (λ (X : Contents). length (X .sessions)) whole ∙ length-rooted 1 ss in
         let counted : k - 1 < length ts = omega (arith, c .0, c .1, many, length-map ss (λ (s : Routine). s .tree)) in
         let this : getD ts (k - 1) end ≡ t = List·getD-map (λ (s : Routine). s .tree) ss (k - 1) noRoutine in
         let from : drop (k - 1) ts ≡ t ∷ drop (suc (k - 1)) ts = rw (drop-cons ts (k - 1) end counted, this) in
         let (pos, w) = flatten-from 1 ts (k - 1) counted in
         let r : ℕ = getD (rootsOf 1 ts) (k - 1) 0 in
+        let more : List Node = flatten (past r t) (drop (suc (k - 1)) ts) in
         let at : WrittenAt (flatten 1 ts) t r =
-        record { positive = pos; more = flatten (past r t) (drop (suc (k - 1)) ts); written = w ∙ ap (flatten r) from } in
+        record { positive = pos; more = more; written = w ∙ ap (flatten r) from } in
         rw (same, nodes) at
 
     -- and a node of the session's tree is one of those written for it
@@ -156,9 +161,10 @@ module _ (g : List ℕ) (passes : checking g ≡ fine) where
         go : {j k : ℕ} → InTreeOf C k j → (rt k ≤ j) × (e : ℕ) × Follows ns j e × (e ≤ past (rt k) (session G k .tree))
         go (root {k = k} {i = i} c b) =
             let W = tree-written k c in
+            let last : ℕ = past (rt k) (session G k .tree) in
             let same : rt k ≡ i = begins-root k i c b in
             let h = written-follows ns (rt k) (session G k .tree) (W .more) (W .positive) (W .written) in
-            (omega arith, past (rt k) (session G k .tree), subst (λ (x : ℕ). Follows ns x (past (rt k) (session G k .tree))) same h, omega arith)
+            (omega arith, last, subst (λ (x : ℕ). Follows ns x last) same h, omega arith)
         go (child c o r) = let (low, e, h, high) = go r in (omega arith, e, child-follows o h, high)
         go (first-child c t r) =
             let (low, e, h, high) = go r in

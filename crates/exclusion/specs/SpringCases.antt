@@ -62,6 +62,16 @@ cut =
     ∷ 7 ∷ 1 ∷ 0 ∷ 5 ∷ 258 ∷ 0 ∷ 8 ∷ 1 ∷ 0 ∷ 7 ∷ 1 ∷ 0 ∷ 6 ∷ 259 ∷ 512 ∷ 8 ∷ 1 ∷ 0 ∷ 0 ∷ 0 ∷ 0
     ∷ 7 ∷ 2 ∷ 0 ∷ 6 ∷ 257 ∷ 3 ∷ 6 ∷ 258 ∷ 3 ∷ 5 ∷ 259 ∷ 0 ∷ 8 ∷ 2 ∷ 0 ∷ 0 ∷ 0 ∷ 0 ∷ []))
 
+-- The routine as it is placed: each scheduler's role is on from before reading to after writing.
+abbrev pub asPlaced : List ℕ
+asPlaced =
+    bytesOf (
+    1 ∷ 3 ∷ 2 ∷ 2 ∷ 3 ∷ 3 ∷ 16 ∷ 13 ∷ 16 ∷ 24 ∷ 26 ∷ 32 ∷ 41 ∷ tables
+    ++ (1 ∷ 0 ∷ 1 ∷ 2 ∷ 0 ∷ 6 ∷ 3 ∷ 0 ∷ 11
+    ∷ 7 ∷ 1 ∷ 0 ∷ 5 ∷ 257 ∷ 0 ∷ 6 ∷ 259 ∷ 512 ∷ 8 ∷ 1 ∷ 0 ∷ 0 ∷ 0 ∷ 0
+    ∷ 7 ∷ 1 ∷ 0 ∷ 5 ∷ 258 ∷ 0 ∷ 6 ∷ 259 ∷ 512 ∷ 8 ∷ 1 ∷ 0 ∷ 0 ∷ 0 ∷ 0
+    ∷ 7 ∷ 2 ∷ 0 ∷ 6 ∷ 257 ∷ 3 ∷ 6 ∷ 258 ∷ 3 ∷ 5 ∷ 259 ∷ 0 ∷ 8 ∷ 2 ∷ 0 ∷ 0 ∷ 0 ∷ 0 ∷ []))
+
 -- The table of seats: one for role 1, no limit for role 2.
 abbrev pub oneSeat : List ℕ
 oneSeat = 1 ∷ 0 ∷ []
