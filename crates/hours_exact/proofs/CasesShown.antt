@@ -25,9 +25,9 @@ use Rattle.groups.specs.Groups.{before, sizesOf, onsOf, startsFrom, groupsFrom,
 use Rattle.placing.specs.Placing.{masksAnswer, switchesAnswer, unservedFrom, placeable}
 use Rattle.placing_at.specs.PlaceAt.{judgingAt, measuringAt, placingAt, placedBytesAt}
 use Rattle.reading_exact.specs.Lists.{All}
-use Rattle.hours_exact.specs.HourCases.{Shown, cases}
+use Rattle.hours_exact.specs.HourCases.{Shown, mondays, cases}
 
 pub hours-shown : All Shown cases
-unfolding has with without minus namesOnly within bytesOf firstOf from1 from2 from3 from4 from5 headOf tabled item spot contentsAt roleWords channelWords sessionWords nodeRows nodeColumns tableWords fileWords encoded recordFits sectionAnswer recordsAnswer following nodeFits shapeFrom roots shapeAnswer reading together effective permits permittingTo named kindOf mine namesFit kindsFit able wrong barred childOf reached openingsFrom firstBy rightly namesAnswer rolesAnswer candidates candidatesIn tableAnswer rowsAnswer rolesOf shut shutAnswer rolesAnswerAt readingAt readingNamesAt checkingAt scan gate suits up rowOf taken rows turnsFrom turnsOf labelled before sizesOf onsOf startsFrom groupsFrom sessionsFrom masksAnswer switchesAnswer unservedFrom placeable judgingAt measuringAt placingAt placedBytesAt
+unfolding has with without minus namesOnly within bytesOf firstOf from1 from2 from3 from4 from5 headOf tabled item spot contentsAt roleWords channelWords sessionWords nodeRows nodeColumns tableWords fileWords encoded recordFits sectionAnswer recordsAnswer following nodeFits shapeFrom roots shapeAnswer reading together effective permits permittingTo named kindOf mine namesFit kindsFit able wrong barred childOf reached openingsFrom firstBy rightly namesAnswer rolesAnswer candidates candidatesIn tableAnswer rowsAnswer rolesOf shut shutAnswer rolesAnswerAt readingAt readingNamesAt checkingAt scan gate suits up rowOf taken rows turnsFrom turnsOf labelled before sizesOf onsOf startsFrom groupsFrom sessionsFrom masksAnswer switchesAnswer unservedFrom placeable judgingAt measuringAt placingAt placedBytesAt mondays
 hours-shown =
-    (refl, (refl, (refl, (refl, (refl, ((refl, refl), (refl, ((refl, refl), ((refl, refl), (refl, ((refl, refl), (refl, (refl, (refl, (refl, (refl, (refl, (refl, (refl, (refl, (refl, (refl, (refl, (refl, (refl, (refl, (refl, (refl, ((refl, refl), tt)))))))))))))))))))))))))))))
+    (refl, (refl, (refl, (refl, (refl, ((refl, refl), (refl, ((refl, refl), ((refl, refl), (refl, ((refl, refl), (refl, (refl, (refl, (refl, (refl, (refl, (refl, (refl, (refl, (refl, (refl, ((refl, refl), (refl, (refl, (refl, (refl, (refl, (refl, (refl, (refl, (refl, (refl, (refl, (refl, (refl, ((refl, refl), tt)))))))))))))))))))))))))))))))))))))

@@ -1,5 +1,5 @@
 -- Cases with hours, in literal words.
-use Prim.Native.Nat.{ℕ, _*_}
+use Prim.Native.Nat.{ℕ, zero, suc, _*_}
 use mathlib.Core.Path.{_≡_}
 use mathlib.Core.List.{List, [], _∷_, _++_}
 use lib.ListN.{length}
@@ -54,6 +54,11 @@ weekdays = 2 ∷ 420 ∷ 900 ∷ 2 ∷ 1860 ∷ 2340 ∷ []
 abbrev early : List ℕ
 early = 1 ∷ 0 ∷ 420 ∷ []
 
+-- so many rows, each with role 2's hours on Monday
+unfoldable pub mondays : ℕ → List ℕ
+mondays zero = []
+mondays (suc n) = 2 ∷ 420 ∷ 900 ∷ mondays n
+
 abbrev pub cases : List Case
 cases =
     -- open from the first minute to the last before the end, and in the second row
@@ -84,6 +89,16 @@ cases =
     ∷ checks booking weekdays 10080 (refused 22 0)
     ∷ checks (1 ∷ []) (2 ∷ 420 ∷ []) 0 (refused 22 0)
     ∷ refuses booking weekdays 10080 22 0
+    -- 64 rows are fine, and the last of them opens the role; 65 are 22, before the rows are looked at
+    ∷ checks placed (mondays 64) 420 fine
+    ∷ checks placed (mondays 63 ++ (2 ∷ 1860 ∷ 2340 ∷ [])) 1860 fine
+    ∷ places booking (mondays 64) 420 placed 1
+    ∷ checks placed (mondays 65) 420 (refused 22 0)
+    ∷ refuses booking (mondays 64 ++ (0 ∷ 0 ∷ 0 ∷ [])) 420 22 0
+    -- 23: role 0, at its row, also with no file planned
+    ∷ checks booking (2 ∷ 420 ∷ 900 ∷ 0 ∷ 0 ∷ 1 ∷ []) 0 (refused 23 2)
+    ∷ refuses booking (0 ∷ 0 ∷ 1 ∷ []) 0 23 1
+    ∷ checks [] (0 ∷ 0 ∷ 1 ∷ []) 0 (refused 23 1)
     -- 23: no such role, first not below end, end above 10,080, which 10,080 is not
     ∷ checks booking (2 ∷ 420 ∷ 900 ∷ 3 ∷ 0 ∷ 1 ∷ []) 0 (refused 23 2)
     ∷ checks booking (2 ∷ 900 ∷ 900 ∷ []) 0 (refused 23 1)

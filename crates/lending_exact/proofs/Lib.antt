@@ -7,6 +7,6 @@ pub mod LentWords
 pub mod LentStarts
 pub mod StartAnswers
 pub mod Unchanged
-pub mod LentCases
+pub mod LendsShown
 pub mod RunTotals
 pub mod TotalCases

@@ -88,6 +88,20 @@ sessionRows i (suc n) = 1 ∷ 0 ∷ i ∷ sessionRows (suc i) n
 abbrev sessions : ℕ → List ℕ
 sessions n = 1 ∷ 1 ∷ 0 ∷ 0 ∷ 0 ∷ n ∷ n ∷ 13 ∷ 14 ∷ 14 ∷ 14 ∷ 14 ∷ (14 + 3 * n) ∷ 0 ∷ sessionRows 1 n ++ replicate (3 * n) 0
 
+-- so many users without a role, and a session of one of them that compares two users
+abbrev comparing : ℕ → ℕ → ℕ → ℕ → List ℕ
+comparing n user x y =
+    1 ∷ n ∷ 0 ∷ 0 ∷ 0 ∷ 1 ∷ 2 ∷ 13 ∷ (13 + n) ∷ (13 + n) ∷ (13 + n) ∷ (13 + n) ∷ (16 + n)
+    ∷ replicate n 0 ++ (user ∷ 0 ∷ 1 ∷ 4 ∷ x ∷ y ∷ 0 ∷ 0 ∷ 0 ∷ [])
+
+-- one session of one user: so many repeats, and an end
+unfoldable pub repeatRows : ℕ → List ℕ
+repeatRows zero = 0 ∷ 0 ∷ 0 ∷ []
+repeatRows (suc n) = 2 ∷ 0 ∷ 0 ∷ repeatRows n
+
+abbrev pub repeats : ℕ → List ℕ
+repeats n = 1 ∷ 1 ∷ 0 ∷ 0 ∷ 0 ∷ 1 ∷ (n + 1) ∷ 13 ∷ 14 ∷ 14 ∷ 14 ∷ 14 ∷ 17 ∷ 0 ∷ 1 ∷ 0 ∷ 1 ∷ repeatRows n
+
 -- a file of version 2 with all counts 0, and one whose count of users is out of range
 abbrev second : ℕ → List ℕ
 second n = 2 ∷ n ∷ 0 ∷ 0 ∷ 0 ∷ 0 ∷ 0 ∷ 14 ∷ 14 ∷ 14 ∷ 14 ∷ 14 ∷ 14 ∷ 14 ∷ []
@@ -109,6 +123,9 @@ mergeCases =
     ∷ merges clinic booking clinicAndBooking
     ∷ merges (users 0) (users 0) (users 0)
     ∷ merges (users 2) (users 3) (users 5)
+    -- the users that the second file compares are counted on from the first file's; those that the first compares stay
+    ∷ merges (users 3) (comparing 2 2 1 2) (comparing 5 5 4 5)
+    ∷ merges (comparing 2 2 1 2) (users 3) (comparing 5 2 1 2)
     -- zero bytes read as the file with all counts 0
     ∷ merges [] [] (users 0)
     ∷ merges [] (users 3) (users 3)
@@ -121,6 +138,9 @@ mergeCases =
     ∷ isRefused (channels 32) (channels 33) 6874 3 0
     ∷ fits (sessions 16) (sessions 16) 207
     ∷ isRefused (sessions 17) (sessions 16) 6874 3 0
+    -- 512 nodes and 512; 512 and 513
+    ∷ fits (repeats 511) (repeats 511) 3093
+    ∷ isRefused (repeats 511) (repeats 512) 6874 3 0
     -- 17 comes first
     ∷ isRefused booking clinic 6873 17 0
     ∷ isRefused (1 ∷ []) (1 ∷ []) 0 17 0

@@ -22,8 +22,8 @@ use Rattle.choices.specs.Choices.{threadsFrom, run}
 use Rattle.steps.specs.Beside.{madeWords}
 use Rattle.running.specs.Run.{threadWords, ranWords, running, runOver, receiverFrom, pairFrom, readyPair, ready}
 use Rattle.reading_exact.specs.Lists.{All}
-use Rattle.running_exact.specs.RunCases.{RunShown, runCases}
+use Rattle.running_exact.specs.RunCases.{RunShown, times, runCases}
 
 pub runs-shown : All RunShown runCases
-unfolding has with without held namesOnly within bytesOf firstOf from1 from2 from3 from4 from5 headOf tabled item spot contentsAt recordFits sectionAnswer recordsAnswer following nodeFits shapeFrom roots shapeAnswer reading together effective permits permittingTo named kindOf mine namesFit kindsFit able wrong childOf reached openingsFrom firstBy namesAnswer readingNames value firstFree kindHeld meeting sending lone aloneOnly acting done outcome choice threadsFrom run madeWords threadWords ranWords running runOver receiverFrom pairFrom readyPair ready
-runs-shown = ((refl, refl), ((refl, refl), ((refl, refl), ((refl, refl), ((refl, refl), ((refl, refl), ((refl, refl), ((refl, refl), ((refl, refl), ((refl, refl), ((refl, refl), (refl, (refl, (refl, (refl, (refl, (refl, tt)))))))))))))))))
+unfolding has with without held namesOnly within bytesOf firstOf from1 from2 from3 from4 from5 headOf tabled item spot contentsAt recordFits sectionAnswer recordsAnswer following nodeFits shapeFrom roots shapeAnswer reading together effective permits permittingTo named kindOf mine namesFit kindsFit able wrong childOf reached openingsFrom firstBy namesAnswer readingNames value firstFree kindHeld meeting sending lone aloneOnly acting done outcome choice threadsFrom run madeWords threadWords ranWords running runOver receiverFrom pairFrom readyPair ready times
+runs-shown = ((refl, refl), ((refl, refl), ((refl, refl), ((refl, refl), ((refl, refl), ((refl, refl), ((refl, refl), ((refl, refl), ((refl, refl), ((refl, refl), ((refl, refl), ((refl, refl), ((refl, refl), ((refl, refl), ((refl, refl), ((refl, refl), ((refl, refl), ((refl, refl), ((refl, refl), ((refl, refl), ((refl, refl), ((refl, refl), ((refl, refl), (refl, (refl, (refl, (refl, (refl, (refl, tt)))))))))))))))))))))))))))))

@@ -1,5 +1,5 @@
 -- Runs in literal words: a file, a list of choices, what is answered and what is written.
-use Prim.Native.Nat.{ℕ, _*_, _-_}
+use Prim.Native.Nat.{ℕ, zero, suc, _*_, _-_}
 use mathlib.Core.Path.{_≡_}
 use mathlib.Core.List.{List, [], _∷_, _++_}
 use lib.ListN.{length, replicate}
@@ -55,6 +55,54 @@ three =
 abbrev pub shows : ℕ → ℕ → ℕ → ℕ → ℕ → List ℕ
 shows user node mask roles v = user ∷ node ∷ mask ∷ roles ∷ v ∷ 0 ∷ 0 ∷ 0 ∷ 0 ∷ 0 ∷ 0 ∷ 0 ∷ []
 
+-- so many times the same words
+unfoldable pub times : ℕ → List ℕ → List ℕ
+times zero ws = []
+times (suc n) ws = ws ++ times n ws
+
+-- user 1 has role 1, user 2 role 2; role 1 may send on kind 1, role 2 may receive on kind 1; channels 1 to 3 of user 2
+-- have kinds 1, 2 and 1.
+-- Sessions: 1, of user 1: role 2 on. 2, of user 2 with role 2 active: role 2 off, and off again. 3 and 4, of user 1:
+-- send user 1 on channel 1, 3 with role 1 active and 4 with none.
+-- 5 to 8, of user 2, receive: on channel 1 with role 2 active, on channel 1 with none, on channel 2 with role 2, on
+-- channel 3 with role 2.
+abbrev pub barred : List ℕ
+barred =
+    1 ∷ 2 ∷ 2 ∷ 2 ∷ 3 ∷ 8 ∷ 17 ∷ 13 ∷ 15 ∷ 23 ∷ 25 ∷ 31 ∷ 55
+    ∷ 1 ∷ 2
+    ∷ 1 ∷ 0 ∷ 0 ∷ 0 ∷ 0 ∷ 0 ∷ 1 ∷ 0
+    ∷ 0 ∷ 0
+    ∷ 2 ∷ 1 ∷ 2 ∷ 2 ∷ 2 ∷ 1
+    ∷ 1 ∷ 1 ∷ 1 ∷ 2 ∷ 2 ∷ 3 ∷ 1 ∷ 1 ∷ 6 ∷ 1 ∷ 0 ∷ 8 ∷ 2 ∷ 2 ∷ 10 ∷ 2 ∷ 0 ∷ 12 ∷ 2 ∷ 2 ∷ 14 ∷ 2 ∷ 2 ∷ 16
+    ∷ 7 ∷ 2 ∷ 0 ∷ 0 ∷ 0 ∷ 0
+    ∷ 8 ∷ 2 ∷ 0 ∷ 8 ∷ 2 ∷ 0 ∷ 0 ∷ 0 ∷ 0
+    ∷ 6 ∷ 257 ∷ 1 ∷ 0 ∷ 0 ∷ 0 ∷ 6 ∷ 257 ∷ 1 ∷ 0 ∷ 0 ∷ 0
+    ∷ 5 ∷ 257 ∷ 0 ∷ 0 ∷ 0 ∷ 0 ∷ 5 ∷ 257 ∷ 0 ∷ 0 ∷ 0 ∷ 0 ∷ 5 ∷ 258 ∷ 0 ∷ 0 ∷ 0 ∷ 0 ∷ 5 ∷ 259 ∷ 0 ∷ 0 ∷ 0 ∷ 0 ∷ []
+
+-- halted with a refusal after thread 2's first off: one choice is done, and the state is as that left it
+abbrev pub haltedWith : ℕ → List ℕ
+haltedWith n =
+    1 ∷ n ∷ 8 ∷ 0
+    ∷ shows 1 1 1 1 0 ++ shows 2 4 0 0 0 ++ shows 1 6 1 1 0 ++ shows 1 8 0 0 0
+    ++ shows 2 10 2 1 0 ++ shows 2 12 0 0 0 ++ shows 2 14 2 1 0 ++ shows 2 16 2 1 0
+
+-- a user without roles repeats a fork of two ends
+abbrev pub crowd : List ℕ
+crowd =
+    1 ∷ 1 ∷ 0 ∷ 0 ∷ 0 ∷ 1 ∷ 4 ∷ 13 ∷ 14 ∷ 14 ∷ 14 ∷ 14 ∷ 17
+    ∷ 0
+    ∷ 1 ∷ 0 ∷ 1
+    ∷ 2 ∷ 0 ∷ 0 ∷ 1 ∷ 4 ∷ 0 ∷ 0 ∷ 0 ∷ 0 ∷ 0 ∷ 0 ∷ 0 ∷ []
+
+-- a user without roles repeats: make a channel of kind 2, and end
+abbrev pub makers : List ℕ
+makers =
+    1 ∷ 1 ∷ 0 ∷ 2 ∷ 0 ∷ 1 ∷ 3 ∷ 13 ∷ 14 ∷ 14 ∷ 16 ∷ 16 ∷ 19
+    ∷ 0
+    ∷ 0 ∷ 0
+    ∷ 1 ∷ 0 ∷ 1
+    ∷ 2 ∷ 0 ∷ 0 ∷ 3 ∷ 2 ∷ 0 ∷ 0 ∷ 0 ∷ 0 ∷ []
+
 abbrev pub runCases : List RunCase
 runCases =
     -- fork, repeat, on, new, a meeting; the compare is unequal: the sixth choice halts with 19, and the state before it is written
@@ -70,6 +118,35 @@ runCases =
     -- three threads, and the middle one ends
     ∷ runs three [] fine (0 ∷ 0 ∷ 3 ∷ 0 ∷ shows 1 1 0 0 0 ++ shows 2 2 1 1 0 ++ shows 3 3 1 1 0)
     ∷ runs three (2 ∷ 0 ∷ []) fine (1 ∷ 0 ∷ 2 ∷ 0 ∷ shows 1 1 0 0 0 ++ shows 3 3 1 1 0)
+    -- 11: on of a role that is not assigned
+    ∷ runs barred (2 ∷ 0 ∷ 1 ∷ 0 ∷ []) (refused 11 2) (haltedWith 11)
+    -- 12: off of a role that is not active, since the first choice put it off
+    ∷ runs barred (2 ∷ 0 ∷ 2 ∷ 0 ∷ []) (refused 12 2) (haltedWith 12)
+    -- 13: the sender has no role; the receiver has none
+    ∷ runs barred (2 ∷ 0 ∷ 4 ∷ 5 ∷ []) (refused 13 2) (haltedWith 13)
+    ∷ runs barred (2 ∷ 0 ∷ 3 ∷ 6 ∷ []) (refused 13 2) (haltedWith 13)
+    -- 13 before 19, where the channels differ: the sender has no role; the receiver may not receive on its own
+    -- channel's kind
+    ∷ runs barred (2 ∷ 0 ∷ 4 ∷ 8 ∷ []) (refused 13 2) (haltedWith 13)
+    ∷ runs barred (2 ∷ 0 ∷ 3 ∷ 7 ∷ []) (refused 13 2) (haltedWith 13)
+    -- 19 where both may and only the channels differ; with one channel both move
+    ∷ runs barred (2 ∷ 0 ∷ 3 ∷ 8 ∷ []) (refused 19 2) (haltedWith 19)
+    ∷ runs barred (3 ∷ 5 ∷ []) fine
+    (1 ∷ 0 ∷ 8 ∷ 0
+    ∷ shows 1 1 1 1 0 ++ shows 2 3 2 1 0 ++ shows 1 7 1 1 0 ++ shows 1 8 0 0 0
+    ++ shows 2 11 2 1 1 ++ shows 2 12 0 0 0 ++ shows 2 14 2 1 0 ++ shows 2 16 2 1 0)
+    -- 20: a 65th thread, of a repeat and of a fork
+    ∷ runs crowd (times 64 (1 ∷ 0 ∷ [])) (refused 20 64)
+    (63 ∷ 20 ∷ 64 ∷ 0 ∷ shows 1 1 0 0 0 ++ times 63 (shows 1 2 0 0 0))
+    ∷ runs crowd (times 63 (1 ∷ 0 ∷ []) ++ (2 ∷ 0 ∷ [])) (refused 20 64)
+    (63 ∷ 20 ∷ 64 ∷ 0 ∷ shows 1 1 0 0 0 ++ times 63 (shows 1 2 0 0 0))
+    -- a fork gives the 64th thread, the end of thread 2 makes room, and a repeat gives the 64th again
+    ∷ runs crowd (times 62 (1 ∷ 0 ∷ []) ++ (2 ∷ 0 ∷ 2 ∷ 0 ∷ 1 ∷ 0 ∷ [])) fine
+    (65 ∷ 0 ∷ 64 ∷ 0 ∷ shows 1 1 0 0 0 ++ times 61 (shows 1 2 0 0 0) ++ shows 1 4 0 0 0 ++ shows 1 2 0 0 0)
+    -- 20: a 65th made channel, though of the threads that made the others none is left; each stands with its owner, 1,
+    -- and its kind, 2
+    ∷ runs makers (times 64 (1 ∷ 0 ∷ 2 ∷ 0 ∷ 2 ∷ 0 ∷ []) ++ (1 ∷ 0 ∷ 2 ∷ 0 ∷ [])) (refused 20 194)
+    (193 ∷ 20 ∷ 2 ∷ 64 ∷ times 64 (1 ∷ 2 ∷ []) ++ shows 1 1 0 0 0 ++ shows 1 2 0 0 0)
     -- zero bytes: no threads, and a choice names none
     ∷ runs [] [] fine (0 ∷ 0 ∷ 0 ∷ 0 ∷ [])
     ∷ runs [] (1 ∷ 0 ∷ []) (refused 18 1) (0 ∷ 18 ∷ 0 ∷ 0 ∷ [])

@@ -35,52 +35,5 @@ use Rattle.seating_exact.specs.SeatCases.{SeatShown, seatCases}
 
 pub seats-shown : All SeatShown seatCases
 unfolding has with without held namesOnly within bytesOf firstOf from1 from2 from3 from4 from5 headOf tabled item spot contentsAt recordFits sectionAnswer recordsAnswer following nodeFits shapeFrom roots shapeAnswer reading together effective permits permittingTo named kindOf mine namesFit kindsFit able wrong childOf reached openingsFrom firstBy namesAnswer rightly bindScope scopeFrom scopeOf marked nodeScope scopesIn readingNames value firstFree kindHeld meeting sending lone aloneOnly acting done outcome choice madeWords oneMore oneLess cleared counted threadsFrom run tried standsIn threadWords ranWords receiverFor visited visit roundFrom round numbers occupies countTo asksSeat isNext getsSeat lineWith ownersBy seatedChoice seatedRun stepsOnly waitsIn lastIn overfills lowestTo smallSeats seatTableAnswer seatStartAnswer seatedRunning seatedOver seatedLength linesFrom seatsAfter seatedRounding seatedRoundOver
-seats-shown = (
-  (refl, refl, refl),
-  (
-    refl,
-    (
-      (refl, refl, refl),
-      (
-        refl,
-        (
-          (refl, refl, refl),
-          (
-            refl,
-            (
-              (refl, refl, refl),
-              (
-                (refl, refl, refl),
-                (
-                  refl,
-                  (
-                    (refl, refl, refl, refl),
-                    (
-                      (refl, refl, refl),
-                      (
-                        (refl, refl, refl, refl),
-                        (
-                          (refl, refl, refl, refl),
-                          (
-                            (refl, refl, refl, refl),
-                            (
-                              (refl, refl, refl, refl),
-                              (
-                                (refl, refl, refl, refl),
-                                ((refl, refl), ((refl, refl), tt)),
-                              ),
-                            ),
-                          ),
-                        ),
-                      ),
-                    ),
-                  ),
-                ),
-              ),
-            ),
-          ),
-        ),
-      ),
-    ),
-  ),
-)
+seats-shown =
+    ((refl, refl, refl), (refl, ((refl, refl, refl), (refl, ((refl, refl, refl), (refl, ((refl, refl, refl), ((refl, refl, refl), (refl, ((refl, refl, refl, refl, refl), ((refl, refl, refl), ((refl, refl, refl, refl, refl), ((refl, refl, refl, refl, refl), ((refl, refl, refl, refl, refl), ((refl, refl, refl, refl, refl), ((refl, refl, refl, refl, refl), ((refl, refl, refl, refl, refl), ((refl, refl, refl, refl, refl), ((refl, refl, refl, refl, refl), (refl, (refl, (refl, (refl, (refl, (refl, ((refl, refl), ((refl, refl), tt)))))))))))))))))))))))))))

@@ -15,7 +15,7 @@ use Rattle.seating.specs.SeatedRound.{seatedRounding, seatedRoundOver}
 pub data SeatCase : Type 0 where
   -- the answer and the words of the output
   runsSeated : List ℕ → List ℕ → List ℕ → Verdict → List ℕ → SeatCase
-  -- the refusal with an output of so many bytes, where nothing is written, and of what is read
+  -- the refusal with an output of so many bytes, where nothing is written, also of a round
   barsSeated : List ℕ → List ℕ → List ℕ → ℕ → ℕ → ℕ → SeatCase
   -- what is read of the seats
   readsSeats : List ℕ → List ℕ → List ℕ → Seats → SeatCase
@@ -29,6 +29,7 @@ SeatShown (runsSeated ws table cs v xs) =
 SeatShown (barsSeated ws table cs room n p) =
     (seatedRunning (bytesOf ws) cs table room ≡ refused n p) × (seatedLength (bytesOf ws) cs table room ≡ 0) × (seatedOver (bytesOf ws) cs table (sevens room) ≡ sevens room)
     × (seatedRounding (bytesOf ws) cs table room ≡ record { number = n; place = p; length = 0; words = replicate 128 0 })
+    × (seatedRoundOver (bytesOf ws) cs table (sevens room) ≡ sevens room)
 SeatShown (readsSeats ws table cs x) = seatsAfter (bytesOf ws) cs table ≡ x
 SeatShown (roundsSeated ws table cs rs xs) =
     (seatedRounding (bytesOf ws) cs table 1802 ≡ record { number = 0; place = 0; length = 2 * length xs; words = rs ++ replicate (128 - length rs) 0 })
@@ -66,6 +67,19 @@ twins =
     ∷ 1 ∷ 0 ∷ 1 ∷ 2 ∷ 0 ∷ 8
     ∷ 1 ∷ 5 ∷ 0 ∷ 7 ∷ 2 ∷ 0 ∷ 8 ∷ 2 ∷ 0 ∷ 0 ∷ 0 ∷ 0 ∷ 7 ∷ 2 ∷ 0 ∷ 8 ∷ 2 ∷ 0 ∷ 0 ∷ 0 ∷ 0
     ∷ 7 ∷ 2 ∷ 0 ∷ 8 ∷ 2 ∷ 0 ∷ 0 ∷ 0 ∷ 0 ∷ []
+
+-- what is read where a refusal comes before the first choice: its number and place, and nothing else
+abbrev pub nothingRead : ℕ → ℕ → Seats
+nothingRead n p = record {
+  number = n;
+  place = p;
+  waited = 0;
+  last = 0;
+  taken = replicate 16 0;
+  waiting = replicate 16 0;
+  line = replicate 512 0;
+  totals = replicate 32 0;
+}
 
 abbrev pub seatCases : List SeatCase
 seatCases =
@@ -130,6 +144,18 @@ seatCases =
     ∷ barsSeated three (33 ∷ []) [] 1802 17 0
     ∷ barsSeated three (2 ∷ []) (1 ∷ []) 1802 17 0
     ∷ barsSeated (1 ∷ []) (33 ∷ []) [] 1802 1 0
+    -- an output of 1,799 bytes; it comes before what is no file; one of 1,800 is enough, and then the table is judged
+    ∷ barsSeated three (2 ∷ []) [] 1799 17 0
+    ∷ barsSeated (1 ∷ []) (2 ∷ []) [] 0 17 0
+    ∷ barsSeated three (1 ∷ []) [] 1800 26 3
+    -- what is read where it is refused: no file; an odd list, also of no file; a table one word short, one with a word
+    -- above 32; 26 at the start
+    ∷ readsSeats (1 ∷ []) (33 ∷ []) [] (nothingRead 1 0)
+    ∷ readsSeats three (2 ∷ []) (1 ∷ []) (nothingRead 17 0)
+    ∷ readsSeats (1 ∷ []) (2 ∷ []) (1 ∷ []) (nothingRead 17 0)
+    ∷ readsSeats holders (1 ∷ []) (1 ∷ 0 ∷ 2 ∷ 0 ∷ []) (nothingRead 17 0)
+    ∷ readsSeats holders (1 ∷ 33 ∷ []) (1 ∷ 0 ∷ 2 ∷ 0 ∷ []) (nothingRead 17 0)
+    ∷ readsSeats three (1 ∷ []) (2 ∷ 0 ∷ []) (nothingRead 26 3)
     -- a round: two visits get no seat, are in its list and did not do their step
     ∷ roundsSeated holders oneSeat [] (1 ∷ 0 ∷ 2 ∷ 0 ∷ 3 ∷ 0 ∷ []) (3 ∷ 0 ∷ 4 ∷ 0 ∷ shows 1 2 3 2 0 ++ shows 2 4 0 0 0 ++ shows 3 7 0 0 0 ++ fourth)
     -- the next: 1 puts the role off, and 2, the head, gets the seat at its visit; 3 waits on
