@@ -9,7 +9,7 @@ use lib.Dec.{eqb}
 use lib.ListN.{length, length-append}
 use borrow.Author.Tests.{eqb-true, le-leb, not-true}
 use Rattle.reasons.specs.IsReason.{decimalValue}
-use Rattle.reasons.specs.Reasons.{digitsOf, numeral, pastDigits, isDigit}
+use Rattle.reasons.specs.Reasons.{digitsOf, numeral, digitsAt, pastDigits, isDigit}
 
 unfoldable pub allDigits : List ℕ → Bool
 allDigits [] = true
@@ -74,7 +74,7 @@ numeral-of (suc k) a (c ∷ ds) x l h p =
     rw (y .0) (numeral-of k (10 * a + (c - 48)) ds x (le-of-suc-le-suc l) (y .1) p)
 
 pub past-of : (k : ℕ) (ds x : List ℕ) → length ds ≤ k → allDigits ds ≡ true → noDigitFirst x ≡ true → pastDigits k (ds ++ x) ≡ x
-unfolding pastDigits allDigits noDigitFirst
+unfolding digitsAt allDigits noDigitFirst
 past-of zero [] x l h p = refl
 past-of zero (c ∷ ds) x l h p = absurd (not-suc-le-zero l)
 past-of (suc k) [] [] l h p = refl

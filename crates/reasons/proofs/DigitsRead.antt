@@ -9,24 +9,24 @@ use lib.Dec.{leb}
 use lib.ListN.{length, drop, getD, drop-of-length-le}
 use lib.Seq.{drop-cons}
 use borrow.Author.Tests.{le-leb, lt-leb, leb-true}
-use Rattle.reasons.specs.Reasons.{pastDigits, numeral, isDigit}
+use Rattle.reasons.specs.Reasons.{digitsAt, numeral, isDigit}
 use Rattle.phrases.proofs.PhraseLaws.{atEach, at-each}
 
-past-nil : (k : ℕ) → pastDigits k [] ≡ []
-unfolding pastDigits
-past-nil zero = refl
-past-nil (suc k) = refl
+digits-nil : (k : ℕ) → digitsAt k [] ≡ 0
+unfolding digitsAt
+digits-nil zero = refl
+digits-nil (suc k) = refl
 
-pub past-end : (k i : ℕ) (s : List ℕ) → length s ≤ i → drop i s ≡ pastDigits k (drop i s)
-past-end k i s h = let e : drop i s ≡ [] = drop-of-length-le s {i = i} h in e ∙ sym (ap (pastDigits k) e ∙ past-nil k)
+pub digits-past : (k i : ℕ) (s : List ℕ) → length s ≤ i → i ≡ i + digitsAt k (drop i s)
+digits-past k i s h = omega (arith, ap (digitsAt k) (drop-of-length-le s {i = i} h) ∙ digits-nil k)
 
-past-other : (k c : ℕ) (s : List ℕ) → isDigit c ≡ false → pastDigits k (c ∷ s) ≡ c ∷ s
-unfolding pastDigits
-past-other zero c s h = refl
-past-other (suc k) c s h = rw h refl
+digits-other : (k c : ℕ) (s : List ℕ) → isDigit c ≡ false → digitsAt k (c ∷ s) ≡ 0
+unfolding digitsAt
+digits-other zero c s h = refl
+digits-other (suc k) c s h = rw h refl
 
-pub past-no : (k i : ℕ) (s : List ℕ) → i < length s → isDigit (getD s i 0) ≡ false → drop i s ≡ pastDigits k (drop i s)
-past-no k i s l h = let e = drop-cons s i 0 l in e ∙ sym (ap (pastDigits k) e ∙ past-other k (getD s i 0) (drop (suc i) s) h)
+pub digits-stop : (k i : ℕ) (s : List ℕ) → i < length s → isDigit (getD s i 0) ≡ false → i ≡ i + digitsAt k (drop i s)
+digits-stop k i s l h = omega (arith, ap (digitsAt k) (drop-cons s i 0 l) ∙ digits-other k (getD s i 0) (drop (suc i) s) h)
 
 pub low : (c : ℕ) → c < 48 → isDigit c ≡ false
 low c h = rw (lt-leb 48 c h) refl
@@ -34,17 +34,21 @@ low c h = rw (lt-leb 48 c h) refl
 pub high : (c : ℕ) → 57 < c → isDigit c ≡ false
 high c h = rw (lt-leb c 57 h) (and-false (leb 48 c))
 
-pub past-turn : (k i : ℕ) (s : List ℕ) → 0 < k → i < length s → 48 ≤ getD s i 0 → getD s i 0 ≤ 57 → pastDigits (k - 1) (drop (i + 1) s) ≡ pastDigits k (drop i s)
-unfolding pastDigits
-past-turn zero i s p l a b = absurd (not-suc-le-zero p)
-past-turn (suc k) i s p l a b =
-    ap (λ (n : ℕ). pastDigits n (drop (i + 1) s)) (let e : suc k - 1 ≡ k = omega arith in e)
-    ∙ ap (λ (n : ℕ). pastDigits k (drop n s)) (let e : i + 1 ≡ suc i = omega arith in e)
-    ∙ sym (ap (pastDigits (suc k)) (drop-cons s i 0 l) ∙ rw (le-leb 48 (getD s i 0) a, le-leb (getD s i 0) 57 b) refl)
+pub digits-turn : (k i : ℕ) (s : List ℕ) → 0 < k → i < length s → 48 ≤ getD s i 0 → getD s i 0 ≤ 57
+    → (i + 1) + digitsAt (k - 1) (drop (i + 1) s) ≡ i + digitsAt k (drop i s)
+unfolding digitsAt
+digits-turn zero i s p l a b = absurd (not-suc-le-zero p)
+digits-turn (suc k) i s p l a b =
+    let less : digitsAt (suc k - 1) (drop (i + 1) s) ≡ digitsAt k (drop (suc i) s) =
+    ap (λ (n : ℕ). digitsAt n (drop (i + 1) s)) (let e : suc k - 1 ≡ k = omega arith in e)
+    ∙ ap (λ (n : ℕ). digitsAt k (drop n s)) (let e : i + 1 ≡ suc i = omega arith in e) in
+    let one : digitsAt (suc k) (drop i s) ≡ suc (digitsAt k (drop (suc i) s)) =
+    ap (digitsAt (suc k)) (drop-cons s i 0 l) ∙ rw (le-leb 48 (getD s i 0) a, le-leb (getD s i 0) 57 b) refl in
+    omega (arith, less, one)
 
-pub past-none : (k i : ℕ) (s : List ℕ) → k ≡ 0 → drop i s ≡ pastDigits k (drop i s)
-unfolding pastDigits
-past-none k i s e = sym (ap (λ (n : ℕ). pastDigits n (drop i s)) e)
+pub digits-none : (k i : ℕ) (s : List ℕ) → k ≡ 0 → i ≡ i + digitsAt k (drop i s)
+unfolding digitsAt
+digits-none k i s e = let none : digitsAt k (drop i s) ≡ 0 = ap (λ (n : ℕ). digitsAt n (drop i s)) e in omega (arith, none)
 
 numeral-nil : (k a : ℕ) → numeral k a [] ≡ a
 unfolding numeral

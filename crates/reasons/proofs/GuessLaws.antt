@@ -9,11 +9,11 @@ use borrow.Author.Tests.{lt-leb}
 use Rattle.phrases.specs.Table.{countRow, meaningRow}
 use Rattle.phrases.specs.Phrases.{phrases, phrase, leading, sameBytes}
 use Rattle.reasons.specs.declared.Reason.{Reason}
-use Rattle.reasons.specs.Reasons.{reasonOf, mayCount, placeFits, tagFits, isReason, sentence, numeral, pastDigits, guess, noReason, isSentence, understood}
+use Rattle.reasons.specs.Reasons.{reasonOf, mayCount, placeFits, tagFits, isReason, sentence, numeral, digitsAt, pastDigits, guess, noReason, isSentence, understood}
 use Rattle.reasons.proofs.ReadBack.{four}
 
 pub guess-is : (s : List ℕ) (m a c l p e t n k : ℕ) → m ≡ leading phrases s → a ≡ length (phrase m) → c ≡ leading phrases (drop a s) → l ≡ length (phrase c)
-    → p ≡ numeral 5 0 (drop (a + l) s) → drop e s ≡ pastDigits 5 (drop (a + l) s) → t ≡ leading phrases (drop e s) → n ≡ m - meaningRow 0 → k ≡ c - countRow 0
+    → p ≡ numeral 5 0 (drop (a + l) s) → e ≡ (a + l) + digitsAt 5 (drop (a + l) s) → t ≡ leading phrases (drop e s) → n ≡ m - meaningRow 0 → k ≡ c - countRow 0
     → guess s ≡ reasonOf n k p t
 unfolding guess
 guess-is s m a c l p e t n k hm ha hc hl hp he ht hn hk =
@@ -25,11 +25,13 @@ guess-is s m a c l p e t n k hm ha hc hl hp he ht hn hk =
     let ec : second ≡ c = ap (leading phrases) e1 ∙ sym hc in
     let e2 : end ≡ drop (a + l) s =
     ap (λ (i : ℕ). drop (length (phrase i)) rest) ec ∙ ap (drop (length (phrase c))) e1 ∙ ap (λ (i : ℕ). drop i (drop a s)) (sym hl) ∙ drop-drop l a s in
+    let past : drop e s ≡ pastDigits 5 (drop (a + l) s) =
+    ap (λ (i : ℕ). drop i s) he ∙ sym (drop-drop (digitsAt 5 (drop (a + l) s)) (a + l) s) in
     four (first - meaningRow 0) (second - countRow 0) (numeral 5 0 end) (leading phrases (pastDigits 5 end)) n k p t
     (ap (λ (i : ℕ). i - meaningRow 0) (sym hm) ∙ sym hn)
     (ap (λ (i : ℕ). i - countRow 0) ec ∙ sym hk)
     (ap (numeral 5 0) e2 ∙ sym hp)
-    (ap (λ (q : List ℕ). leading phrases (pastDigits 5 q)) e2 ∙ ap (leading phrases) (sym he) ∙ sym ht)
+    (ap (λ (q : List ℕ). leading phrases (pastDigits 5 q)) e2 ∙ ap (leading phrases) (sym past) ∙ sym ht)
 
 pub guess-kept : (s : List ℕ) (r : Reason) → guess s ≡ r → cond (isSentence r s) r noReason ≡ understood s
 unfolding understood

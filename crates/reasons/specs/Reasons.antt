@@ -55,16 +55,20 @@ sentence r = phrase (meaningRow (r .number)) ++ (phrase (countRow (r .counts)) +
 abbrev pub isDigit : ℕ → Bool
 isDigit b = leb 48 b && leb b 57
 
--- the number that at most k digits at the start say after a, and what is past them
+-- the number that at most k digits at the start say after a
 unfoldable pub numeral : ℕ → ℕ → List ℕ → ℕ
 numeral zero a s = a
 numeral (suc k) a [] = a
 numeral (suc k) a (b ∷ s) = cond (isDigit b) (numeral k (10 * a + (b - 48)) s) a
 
-unfoldable pub pastDigits : ℕ → List ℕ → List ℕ
-pastDigits zero s = s
-pastDigits (suc k) [] = []
-pastDigits (suc k) (b ∷ s) = cond (isDigit b) (pastDigits k s) (b ∷ s)
+-- how many these digits are, and what is past them
+unfoldable pub digitsAt : ℕ → List ℕ → ℕ
+digitsAt zero s = 0
+digitsAt (suc k) [] = 0
+digitsAt (suc k) (b ∷ s) = cond (isDigit b) (suc (digitsAt k s)) 0
+
+abbrev pub pastDigits : ℕ → List ℕ → List ℕ
+pastDigits k s = drop (digitsAt k s) s
 
 -- by the row of the phrase at the start, and what is past that phrase
 abbrev pub afterPhrase : (ℕ → List ℕ → Reason) → List ℕ → Reason

@@ -3,7 +3,7 @@ ghost use mathlib.Core.Path.{_≡_};
 ghost use Prim.Native.Nat.{_+_, _<_, _≤_};
 ghost use lib.ListN.{length, drop};
 ghost use Rattle.phrases.specs.Phrases.{putInto};
-ghost use Rattle.reasons.specs.Reasons.{digitsOf, lastDigit, pastDigits, numeral};
+ghost use Rattle.reasons.specs.Reasons.{digitsOf, lastDigit, digitsAt, numeral};
 
 // The last digit of a number, none of 0; where it ends.
 fn put_digit(n: u16, out: &mut [u8], at: usize) -> usize
@@ -34,7 +34,7 @@ pub fn put_digits(n: u16, out: &mut [u8], at: usize) -> usize
 
 // Where at most five digits from a place end.
 pub fn digits_end(s: &[u8], at: usize) -> usize
-    ensures { λ r. ⌜ drop r (now (s .entry)) ≡ pastDigits 5 (drop at (now (s .entry))) ⌝ }
+    ensures { λ r. ⌜ r ≡ at + digitsAt 5 (drop at (now (s .entry))) ⌝ }
 {
     let mut left: usize = 5;
     let mut i: usize = at;

@@ -1,17 +1,17 @@
 use mathlib.Core.Path.{_≡_, refl, _∙_}
-use Prim.Native.Nat.{_≤_}
+use Prim.Native.Nat.{_+_, _≤_}
 use native.Mathlib.Omega.{arith}
 use borrow.Author.Needs.{needs}
 use lib.ListN.{drop, getD}
-use Rattle.reasons.specs.Reasons.{pastDigits}
-use Rattle.reasons.proofs.DigitsRead.{past-end, past-no, low, high, past-turn, past-none}
+use Rattle.reasons.specs.Reasons.{digitsAt}
+use Rattle.reasons.proofs.DigitsRead.{digits-past, digits-stop, low, high, digits-turn, digits-none}
 use Rattle.reasons.proofs.digits.digits_end.Statement.{statement}
 use Rattle.reasons.proofs.digits.digits_end.Tie as tie
 use Rattle.reasons.proofs.digits.digits_end.Reads as reads
 use Rattle.reasons.proofs.digits.digits_end.Lts as lts
 
 abbrev Inv-loop : tie.InvT-loop
-Inv-loop s at left₀ i₀ left i = (left ≤ 5) × (pastDigits left (drop i s) ≡ pastDigits 5 (drop at s))
+Inv-loop s at left₀ i₀ left i = (left ≤ 5) × (i + digitsAt left (drop i s) ≡ at + digitsAt 5 (drop at s))
 
 abbrev μ-loop : tie.MeasureT-loop
 μ-loop s at left₀ i₀ left i = left
@@ -23,7 +23,7 @@ returns : tie.Need-returns Inv-loop μ-loop
 returns c =
     let l = c .before .before in
     let s = l .before .args .s .now in
-    past-end (l .loop .left) (l .loop .i) s (c .if1 .taken) ∙ l .loop .inv .1
+    digits-past (l .loop .left) (l .loop .i) s (c .if1 .taken) ∙ l .loop .inv .1
 
 shared-slice-read-if2 : tie.Need-shared-slice-read-if2 Inv-loop μ-loop
 shared-slice-read-if2 c = omega arith
@@ -32,7 +32,7 @@ returns-2 : tie.Need-returns-2 Inv-loop μ-loop
 returns-2 c =
     let l = c .before .before .before .before in
     let s = l .before .args .s .now in
-    past-no (l .loop .left) (l .loop .i) s (search needs) (low (getD s (l .loop .i) 0) (c .if2 .taken)) ∙ l .loop .inv .1
+    digits-stop (l .loop .left) (l .loop .i) s (search needs) (low (getD s (l .loop .i) 0) (c .if2 .taken)) ∙ l .loop .inv .1
 
 shared-slice-read-if3 : tie.Need-shared-slice-read-if3 Inv-loop μ-loop
 shared-slice-read-if3 c = omega arith
@@ -41,7 +41,7 @@ returns-3 : tie.Need-returns-3 Inv-loop μ-loop
 returns-3 c =
     let l = c .before .before .before .before .before .before in
     let s = l .before .args .s .now in
-    past-no (l .loop .left) (l .loop .i) s (search needs) (high (getD s (l .loop .i) 0) (c .if3 .taken)) ∙ l .loop .inv .1
+    digits-stop (l .loop .left) (l .loop .i) s (search needs) (high (getD s (l .loop .i) 0) (c .if3 .taken)) ∙ l .loop .inv .1
 
 add-i : tie.Need-add-i Inv-loop μ-loop
 add-i c = omega arith
@@ -56,13 +56,13 @@ loop-again : tie.Need-loop-again Inv-loop μ-loop
 loop-again c =
     let l = c .before .before .before .before .before .before in
     let s = l .before .args .s .now in
-    (omega arith, past-turn (l .loop .left) (l .loop .i) s (search needs) (search needs) (c .before .before .if2 .left) (c .if3 .left) ∙ l .loop .inv .1)
+    (omega arith, digits-turn (l .loop .left) (l .loop .i) s (search needs) (search needs) (c .before .before .if2 .left) (c .if3 .left) ∙ l .loop .inv .1)
 
 returns-4 : tie.Need-returns-4 Inv-loop μ-loop
 returns-4 c =
     let l = c .before in
     let s = l .before .args .s .now in
-    past-none (l .loop .left) (l .loop .i) s (omega arith) ∙ l .loop .inv .1
+    digits-none (l .loop .left) (l .loop .i) s (omega arith) ∙ l .loop .inv .1
 
 pub digits-end-spec : {M : Type 1} → statement M
 digits-end-spec =
