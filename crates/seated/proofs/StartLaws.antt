@@ -6,8 +6,8 @@ use mathlib.Core.List.{List, [], _∷_, _++_}
 use native.Mathlib.Omega.{arith}
 use mir.Val.{boolByte}
 use lib.Dec.{eqb, ltb}
-use lib.ListN.{length, set, take}
-use lib.Seq.{take-suc-set}
+use lib.ListN.{length, set, take, drop, length-append, length-drop, take-append-drop}
+use lib.Seq.{take-suc-set, drop-set-lt, drop-drop, take-at}
 use borrow.Author.Tests.{ltb-true, ltb-false, lt-ltb}
 use Rattle.masks.specs.Mask.{has}
 use Rattle.masks.proofs.Laws.{has-none}
@@ -17,7 +17,7 @@ use Rattle.format.proofs.ContentsLaws.{item-zero, item-past}
 use Rattle.reading_exact.specs.File.{InCount}
 use Rattle.rounds.specs.Rounds.{numbers}
 use Rattle.seats.specs.Seats.{Limited, SeatedState, sits, countTo, seatedStart, overfills, lowestTo}
-use Rattle.seats.proofs.SeatedStart.{start-sits}
+use Rattle.seats.proofs.SeatedStart.{numbers-length, start-sits}
 
 byte-is : (h : Bool) → boolByte h ≡ cond h 1 0
 byte-is true = refl
@@ -100,6 +100,20 @@ numbered-more l k v lt ev have =
     let one : suc k ≡ k + 1 = omega arith in
     let last : v ≡ 1 + k = omega (arith, ev) in
     ap (λ (x : ℕ). take x (set l k v)) (sym one) ∙ take-suc-set l k v lt ∙ ap₂ (λ (x : List ℕ) (y : ℕ). x ++ (y ∷ [])) have last ∙ numbers-snoc 1 k ∙ ap (numbers 1) one
+
+-- and the words past them stay
+pub kept-more : (l l₀ : List ℕ) (k v : ℕ) → drop k l ≡ drop k l₀ → drop (k + 1) (set l k v) ≡ drop (k + 1) l₀
+kept-more l l₀ k v have = drop-set-lt (k + 1) l k v (omega arith) ∙ sym (drop-drop 1 k l) ∙ ap (drop 1) have ∙ drop-drop 1 k l₀
+
+pub numbered-all : (l l₀ : List ℕ) (n k : ℕ) → n ≡ k → take k l ≡ numbers 1 k → drop k l ≡ drop k l₀ → l ≡ numbers 1 n ++ drop n l₀
+numbered-all l l₀ n k e first rest =
+    sym (take-append-drop k l) ∙ ap₂ (λ (x y : List ℕ). x ++ y) first rest ∙ ap (λ (x : ℕ). numbers 1 x ++ drop x l₀) (sym e)
+
+pub numbered-first : (l l₀ : List ℕ) (n : ℕ) → l ≡ numbers 1 n ++ drop n l₀ → take n l ≡ numbers 1 n
+numbered-first l l₀ n e = ap (take n) e ∙ take-at (numbers 1 n) (drop n l₀) n (numbers-length 1 n)
+
+pub numbered-length : (l l₀ : List ℕ) (n : ℕ) → n ≤ length l₀ → l ≡ numbers 1 n ++ drop n l₀ → length l ≡ length l₀
+numbered-length l l₀ n h e = omega (arith, ap length e, length-append (numbers 1 n) (drop n l₀), numbers-length 1 n, length-drop n l₀)
 
 -- the test of one role
 pub not-over : (limit n : ℕ) → limit ≡ 0 → false ≡ (ltb 0 limit && ltb limit n)

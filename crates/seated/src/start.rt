@@ -8,9 +8,10 @@ use masks::UserRole;
 use masks::has_role;
 ghost use mathlib.Core.Path.{_≡_};
 ghost use mathlib.Core.Bool.{cond, _&&_};
+ghost use mathlib.Core.List.{_++_};
 ghost use Prim.Native.Nat.{_≤_, _<_};
 ghost use lib.Dec.{eqb, ltb};
-ghost use lib.ListN.{length, take};
+ghost use lib.ListN.{length, drop};
 ghost use Rattle.format.specs.Header.{Laid};
 ghost use Rattle.format.specs.Contents.{contentsAt};
 ghost use Rattle.rounds.specs.Rounds.{numbers};
@@ -85,10 +86,10 @@ pub fn overfilled_at(file: &[u8], head: Head, seats: &[u16]) -> u16
     found
 }
 
-// At the start the threads are the sessions' own, 1 to n.
+// At the start the threads are the sessions' own, 1 to n; the words past them stay.
 pub fn number_owners(owners: &mut [u16], n: u16)
     requires { ⌜ (n ≤ length (now owners)) × (n < 65535) ⌝ }
-    ensures { λ r. ⌜ (take n (now (owners .exit)) ≡ numbers 1 n) × (length (now (owners .exit)) ≡ length (now (owners .entry))) ⌝ }
+    ensures { λ r. ⌜ now (owners .exit) ≡ numbers 1 n ++ drop n (now (owners .entry)) ⌝ }
 {
     let m = wide(n);
     let mut k: usize = 0;

@@ -149,7 +149,7 @@ module _ (L : Limited) (S : SeatedState) where
 
 -- The start of a file.
 
-numbers-length : (k n : ℕ) → length (numbers k n) ≡ n
+pub numbers-length : (k n : ℕ) → length (numbers k n) ≡ n
 unfolding numbers
 numbers-length k zero = refl
 numbers-length k (suc n) = ap suc (numbers-length (suc k) n)

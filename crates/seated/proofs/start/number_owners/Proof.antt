@@ -1,10 +1,10 @@
--- The invariant: the first k threads are the sessions' own.
-use Prim.Native.Nat.{ℕ, suc, _+_, _-_, _≤_}
-use mathlib.Core.Path.{_≡_, refl, sym, ap, _∙_}
+-- The invariant: the first k threads are the sessions' own, and the words past them stay.
+use Prim.Native.Nat.{_-_, _≤_}
+use mathlib.Core.Path.{_≡_, refl}
 use native.Mathlib.Omega.{arith}
-use lib.ListN.{length, take, length-set}
+use lib.ListN.{length, take, drop, length-set}
 use Rattle.rounds.specs.Rounds.{numbers}
-use Rattle.seated.proofs.StartLaws.{numbered-none, numbered-more}
+use Rattle.seated.proofs.StartLaws.{numbered-none, numbered-more, kept-more, numbered-all}
 use borrow.Author.Needs.{needs}
 use Rattle.seated.proofs.start.number_owners.Statement.{statement}
 use Rattle.seated.proofs.start.number_owners.Tie as tie
@@ -14,7 +14,7 @@ use Rattle.format.proofs.words.narrow.Reads as narrow-reads
 use Rattle.format.proofs.words.wide.Reads as wide-reads
 
 abbrev Inv-loop : tie.InvT-loop
-Inv-loop owners₀ n m k₀ owners k = (k ≤ m) × (length owners ≡ length owners₀) × (take k owners ≡ numbers 1 k)
+Inv-loop owners₀ n m k₀ owners k = (k ≤ m) × (length owners ≡ length owners₀) × (take k owners ≡ numbers 1 k) × (drop k owners ≡ drop k owners₀)
 
 abbrev μ-loop : tie.MeasureT-loop
 μ-loop owners₀ n m k₀ owners k = m - k
@@ -23,7 +23,7 @@ wide-requires : tie.Need-wide-requires Inv-loop μ-loop
 wide-requires c κs = search needs
 
 loop-holds : tie.Need-loop-holds Inv-loop μ-loop
-loop-holds c = (omega arith, refl, numbered-none (c .before .before .args .owners .now))
+loop-holds c = (omega arith, refl, numbered-none (c .before .before .args .owners .now), refl)
 
 add-narrow : tie.Need-add-narrow Inv-loop μ-loop
 add-narrow c = omega (arith, c .before .before .wide .ensures .0, c .before .before .before .before .pre .1)
@@ -46,7 +46,7 @@ loop-less c = omega arith
 loop-again : tie.Need-loop-again Inv-loop μ-loop
 loop-again c =
     let l = c .before .before .loop in
-    (omega arith, simp length-set (l .inv .1), numbered-more (l .owners) (l .k) (c .narrow .result) (omega (arith, l .inv .1, c .before .before .before .wide .ensures .0, c .before .before .before .before .before .pre .0)) (c .narrow .ensures) (l .inv .2))
+    (omega arith, simp length-set (l .inv .1), numbered-more (l .owners) (l .k) (c .narrow .result) (omega (arith, l .inv .1, c .before .before .before .wide .ensures .0, c .before .before .before .before .before .pre .0)) (c .narrow .ensures) (l .inv .2), kept-more (l .owners) _ (l .k) (c .narrow .result) (l .inv .3))
 
 same-length : tie.Need-same-length Inv-loop μ-loop
 same-length c = search needs
@@ -56,7 +56,7 @@ returns c =
     let a = c .before .before .before .before .args in
     let l = c .before .loop in
     let all : a .n ≡ l .k = omega (arith, c .before .before .wide .ensures .0) in
-    (ap (λ (x : ℕ). take x (l .owners)) all ∙ l .inv .2 ∙ ap (numbers 1) (sym all), l .inv .1)
+    numbered-all (l .owners) (a .owners .now) (a .n) (l .k) all (l .inv .2) (l .inv .3)
 
 pub number-owners-spec : {M : Type 1} → statement M
 number-owners-spec =
