@@ -5,12 +5,14 @@ use format::words::wide;
 use format::words::word;
 use notices::in_force;
 use notices::plan_in_force;
+ghost use mathlib.Core.Path.{_≡_};
 ghost use Prim.Native.Nat.{_≤_};
 ghost use lib.ListN.{length};
+ghost use Rattle.inforce.specs.FirstNotice.{firstEnd};
 
 // Where the first notice ends: as its length word says, or with the input.
 fn first_end(both: &[u8]) -> usize
-    ensures { λ r. ⌜ r ≤ length (now (both .entry)) ⌝ }
+    ensures { λ r. ⌜ (r ≡ firstEnd (now (both .entry))) × (r ≤ length (now (both .entry))) ⌝ }
 {
     let end = 4 + wide(word(both, 1));
     if end < both.len() { end } else { both.len() }
