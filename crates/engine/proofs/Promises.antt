@@ -76,6 +76,7 @@ use Rattle.running_exact.specs.Keeps.{Reaches, Kept}
 use Rattle.lending.specs.Lent.{stateOf, lending, choosing, recordsOver, besideOver}
 use Rattle.lending.specs.Starting.{starting, recordsStarted, besideStarted}
 use Rattle.lending_exact.specs.Lendable.{Lendable, Eight, Lends, inTurn}
+use Rattle.lending_exact.specs.LendCases.{LendShown, lendCases}
 use Rattle.reading.specs.Long.{enough}
 use Rattle.checking_exact.proofs.GrantWords.{tables-by-words, has-bit, has-zero, granted-by-words, granted-exactly}
 use Rattle.checking_exact.proofs.BelowLaws.{on-assigned, with-adds, without-removes, child-below}
@@ -106,6 +107,7 @@ use Rattle.lending_exact.proofs.LentWords.{made-counted, made-by-words}
 use Rattle.lending_exact.proofs.LentRuns.{kept-lendable, lent-next, whole-run, lent-again}
 use Rattle.lending_exact.proofs.LentSteps.{lent-free, lent-steps}
 use Rattle.lending_exact.proofs.Unchanged.{refused-unchanged, past-kept}
+use Rattle.lending_exact.proofs.LendsShown.{lends-shown}
 use Rattle.lending_exact.proofs.LentStarts.{start-lends, start-lendable, start-records-past, start-words-past, refused-start}
 use Rattle.lending_exact.proofs.StartAnswers.{start-ten, start-eighteen, start-fine}
 use Rattle.hours.specs.Hours.{rowAt, TableFits, shut, Open}
@@ -128,7 +130,7 @@ use Rattle.engine.specs.Alike.{AlikeBesideForm, AlikeBesideBytes, Alike,
 use Rattle.engine.proofs.SameContents.{alike-beside-form, alike-beside-bytes, alike, second-alike, second-placed}
 use Rattle.engine.proofs.Unread.{unread-alike}
 use Rattle.engine.proofs.Columns.{columns-alike, rows-alike, heads-refused, notices-alike}
-use Rattle.rounds.specs.Rounds.{RoundState, Here, Path}
+use Rattle.rounds.specs.Rounds.{In, RoundState, Here, Path}
 use Rattle.dispatching.specs.Dispatch.{rounding, roundOver}
 use Rattle.dispatching_exact.specs.IsRound.{IsRound, VisitsOf}
 use Rattle.dispatching_exact.specs.Answered.{RoundUnfit, RoundFit, noRoundAt, Answered, Stopped}
@@ -170,6 +172,7 @@ use Rattle.running_exact.specs.Output.{stateBytes}
 use Rattle.rounds.specs.Round.{Taken, refuses, waits, steps}
 use Rattle.seats.specs.Seats.{Limited, limitedOf, seatsIn, SeatedState, sits, seatsTaken, threadNode, ownerOf, inLine, seatedChoice, oneDone, seatedRun, plainly, waitsIn, seatedStart, seatedRanOf}
 use Rattle.seats.specs.SeatOrder.{AsksSeat, GetsSeat, SeatedStep, Distinct, ahead, LineStep, HasRole, StandsAtOn, InTreeOf, Always, Between, NoMoreBefore}
+use Rattle.seats.proofs.LineLaws.{in-line-member}
 use Rattle.seats.proofs.SeatedTold.{seated-agrees, goes-iff, waits-iff, waits-only-line, halts-iff}
 use Rattle.seats.proofs.SeatedMoves.{waits-joins, steps-lines, owners-follow}
 use Rattle.seats.proofs.SeatedPlain.{run-alike}
@@ -687,6 +690,10 @@ pub past-the-count : (f : List ℕ) (l : List Thread) (b : List ℕ) (i p : ℕ)
     → (drop (threadCount (besideOver f l b i p)) (recordsOver f l b i p) ≡ drop (threadCount (besideOver f l b i p)) l)
     × ((k : ℕ) → usedWords (madeCount (besideOver f l b i p)) ≤ k → k < 130 → getD (besideOver f l b i p) k 0 ≡ getD b k 0)
 past-the-count = past-kept
+
+-- The lent list in literal records and words, as a file starts and after a choice: each made channel's owner stands before its kind.
+pub lent-lists-in-words : All LendShown lendCases
+lent-lists-in-words = lends-shown
 
 -- "Starred cases belong to the proved set .. shown on the definitions through one theorem about their list"; with them the five compares of the head of theatre (02, K4).
 pub starred-cases : All Shown cases
@@ -1236,6 +1243,10 @@ pub joins-once-at-the-end : (L : Limited) (S : SeatedState) (i p : ℕ) (S′ : 
     → ((inLine (ownerOf S i) (S .lines (threadNode L S i .f1)) ≡ true) × (S′ .lines (threadNode L S i .f1) ≡ S .lines (threadNode L S i .f1)))
     ⊎ ((inLine (ownerOf S i) (S .lines (threadNode L S i .f1)) ≡ false) × (S′ .lines (threadNode L S i .f1) ≡ S .lines (threadNode L S i .f1) ++ (ownerOf S i ∷ [])))
 joins-once-at-the-end = waits-joins
+
+-- .. and to be in line is to be one of the line's sessions.
+pub in-line-is-membership : (k : ℕ) (l : List ℕ) → (inLine k l ≡ true) ↔ In k l
+in-line-is-membership = in-line-member
 
 -- "This answer does not stop the run and is not its refusal word: the choice counts as done, is no step of demand 2, and only the line changes": the state, the threads' sessions and every other line stay.
 pub only-the-line-changes : (L : Limited) (S : SeatedState) (i p : ℕ) (S′ : SeatedState) → seatedChoice L S i p ≡ waits S′

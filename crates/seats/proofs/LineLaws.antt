@@ -1,13 +1,14 @@
 -- Laws of lines.
 use Prim.Native.Nat.{ℕ, zero, suc}
 use mathlib.Core.Path.{_≡_, refl, sym, ap, _∙_}
-use mathlib.Core.Logic.{_⊎_, inl, inr}
+use mathlib.Core.Logic.{_↔_, _⊎_, inl, inr}
 use mathlib.Core.Bool.{Bool, true, false, cond, _||_, true≢false, false≢true}
 use mathlib.Core.List.{List, [], _∷_, _++_}
 use lib.Dec.{eqb}
 use borrow.Author.Tests.{eqb-true, eqb-false, eq-eqb, ne-eqb}
 use Rattle.format.proofs.BoolLaws.{or-fails}
 use Rattle.running.specs.Ways.{standsIn}
+use Rattle.rounds.specs.Rounds.{In}
 use Rattle.seats.specs.Seats.{inLine, lineWith}
 use Rattle.seats.specs.SeatOrder.{Distinct, ahead}
 
@@ -23,6 +24,25 @@ either-right false b h = h
 pub either-left : (a b : Bool) → a ≡ true → (a || b) ≡ true
 either-left true b h = refl
 either-left false b h = absurd (false≢true h)
+
+-- a session is in line exactly where it is one of the line's
+member-of : (k : ℕ) (l : List ℕ) → inLine k l ≡ true → In k l
+unfolding standsIn
+member-of k [] h = absurd (false≢true h)
+member-of k (y ∷ ys) h = go (eqb y k) refl h (member-of k ys)
+  where
+    go : (b : Bool) → eqb y k ≡ b → (b || inLine k ys) ≡ true → (inLine k ys ≡ true → In k ys) → (k ≡ y) ⊎ In k ys
+    go true e q r = inl (sym (eqb-true y k e))
+    go false e q r = inr (r q)
+
+of-member : (k : ℕ) (l : List ℕ) → In k l → inLine k l ≡ true
+unfolding standsIn
+of-member k [] h = absurd h
+of-member k (y ∷ ys) (inl e) = either-left (eqb y k) (inLine k ys) (eq-eqb y k (sym e))
+of-member k (y ∷ ys) (inr r) = either-right (eqb y k) (inLine k ys) (of-member k ys r)
+
+pub in-line-member : (k : ℕ) (l : List ℕ) → (inLine k l ≡ true) ↔ In k l
+in-line-member k l = (member-of k l, of-member k l)
 
 pub never : {A : Type 0} {b : Bool} → b ≡ true → b ≡ false → A
 never h e = absurd (true≢false (sym h ∙ e))
