@@ -112,7 +112,7 @@ AloneSince g table k x a =
     → (U : Underway (contentsOf g .nodes) a (threadAt (T .state) i .node))
     → NoOnFrom (contentsOf g .nodes) (suc a) (U .next) → Alone (contentsOf g) T k x i)
 
--- Session k of F has one on step in the file g, and is midway only below it.
+-- Session k of F has at most one on step in the file g, and is midway only below it.
 pub record UnderOneOn (g : List ℕ) (F : File) (k : ℕ) : Type 0 where
   -- each of its sends and receives stands below an on step
   pub below : (b : ℕ) → InTreeOf (contentsOf g) k b → Exchange (nth (contentsOf g .nodes) b)
