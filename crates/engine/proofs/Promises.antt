@@ -595,8 +595,8 @@ pub wrong-total : (f : List ℕ) → readingNames f ≡ fine → (l : List Threa
 wrong-total f clean l eight b k inside wrong i p = eighteen-zero f l eight b i p .1 (clean, λ h. wrong (h .totals k inside))
 
 -- The 162 words of a run in which two threads wait, one of them on a made channel, and then one is met.
-pub totals-in-words : (besideOfRun (bytesOf ward) (2 ∷ 0 ∷ 3 ∷ 0 ∷ []) ≡ 3 ∷ 1 ∷ 2 ∷ 2 ∷ replicate 126 0 ++ (1 ∷ 1 ∷ replicate 30 0))
-    × (besideOfRun (bytesOf ward) (2 ∷ 0 ∷ 3 ∷ 0 ∷ 1 ∷ 2 ∷ []) ≡ 3 ∷ 1 ∷ 2 ∷ 2 ∷ replicate 126 0 ++ (0 ∷ 1 ∷ replicate 30 0))
+pub totals-in-words : (besideOfRun (bytesOf ward) (2 ∷ 0 ∷ 3 ∷ 0 ∷ []) ≡ 3 ∷ 1 ∷ 2 ∷ 3 ∷ replicate 126 0 ++ (1 ∷ 0 ∷ 1 ∷ replicate 29 0))
+    × (besideOfRun (bytesOf ward) (2 ∷ 0 ∷ 3 ∷ 0 ∷ 1 ∷ 2 ∷ []) ≡ 3 ∷ 1 ∷ 2 ∷ 3 ∷ replicate 126 0 ++ (0 ∷ 0 ∷ 1 ∷ replicate 29 0))
 totals-in-words = (two-wait, one-is-met)
 
 -- "a lent list of threads may be no state of a run": in any that may be lent the variable that a binder takes is the next on the path, and a choice that is done is a step of the state that is lent, whose result the

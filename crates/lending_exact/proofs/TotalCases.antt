@@ -22,24 +22,24 @@ use Rattle.choices.specs.Choices.{threadsFrom}
 use Rattle.choices.specs.Stored.{tried}
 use Rattle.running.specs.Run.{besideOfRun}
 
--- user 1 has role 1, user 2 roles 1 and 2; role 1 may send on kind 1, role 2 may receive on kinds 1 and 2; channel 1 of user 2 has kind 1.
--- Session 1, of user 1: send user 2 on channel 1. Session 2, of user 2: a fork; the one branch receives on channel 1, the other makes a channel of kind 2 and receives on it.
+-- user 1 has role 1, user 2 roles 1 and 2; role 1 may send on kind 1, role 2 may receive on kinds 1 and 3; channel 1 of user 2 has kind 1.
+-- Session 1, of user 1: send user 2 on channel 1. Session 2, of user 2: a fork; the one branch receives on channel 1, the other makes a channel of kind 3 and receives on it.
 abbrev pub ward : List ℕ
 ward =
-    1 ∷ 2 ∷ 2 ∷ 2 ∷ 1 ∷ 2 ∷ 8 ∷ 13 ∷ 15 ∷ 23 ∷ 25 ∷ 27 ∷ 33
+    1 ∷ 2 ∷ 2 ∷ 3 ∷ 1 ∷ 2 ∷ 8 ∷ 13 ∷ 15 ∷ 23 ∷ 26 ∷ 28 ∷ 34
     ∷ 1 ∷ 3
-    ∷ 1 ∷ 0 ∷ 0 ∷ 0 ∷ 0 ∷ 0 ∷ 3 ∷ 0
-    ∷ 0 ∷ 0
+    ∷ 1 ∷ 0 ∷ 0 ∷ 0 ∷ 0 ∷ 0 ∷ 5 ∷ 0
+    ∷ 0 ∷ 0 ∷ 0
     ∷ 2 ∷ 1
     ∷ 1 ∷ 1 ∷ 1 ∷ 2 ∷ 3 ∷ 3
     ∷ 6 ∷ 257 ∷ 2 ∷ 0 ∷ 0 ∷ 0
-    ∷ 1 ∷ 6 ∷ 0 ∷ 5 ∷ 257 ∷ 0 ∷ 0 ∷ 0 ∷ 0 ∷ 3 ∷ 2 ∷ 0 ∷ 5 ∷ 512 ∷ 0 ∷ 0 ∷ 0 ∷ 0 ∷ []
+    ∷ 1 ∷ 6 ∷ 0 ∷ 5 ∷ 257 ∷ 0 ∷ 0 ∷ 0 ∷ 0 ∷ 3 ∷ 3 ∷ 0 ∷ 5 ∷ 512 ∷ 0 ∷ 0 ∷ 0 ∷ 0 ∷ []
 
--- after the fork and the made channel thread 2 waits for kind 1 and thread 3 for kind 2; then thread 1 meets thread 2
-pub two-wait : besideOfRun (bytesOf ward) (2 ∷ 0 ∷ 3 ∷ 0 ∷ []) ≡ 3 ∷ 1 ∷ 2 ∷ 2 ∷ replicate 126 0 ++ (1 ∷ 1 ∷ replicate 30 0)
+-- after the fork and the made channel, of user 2 and kind 3, thread 2 waits for kind 1 and thread 3 for kind 3; then thread 1 meets thread 2
+pub two-wait : besideOfRun (bytesOf ward) (2 ∷ 0 ∷ 3 ∷ 0 ∷ []) ≡ 3 ∷ 1 ∷ 2 ∷ 3 ∷ replicate 126 0 ++ (1 ∷ 0 ∷ 1 ∷ replicate 29 0)
 unfolding has with namesOnly bytesOf headOf tabled item spot contentsAt together effective permits permittingTo named kindOf mine namesFit kindsFit able wrong childOf reached openingsFrom rightly bindScope scopeFrom scopeOf marked nodeScope scopesIn value firstFree kindHeld meeting sending lone aloneOnly acting done outcome oneMore oneLess cleared counted threadsFrom tried
 two-wait = refl
 
-pub one-is-met : besideOfRun (bytesOf ward) (2 ∷ 0 ∷ 3 ∷ 0 ∷ 1 ∷ 2 ∷ []) ≡ 3 ∷ 1 ∷ 2 ∷ 2 ∷ replicate 126 0 ++ (0 ∷ 1 ∷ replicate 30 0)
+pub one-is-met : besideOfRun (bytesOf ward) (2 ∷ 0 ∷ 3 ∷ 0 ∷ 1 ∷ 2 ∷ []) ≡ 3 ∷ 1 ∷ 2 ∷ 3 ∷ replicate 126 0 ++ (0 ∷ 0 ∷ 1 ∷ replicate 29 0)
 unfolding has with namesOnly bytesOf headOf tabled item spot contentsAt together effective permits permittingTo named kindOf mine namesFit kindsFit able wrong childOf reached openingsFrom rightly bindScope scopeFrom scopeOf marked nodeScope scopesIn value firstFree kindHeld meeting sending lone aloneOnly acting done outcome oneMore oneLess cleared counted threadsFrom tried
 one-is-met = refl
