@@ -4,7 +4,10 @@ use mathlib.Core.Path.{_≡_}
 use mathlib.Core.List.{List, [], _∷_, _++_}
 use lib.ListN.{length, replicate}
 use Rattle.format.specs.Words.{bytesOf}
-use Rattle.merging.specs.Merging.{merging, mergedBytes}
+use Rattle.format.specs.Answers.{fine, refused}
+use Rattle.format.specs.Contents.{Contents, noNode}
+use Rattle.format.specs.declared.Verdict.{Verdict}
+use Rattle.merging.specs.Merging.{joinAnswer, merging, mergedBytes}
 
 -- two files by their words, and what is said of them
 pub data MergeCase : Type 0 where
@@ -14,12 +17,15 @@ pub data MergeCase : Type 0 where
   fits : List ℕ → List ℕ → ℕ → MergeCase
   -- the refusal with an output of so many bytes: number and place
   isRefused : List ℕ → List ℕ → ℕ → ℕ → ℕ → MergeCase
+  -- of what two files hold that are not refused by themselves: whether they may be merged
+  joins : Contents → Contents → Verdict → MergeCase
 
 abbrev pub MergeShown : MergeCase → Type 0
 MergeShown (merges a b c) =
     (merging (bytesOf a) (bytesOf b) 6874 ≡ record { number = 0; place = 0; length = 2 * length c }) × (mergedBytes (bytesOf a) (bytesOf b) ≡ bytesOf c)
 MergeShown (fits a b n) = merging (bytesOf a) (bytesOf b) 6874 ≡ record { number = 0; place = 0; length = 2 * n }
 MergeShown (isRefused a b room n p) = merging (bytesOf a) (bytesOf b) room ≡ record { number = n; place = p; length = 0 }
+MergeShown (joins C D v) = joinAnswer C D ≡ v
 
 -- the booking of document 01: role 1 may send on kind 1, role 2 on both
 abbrev booking : List ℕ
@@ -94,13 +100,10 @@ comparing n user x y =
     1 ∷ n ∷ 0 ∷ 0 ∷ 0 ∷ 1 ∷ 2 ∷ 13 ∷ (13 + n) ∷ (13 + n) ∷ (13 + n) ∷ (13 + n) ∷ (16 + n)
     ∷ replicate n 0 ++ (user ∷ 0 ∷ 1 ∷ 4 ∷ x ∷ y ∷ 0 ∷ 0 ∷ 0 ∷ [])
 
--- one session of one user: so many repeats, and an end
-unfoldable pub repeatRows : ℕ → List ℕ
-repeatRows zero = 0 ∷ 0 ∷ 0 ∷ []
-repeatRows (suc n) = 2 ∷ 0 ∷ 0 ∷ repeatRows n
-
-abbrev pub repeats : ℕ → List ℕ
-repeats n = 1 ∷ 1 ∷ 0 ∷ 0 ∷ 0 ∷ 1 ∷ (n + 1) ∷ 13 ∷ 14 ∷ 14 ∷ 14 ∷ 14 ∷ 17 ∷ 0 ∷ 1 ∷ 0 ∷ 1 ∷ repeatRows n
+-- what a file holds that has no records but so many nodes
+abbrev nodesOnly : ℕ → Contents
+nodesOnly n =
+    record { users = []; roles = []; juniors = []; kinds = []; channels = []; sessions = []; nodes = replicate n noNode }
 
 -- a file of version 2 with all counts 0, and one whose count of users is out of range
 abbrev second : ℕ → List ℕ
@@ -138,9 +141,11 @@ mergeCases =
     ∷ isRefused (channels 32) (channels 33) 6874 3 0
     ∷ fits (sessions 16) (sessions 16) 207
     ∷ isRefused (sessions 17) (sessions 16) 6874 3 0
-    -- 512 nodes and 512; 512 and 513
-    ∷ fits (repeats 511) (repeats 511) 3093
-    ∷ isRefused (repeats 511) (repeats 512) 6874 3 0
+    -- 512 nodes and 512 fit; with one more on either side they don't
+    ∷ joins (nodesOnly 512) (nodesOnly 512) fine
+    ∷ joins (nodesOnly 512) (nodesOnly 513) (refused 3 0)
+    ∷ joins (nodesOnly 1024) (nodesOnly 1) (refused 3 0)
+    ∷ joins (nodesOnly 0) (nodesOnly 1024) fine
     -- 17 comes first
     ∷ isRefused booking clinic 6873 17 0
     ∷ isRefused (1 ∷ []) (1 ∷ []) 0 17 0
