@@ -195,13 +195,15 @@ use Rattle.seating_exact.proofs.SeatedRoundAnswers.{seated-round-seventeen, sea
 use Rattle.seating_exact.proofs.SeatsAnswers.{seats-seventeen, seats-no-room, seats-names, seats-start, seats-none, seats-verdict, seats-told, taken-within}
 use Rattle.seating_exact.proofs.SeatedSafe.{passed-safe, placed-file-safe}
 use Rattle.seating_exact.proofs.SeatsShown.{seats-shown}
-use Rattle.exclusion.specs.Exclusion.{SwitchesOn, Midway, CoversAlone, Alone, AloneWhileMidway, NeverBothMidway}
-use Rattle.exclusion.specs.Exclusion.{AloneSince, UnderOneOn}
-use Rattle.exclusion.specs.SpringCases.{written as springWritten, asPlaced as springPlaced, cut as springCut, oneSeat}
-use Rattle.exclusion.specs.SpringCases.{springDay, placedDay}
+use Rattle.rules.specs.declared.Way.the-variants.{Receives}
+use Rattle.exclusion.specs.Exclusion.{SwitchesOn, Midway, CoversAlone, OnlyBy, Alone, AloneWhileMidway}
+use Rattle.exclusion.specs.Exclusion.{NeverBothMidway, AloneSince, UnderOneOn}
+use Rattle.exclusion.specs.SpringCases.{written as springWritten, asData as springFile, asPlaced as springPlaced}
+use Rattle.exclusion.specs.SpringCases.{cut as springCut, oneSeat, morning, springDay, placedDay}
 use Rattle.exclusion.proofs.PlacedFrom.{placed-from, placed-from-at}
 use Rattle.exclusion.proofs.MidwayAlone.{alone-since, under-one, role-alone, never-two, never-two-on}
-use Rattle.exclusion.proofs.SpringShown.{both-midway, placed-so, one-alone}
+use Rattle.exclusion.proofs.SpringShown.{both-midway, placed-so, placed-so-at, each-covered, only-reading, spring-never}
+use Rattle.exclusion.proofs.SpringShown.{one-alone}
 use Rattle.notices.specs.Notices.{planInForce, ofNotice, partOf, placeOf}
 use Rattle.notices.specs.declared.InForce.{InForce}
 use Rattle.notices_exact.specs.Supersedes.{Sound, Unsound, Supersedes}
@@ -1403,19 +1405,40 @@ pub alone-since-its-on-at : (f : List ℕ) → All (λ b. b < 256) f → (t : Li
     → (table : List ℕ) → seatsIn table x ≡ 1 → AloneSince (placedBytesAt f t m) table k x a
 alone-since-its-on-at f bytes t m room placed =
     let W = well-at f bytes t m room placed in
-    alone-since (placedBytesAt f t m) (openFile t m (W .file)) (placed-from-at f bytes t m room placed (W .file) (W .reads))
+    alone-since (placedBytesAt f t m) (openFile t m (W .file))
+    (placed-from-at f bytes t m room placed (W .file) (W .reads))
 
 -- In literal words: in the routine as it was cut in spring, which passes the check, both schedulers are midway, with
--- one seat; and what placing writes of the routine as its author wrote it, where the first scheduler is midway and alone
--- in its role, and the second waits for it.
+-- one seat.
 pub spring-in-words : (checking springCut ≡ fine)
     × Midway (contentsOf springCut) (seatedRanOf springCut oneSeat springDay .seating) 1 1
     × Midway (contentsOf springCut) (seatedRanOf springCut oneSeat springDay .seating) 2 2
 spring-in-words = both-midway
 
+-- What placing writes of the routine as its author wrote it, also at 07:00 where the bed holder's role is open from
+-- then to 15:00; at 15:00 it is refused.
 pub spring-placed : (placing springWritten 6874 .number ≡ 0) × (placedBytes springWritten ≡ springPlaced)
 spring-placed = placed-so
 
+pub spring-placed-at : (placingAt springWritten morning 420 6874 .number ≡ 0)
+    × (placedBytesAt springWritten morning 420 ≡ springPlaced)
+    × (placingAt springWritten morning 900 6874 ≡ noPlace 15 1)
+spring-placed-at = placed-so-at
+
+-- In it role 1, and no other role of the user, covers each scheduler's session, and only role 1 permits reading a
+-- bed; so never both are midway, whatever the choices.
+pub spring-covered : ReadsAs springWritten springFile
+    × (CoversAlone springFile 1 1 × CoversAlone springFile 2 1)
+    × (CoversAlone (openFile morning 420 springFile) 1 1 × CoversAlone (openFile morning 420 springFile) 2 1)
+spring-covered = each-covered
+
+pub spring-read-by-one-role : OnlyBy (schemaOf (contentsOf springPlaced)) 1 Receives 1
+spring-read-by-one-role = only-reading
+
+pub spring-never-both : NeverBothMidway springPlaced oneSeat 1 2
+spring-never-both = spring-never
+
+-- On that day the first scheduler is midway and alone in its role, and the second waits for it.
 pub spring-excluded : Midway (contentsOf springPlaced) (seatedRanOf springPlaced oneSeat placedDay .seating) 1 1
     × Alone (contentsOf springPlaced) (seatedRanOf springPlaced oneSeat placedDay .seating) 1 1 1
     × (seatedRanOf springPlaced oneSeat placedDay .seating .lines 1 ≡ 2 ∷ [])

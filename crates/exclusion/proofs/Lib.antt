@@ -17,5 +17,6 @@ pub mod PlacedFrom
 pub mod AloneInRole
 -- the theorems (alone-since, under-one, role-alone, never-two, never-two-on)
 pub mod MidwayAlone
--- the day in spring in literal words (both-midway, placed-so, one-alone)
+-- the day in spring in literal words (both-midway, placed-so, placed-so-at, each-covered, only-reading, spring-never,
+-- one-alone)
 pub mod SpringShown

@@ -57,45 +57,39 @@ module _ (ns : List Node) (i : ℕ) (n : Node) (more : List Node) (pos : 1 ≤ i
 
 -- the trees below the first node of a written tree are written too
 module _ (ns : List Node) (i : ℕ) where
+  first-written : (n : Node) (t : Tree) (more : List Node) → 1 ≤ i → drop (i - 1) ns ≡ n ∷ write (suc i) t more
+      → InCount (length ns) i × (nth ns i ≡ n) × WrittenAt ns t (suc i)
+  first-written n t more pos w =
+      let rest : List Node = write (suc i) t more in (
+        node-there ns i n rest pos w,
+        node-is ns i n rest pos w,
+        record { positive = omega arith; more = more; written = node-rest ns i n rest pos w },
+      )
+
   pub step-written : (s : Step) (t : Tree) → WrittenAt ns (step s t) i
       → InCount (length ns) i × (nth ns i ≡ stepNode s) × WrittenAt ns t (suc i)
   unfolding write
-  step-written s t W =
-      let n : Node = stepNode s in
-      let rest : List Node = write (suc i) t (W .more) in (
-        node-there ns i n rest (W .positive) (W .written),
-        node-is ns i n rest (W .positive) (W .written),
-        record { positive = omega arith; more = W .more; written = node-rest ns i n rest (W .positive) (W .written) },
-      )
+  step-written s t W = first-written (stepNode s) t (W .more) (W .positive) (W .written)
 
   pub switch-written : (w : Switch) (x : ℕ) (t : Tree) → WrittenAt ns (switch w x t) i
       → InCount (length ns) i × (nth ns i ≡ switchNode w x) × WrittenAt ns t (suc i)
   unfolding write
-  switch-written w x t W =
-      let n : Node = switchNode w x in
-      let rest : List Node = write (suc i) t (W .more) in (
-        node-there ns i n rest (W .positive) (W .written),
-        node-is ns i n rest (W .positive) (W .written),
-        record { positive = omega arith; more = W .more; written = node-rest ns i n rest (W .positive) (W .written) },
-      )
+  switch-written w x t W = first-written (switchNode w x) t (W .more) (W .positive) (W .written)
 
   pub fork-written : (a b : Tree) → WrittenAt ns (fork a b) i
       → InCount (length ns) i × (nth ns i .tag ≡ 1) × WrittenAt ns a (suc i) × WrittenAt ns b (past (suc i) a)
   unfolding write
   fork-written a b W =
       let p : ℕ = past (suc i) a in
-      let n : Node = words 1 p 0 in
       let second : List Node = write p b (W .more) in
-      let rest : List Node = write (suc i) a second in
-      let w : drop (suc i - 1) ns ≡ rest = node-rest ns i n rest (W .positive) (W .written) in
+      let (c, n, A) = first-written (words 1 p 0) a second (W .positive) (W .written) in
       let e : p - 1 ≡ suc i - 1 + (p - suc i) = omega (arith, past-more (suc i) a) in
+      let w : drop (suc i - 1) ns ≡ write (suc i) a second =
+      node-rest ns i (words 1 p 0) _ (W .positive) (W .written) in
       let v : drop (p - 1) ns ≡ second =
-      rw (e, ← drop-drop (p - suc i) (suc i - 1) ns, w) (write-rest (suc i) a second) in (
-        node-there ns i n rest (W .positive) (W .written),
-        ap (λ (m : Node). m .tag) (node-is ns i n rest (W .positive) (W .written)),
-        record { positive = omega arith; more = second; written = w },
-        record { positive = omega (arith, past-more (suc i) a); more = W .more; written = v },
-      )
+      rw (e, ← drop-drop (p - suc i) (suc i - 1) ns, w) (write-rest (suc i) a second) in
+      let pos : 1 ≤ p = omega (arith, past-more (suc i) a) in
+      (c, ap (λ (m : Node). m .tag) n, A, record { positive = pos; more = W .more; written = v })
 
 module _ (g : List ℕ) (passes : checking g ≡ fine) where
   abbrev C : Contents

@@ -7,8 +7,8 @@ use mathlib.Core.List.{List, [], _∷_}
 use native.Mathlib.Omega.{arith}
 use lib.Dec.{eqb, leb, ltb}
 use lib.ListN.{length, getD, List·getD-map}
-use borrow.Author.Tests.{eqb-true, eqb-false, leb-true, ltb-true}
-use Rattle.masks.specs.Mask.{has, with, without, namesOnly, within}
+use borrow.Author.Tests.{eqb-true, eqb-false, ne-eqb, leb-true, ltb-true}
+use Rattle.masks.specs.Mask.{has, with, without, minus, namesOnly, within}
 use Rattle.masks.proofs.Laws.{has-none, has-with-other}
 use Rattle.format.specs.Words.{bytesOf}
 use Rattle.format.specs.Answers.{firstOf, fine}
@@ -25,16 +25,21 @@ use Rattle.trees.specs.Ends.{following}
 use Rattle.trees.specs.Shape.{nodeFits, shapeFrom, roots, shapeAnswer}
 use Rattle.reading.specs.Reading.{reading}
 use Rattle.rules.specs.Juniors.{together, effective}
-use Rattle.rules.specs.Schema.{permits, permittingTo}
+use Rattle.rules.specs.declared.Way.the-variants.{Receives}
+use Rattle.rules.specs.Schema.{schemaOf, permits, permittingTo}
 use Rattle.rules.specs.Names.{named, kindOf, mine}
 use Rattle.rules.specs.Rules.{namesFit, kindsFit, able, wrong, barred, childOf}
 use Rattle.rules.specs.Checking.{reached, openingsFrom, firstBy, rightly, namesAnswer, rolesAnswer}
 use Rattle.rules.specs.Candidates.{candidates, candidatesIn}
 use Rattle.checking.specs.Check.{readingNames, checking}
+use Rattle.hours.specs.Hours.{tableAnswer, rowsAnswer, rolesOf, shut}
+use Rattle.checking_at.specs.CheckAt.{shutAnswer, rolesAnswerAt, readingAt, readingNamesAt}
+use Rattle.placing_at.specs.PlaceAt.{judgingAt, measuringAt, placingAt, placedBytesAt}
 use Rattle.optimum.specs.Optimum.{scan, gate}
 use Rattle.states.specs.States.{suits, up, rowOf, taken, rows, turnsFrom, turnsOf, labelled}
 use Rattle.groups.specs.Groups.{before, sizesOf, onsOf, startsFrom, groupsFrom, sessionsFrom}
-use Rattle.placing.specs.Placing.{masksAnswer, switchesAnswer, unservedFrom, placeable, judging, measuring, placing}
+use Rattle.placing.specs.Placing.{noPlace, masksAnswer, switchesAnswer, unservedFrom, placeable, judging, measuring}
+use Rattle.placing.specs.Placing.{placing}
 use Rattle.placing.specs.Placing.{placedBytes}
 use Rattle.steps.specs.Threads.{value, firstFree}
 use Rattle.steps.specs.Choice.{kindHeld, meeting, sending, lone, aloneOnly, acting, done, outcome, choice}
@@ -42,24 +47,28 @@ use Rattle.choices.specs.Choices.{threadsFrom}
 use Rattle.running.specs.Ways.{standsIn}
 use Rattle.reading_exact.specs.Lists.{All}
 use Rattle.reading_exact.specs.Tree.{past, write, flatten}
-use Rattle.reading_exact.specs.File.{InCount, rooted, encode, ReadsAs, sent}
+use Rattle.reading_exact.specs.File.{File, InCount, rooted, encode, ReadsAs, sent}
 use Rattle.reading_exact.specs.Refusals.{nth, Begins, root}
 use Rattle.reading_exact.proofs.Standing.{rootsIn}
 use Rattle.reading_exact.proofs.TagTests.{one-of}
 use Rattle.checking_exact.specs.Typing.{a-channel, r-end, r-receive, r-send}
-use Rattle.placing_exact.specs.Promised.{Covers}
+use Rattle.checking_exact.specs.Tables.{schemaFor}
+use Rattle.placing_exact.specs.Promised.{session, Covers}
+use Rattle.hours_exact.specs.OpenFile.{withUsers, openFile}
 use Rattle.rounds.specs.Rounds.{numbers}
 use Rattle.seats.specs.Seats.{limitedOf, SeatedState, seatedStart, occupies, countTo, asksSeat, isNext, getsSeat}
 use Rattle.seats.specs.Seats.{lineWith, ownersBy, seatedChoice, seatedRun, seatedRanOf}
 use Rattle.seats.specs.SeatOrder.{InTreeOf}
 use Rattle.seats.proofs.SeatedRuns.{always-last}
-use Rattle.exclusion.specs.Exclusion.{AtOrBelow, here, by-child, Midway, Alone, AloneWhileMidway}
-use Rattle.exclusion.specs.SpringCases.{written, asData, cut, asPlaced, oneSeat, springDay, placedDay, chained}
+use Rattle.exclusion.specs.Exclusion.{AtOrBelow, here, by-child, Midway, CoversAlone, OnlyBy, Alone}
+use Rattle.exclusion.specs.Exclusion.{AloneWhileMidway, NeverBothMidway}
+use Rattle.exclusion.specs.SpringCases.{written, asData, cut, asPlaced, oneSeat, morning, springDay, placedDay}
+use Rattle.exclusion.specs.SpringCases.{chained}
 use Rattle.exclusion.specs.SpringCases.{MidwayByTests}
 use Rattle.exclusion.proofs.NodesBelow.{below-inside}
 use Rattle.exclusion.proofs.SessionNodes.{root-begins}
-use Rattle.exclusion.proofs.PlacedFrom.{placed-from}
-use Rattle.exclusion.proofs.MidwayAlone.{role-alone}
+use Rattle.exclusion.proofs.PlacedFrom.{PlacedFrom, placed-from}
+use Rattle.exclusion.proofs.MidwayAlone.{role-alone, never-two}
 
 chained-below : (ns : List Node) (j d : ℕ) → chained ns j d ≡ true → AtOrBelow ns j (d + j)
 unfolding chained
@@ -126,6 +135,9 @@ record Computed : Type 0 where
   passes : checking asPlaced ≡ fine
   alone : MidwayByTests asPlaced inPlaced 1 1 1 2 3 3
   waits : inPlaced .lines 1 ≡ 2 ∷ []
+  placed-at : placingAt written morning 420 6874 .number ≡ 0
+  same-at : placedBytesAt written morning 420 ≡ asPlaced
+  shut-at : placingAt written morning 900 6874 ≡ noPlace 15 1
 
 computed : Computed
 unfolding has with without namesOnly within bytesOf firstOf from1 from2 from3 from4 from5 headOf tabled item spot
@@ -136,7 +148,8 @@ unfolding has with without namesOnly within bytesOf firstOf from1 from2 from3 fr
     turnsOf labelled before sizesOf onsOf startsFrom groupsFrom sessionsFrom masksAnswer switchesAnswer unservedFrom
     placeable judging measuring placing placedBytes value firstFree kindHeld meeting sending lone aloneOnly acting
     done outcome choice threadsFrom standsIn numbers occupies countTo asksSeat isNext getsSeat lineWith ownersBy
-    seatedChoice seatedRun chained
+    seatedChoice seatedRun chained minus tableAnswer rowsAnswer rolesOf shut shutAnswer rolesAnswerAt readingAt
+    readingNamesAt judgingAt measuringAt placingAt placedBytesAt
 computed =
     record {
       cut-passes = refl;
@@ -180,6 +193,9 @@ computed =
         exchange = refl;
       };
       waits = refl;
+      placed-at = refl;
+      same-at = refl;
+      shut-at = refl;
     }
 
 -- Cut, two have read and neither has written, with one seat and in a file that passes the check.
@@ -191,9 +207,13 @@ both-midway =
       tests-midway cut passes inSpring 2 2 8 9 10 12 (computed .two) (omega arith) (omega arith) (omega arith),
     )
 
--- The routine as it was written is placed so ..
+-- The routine as it was written is placed so, also for a minute at which role 1 is open; at another it is not placed ..
 pub placed-so : (placing written 6874 .number ≡ 0) × (placedBytes written ≡ asPlaced)
 placed-so = (computed .placed, computed .same)
+
+pub placed-so-at : (placingAt written morning 420 6874 .number ≡ 0) × (placedBytesAt written morning 420 ≡ asPlaced)
+    × (placingAt written morning 900 6874 ≡ noPlace 15 1)
+placed-so-at = (computed .placed-at, computed .same-at, computed .shut-at)
 
 as-read : ReadsAs written asData
 unfolding bytesOf roleWords channelWords sessionWords nodeRows nodeColumns tableWords fileWords encoded encode rooted
@@ -213,42 +233,87 @@ small : All (λ (b : ℕ). b < 256) written
 unfolding bytesOf bytesOnly
 small = small-by written refl
 
--- .. role 1 covers the first scheduler's session, and no other role is assigned to its user ..
-covers-one : Covers asData 1 1
-unfolding has with item permits together effective
-covers-one =
-    let in-one : InCount 2 1 = (omega arith, omega arith) in (
-      refl,
-      r-receive 1 (a-channel 1 (omega arith, omega arith) refl refl) (1, in-one, refl, refl)
-          (r-send 2 (a-channel 3 (omega arith, omega arith) refl refl) (1, in-one, refl, refl) r-end),
-    )
-
+-- .. role 1 alone covers each scheduler's session ..
 with-one : with 0 1 ≡ 1
 unfolding with
 with-one = refl
 
-only-one : (y : ℕ) → Covers asData 1 y → y ≡ 1
-unfolding item
-only-one y (a, _) = go (eqb 1 y) refl
+-- a session whose user has role 1 and no other
+only-one : (F : File) (k : ℕ) → schemaFor F .assigned (session F k .user) ≡ 1 → (y : ℕ) → Covers F k y → y ≡ 1
+only-one F k own y (a, _) = go (eqb 1 y) refl
   where
     go : (b : Bool) → eqb 1 y ≡ b → y ≡ 1
     go true e = sym (eqb-true 1 y e)
     go false e =
         let out : has (with 0 1) y ≡ false = has-with-other 0 1 y (eqb-false 1 y e) ∙ has-none y in
-        absurd (false≢true (sym (rw with-one at out) ∙ a))
+        absurd (false≢true (sym (rw with-one at out) ∙ (rw own at a)))
+
+-- whatever the users' masks, where both schedulers have role 1 and no other
+covered-with : (us : List ℕ) → item 0 us 1 ≡ 1 → item 0 us 2 ≡ 1
+    → CoversAlone (withUsers us asData) 1 1 × CoversAlone (withUsers us asData) 2 1
+unfolding has with item permits together effective
+covered-with us one two =
+    let F : File = withUsers us asData in
+    let r : InCount 2 1 = (omega arith, omega arith) in
+    let c : InCount 3 1 = (omega arith, omega arith) in
+    let d : InCount 3 2 = (omega arith, omega arith) in
+    let e : InCount 3 3 = (omega arith, omega arith) in
+    let covers-1 : Covers F 1 1 = (
+      rw one refl,
+      r-receive 1 (a-channel 1 c refl refl) (1, r, refl, refl)
+          (r-send 2 (a-channel 3 e refl refl) (1, r, refl, refl) r-end),
+    ) in
+    let covers-2 : Covers F 2 1 = (
+      rw two refl,
+      r-receive 1 (a-channel 2 d refl refl) (1, r, refl, refl)
+          (r-send 2 (a-channel 3 e refl refl) (1, r, refl, refl) r-end),
+    ) in
+    ((covers-1, only-one F 1 one), (covers-2, only-one F 2 two))
+
+covered : CoversAlone asData 1 1 × CoversAlone asData 2 1
+unfolding item
+covered = covered-with (asData .users) refl refl
+
+covered-at : CoversAlone (openFile morning 420 asData) 1 1 × CoversAlone (openFile morning 420 asData) 2 1
+unfolding with item minus rolesOf shut
+covered-at = covered-with (openFile morning 420 asData .users) refl refl
+
+pub each-covered : ReadsAs written asData × (CoversAlone asData 1 1 × CoversAlone asData 2 1)
+    × (CoversAlone (openFile morning 420 asData) 1 1 × CoversAlone (openFile morning 420 asData) 2 1)
+each-covered = (as-read, covered, covered-at)
+
+-- .. so that never both are midway, whatever the list of choices ..
+from-written : PlacedFrom (placedBytes written) asData
+from-written = placed-from written small 6874 (computed .placed) asData as-read
+
+pub spring-never : NeverBothMidway asPlaced oneSeat 1 2
+spring-never =
+    subst (λ (b : List ℕ). NeverBothMidway b oneSeat 1 2) (computed .same)
+    (never-two (placedBytes written) asData from-written 1 2 (omega arith, omega arith) (omega arith, omega arith)
+    (λ e. omega (arith, e)) 1 (covered .0) (covered .1) oneSeat refl)
 
 first-alone : AloneWhileMidway asPlaced oneSeat 1 1
 first-alone =
-    let from = placed-from written small 6874 (computed .placed) asData as-read in
     subst (λ (b : List ℕ). AloneWhileMidway b oneSeat 1 1) (computed .same)
-    (role-alone (placedBytes written) asData from 1 1 (omega arith, omega arith) covers-one only-one oneSeat refl)
+    (role-alone (placedBytes written) asData from-written 1 1 (omega arith, omega arith) (covered .0 .0) (covered .0 .1)
+    oneSeat refl)
+
+-- role 1 and no other permits receives on kind 1, the schedulers' reading
+pub only-reading : OnlyBy (schemaOf (contentsOf asPlaced)) 1 Receives 1
+unfolding has bytesOf from1 from2 from3 from4 from5 headOf tabled item spot contentsAt together effective permits
+only-reading zero h = absurd (false≢true h)
+only-reading (suc zero) h = refl
+only-reading (suc (suc zero)) h = absurd (false≢true h)
+only-reading (suc (suc (suc y))) h =
+    let r : ℕ = suc (suc (suc y)) in
+    absurd (false≢true (rw (ne-eqb r 2 (λ z. omega (arith, z)), ne-eqb r 1 (λ z. omega (arith, z))) at h))
 
 first-midway : Midway (contentsOf asPlaced) inPlaced 1 1
 first-midway =
     tests-midway asPlaced (computed .passes) inPlaced 1 1 1 2 3 3 (computed .alone) (omega arith) (omega arith)
     (omega arith)
 
--- .. and so the first scheduler, which has read and not yet written, is alone in its role, and the second waits for it.
+-- .. and the first scheduler, which has read and not yet written, is alone in its role, and the second waits for it.
 pub one-alone : Midway (contentsOf asPlaced) inPlaced 1 1 × Alone (contentsOf asPlaced) inPlaced 1 1 1
     × (inPlaced .lines 1 ≡ 2 ∷ [])
 one-alone = (

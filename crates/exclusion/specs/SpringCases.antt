@@ -76,6 +76,10 @@ asPlaced =
 abbrev pub oneSeat : List ℕ
 oneSeat = 1 ∷ 0 ∷ []
 
+-- The table of hours: role 1 is open on Monday from 07:00 to 15:00, role 2 always.
+abbrev pub morning : List ℕ
+morning = 1 ∷ 420 ∷ 900 ∷ []
+
 -- The day in spring: the first scheduler reads and goes off, the second reads.
 abbrev pub springDay : List ℕ
 springDay = 1 ∷ 0 ∷ 3 ∷ 0 ∷ 3 ∷ 1 ∷ 1 ∷ 0 ∷ 2 ∷ 0 ∷ 3 ∷ 2 ∷ []
