@@ -21,7 +21,7 @@ use Rattle.rounds.proofs.Rounding.{round-is, round-path, round-length, round-em
 use Rattle.rounds.proofs.Living.{round-lively}
 use Rattle.dispatching.specs.Dispatch.{threadsOf, comesTo, roundOf}
 use Rattle.dispatching_exact.specs.IsRound.{NoWait, IsRound, VisitsOf}
-use Rattle.dispatching_exact.proofs.PlainLaws.{lawful, Able, Full, recorded}
+use Rattle.dispatching_exact.proofs.PlainLaws.{lawful, HasLoneStep, Full, recorded}
 
 module _ (C : Clinic) where
   path-chain : (ws : List ℕ) (s s″ : State) → Path threadsOf (Steps C) NoWait s ws s″ → Chain C s ws s″
@@ -81,7 +81,7 @@ module _ (C : Clinic) where
       × VisitsOf C s (v - 1) xs g × Chain C s xs (g .state) × Here g v i × (threadAt (g .state) i ≡ threadAt s v)
       × (((zs : List ℕ) × (s′ : State) × (ys ≡ i ∷ 0 ∷ zs) × Steps C (g .state) i 0 s′) ⊎ (choice C (g .state) i 0 ≡ halts 20))
   lone-done s v s₁ st =
-      let (xs, ys, g, i, e, f, p, h, m, t) = round-lively threadsOf (comesTo C) (Steps C) NoWait (lawful C) threadAt (Able C) (Full C) (recorded C) s v (s₁, st) in
+      let (xs, ys, g, i, e, f, p, h, m, t) = round-lively threadsOf (comesTo C) (Steps C) NoWait (lawful C) threadAt (HasLoneStep C) (Full C) (recorded C) s v (s₁, st) in
       (xs, ys, g, i, e, f, path-chain xs s (g .state) p, h, m, never-waits ys g i t)
     where
       never-waits : (ys : List ℕ) (g : RoundState State) (i : ℕ)

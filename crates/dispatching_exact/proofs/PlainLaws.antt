@@ -72,8 +72,8 @@ module _ (C : Clinic) where
       apart s i p s′ s″ l st (inr at) = at
 
   -- the thread could do a lone step
-  abbrev pub Able : State → ℕ → Type 0
-  Able s j = (s′ : State) × Steps C s j 0 s′
+  abbrev pub HasLoneStep : State → ℕ → Type 0
+  HasLoneStep s j = (s′ : State) × Steps C s j 0 s′
 
   -- refusal 20 is what the thread's lone choice gets
   abbrev pub Full : State → ℕ → Type 0
@@ -121,7 +121,7 @@ module _ (C : Clinic) where
   again s s₁ _ _ i s′ z (end j n st e) c q = inl (_, end i n (same-node s s₁ j i n c q st) e)
   again s s₁ _ _ i s′ z (meet j p n m st six at five x y w) c q = let l : 1 ≤ p = at .0 .0 in let never : ⊥ = omega (arith, l, z) in absurd never
 
-  pub recorded : Recorded threadsOf (comesTo C) (Steps C) NoWait threadAt Able Full
+  pub recorded : Recorded threadsOf (comesTo C) (Steps C) NoWait threadAt HasLoneStep Full
   recorded = record {
     others = λ s i j s′ st m l h z.
         let L : LoneStep C s i s′ = lone-step C s i s′ st in

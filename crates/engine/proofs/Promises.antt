@@ -14,6 +14,7 @@ use mathlib.Core.Bool.{true, false, cond}
 use mathlib.Core.List.{List, [], _∷_, _++_, map, Perm}
 use native.Mathlib.Omega.{arith}
 use lib.Dec.{eqb}
+use borrow.Author.Tests.{ne-eqb}
 use lib.ListN.{length, getD, take, drop, replicate}
 use Rattle.masks.specs.Mask.{has, with, without}
 use Rattle.format.specs.Words.{wordAt, bytesOf}
@@ -203,7 +204,7 @@ use Rattle.exclusion.specs.SpringCases.{cut as springCut, oneSeat, morning, spr
 use Rattle.exclusion.proofs.PlacedFrom.{placed-from, placed-from-at}
 use Rattle.exclusion.proofs.MidwayAlone.{alone-since, under-one, role-alone, never-two, never-two-on}
 use Rattle.exclusion.proofs.SpringShown.{both-midway, placed-so, placed-so-at, each-covered, only-reading, spring-never}
-use Rattle.exclusion.proofs.SpringShown.{one-alone}
+use Rattle.exclusion.proofs.SpringShown.{on-begins, one-alone}
 use Rattle.notices.specs.Notices.{planInForce, ofNotice, partOf, placeOf}
 use Rattle.notices.specs.declared.InForce.{InForce}
 use Rattle.notices_exact.specs.Supersedes.{Sound, Unsound, Supersedes}
@@ -616,8 +617,8 @@ lent-choice-is-a-step = lent-steps
 pub lent-exactly : (f : List ℕ) (l : List Thread) → All Eight l → (b : List ℕ) (i p : ℕ) → (choosing f l b i p ≡ refused 18 0) ↔ ((readingNames f ≡ fine) × (Lendable (contentsOf f) l b → ⊥))
 lent-exactly = eighteen-zero
 
--- Nothing refuses before the choice exactly where the file passes 1 to 10 and what is lent is `Lendable`; so "11 to 13 may then stop" a list that is no state of a run
--- (`choice-has-place-one`), and such a list is refused nowhere else.
+-- Nothing refuses before the choice exactly where the file passes 1 to 10 and what is lent is `Lendable`. So "11 to 13 may then stop" a list that is no state of a run
+-- (`choice-has-place-one`): it is not refused at place 0, and its choice may be, at place 1.
 pub lendable-exactly : (f : List ℕ) (l : List Thread) → All Eight l → (b : List ℕ) → (lending f l b ≡ fine) ↔ ((readingNames f ≡ fine) × Lendable (contentsOf f) l b)
 lendable-exactly = lending-exactly
 
@@ -713,8 +714,8 @@ pub same-contents : (f g : List ℕ) → reading f ≡ reading g → contentsOf 
 same-contents = alike
 
 -- Two files that 1 to 8 refuse alike have the same answers, whatever else they are, where placing wants as much output of both.
-pub same-refusals : (f g : List ℕ) → reading f ≡ reading g → eqb (reading g .number) 0 ≡ false → roomFor f ≡ roomFor g → Alike f g
-same-refusals = unread-alike
+pub same-refusals : (f g : List ℕ) → reading f ≡ reading g → reading g .number ≢ 0 → roomFor f ≡ roomFor g → Alike f g
+same-refusals f g same bad = unread-alike f g same (ne-eqb (reading g .number) 0 bad)
 
 -- Request K1, version 2. "Version 1 still reads, as if all masks were 0": a file of version 1 and the same in version 2 with all masks 0 hold the same, and are answered alike.
 pub first-as-second : (F : File) → WellFormed F → (contentsOf (encode (asSecond F)) ≡ contentsOf (encode F)) × AlikeBesideForm (encode (asSecond F)) (encode F)
@@ -1316,10 +1317,11 @@ pub lines-move-so : (f table : List ℕ) → StartFits (contentsOf f) table → 
     → Between (λ T T′. (i : ℕ) × ((r : ℕ) → LineStep (limitedOf (contentsOf f) table) T T′ i r)) (limitedOf (contentsOf f) table) (seatedStart (contentsOf f)) ws
 lines-move-so = file-moves
 
--- "Bed holder has one seat" (K10), and what that excludes. A session is midway while a thread of it has done an on,
--- send or receive and has a send or receive still to do. Let role r, and no other role of its user, permit every send
--- and receive of a session (`CoversAlone`). With one seat for r, in every state of every run of what is placed, while
--- the session is midway it has r and no other session has it; so no other makes a step that only r permits.
+-- "Bed holder has one seat" (K10), and what that excludes. A thread is midway once it has done an on, send or receive
+-- and has a send or receive still to do; a repeated routine is midway in each of its rounds, and gives the seat up
+-- between two. Let role r, and no other role of its user, permit every send and receive of a session (`CoversAlone`).
+-- With one seat for r, in every state of every run of what is placed, while a thread of the session is midway it has r
+-- and no other session has it; so no other makes a step that only r permits.
 pub alone-until-done : (f : List ℕ) → All (λ b. b < 256) f → (room : ℕ) → placing f room .number ≡ 0
     → (F : File) → ReadsAs f F → (k r : ℕ) → InCount (length (F .sessions)) k → CoversAlone F k r
     → (table : List ℕ) → seatsIn table r ≡ 1 → AloneWhileMidway (placedBytes f) table k r
@@ -1334,8 +1336,8 @@ pub alone-until-done-at : (f : List ℕ) → All (λ b. b < 256) f → (t : List
 alone-until-done-at f bytes t m room placed F reads k r c (covers, only) =
     role-alone (placedBytesAt f t m) (openFile t m F) (placed-from-at f bytes t m room placed F reads) k r c covers only
 
--- The incident of spring: two schedulers had read the same free bed before either wrote. Of two such sessions never
--- both are midway.
+-- The incident of spring: two schedulers had read the same free bed before either wrote. Of two such sessions never is a
+-- thread of each midway.
 pub never-two-midway : (f : List ℕ) → All (λ b. b < 256) f → (room : ℕ) → placing f room .number ≡ 0
     → (F : File) → ReadsAs f F → (k l r : ℕ) → InCount (length (F .sessions)) k → InCount (length (F .sessions)) l
     → k ≢ l → CoversAlone F k r → CoversAlone F l r → (table : List ℕ) → seatsIn table r ≡ 1
@@ -1365,7 +1367,7 @@ pub under-one-on-at : (f : List ℕ) → All (λ b. b < 256) f → (t : List ℕ
 under-one-on-at f bytes t m room placed F reads =
     under-one (placedBytesAt f t m) (openFile t m F) (placed-from-at f bytes t m room placed F reads)
 
--- .. so of two sessions whose on steps are of one role never both are midway.
+-- .. so of two sessions whose on steps are of one role never is a thread of each midway.
 pub never-two-in-one-role : (f : List ℕ) → All (λ b. b < 256) f → (room : ℕ) → placing f room .number ≡ 0
     → (F : File) → ReadsAs f F → (k l : ℕ) → InCount (length (F .sessions)) k → InCount (length (F .sessions)) l → k ≢ l
     → (r s : ℕ) → Covers F k r → Covers F l s → (a b x : ℕ) → SwitchesOn (contentsOf (placedBytes f)) k x a
@@ -1425,8 +1427,8 @@ pub spring-placed-at : (placingAt springWritten morning 420 6874 .number ≡ 0)
     × (placingAt springWritten morning 900 6874 ≡ noPlace 15 1)
 spring-placed-at = placed-so-at
 
--- In it role 1, and no other role of the user, covers each scheduler's session, and only role 1 permits reading a
--- bed; so never both are midway, whatever the choices.
+-- In the routine as written role 1, and no other role of the user, covers each scheduler's session; in what is placed
+-- only role 1 permits reading a bed; so they are never both midway, whatever the choices.
 pub spring-covered : ReadsAs springWritten springFile
     × (CoversAlone springFile 1 1 × CoversAlone springFile 2 1)
     × (CoversAlone (openFile morning 420 springFile) 1 1 × CoversAlone (openFile morning 420 springFile) 2 1)
@@ -1438,7 +1440,12 @@ spring-read-by-one-role = only-reading
 pub spring-never-both : NeverBothMidway springPlaced oneSeat 1 2
 spring-never-both = spring-never
 
--- On that day the first scheduler is midway and alone in its role, and the second waits for it.
+-- Switching the role on is what begins it ..
+pub spring-begins : (M : Midway (contentsOf springPlaced) (seatedRanOf springPlaced oneSeat (1 ∷ 0 ∷ []) .seating) 1 1)
+    × (M .since ≡ 1) × SwitchesOn (contentsOf springPlaced) 1 1 1
+spring-begins = on-begins
+
+-- .. and on that day the first scheduler is midway and alone in its role, and the second waits for it.
 pub spring-excluded : Midway (contentsOf springPlaced) (seatedRanOf springPlaced oneSeat placedDay .seating) 1 1
     × Alone (contentsOf springPlaced) (seatedRanOf springPlaced oneSeat placedDay .seating) 1 1 1
     × (seatedRanOf springPlaced oneSeat placedDay .seating .lines 1 ≡ 2 ∷ [])
@@ -1511,17 +1518,17 @@ pub seats-seventeen-exactly : (f table ws : List ℕ) → (seatsAfter f ws table
 seats-seventeen-exactly = seats-seventeen
 
 -- .. and then at place 0, with nothing else ..
-pub seated-run-no-room : (f table ws : List ℕ) (room : ℕ) → Unfit ws room ⊎ ((readingNames f ≡ fine) × SeatTableMisfits (contentsOf f) table)
+pub seated-seventeen-at-zero : (f table ws : List ℕ) (room : ℕ) → Unfit ws room ⊎ ((readingNames f ≡ fine) × SeatTableMisfits (contentsOf f) table)
     → seatedRunning f ws table room ≡ refused 17 0
-seated-run-no-room = seated-no-room
+seated-seventeen-at-zero = seated-no-room
 
-pub seated-round-has-no-room : (f table ws : List ℕ) (room : ℕ) → RoundUnfit ws room ⊎ ((readingNames f ≡ fine) × SeatTableMisfits (contentsOf f) table)
+pub seated-round-seventeen-at-zero : (f table ws : List ℕ) (room : ℕ) → RoundUnfit ws room ⊎ ((readingNames f ≡ fine) × SeatTableMisfits (contentsOf f) table)
     → seatedRounding f ws table room ≡ noRoundAt 17 0
-seated-round-has-no-room = seated-round-no-room
+seated-round-seventeen-at-zero = seated-round-no-room
 
-pub seats-read-no-room : (f table ws : List ℕ) → Unlisted ws ⊎ ((readingNames f ≡ fine) × SeatTableMisfits (contentsOf f) table)
+pub seats-seventeen-at-zero : (f table ws : List ℕ) → Unlisted ws ⊎ ((readingNames f ≡ fine) × SeatTableMisfits (contentsOf f) table)
     → seatsAfter f ws table ≡ noSeatsAt 17 0
-seats-read-no-room = seats-no-room
+seats-seventeen-at-zero = seats-no-room
 
 -- .. 1 to 10 exactly as the file is read, whatever the table ..
 pub seated-names-exactly : (f table ws : List ℕ) (room n p : ℕ) → OfFile n → (seatedRunning f ws table room ≡ refused n p) ↔ (Fit ws room × (readingNames f ≡ refused n p))

@@ -34,7 +34,7 @@ use Rattle.seats.specs.SeatOrder.{Always}
 use Rattle.seats.proofs.SeatedTold.{choice-seated}
 use Rattle.seats.proofs.SeatedRuns.{after-map, always-both, always-ordered, one-seat}
 use Rattle.seats.proofs.SessionCounts.{sits-iff}
-use Rattle.exclusion.specs.Exclusion.{NoOnFrom, Underway, SwitchesOn, OnlyBy, kindUsed, Alone, EveryState}
+use Rattle.exclusion.specs.Exclusion.{NoOnFrom, PartDone, SwitchesOn, OnlyBy, kindUsed, Alone, EveryState}
 use Rattle.exclusion.proofs.RolesAbove.{LoneOns, held-through}
 
 -- a thread of the list has a role that permits its send, or its receive
@@ -138,7 +138,7 @@ module _ (g : List ℕ) (passes : checking g ≡ fine) (table : List ℕ) where
   module _ (lone : LoneOns C) (k : ℕ) (bare : item noSession (C .sessions) k .mask ≡ 0) (a x : ℕ)
       (on : SwitchesOn C k x a) where
     pub thread-holds : (T : SeatedState) → KeptIn T → (i : ℕ) → InCount (length (T .state .threads)) i
-        → (U : Underway ns a (threadAt (T .state) i .node)) → NoOnFrom ns (suc a) (U .next)
+        → (U : PartDone ns a (threadAt (T .state) i .node)) → NoOnFrom ns (suc a) (U .next)
         → has (threadAt (T .state) i .mask) x ≡ true
     thread-holds T K i c U stop =
         let low : i - 1 < length (T .state .threads) = omega (arith, c .0, c .1) in
@@ -150,6 +150,6 @@ module _ (g : List ℕ) (passes : checking g ≡ fine) (table : List ℕ) where
     -- so with one seat its session is alone in it
     pub underway-alone : (T : SeatedState) → Sound T → seatsIn table x ≡ 1 → (i : ℕ)
         → InCount (length (T .state .threads)) i
-        → ownerOf T i ≡ k → (U : Underway ns a (threadAt (T .state) i .node)) → NoOnFrom ns (suc a) (U .next)
+        → ownerOf T i ≡ k → (U : PartDone ns a (threadAt (T .state) i .node)) → NoOnFrom ns (suc a) (U .next)
         → Alone C T k x i
     underway-alone T (O, K) one i c e U stop = alone T O k x i one c e (thread-holds T K i c U stop)

@@ -1,13 +1,11 @@
 -- Mutual exclusion in a placed file: with one seat for the role that covers them, no two sessions are midway at once.
 use Prim.Native.Nat.{ℕ, zero, suc, _-_, _≤_, _<_}
 use mathlib.Core.Path.{_≡_, refl, sym, ap, _∙_, subst}
-use mathlib.Core.Logic.{inl, inr, _≢_}
+use mathlib.Core.Logic.{_⊎_, inl, inr, _≢_}
 use mathlib.Core.Bool.{Bool, true, false, false≢true}
 use mathlib.Core.List.{List, [], _∷_, map}
 use native.Mathlib.Omega.{arith}
-use lib.Dec.{eqb}
 use lib.ListN.{length, getD, drop}
-use borrow.Author.Tests.{eqb-true, eqb-false}
 use Rattle.masks.specs.Mask.{has}
 use Rattle.masks.proofs.Laws.{has-none}
 use Rattle.format.specs.Contents.{Contents, contentsOf, item, noSession}
@@ -36,7 +34,7 @@ use Rattle.seats.specs.Seats.{limitedOf, seatsIn, SeatedState, sits, countTo, s
 use Rattle.seats.specs.SeatOrder.{InTreeOf, Ordered}
 use Rattle.seats.proofs.SeatedRuns.{always-map, always-both}
 use Rattle.seats.proofs.SeatedStart.{table-roles, seats-first, start-sits, start-ordered}
-use Rattle.exclusion.specs.Exclusion.{AtOrBelow, here, by-child, Exchange, NoOnFrom, Underway, SwitchesOn, Midway}
+use Rattle.exclusion.specs.Exclusion.{AtOrBelow, here, by-child, Exchange, NoOnFrom, PartDone, SwitchesOn, Midway}
 use Rattle.exclusion.specs.Exclusion.{CoversAlone, Alone, EveryState, HoldsWhileMidway, AloneWhileMidway}
 use Rattle.exclusion.specs.Exclusion.{NeverBothMidway, AloneSince, UnderOneOn}
 use Rattle.exclusion.proofs.NodesBelow.{below-later, below-join, below-inside, tree-counted}
@@ -198,34 +196,34 @@ module _ (g : List ℕ) (F : File) (P : PlacedFrom g F) where
     abbrev Since : SeatedState → ℕ → Type 0
     Since T i =
         (a x : ℕ) × SwitchesOn C k x a
-        × (U : Underway ns a (threadAt (T .state) i .node)) × NoOnFrom ns (suc a) (U .next)
+        × (U : PartDone ns a (threadAt (T .state) i .node)) × NoOnFrom ns (suc a) (U .next)
 
     since-on : (T : SeatedState) (i : ℕ) → Midway C T k i → Since T i
-    since-on T i M = go (eqb t 7) refl (eqb t 5) refl
+    since-on T i M = go (M .begun)
       where
         b : ℕ
         b = M .since
 
-        t : ℕ
-        t = nth ns b .tag
-
         from : (a x : ℕ) → SwitchesOn C k x a → AtOrBelow ns (suc a) (suc b) → Since T i
         from a x on upto =
-            let U : Underway ns b (threadAt (T .state) i .node) = M .underway in
-            let under : Underway ns a (threadAt (T .state) i .node) =
+            let U : PartDone ns b (threadAt (T .state) i .node) = M .part in
+            let under : PartDone ns a (threadAt (T .state) i .node) =
             record { done = below-join upto (U .done); next = U .next; exchange = U .exchange; ahead = U .ahead } in
             (a, x, on, under, no-on a x on (U .next))
 
         exchanged : Exchange (nth ns b) → Since T i
         exchanged ex =
             let (a, x, on, l) = below b (M .inside) ex in
-            let one : OneChild t = (omega (arith, M .begun), omega (arith, M .begun)) in
-            from a x on (below-join l (by-child (there ns b (omega (arith, M .begun))) one here))
+            let (low, high) = tagged ex in
+            from a x on (below-join l (by-child (there ns b (omega (arith, low))) (omega (arith, low), high) here))
+          where
+            tagged : Exchange (nth ns b) → (5 ≤ nth ns b .tag) × (nth ns b .tag ≤ 8)
+            tagged (inl e) = (omega (arith, e), omega (arith, e))
+            tagged (inr e) = (omega (arith, e), omega (arith, e))
 
-        go : (p : Bool) → eqb t 7 ≡ p → (q : Bool) → eqb t 5 ≡ q → Since T i
-        go true e q d = from b (nth ns b .f1) (record { inside = M .inside; tag = eqb-true t 7 e; role = refl }) here
-        go false e true d = exchanged (inl (eqb-true t 5 d))
-        go false e false d = exchanged (inr (omega (arith, M .begun, eqb-false t 7 e, eqb-false t 5 d)))
+        go : (nth ns b .tag ≡ 7) ⊎ Exchange (nth ns b) → Since T i
+        go (inl e) = from b (nth ns b .f1) (record { inside = M .inside; tag = e; role = refl }) here
+        go (inr e) = exchanged e
 
     -- so it has the role of that step, whatever the seats ..
     holds : (a x : ℕ) → SwitchesOn C k x a → (table : List ℕ) → HoldsWhileMidway g table k x

@@ -32,7 +32,7 @@ use Rattle.running_exact.proofs.RunSafe.{passes-names}
 use Rattle.seats.specs.SeatOrder.{InTreeOf}
 use Rattle.seats.proofs.StepOwners.{fewer}
 use Rattle.exclusion.specs.Exclusion.{AtOrBelow, here, by-child, by-first, by-second, Exchange, NoOnFrom}
-use Rattle.exclusion.specs.Exclusion.{Underway, SwitchesOn}
+use Rattle.exclusion.specs.Exclusion.{PartDone, SwitchesOn}
 use Rattle.exclusion.proofs.NodesBelow.{below-join}
 
 -- the role y was active above node n, or n switches it on
@@ -178,7 +178,7 @@ module _ (g : List ℕ) (passes : checking g ≡ fine) where
   -- So where nothing else is active at an on step, its role is active from there to each send or receive below it
   -- that no other on step parts from it.
   pub held-through : LoneOns C → (k a x : ℕ) → item noSession (C .sessions) k .mask ≡ 0 → SwitchesOn C k x a
-      → (j : ℕ) → (U : Underway ns a j) → NoOnFrom ns (suc a) (U .next)
+      → (j : ℕ) → (U : PartDone ns a j) → NoOnFrom ns (suc a) (U .next)
       → (c : Context) × In j c × (has (c .mask) x ≡ true)
   held-through lone k a x bare on j U stop =
       let (c, h, _) = come-from (on .inside) bare in

@@ -2,7 +2,8 @@
 -- passes the check; in what is placed the first is midway and alone, and the second waits.
 use Prim.Native.Nat.{ℕ, zero, suc, _+_, _-_, _≤_, _<_}
 use mathlib.Core.Path.{_≡_, refl, sym, _∙_, subst}
-use mathlib.Core.Bool.{Bool, true, false, _&&_, and-eq-true-iff, false≢true}
+use mathlib.Core.Logic.{_⊎_, inl, inr}
+use mathlib.Core.Bool.{Bool, true, false, _&&_, _||_, and-eq-true-iff, false≢true}
 use mathlib.Core.List.{List, [], _∷_}
 use native.Mathlib.Omega.{arith}
 use lib.Dec.{eqb, leb, ltb}
@@ -42,7 +43,7 @@ use Rattle.placing.specs.Placing.{noPlace, masksAnswer, switchesAnswer, unserve
 use Rattle.placing.specs.Placing.{placing}
 use Rattle.placing.specs.Placing.{placedBytes}
 use Rattle.steps.specs.Threads.{value, firstFree}
-use Rattle.steps.specs.Choice.{kindHeld, meeting, sending, lone, aloneOnly, acting, done, outcome, choice}
+use Rattle.steps.specs.Choice.{threadAt, kindHeld, meeting, sending, lone, aloneOnly, acting, done, outcome, choice}
 use Rattle.choices.specs.Choices.{threadsFrom}
 use Rattle.running.specs.Ways.{standsIn}
 use Rattle.reading_exact.specs.Lists.{All}
@@ -56,19 +57,39 @@ use Rattle.checking_exact.specs.Tables.{schemaFor}
 use Rattle.placing_exact.specs.Promised.{session, Covers}
 use Rattle.hours_exact.specs.OpenFile.{withUsers, openFile}
 use Rattle.rounds.specs.Rounds.{numbers}
-use Rattle.seats.specs.Seats.{limitedOf, SeatedState, seatedStart, occupies, countTo, asksSeat, isNext, getsSeat}
+use Rattle.seats.specs.Seats.{limitedOf, SeatedState, ownerOf, seatedStart, occupies, countTo, asksSeat, isNext, getsSeat}
 use Rattle.seats.specs.Seats.{lineWith, ownersBy, seatedChoice, seatedRun, seatedRanOf}
 use Rattle.seats.specs.SeatOrder.{InTreeOf}
 use Rattle.seats.proofs.SeatedRuns.{always-last}
-use Rattle.exclusion.specs.Exclusion.{AtOrBelow, here, by-child, Midway, CoversAlone, OnlyBy, Alone}
+use Rattle.exclusion.specs.Exclusion.{AtOrBelow, here, by-child, Exchange, SwitchesOn, Midway, CoversAlone, OnlyBy, Alone}
 use Rattle.exclusion.specs.Exclusion.{AloneWhileMidway, NeverBothMidway}
 use Rattle.exclusion.specs.SpringCases.{written, asData, cut, asPlaced, oneSeat, morning, springDay, placedDay}
-use Rattle.exclusion.specs.SpringCases.{chained}
-use Rattle.exclusion.specs.SpringCases.{MidwayByTests}
+use Rattle.exclusion.specs.SpringCases.{firstOn}
 use Rattle.exclusion.proofs.NodesBelow.{below-inside}
 use Rattle.exclusion.proofs.SessionNodes.{root-begins}
 use Rattle.exclusion.proofs.PlacedFrom.{PlacedFrom, placed-from}
 use Rattle.exclusion.proofs.MidwayAlone.{role-alone, never-two}
+
+-- Each of so many nodes from j on has one child.
+unfoldable chained : List Node → ℕ → ℕ → Bool
+chained ns j zero = true
+chained ns j (suc d) =
+    inCount (length ns) j && (leb 2 (nth ns j .tag) && (leb (nth ns j .tag) 8 && chained ns (suc j) d))
+
+-- Thread i of session k is midway in the state T, by tests: the session's tree begins at node r, and the thread has
+-- done node b, stands at node j and has the send or receive n still to do.
+record MidwayByTests (g : List ℕ) (T : SeatedState) (k i r b j n : ℕ) : Type 0 where
+  thread : inCount (length (T .state .threads)) i ≡ true
+  owner : ownerOf T i ≡ k
+  session : inCount (length (contentsOf g .sessions)) k ≡ true
+  root : getD (contentsOf g .sessions) (k - 1) noSession .root ≡ r
+  node : threadAt (T .state) i .node ≡ j
+  above : chained (contentsOf g .nodes) r (b - r) ≡ true
+  begun : (eqb (nth (contentsOf g .nodes) b .tag) 7
+      || (eqb (nth (contentsOf g .nodes) b .tag) 5 || eqb (nth (contentsOf g .nodes) b .tag) 6)) ≡ true
+  done : chained (contentsOf g .nodes) (suc b) (j - suc b) ≡ true
+  ahead : chained (contentsOf g .nodes) j (n - j) ≡ true
+  exchange : (eqb (nth (contentsOf g .nodes) n .tag) 5 || eqb (nth (contentsOf g .nodes) n .tag) 6) ≡ true
 
 chained-below : (ns : List Node) (j d : ℕ) → chained ns j d ≡ true → AtOrBelow ns j (d + j)
 unfolding chained
@@ -101,26 +122,33 @@ module _ (g : List ℕ) (passes : checking g ≡ fine) (T : SeatedState) (k i r 
       List·getD-map (λ (s : Session). s .root) (C .sessions) (k - 1) noSession ∙ S .root in
       root k-in (subst (Begins (C .nodes) k) e (root-begins g passes k k-in))
 
-  pub tests-midway : Midway C T k i
+  tests-midway : Midway C T k i
   tests-midway =
-      let t : ℕ = nth (C .nodes) b .tag in
-      let (from, to) = and-eq-true-iff (leb 5 t) (leb t 7) .0 (S .begun) in
       record {
         thread = inCount-iff (length (T .state .threads)) i .0 (S .thread);
         owner = S .owner;
         since = b;
         inside = below-inside C at-root (chained-to (C .nodes) r b low (S .above));
-        begun = (leb-true 5 t from, leb-true t 7 to);
-        underway = record {
+        begun = begins (eqb (nth (C .nodes) b .tag) 7) refl (S .begun);
+        part = record {
           done = rw (S .node) (chained-to (C .nodes) (suc b) j mid (S .done));
           next = n;
           exchange = one-of (nth (C .nodes) n .tag) 5 6 .0 (S .exchange);
           ahead = rw (S .node) (chained-to (C .nodes) j n high (S .ahead));
         };
       }
+    where
+      begins : (x : Bool) → eqb (nth (C .nodes) b .tag) 7 ≡ x
+          → (x || (eqb (nth (C .nodes) b .tag) 5 || eqb (nth (C .nodes) b .tag) 6)) ≡ true
+          → (nth (C .nodes) b .tag ≡ 7) ⊎ Exchange (nth (C .nodes) b)
+      begins true e h = inl (eqb-true (nth (C .nodes) b .tag) 7 e)
+      begins false e h = inr (one-of (nth (C .nodes) b .tag) 5 6 .0 h)
 
 abbrev inSpring : SeatedState
 inSpring = seatedRanOf cut oneSeat springDay .seating
+
+abbrev inBegun : SeatedState
+inBegun = seatedRanOf asPlaced oneSeat firstOn .seating
 
 abbrev inPlaced : SeatedState
 inPlaced = seatedRanOf asPlaced oneSeat placedDay .seating
@@ -133,6 +161,7 @@ record Computed : Type 0 where
   placed : placing written 6874 .number ≡ 0
   same : placedBytes written ≡ asPlaced
   passes : checking asPlaced ≡ fine
+  begun : MidwayByTests asPlaced inBegun 1 1 1 1 2 3
   alone : MidwayByTests asPlaced inPlaced 1 1 1 2 3 3
   waits : inPlaced .lines 1 ≡ 2 ∷ []
   placed-at : placingAt written morning 420 6874 .number ≡ 0
@@ -180,6 +209,18 @@ computed =
       placed = refl;
       same = refl;
       passes = refl;
+      begun = record {
+        thread = refl;
+        owner = refl;
+        session = refl;
+        root = refl;
+        node = refl;
+        above = refl;
+        begun = refl;
+        done = refl;
+        ahead = refl;
+        exchange = refl;
+      };
       alone = record {
         thread = refl;
         owner = refl;
@@ -308,10 +349,25 @@ only-reading (suc (suc (suc y))) h =
     let r : ℕ = suc (suc (suc y)) in
     absurd (false≢true (rw (ne-eqb r 2 (λ z. omega (arith, z)), ne-eqb r 1 (λ z. omega (arith, z))) at h))
 
+first-begun : Midway (contentsOf asPlaced) inBegun 1 1
+first-begun =
+    tests-midway asPlaced (computed .passes) inBegun 1 1 1 1 2 3 (computed .begun) (omega arith) (omega arith)
+    (omega arith)
+
 first-midway : Midway (contentsOf asPlaced) inPlaced 1 1
 first-midway =
     tests-midway asPlaced (computed .passes) inPlaced 1 1 1 2 3 3 (computed .alone) (omega arith) (omega arith)
     (omega arith)
+
+-- .. the first scheduler is midway once its role is on, by that step alone, and alone in it to its send ..
+switched : SwitchesOn (contentsOf asPlaced) 1 1 1
+unfolding bytesOf from1 from2 from3 from4 from5 headOf tabled item spot contentsAt first-begun tests-midway
+switched = record { inside = first-begun .inside; tag = refl; role = refl }
+
+pub on-begins : (M : Midway (contentsOf asPlaced) inBegun 1 1) × (M .since ≡ 1)
+    × SwitchesOn (contentsOf asPlaced) 1 1 1
+unfolding first-begun tests-midway
+on-begins = (first-begun, refl, switched)
 
 -- .. and the first scheduler, which has read and not yet written, is alone in its role, and the second waits for it.
 pub one-alone : Midway (contentsOf asPlaced) inPlaced 1 1 × Alone (contentsOf asPlaced) inPlaced 1 1 1

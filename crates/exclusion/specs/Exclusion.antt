@@ -1,5 +1,5 @@
 -- When a session is midway, and what it is to be alone in a role meanwhile.
-use Prim.Native.Nat.{ℕ, suc, _≤_}
+use Prim.Native.Nat.{ℕ, suc}
 use mathlib.Core.Path.{_≡_}
 use mathlib.Core.Logic.{_⊎_, _≢_}
 use mathlib.Core.Bool.{true, false}
@@ -37,7 +37,7 @@ abbrev pub NoOnFrom : List Node → ℕ → ℕ → Type 0
 NoOnFrom ns j n = (b : ℕ) → AtOrBelow ns j b → AtOrBelow ns b n → nth ns b .tag ≢ 7
 
 -- A thread that stands at node j has done the step a, and has a send or receive still to do.
-pub record Underway (ns : List Node) (a j : ℕ) : Type 0 where
+pub record PartDone (ns : List Node) (a j : ℕ) : Type 0 where
   pub done : AtOrBelow ns (suc a) j
   pub next : ℕ
   pub exchange : Exchange (nth ns next)
@@ -55,8 +55,8 @@ pub record Midway (C : Contents) (T : SeatedState) (k i : ℕ) : Type 0 where
   pub owner : ownerOf T i ≡ k
   pub since : ℕ
   pub inside : InTreeOf C k since
-  pub begun : (5 ≤ nth (C .nodes) since .tag) × (nth (C .nodes) since .tag ≤ 7)
-  pub underway : Underway (C .nodes) since (threadAt (T .state) i .node)
+  pub begun : (nth (C .nodes) since .tag ≡ 7) ⊎ Exchange (nth (C .nodes) since)
+  pub part : PartDone (C .nodes) since (threadAt (T .state) i .node)
 
 -- The role r permits every send and receive of session k, and no other role of its user does.
 abbrev pub CoversAlone : File → ℕ → ℕ → Type 0
@@ -90,17 +90,17 @@ pub record Alone (C : Contents) (T : SeatedState) (k x i : ℕ) : Type 0 where
 abbrev pub EveryState : List ℕ → List ℕ → (SeatedState → Type 0) → Type 0
 EveryState g table P = (ws : List ℕ) → Always P (limitedOf (contentsOf g) table) (seatedStart (contentsOf g)) ws
 
--- While session k is midway it has the role x.
+-- While a thread of session k is midway it has the role x.
 abbrev pub HoldsWhileMidway : List ℕ → List ℕ → ℕ → ℕ → Type 0
 HoldsWhileMidway g table k x =
     EveryState g table (λ T. (i : ℕ) → Midway (contentsOf g) T k i → has (threadAt (T .state) i .mask) x ≡ true)
 
--- While session k is midway it is alone in the role x.
+-- While a thread of session k is midway the session is alone in the role x.
 abbrev pub AloneWhileMidway : List ℕ → List ℕ → ℕ → ℕ → Type 0
 AloneWhileMidway g table k x =
     EveryState g table (λ T. (i : ℕ) → Midway (contentsOf g) T k i → Alone (contentsOf g) T k x i)
 
--- The sessions k and m are never both midway.
+-- Never is a thread of session k and a thread of session m midway.
 abbrev pub NeverBothMidway : List ℕ → List ℕ → ℕ → ℕ → Type 0
 NeverBothMidway g table k m =
     EveryState g table (λ T. (i j : ℕ) → Midway (contentsOf g) T k i → Midway (contentsOf g) T m j → ⊥)
@@ -109,7 +109,7 @@ NeverBothMidway g table k m =
 abbrev pub AloneSince : List ℕ → List ℕ → ℕ → ℕ → ℕ → Type 0
 AloneSince g table k x a =
     EveryState g table (λ T. (i : ℕ) → InCount (length (T .state .threads)) i → ownerOf T i ≡ k
-    → (U : Underway (contentsOf g .nodes) a (threadAt (T .state) i .node))
+    → (U : PartDone (contentsOf g .nodes) a (threadAt (T .state) i .node))
     → NoOnFrom (contentsOf g .nodes) (suc a) (U .next) → Alone (contentsOf g) T k x i)
 
 -- Session k of F has at most one on step in the file g, and is midway only below it.

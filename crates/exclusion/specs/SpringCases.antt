@@ -1,19 +1,10 @@
 -- Two schedulers and a desk in literal words: the routine as its author wrote it, and as it was cut in spring.
-use Prim.Native.Nat.{ℕ, zero, suc, _-_}
-use mathlib.Core.Path.{_≡_}
-use mathlib.Core.Bool.{Bool, true, _&&_, _||_}
+use Prim.Native.Nat.{ℕ, _-_}
 use mathlib.Core.List.{List, [], _∷_, _++_}
-use lib.Dec.{eqb, leb}
-use lib.ListN.{length, getD}
 use Rattle.format.specs.Words.{bytesOf}
-use Rattle.format.specs.Contents.{contentsOf, inCount, noSession}
-use Rattle.format.specs.declared.Node.{Node}
 use Rattle.format.specs.declared.Channel.{Channel}
-use Rattle.steps.specs.Choice.{threadAt}
 use Rattle.reading_exact.specs.Tree.{end, step, receive, send}
 use Rattle.reading_exact.specs.File.{Routine, first, File}
-use Rattle.reading_exact.specs.Refusals.{nth}
-use Rattle.seats.specs.Seats.{SeatedState, ownerOf}
 
 -- The tables: users 1 and 2 are the schedulers, with role 1, which receives on kind 1 and sends on kind 2; user 3 is
 -- the desk, with role 2, which sends on kind 1 and receives on kind 2. The schedulers own channels 1 and 2, of kind 1,
@@ -22,7 +13,7 @@ abbrev tables : List ℕ
 tables = 1 ∷ 1 ∷ 2 ∷ 2 ∷ 0 ∷ 1 ∷ 0 ∷ 1 ∷ 0 ∷ 2 ∷ 0 ∷ 0 ∷ 0 ∷ 1 ∷ 1 ∷ 2 ∷ 1 ∷ 3 ∷ 2 ∷ []
 
 -- The routine as its author wrote it: each scheduler reads a free bed and writes the booking; the desk tells both of
--- the same bed, and takes a booking.
+-- the same bed, the plain value 3, and takes a booking.
 abbrev pub written : List ℕ
 written =
     bytesOf (
@@ -38,7 +29,7 @@ channel owner kind = record { owner = owner; kind = record { 0 = kind } }
 
 -- A scheduler's session: it receives on its channel, and sends on the desk's.
 abbrev scheduler : ℕ → ℕ → Routine
-scheduler user channel = record { user = user; mask = 0; tree = step (receive channel) (step (send 259 512) end) }
+scheduler user from = record { user = user; mask = 0; tree = step (receive from) (step (send 259 512) end) }
 
 -- The routine as data.
 abbrev pub asData : File
@@ -88,22 +79,6 @@ springDay = 1 ∷ 0 ∷ 3 ∷ 0 ∷ 3 ∷ 1 ∷ 1 ∷ 0 ∷ 2 ∷ 0 ∷ 3 ∷ 2 
 abbrev pub placedDay : List ℕ
 placedDay = 1 ∷ 0 ∷ 3 ∷ 0 ∷ 3 ∷ 1 ∷ 2 ∷ 0 ∷ []
 
--- Each of so many nodes from j on has one child.
-unfoldable pub chained : List Node → ℕ → ℕ → Bool
-chained ns j zero = true
-chained ns j (suc d) =
-    inCount (length ns) j && (leb 2 (nth ns j .tag) && (leb (nth ns j .tag) 8 && chained ns (suc j) d))
-
--- Thread i of session k is midway in the state T, by tests: the session's tree begins at node r, and the thread has
--- done node b, stands at node j and has the send or receive n still to do.
-pub record MidwayByTests (g : List ℕ) (T : SeatedState) (k i r b j n : ℕ) : Type 0 where
-  pub thread : inCount (length (T .state .threads)) i ≡ true
-  pub owner : ownerOf T i ≡ k
-  pub session : inCount (length (contentsOf g .sessions)) k ≡ true
-  pub root : getD (contentsOf g .sessions) (k - 1) noSession .root ≡ r
-  pub node : threadAt (T .state) i .node ≡ j
-  pub above : chained (contentsOf g .nodes) r (b - r) ≡ true
-  pub begun : (leb 5 (nth (contentsOf g .nodes) b .tag) && leb (nth (contentsOf g .nodes) b .tag) 7) ≡ true
-  pub done : chained (contentsOf g .nodes) (suc b) (j - suc b) ≡ true
-  pub ahead : chained (contentsOf g .nodes) j (n - j) ≡ true
-  pub exchange : (eqb (nth (contentsOf g .nodes) n .tag) 5 || eqb (nth (contentsOf g .nodes) n .tag) 6) ≡ true
+-- The first scheduler has switched its role on, and nothing else is done.
+abbrev pub firstOn : List ℕ
+firstOn = 1 ∷ 0 ∷ []

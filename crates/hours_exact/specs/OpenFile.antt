@@ -7,7 +7,13 @@ use Rattle.reading_exact.specs.File.{File}
 
 -- a file with other users' masks
 abbrev pub withUsers : List ℕ → File → File
-withUsers us F = record { users = us; grants = F .grants; kinds = F .kinds; channels = F .channels; sessions = F .sessions }
+withUsers us F = record {
+  users = us;
+  grants = F .grants;
+  kinds = F .kinds;
+  channels = F .channels;
+  sessions = F .sessions;
+}
 
 -- t is the table of hours, m the minute
 abbrev pub openFile : List ℕ → ℕ → File → File

@@ -6,6 +6,6 @@ use lib.Dec.{ltb}
 use lib.ListN.{length}
 use Rattle.notices.specs.Notices.{lengthWord}
 
--- the day, the length word and as many bytes as that says; or with the input
+-- The first notice ends after its two words and as many bytes as its length word says, or where the input ends.
 unfoldable pub firstEnd : List ℕ → ℕ
 firstEnd both = cond (ltb (4 + lengthWord both) (length both)) (4 + lengthWord both) (length both)

@@ -24,9 +24,9 @@ use Rattle.lending.specs.Lent.{isValue, varsFit, threadFits, madeFits, every, s
 use Rattle.lending.specs.Starting.{starting, recordsStarted, besideStarted}
 use Rattle.choices.specs.Choices.{threadsFrom}
 use Rattle.reading_exact.specs.Lists.{All}
-use Rattle.lending_exact.specs.LendCases.{LendShown, lendCases}
+use Rattle.lending_exact.specs.LendCases.{made, LendShown, lendCases}
 
 pub lends-shown : All LendShown lendCases
-unfolding has with without namesOnly within bytesOf firstOf from1 from2 from3 from4 from5 headOf tabled item spot contentsAt recordFits sectionAnswer recordsAnswer following nodeFits shapeFrom roots shapeAnswer reading together effective permits permittingTo named kindOf mine namesFit kindsFit able wrong childOf reached openingsFrom firstBy namesAnswer readingNames value firstFree kindHeld meeting sending lone aloneOnly acting done outcome choice madeIn madeWords isValue varsFit threadFits madeFits every mayBeLent lending choosing recordsOver besideOver same waiting waitingFrom scopeFrom bindScope scopeOf marked nodeScope scopesIn rightly starting recordsStarted besideStarted threadsFrom
+unfolding has with without namesOnly within bytesOf firstOf from1 from2 from3 from4 from5 headOf tabled item spot contentsAt recordFits sectionAnswer recordsAnswer following nodeFits shapeFrom roots shapeAnswer reading together effective permits permittingTo named kindOf mine namesFit kindsFit able wrong childOf reached openingsFrom firstBy namesAnswer readingNames value firstFree kindHeld meeting sending lone aloneOnly acting done outcome choice madeIn madeWords isValue varsFit threadFits madeFits every mayBeLent lending choosing recordsOver besideOver same waiting waitingFrom scopeFrom bindScope scopeOf marked nodeScope scopesIn rightly starting recordsStarted besideStarted threadsFrom made
 lends-shown =
-    ((refl, refl, refl), ((refl, refl, refl), ((refl, refl, refl), ((refl, refl, refl), ((refl, refl, refl), ((refl, refl, refl), ((refl, refl, refl), ((refl, refl, refl), ((refl, refl, refl), ((refl, refl, refl), ((refl, refl, refl), ((refl, refl, refl), ((refl, refl, refl), ((refl, refl, refl), ((refl, refl, refl), ((refl, refl, refl), ((refl, refl, refl), ((refl, refl, refl), ((refl, refl, refl), ((refl, refl, refl), ((refl, refl, refl), ((refl, refl, refl), ((refl, refl, refl), ((refl, refl, refl), ((refl, refl, refl), ((refl, refl, refl), ((refl, refl, refl), ((refl, refl, refl), ((refl, refl, refl), ((refl, refl, refl), ((refl, refl, refl), ((refl, refl, refl), ((refl, refl, refl), ((refl, refl, refl), ((refl, refl, refl), ((refl, refl, refl), ((refl, refl, refl), ((refl, refl, refl), ((refl, refl, refl), ((refl, refl, refl), tt))))))))))))))))))))))))))))))))))))))))
+    ((refl, refl, refl), ((refl, refl, refl), ((refl, refl, refl), ((refl, refl, refl), ((refl, refl, refl), ((refl, refl, refl), ((refl, refl, refl), ((refl, refl, refl), ((refl, refl, refl), ((refl, refl, refl), ((refl, refl, refl), ((refl, refl, refl), ((refl, refl, refl), ((refl, refl, refl), ((refl, refl, refl), ((refl, refl, refl), ((refl, refl, refl), ((refl, refl, refl), ((refl, refl, refl), ((refl, refl, refl), ((refl, refl, refl), ((refl, refl, refl), ((refl, refl, refl), ((refl, refl, refl), ((refl, refl, refl), ((refl, refl, refl), ((refl, refl, refl), ((refl, refl, refl), ((refl, refl, refl), ((refl, refl, refl), ((refl, refl, refl), ((refl, refl, refl), ((refl, refl, refl), ((refl, refl, refl), ((refl, refl, refl), ((refl, refl, refl), ((refl, refl, refl), ((refl, refl, refl), ((refl, refl, refl), ((refl, refl, refl), ((refl, refl, refl), ((refl, refl, refl), tt))))))))))))))))))))))))))))))))))))))))))

@@ -1,6 +1,6 @@
 -- The lent list of threads in literal records and words: a file, the 64 records, the 162 words beside them, what a
 -- start or a choice answers, and what it leaves.
-use Prim.Native.Nat.{ℕ}
+use Prim.Native.Nat.{ℕ, zero, suc}
 use mathlib.Core.Path.{_≡_}
 use mathlib.Core.List.{List, [], _∷_, _++_}
 use lib.ListN.{length, replicate}
@@ -46,8 +46,8 @@ meet =
     ∷ 6 ∷ 257 ∷ 1 ∷ 0 ∷ 0 ∷ 0 ∷ 5 ∷ 257 ∷ 0 ∷ 0 ∷ 0 ∷ 0 ∷ []
 
 -- a user without roles makes a channel of kind 1
-abbrev make : List ℕ
-make = 1 ∷ 1 ∷ 0 ∷ 1 ∷ 0 ∷ 1 ∷ 2 ∷ 13 ∷ 14 ∷ 14 ∷ 15 ∷ 15 ∷ 18 ∷ 0 ∷ 0 ∷ 1 ∷ 0 ∷ 1 ∷ 3 ∷ 1 ∷ 0 ∷ 0 ∷ 0 ∷ 0 ∷ []
+abbrev bare : List ℕ
+bare = 1 ∷ 1 ∷ 0 ∷ 1 ∷ 0 ∷ 1 ∷ 2 ∷ 13 ∷ 14 ∷ 14 ∷ 15 ∷ 15 ∷ 18 ∷ 0 ∷ 0 ∷ 1 ∷ 0 ∷ 1 ∷ 3 ∷ 1 ∷ 0 ∷ 0 ∷ 0 ∷ 0 ∷ []
 
 -- three users, of whom the third has role 1, and two kinds: there is a user 3, and no kind 3. The session, of user 3
 -- with role 1 active: make a channel of kind 2, compare it with itself, role 1 off, receive on it
@@ -91,6 +91,11 @@ noneMade = 1 ∷ 0 ∷ replicate 128 7 ++ replicate 32 0
 abbrev oneMade : ℕ → ℕ → ℕ → List ℕ
 oneMade owner kind n = 1 ∷ 1 ∷ owner ∷ kind ∷ replicate 126 7 ++ (0 ∷ n ∷ replicate 30 0)
 
+-- so many made channels of user 3 and kind 2
+unfoldable pub made : ℕ → List ℕ
+made zero = []
+made (suc n) = 3 ∷ 2 ∷ made n
+
 -- 162 words that stand for nothing
 abbrev anyWords : List ℕ
 anyWords = replicate 162 7
@@ -128,6 +133,9 @@ lendCases =
     ∷ refusing maker (one (at 3 1 1 0)) (oneMade 2 3 0) 1 0 (refused 18 0)
     ∷ refusing maker (one (at 3 1 1 0)) (oneMade 0 2 0) 1 0 (refused 18 0)
     ∷ refusing maker (one (at 3 1 1 0)) (oneMade 3 0 0) 1 0 (refused 18 0)
+    -- 64 made channels may be lent, and a 65th can't be made; 65 may not
+    ∷ refusing maker (one (at 3 1 1 0)) (1 ∷ 64 ∷ made 64 ++ replicate 32 0) 1 0 (refused 20 1)
+    ∷ refusing maker (one (at 3 1 1 0)) (1 ∷ 65 ∷ made 64 ++ replicate 32 0) 1 0 (refused 18 0)
     -- a made channel of kind 1, where rule 1 gives the variable kind 2
     ∷ refusing maker (one (at 3 2 1 385)) (oneMade 2 1 0) 1 0 (refused 18 0)
     -- thread 1 sends to thread 2, which holds what is sent: records 1 and 2 change
@@ -156,10 +164,10 @@ lendCases =
     ∷ refusing meet (two (at 1 1 1 0) (at 2 3 2 0)) (2 ∷ 0 ∷ replicate 128 7 ++ (1 ∷ 1 ∷ replicate 30 0)) 1 2
     (refused 18 0)
     -- a channel is made: its owner and kind stand beside, and the thread holds 385
-    ∷ carried make (one (at 1 1 0 0)) (counts 1 0 0) 1 0 (one (at 1 2 0 385)) (oneMade 1 1 0)
+    ∷ carried bare (one (at 1 1 0 0)) (counts 1 0 0) 1 0 (one (at 1 2 0 385)) (oneMade 1 1 0)
     -- a made channel of a kind that is not there; a value that no made channel has
-    ∷ refusing make (one (at 1 2 0 385)) (oneMade 1 2 0) 1 0 (refused 18 0)
-    ∷ refusing make (one (at 1 2 0 386)) (oneMade 1 1 0) 1 0 (refused 18 0)
+    ∷ refusing bare (one (at 1 2 0 385)) (oneMade 1 2 0) 1 0 (refused 18 0)
+    ∷ refusing bare (one (at 1 2 0 386)) (oneMade 1 1 0) 1 0 (refused 18 0)
     -- what is no file is refused first
     ∷ refusing (1 ∷ []) [] [] 1 0 (refused 1 0)
     -- zero bytes: nothing but no thread and no made channel may be lent, and no choice can be done

@@ -17,7 +17,7 @@ pub data MergeCase : Type 0 where
   fits : List ℕ → List ℕ → ℕ → MergeCase
   -- the refusal with an output of so many bytes: number and place
   isRefused : List ℕ → List ℕ → ℕ → ℕ → ℕ → MergeCase
-  -- of what two files hold that are not refused by themselves: whether they may be merged
+  -- of what two files hold, whatever is wrong with either: whether tables and sums let them be merged
   joins : Contents → Contents → Verdict → MergeCase
 
 abbrev pub MergeShown : MergeCase → Type 0
@@ -102,8 +102,15 @@ comparing n user x y =
 
 -- what a file holds that has no records but so many nodes
 abbrev nodesOnly : ℕ → Contents
-nodesOnly n =
-    record { users = []; roles = []; juniors = []; kinds = []; channels = []; sessions = []; nodes = replicate n noNode }
+nodesOnly n = record {
+  users = [];
+  roles = [];
+  juniors = [];
+  kinds = [];
+  channels = [];
+  sessions = [];
+  nodes = replicate n noNode;
+}
 
 -- a file of version 2 with all counts 0, and one whose count of users is out of range
 abbrev second : ℕ → List ℕ
@@ -141,7 +148,7 @@ mergeCases =
     ∷ isRefused (channels 32) (channels 33) 6874 3 0
     ∷ fits (sessions 16) (sessions 16) 207
     ∷ isRefused (sessions 17) (sessions 16) 6874 3 0
-    -- 512 nodes and 512 fit; with one more on either side they don't
+    -- 512 nodes and 512 fit, 512 and 513 don't, nor do 1,024 and 1
     ∷ joins (nodesOnly 512) (nodesOnly 512) fine
     ∷ joins (nodesOnly 512) (nodesOnly 513) (refused 3 0)
     ∷ joins (nodesOnly 1024) (nodesOnly 1) (refused 3 0)

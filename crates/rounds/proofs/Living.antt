@@ -18,8 +18,8 @@ use Rattle.rounds.proofs.Visiting.{Keeps, stood, here, unrivalled}
 use Rattle.rounds.proofs.Rounding.{come, next, one-more, left-start, from-path}
 
 module _ {S : Type 0} (count : S → ℕ) (choose : S → ℕ → ℕ → Taken S) (Step : S → ℕ → ℕ → S → Type 0) (Wait : S → ℕ → S → Type 0)
-    (W : Lawful count choose Step Wait) {R : Type 0} (at : S → ℕ → R) (Able Excused : S → ℕ → Type 0)
-    (T : Recorded count choose Step Wait at Able Excused) where
+    (W : Lawful count choose Step Wait) {R : Type 0} (at : S → ℕ → R) (HasLoneStep Excused : S → ℕ → Type 0)
+    (T : Recorded count choose Step Wait at HasLoneStep Excused) where
   -- the thread that had the number w holds r
   abbrev Holds : RoundState S → ℕ → R → Type 0
   Holds g w r = (i : ℕ) → Here g w i → at (g .state) i ≡ r
@@ -95,7 +95,7 @@ module _ {S : Type 0} (count : S → ℕ) (choose : S → ℕ → ℕ → Taken 
     was o (does-nothing n e d) j f = (j, f, other j f, inl refl)
 
   -- a thread j₀ that could do a lone step in the state s₀
-  module _ (s₀ : S) (j₀ : ℕ) (able : Able s₀ j₀) where
+  module _ (s₀ : S) (j₀ : ℕ) (able : HasLoneStep s₀ j₀) where
     -- it can't be met
     holds : (k a : ℕ) (ms : List Bool) (v : ℕ) (g : RoundState S) → Keeping (suc k) a ms v (g .labels) (g .moved) → length ms ≤ count (g .state) → (w : ℕ) → w ≢ v
         → Holds g w (at s₀ j₀) → (o : Visited S) → View count choose (g .state) a ms o → Holds (stood count choose Step Wait W v g a o) w (at s₀ j₀)
@@ -171,7 +171,7 @@ module _ {S : Type 0} (count : S → ℕ) (choose : S → ℕ → ℕ → Taken 
 
   -- Of each thread that could do a lone step in the round's first state: after the visits of those before it, it holds what it held; then its lone choice comes and is a
   -- step or waits, or it is excused.
-  pub round-lively : (s : S) (w : ℕ) → Able s w
+  pub round-lively : (s : S) (w : ℕ) → HasLoneStep s w
       → (xs : List ℕ) × (ys : List ℕ) × (g : RoundState S) × (i : ℕ) × (round count choose s .words ≡ xs ++ ys) × VisitsFrom count Step Wait 1 (w - 1) (begun count Step Wait s) xs g
       × Path count Step Wait s xs (g .state) × Here g w i × (at (g .state) i ≡ at s w)
       × (((zs : List ℕ) × (s′ : S) × (ys ≡ i ∷ 0 ∷ zs) × Step (g .state) i 0 s′)

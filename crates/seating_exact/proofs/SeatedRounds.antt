@@ -53,13 +53,13 @@ module _ (L : Limited) where
           base.lawful C .apart (S .state) i p (S′ .state) (putOn L S i 0) l (on-base S i p S′ st) (inl (asks-steps L S i 0 (none-asks S i S″ at)))
 
   -- the thread could do a lone step, but for a seat; and refusal 20 is what its lone choice gets
-  abbrev Able : SeatedState → ℕ → Type 0
-  Able S j = base.Able C (S .state) j
+  abbrev HasLoneStep : SeatedState → ℕ → Type 0
+  HasLoneStep S j = base.HasLoneStep C (S .state) j
 
   abbrev Full : SeatedState → ℕ → Type 0
   Full S i = base.Full C (S .state) i
 
-  recorded : Recorded seatedThreads (seatedChoice L) (GoesOn L) (GetsNone L) (λ (S : SeatedState) (i : ℕ). threadAt (S .state) i) Able Full
+  recorded : Recorded seatedThreads (seatedChoice L) (GoesOn L) (GetsNone L) (λ (S : SeatedState) (i : ℕ). threadAt (S .state) i) HasLoneStep Full
   recorded = record {
     others = λ S i j S′ st m l h z. base.recorded C .others (S .state) i j (S′ .state) (on-base S i 0 S′ st) m l h z;
     before = λ S i j S′ st m l h. base.recorded C .before (S .state) i j (S′ .state) (on-base S i 0 S′ st) m l h;
@@ -186,7 +186,7 @@ module _ (L : Limited) where
       × (((zs : List ℕ) × (S′ : SeatedState) × (ys ≡ i ∷ 0 ∷ zs) × GoesOn L (g .state) i 0 S′)
       ⊎ (((zs : List ℕ) × (S′ : SeatedState) × (ys ≡ i ∷ 0 ∷ zs) × GetsNone L (g .state) i S′) ⊎ (choice (L .clinic) (g .state .state) i 0 ≡ halts 20)))
   seated-lone-done S v s₁ st =
-      round-lively seatedThreads (seatedChoice L) (GoesOn L) (GetsNone L) lawful (λ (T : SeatedState) (i : ℕ). threadAt (T .state) i) Able Full recorded S v (s₁, st)
+      round-lively seatedThreads (seatedChoice L) (GoesOn L) (GetsNone L) lawful (λ (T : SeatedState) (i : ℕ). threadAt (T .state) i) HasLoneStep Full recorded S v (s₁, st)
 
   -- 4. A round is empty exactly if no choice can be done.
   pub seated-round-idle : (S : SeatedState) → (seatedRoundOf L S .words ≡ []) ↔ ((i p : ℕ) → (n : ℕ) × (seatedChoice L S i p ≡ refuses n))

@@ -144,7 +144,7 @@ seatCases =
     ∷ barsSeated three (33 ∷ []) [] 1802 17 0
     ∷ barsSeated three (2 ∷ []) (1 ∷ []) 1802 17 0
     ∷ barsSeated (1 ∷ []) (33 ∷ []) [] 1802 1 0
-    -- an output of 1,799 bytes; it comes before what is no file; one of 1,800 is enough, and then the table is judged
+    -- an output of 1,799 bytes; it comes before what is no file; one of 1,800 is enough, and then the start is judged
     ∷ barsSeated three (2 ∷ []) [] 1799 17 0
     ∷ barsSeated (1 ∷ []) (2 ∷ []) [] 0 17 0
     ∷ barsSeated three (1 ∷ []) [] 1800 26 3
