@@ -411,3 +411,8 @@ pub use calls::{BEFORE_ROUND, BESIDE, RECORDS, ROOM, ROOM_1, ROUND_WORDS, ROWS, 
 pub use calls::{LINE_WORDS, ROLES, SEATS, SENTENCE, SESSIONS, TOTALS, WEEK};
 pub use desk::Desk;
 pub use state::{Channel, State, Thread};
+
+/// The examples of docs/API.md, run as doc tests.
+#[cfg(doctest)]
+#[doc = include_str!("../../../docs/API.md")]
+mod api_page {}
