@@ -261,3 +261,105 @@ fn definitions_of_the_map_are_there() {
         }
     }
 }
+
+#[test]
+fn decisions_cited_are_there() {
+    let decisions = text("docs/DECISIONS.md");
+    let headings = decisions
+        .lines()
+        .filter_map(|line| line.strip_prefix("### "));
+    let mut there = BTreeSet::new();
+    for number in headings.filter_map(|heading| heading.split_once(". ").map(|(n, _)| n)) {
+        assert!(there.insert(number), "decision {number} stands twice");
+    }
+    for page in [
+        "docs/SPECIFICATION.md",
+        "docs/ARCHITECTURE.md",
+        "CONTRIBUTING.md",
+    ] {
+        for cited in text(page).split("(decision ").skip(1) {
+            let number: String = cited.chars().take_while(char::is_ascii_digit).collect();
+            assert!(
+                there.contains(&number[..]),
+                "{page}: there is no decision {number}"
+            );
+        }
+    }
+}
+
+/// The crates of the list, each with those that it uses.
+fn crates() -> Vec<(String, BTreeSet<String>)> {
+    let list = text("crates.txt");
+    let line = |line: &str| {
+        let (name, used) = line.split_once(':').expect("a crate and what it uses");
+        (
+            name.to_string(),
+            used.split_whitespace().map(str::to_string).collect(),
+        )
+    };
+    list.lines().map(line).collect()
+}
+
+#[test]
+fn every_crate_has_its_room() {
+    let page = text("docs/ARCHITECTURE.md");
+    let mut floors = BTreeMap::new();
+    let parts = below(&page, "## Floors and rooms").split("\n### Floor ");
+    for (floor, part) in parts.skip(1).enumerate() {
+        assert!(part.starts_with(&format!("{floor}: ")), "floor {floor}");
+        for row in rows(part) {
+            for name in quoted(row[0]) {
+                let before = floors.insert(name.to_string(), floor);
+                assert_eq!(before, None, "{name} stands twice");
+            }
+        }
+    }
+    let crates = crates();
+    for (name, used) in &crates {
+        let floor = floors
+            .get(name)
+            .unwrap_or_else(|| panic!("no room for {name}"));
+        // What isn't on the list is the toolchain's.
+        for below in used.iter().filter_map(|used| floors.get(used)) {
+            assert!(below <= floor, "{name} stands below what it uses");
+        }
+    }
+    assert_eq!(floors.len(), crates.len(), "a room without a crate");
+}
+
+/// The list of what each crate uses, but for what another of these uses for it.
+#[test]
+fn the_picture_of_crates_is_that_of_the_list() {
+    let crates = crates();
+    let used = |name: &str| {
+        crates
+            .iter()
+            .find(|(there, _)| there == name)
+            .map(|(_, used)| used)
+    };
+    let width = crates.iter().map(|(name, _)| name.len()).max().unwrap_or(0);
+    let mut due = String::new();
+    for (name, all) in &crates {
+        let through = |other: &&String| {
+            let others = all.iter().filter_map(|user| used(user));
+            !others.into_iter().any(|used| used.contains(*other))
+        };
+        let direct: Vec<&str> = all.iter().filter(through).map(|name| &name[..]).collect();
+        due += format!("{name:width$}  {}", direct.join(" ")).trim_end();
+        due += "\n";
+    }
+    let page = text("docs/ARCHITECTURE.md");
+    let part = below(&page, "## Which crate stands on which");
+    let (_, block) = part.split_once("```text\n").expect("a block");
+    let (block, _) = block.split_once("```").expect("its end");
+    if block != due && std::env::var_os("UPDATE").is_some() {
+        let anew = page.replacen(
+            &format!("```text\n{block}```"),
+            &format!("```text\n{due}```"),
+            1,
+        );
+        std::fs::write(root().join("docs/ARCHITECTURE.md"), anew).expect("written");
+        return;
+    }
+    assert_eq!(block, due, "UPDATE=1 writes it anew");
+}
