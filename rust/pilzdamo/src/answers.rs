@@ -7,33 +7,33 @@ use std::fmt;
 
 /// A refusal's number and place; 0 and 0 where nothing is refused.
 ///
-/// What the place counts goes by the number:
+/// What the place counts depends on the number:
 ///
 /// | number | place |
 /// |---|---|
-/// | 1 to 5 | 0: the file as a whole; 3 also for two files that have too many records together |
+/// | 1 to 5 | 0: the whole file; in a merge, 3 also for sums beyond a limit |
 /// | 6 | the first word of the record, from 0 at the start of the file |
-/// | 21 | the role's word of juniors, counted so |
+/// | 21 | the role's word of juniors, from 0 at the start of the file |
 /// | 7 | the session, from 1 |
-/// | 8 to 10 | the node, from 1; where a tree goes past the last node, the number of nodes and 1 |
+/// | 8 to 10 | the node, from 1; if a tree goes past the last node, the number of nodes plus 1 |
 /// | 11 to 13 | the node; in a run the choice, from 1 |
 /// | 14 | the node, or 0 for a starting mask |
 /// | 15 | the node |
 /// | 16 | 0: the placed file would have over 1,024 nodes |
-/// | 17 | 0: an output that is too short, or a list of choices or a table of seats that can't be one |
-/// | 22 | 0: a minute that no week has, or a table of hours that can't be one |
+/// | 17 | 0: an output that is too short, or a bad list of choices or table of seats |
+/// | 22 | 0: a minute past the week, or a bad table of hours |
 /// | 23 | the row of the table of hours, from 1 |
 /// | 24 | the node |
-/// | 25 | 0: the tables of two files |
-/// | 26 | the session, from 1, whose starting mask finds no seat |
+/// | 25 | 0: the tables of two files differ |
+/// | 26 | the session, from 1, whose starting mask overfills a role |
 /// | 27 | the notice, 1 or 2 |
 /// | 28 | 0: neither notice has begun |
-/// | 18 to 20 | the choice; 18 at 0 for a lent list that is none of the file's, has wrong totals, or is of another length |
+/// | 18 to 20 | the choice, from 1; 18 at 0 for a lent list that isn't one of the file's threads with their totals |
 ///
-/// In [`choose`](crate::choose) the choice has number 1. A [`Reason`] says all of it in
-/// a sentence.
+/// In [`choose`](crate::choose) the choice has number 1. A [`Reason`] puts all of this
+/// into a sentence.
 ///
-/// A refusal is an error, so that `?` can hand it on:
+/// A refusal is an error, so `?` works on it:
 ///
 /// ```
 /// fn passes(file: &[u8]) -> Result<(), Box<dyn std::error::Error>> {
@@ -50,8 +50,7 @@ use std::fmt;
 pub struct Verdict {
     /// The refusal's number, 0 if there is none.
     pub number: u16,
-    /// Where it stands: a word, a session, a node or a choice, as its number and
-    /// the call say.
+    /// The place: a word, a session, a node or a choice, by the number and the call.
     pub place: u16,
 }
 
@@ -79,8 +78,8 @@ impl Verdict {
         }
     }
 
-    /// The refusal as a reason: with what its place counts, and the node's tag, or
-    /// [`NO_TAG`] where none belongs.
+    /// The refusal as a reason: with what its place counts, and the node's tag or
+    /// [`NO_TAG`].
     ///
     /// ```
     /// use pilzdamo::{Counts, NO_TAG};
@@ -116,7 +115,7 @@ impl fmt::Display for Verdict {
 impl Error for Verdict {}
 
 /// What [`place`](crate::place) and [`measure`](crate::measure) answer: a refusal's
-/// number and place, or the length of the placed file and its on steps. The two that
+/// number and place, or the length of the placed file and its on steps. The fields that
 /// don't apply are 0.
 #[repr(C)]
 #[must_use]
@@ -124,11 +123,11 @@ impl Error for Verdict {}
 pub struct Placed {
     /// The refusal's number, 0 if there is none.
     pub number: u16,
-    /// Where it stands: a word, a session or a node, as its number says.
+    /// The place: a word, a session or a node, by the number.
     pub place: u16,
-    /// How many bytes the placed file has, in the output if there is one.
+    /// The length of the placed file in bytes.
     pub length: u16,
-    /// How many nodes of it put a role on.
+    /// The number of its on steps: nodes that switch a role on.
     pub on_steps: u16,
 }
 
@@ -175,15 +174,14 @@ impl fmt::Display for Placed {
 }
 
 /// What [`ready`](crate::ready) answers: a refusal's number and place, or the
-/// two threads that can meet. What doesn't apply is 0.
+/// two threads that can meet. Fields that don't apply are 0.
 #[repr(C)]
 #[must_use]
 #[derive(Clone, Copy, Debug, PartialEq, Eq, Hash)]
 pub struct Ready {
     /// The refusal's number, 0 if there is none.
     pub number: u16,
-    /// Where it stands: a word, a session, a node or a choice, as its number
-    /// says.
+    /// The place: a word, a session, a node or a choice, by the number.
     pub place: u16,
     /// The sender's number in the list of threads, 0 if no pair can meet.
     pub sender: u16,
@@ -233,29 +231,28 @@ impl fmt::Display for Ready {
 }
 
 /// What [`round`](crate::round) answers: a refusal's number and place, or the
-/// round's choices; and the length of the state that is written. What doesn't apply
-/// is 0.
+/// round's choices; and the length of the state that is written. Fields that don't
+/// apply are 0.
 #[repr(C)]
 #[must_use]
 #[derive(Clone, Copy, Debug, PartialEq, Eq, Hash)]
 pub struct Round {
     /// The refusal's number, 0 if there is none.
     pub number: u16,
-    /// Where it stands: a word, a session, a node or a choice of the list, as its
-    /// number says.
+    /// The place: a word, a session, a node or a choice of the list, by the number.
     pub place: u16,
-    /// How many bytes of the output hold the state: that after the round, or that in
-    /// which the list stopped; 0 where nothing is written.
+    /// The length of the written state in bytes: the state after the round, or the one
+    /// in which the list halted; 0 if nothing is written.
     pub length: u16,
-    /// The round's choices, two words each: a thread and its partner, 0 where it
-    /// steps alone. All past the last are 0.
+    /// The round's choices, two words each: a thread and its partner, 0 if it steps
+    /// alone. All words past the last choice are 0.
     pub words: [u16; ROUND_WORDS],
 }
 
 impl Round {
-    /// The words of the round's choices, without the zeros past the last: in the form
-    /// in which [`run`](crate::run) takes a list. There are none where nothing can
-    /// be done, and where the list is refused.
+    /// The words of the round's choices, without the zeros past the last, as
+    /// [`run`](crate::run) takes them. Empty if nothing can be done, or if the list is
+    /// refused.
     ///
     /// ```
     /// let mut out = [0; pilzdamo::RUN_ROOM];
@@ -303,21 +300,19 @@ impl fmt::Display for Round {
     }
 }
 
-/// What [`totals`](crate::totals) answers: how many threads wait on each kind, in the
-/// state in which the run stands, and the number and place of what halted it, if
-/// something did. Where the file or the list is refused before the first choice all
-/// totals are 0.
+/// What [`totals`](crate::totals) answers: how many threads wait on each kind after the
+/// last choice done, and the refusal that halted the run, if any. All totals are 0 if
+/// the file or the list is refused before the first choice.
 #[repr(C)]
 #[must_use]
 #[derive(Clone, Copy, Debug, PartialEq, Eq, Hash)]
 pub struct Totals {
     /// The refusal's number, 0 if there is none.
     pub number: u16,
-    /// Where it stands: a word, a session, a node or a choice, as its number
-    /// says.
+    /// The place: a word, a session, a node or a choice, by the number.
     pub place: u16,
-    /// For each kind, from 1 on, how many threads stand at a receive whose channel
-    /// has that kind.
+    /// For each kind, from 1 on, how many threads stand at a receive on a channel of
+    /// that kind.
     pub totals: [u16; TOTALS],
 }
 
@@ -325,7 +320,7 @@ impl Totals {
     /// The total of a kind, 0 for one outside 1 to 32.
     ///
     /// ```
-    /// // Three sessions of the desk have put their role on. The first has a note to
+    /// // Three sessions of the desk have switch their role on. The first has a note to
     /// // send, and the others wait for it, on kind 1.
     /// let file = std::fs::read("../../examples/spring/cut.clinic")?;
     /// let totals = pilzdamo::totals(&file, &[3, 0, 4, 0, 5, 0]);
@@ -349,8 +344,8 @@ impl Totals {
     }
 }
 
-/// `waiting: 2 on kind 1, 1 on kind 3`, or `nobody waits`; behind `refused N P` where
-/// the run halted, and that alone where nobody then waits.
+/// `waiting: 2 on kind 1, 1 on kind 3`, or `nobody waits`. If the run halted, `refused N
+/// P` comes first, and stands alone if nobody waits.
 ///
 /// ```
 /// assert_eq!(pilzdamo::totals(&[1], &[]).to_string(), "refused 1 0");
@@ -375,33 +370,31 @@ impl fmt::Display for Totals {
     }
 }
 
-/// What [`seats`](crate::seats) answers: who has a role and who waits for a seat in one,
-/// in the state in which a run with seats stands, and the number and place of what
-/// halted it, if something did. Where something is refused before the first choice all
-/// else is 0.
+/// What [`seats`](crate::seats) answers: who has a role and who waits for a seat after the
+/// last choice done, and the refusal that halted the run, if any. All else is 0 if
+/// something is refused before the first choice.
 #[repr(C)]
 #[must_use]
 #[derive(Clone, Copy, Debug, PartialEq, Eq, Hash)]
 pub struct Seats {
     /// The refusal's number, 0 if there is none.
     pub number: u16,
-    /// Where it stands: a word, a session, a node or a choice, as its number
-    /// says.
+    /// The place: a word, a session, a node or a choice, by the number.
     pub place: u16,
-    /// How many choices got no seat, and were answered 26.
+    /// How many choices were answered 26: they got no seat.
     pub waited: u16,
-    /// What the last choice that was done was answered: 26, or 0.
+    /// The answer of the last choice done: 26, or 0.
     pub last: u16,
     /// For each role, from 1 on, how many sessions have a thread with it active, also
-    /// where it has no limit.
+    /// if the role has no limit.
     pub taken: [u16; ROLES],
     /// For each role, from 1 on, how many sessions wait for a seat.
     pub waiting: [u16; ROLES],
-    /// For each role, from 1 on, [`SESSIONS`] words: the sessions in its line, the first
-    /// in front, and 0 past the last.
+    /// For each role, from 1 on, [`SESSIONS`] words: the sessions in its line, the head
+    /// first, and 0 past the last.
     pub line: [u16; LINE_WORDS],
-    /// For each kind, from 1 on, how many threads stand at a receive whose channel
-    /// has that kind, as [`Totals`] has it.
+    /// For each kind, from 1 on, how many threads stand at a receive on a channel of that
+    /// kind, as in [`Totals`].
     pub totals: [u16; TOTALS],
 }
 
@@ -409,7 +402,7 @@ impl Seats {
     /// How many sessions have a role, 0 for one outside 1 to 16.
     ///
     /// ```
-    /// // Four sessions of the desk put role 3 on, which has no limit.
+    /// // Four sessions of the desk switch on role 3, which has no limit.
     /// let file = std::fs::read("../../examples/spring/cut.clinic")?;
     /// let seats = pilzdamo::seats(&file, &[3, 0, 4, 0, 5, 0, 6, 0], &[0, 1, 0]);
     /// assert_eq!((seats.in_role(3), seats.in_role(2), seats.in_role(17)), (4, 0, 0));
@@ -420,8 +413,8 @@ impl Seats {
         at.and_then(|at| self.taken.get(at)).copied().unwrap_or(0)
     }
 
-    /// The sessions that wait for a seat in a role, the first in front; none for a role
-    /// outside 1 to 16.
+    /// The sessions that wait for a seat in a role, the head of the line first; none for
+    /// a role outside 1 to 16.
     ///
     /// ```
     /// // Both schedulers want role 1, which has one seat.
@@ -451,8 +444,8 @@ impl Seats {
     }
 }
 
-/// `taken: 1 in role 2; in line for role 2: 3 1`, or `no role is taken`; behind
-/// `refused N P` where the run halted, and that alone where no role is then taken.
+/// `taken: 1 in role 2; in line for role 2: 3 1`, or `no role is taken`. If the run
+/// halted, `refused N P` comes first, and stands alone if no role is taken.
 ///
 /// ```
 /// let file = std::fs::read("../../examples/spring/cut.clinic")?;
@@ -503,7 +496,7 @@ pub enum Counts {
     Choice = 4,
     /// Rows of a table of hours.
     Row = 5,
-    /// Notices, of two.
+    /// Notices: 1 or 2.
     Notice = 6,
 }
 
@@ -529,12 +522,12 @@ impl Counts {
     }
 }
 
-/// The tag of a [`Reason`] in which none belongs.
+/// The tag of a [`Reason`] that has no tag.
 pub const NO_TAG: u16 = 9;
 
-/// A refusal as [`reason`](crate::reason) says it and
-/// [`read_reason`](crate::read_reason) reads it: all four are 0 for bytes that are no
-/// sentence.
+/// A refusal as [`reason`](crate::reason) writes it and
+/// [`read_reason`](crate::read_reason) reads it. All four fields are 0 for bytes that are
+/// no sentence.
 ///
 /// What the place of a number may count:
 ///
@@ -557,17 +550,17 @@ pub const NO_TAG: u16 = 9;
 pub struct Reason {
     /// The refusal's number, 0 if there is none.
     pub number: u16,
-    /// What the place counts, by the number of [`Counts`].
+    /// What the place counts, as a number of [`Counts`].
     pub counts: u16,
-    /// The place, 0 exactly where nothing is counted.
+    /// The place; 0 exactly if nothing is counted.
     pub place: u16,
     /// The node's tag, 0 to 8, for 9 to 15 at a node; else [`NO_TAG`].
     pub tag: u16,
 }
 
 impl Reason {
-    /// Whether it is one: what [`read_reason`](crate::read_reason) gives for other
-    /// bytes is none.
+    /// Whether this is a reason, and not what [`read_reason`](crate::read_reason) answers
+    /// for other bytes.
     ///
     /// ```
     /// assert!(!pilzdamo::read_reason(b"13 at 4").is_one());
@@ -576,7 +569,7 @@ impl Reason {
         self.number != 0
     }
 
-    /// What the place counts, if `counts` is a number of one of these.
+    /// What the place counts, or `None` if `counts` is no number of [`Counts`].
     ///
     /// ```
     /// use pilzdamo::{Counts, Reason, NO_TAG};
@@ -589,8 +582,8 @@ impl Reason {
         Counts::ALL.get(usize::from(self.counts)).copied()
     }
 
-    /// [`reason`](crate::reason) with an output of its own: the sentence, if there is
-    /// such a reason.
+    /// The allocating version of [`reason`](crate::reason): the sentence, or `None` if
+    /// this is no reason.
     ///
     /// ```
     /// use pilzdamo::{read_reason, Reason, NO_TAG};
@@ -608,19 +601,18 @@ impl Reason {
 
 /// What [`merge`](crate::merge), [`to_columns`](crate::to_columns) and
 /// [`to_rows`](crate::to_rows) answer: a refusal's number and place, or the length of
-/// what is written. What doesn't apply is 0. Also what
-/// [`run_seated`](crate::run_seated) answers, which writes a state, and has its length,
-/// where it halts at a choice too.
+/// what is written. Fields that don't apply are 0. [`run_seated`](crate::run_seated)
+/// answers it too; it writes a state, and answers its length, also if a choice halts it.
 #[repr(C)]
 #[must_use]
 #[derive(Clone, Copy, Debug, PartialEq, Eq, Hash)]
 pub struct Written {
     /// The refusal's number, 0 if there is none.
     pub number: u16,
-    /// Where it stands: a word, a session or a node of the file that is refused, or a
-    /// choice, as its number says.
+    /// The place: a word, a session or a node of the refused file, or a choice, by the
+    /// number.
     pub place: u16,
-    /// How many bytes of the output are written, 0 where nothing is.
+    /// The number of bytes written; 0 if nothing is.
     pub length: u16,
 }
 
@@ -662,22 +654,22 @@ impl fmt::Display for Written {
     }
 }
 
-/// What [`in_force`](crate::in_force) answers beside the part: a refusal's number and
-/// place, and which of the two notices holds the part, and where. Where there is a
-/// refusal it is the empty part at the first notice's start.
+/// What [`in_force`](crate::in_force) answers beside the slice: a refusal's number and
+/// place, and where the slice stands. With a refusal it is the empty slice at the first
+/// notice's start.
 #[repr(C)]
 #[must_use]
 #[derive(Clone, Copy, Debug, PartialEq, Eq, Hash)]
 pub struct InForce {
     /// The refusal's number, 27 or 28, or 0 if there is none.
     pub number: u16,
-    /// Where it stands: the notice, 1 or 2, for 27; else 0.
+    /// The place: the notice, 1 or 2, for 27; else 0.
     pub place: u16,
-    /// The notice that holds the part, 1 or 2.
+    /// The notice that holds the slice, 1 or 2.
     pub notice: u16,
-    /// How many bytes of the notice stand before the part.
+    /// Where the slice begins in the notice, in bytes.
     pub at: u16,
-    /// How many bytes the part has.
+    /// The length of the slice in bytes.
     pub length: u16,
 }
 
@@ -729,15 +721,15 @@ pub struct Sheet {
     pub files: u32,
     /// How many of them are refused at each number, from 1 on.
     pub refused: [u32; NUMBERS],
-    /// The sessions of those that are placed.
+    /// The number of sessions in the placed files.
     pub sessions: u32,
-    /// Their on steps.
+    /// The on steps of these sessions.
     pub on_steps: u32,
     /// The most on steps in one session.
     pub most: u32,
-    /// The on steps per 1,000 sessions, the whole quotient; 0 without sessions.
+    /// The on steps per 1,000 sessions, as a whole quotient; 0 without sessions.
     pub quotient: u32,
-    /// What that leaves over; 0 without sessions.
+    /// The remainder of that division; 0 without sessions.
     pub remainder: u32,
 }
 
@@ -745,7 +737,7 @@ impl Sheet {
     /// How many files are refused at this number, 0 for one outside 1 to 28.
     ///
     /// ```
-    /// // A record of one byte, which no file has.
+    /// // A record of one byte, which is no file.
     /// let sheet = pilzdamo::sheet(&[1, 0, 7]);
     /// assert_eq!((sheet.files, sheet.refused_at(1), sheet.refused_at(2)), (1, 1, 0));
     /// assert_eq!((sheet.refused_at(0), sheet.refused_at(29)), (0, 0));
@@ -758,7 +750,7 @@ impl Sheet {
     /// How many files are placed: all but the refused.
     ///
     /// ```
-    /// // Zero bytes are the file of a clinic with nothing planned; one byte is none.
+    /// // Zero bytes are the file of a clinic with nothing planned; one byte is no file.
     /// assert_eq!(pilzdamo::sheet(&[0, 0, 1, 0, 7]).placed(), 1);
     /// ```
     pub fn placed(&self) -> u32 {

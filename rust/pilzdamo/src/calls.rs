@@ -5,37 +5,36 @@ use crate::{
     InForce, Placed, Ready, Reason, Round, Seats, Sheet, Thread, Totals, Verdict, Written,
 };
 
-/// As many bytes as [`place`] wants of its output for any file, and [`to_columns`] and
-/// [`to_rows`] for every one: those of the largest file of versions 2 and 3. What
-/// placing wants for a given file is [`room`].
+/// The least length in bytes of an output of [`place`] for any file, and of
+/// [`to_columns`] and [`to_rows`]: that of the largest file of versions 2 and 3. For one
+/// file [`room`] says what [`place`] needs.
 pub const ROOM: usize = 6_908;
 
-/// The bytes that [`place`] wants of its output for a file of version 1, and [`merge`]
-/// for any: those of the largest.
+/// The least length in bytes of an output of [`place`] for a version 1 file, and of
+/// [`merge`]: that of the largest version 1 file.
 pub const ROOM_1: usize = 6_874;
 
-/// The minutes of a week. A minute is counted from Monday 00:00 on, so that it is
-/// below this.
+/// The minutes of a week. A minute is counted from Monday 00:00 and is below this.
 pub const WEEK: u16 = 10_080;
 
 /// The most rows of a table of hours.
 pub const ROWS: usize = 64;
 
-/// The bytes that [`run`] and [`round`] want of their output, with seats too: those of
-/// the largest state.
+/// The least length in bytes of an output of [`run`] and [`round`], with seats too: that
+/// of the largest state.
 pub const RUN_ROOM: usize = 1_800;
 
-/// The words of a round's choices: two for each of at most 64.
+/// The words of a round's choices: two for each of up to 64 choices.
 pub const ROUND_WORDS: usize = 128;
 
-/// The most choices that a [`round`] can follow: a list has at most 65,535, the
-/// round's among them.
+/// The most choices that a [`round`] can follow. Together with the round's own a list
+/// has at most 65,535.
 pub const BEFORE_ROUND: usize = 65_471;
 
 /// The most roles of a file.
 pub const ROLES: usize = 16;
 
-/// The most sessions of a file, and so the most in a role's line.
+/// The most sessions of a file, and so of a role's line.
 pub const SESSIONS: usize = 32;
 
 /// The words of all lines in [`Seats`]: [`SESSIONS`] for each of [`ROLES`].
@@ -44,28 +43,28 @@ pub const LINE_WORDS: usize = ROLES * SESSIONS;
 /// The most seats of a role.
 pub const SEATS: u16 = 32;
 
-/// The records of the list that is lent to [`start`] and [`choose`].
+/// The records of the list that [`start`] and [`choose`] take.
 pub const RECORDS: usize = 64;
 
-/// The words that are lent to [`start`] and [`choose`] beside the list.
+/// The words that [`start`] and [`choose`] take beside the list.
 pub const BESIDE: usize = 162;
 
-/// The kinds that a file can have at most, for each of which [`totals`] has a word;
-/// and as many are the last of the [`BESIDE`] words.
+/// The most kinds of a file. [`totals`] has a word for each, and so have the last of
+/// the [`BESIDE`] words.
 pub const TOTALS: usize = 32;
 
-/// The bytes that [`reason`] and [`phrase`] want of their output. No sentence has
-/// more.
+/// The least length in bytes of an output of [`reason`] and [`phrase`]. No sentence is
+/// longer.
 pub const SENTENCE: usize = 120;
 
-/// The numbers that a refusal can have: 1 to this.
+/// The highest number of a refusal.
 pub const NUMBERS: usize = 28;
 
 /// The most files that a [`sheet`] reads.
 pub const SHEET_FILES: usize = 1_000;
 
-/// The bytes that [`place`] wants of its output for this file: [`ROOM`] where its
-/// first word is 2 or 3, else [`ROOM_1`], also where it has no first word.
+/// The least length in bytes of [`place`]'s output for this file: [`ROOM`] if its first
+/// word is 2 or 3, else [`ROOM_1`].
 ///
 /// ```
 /// use pilzdamo::{room, ROOM, ROOM_1};
@@ -73,7 +72,7 @@ pub const SHEET_FILES: usize = 1_000;
 /// assert_eq!((room(&[1, 0]), room(&[2, 0]), room(&[3, 0])), (ROOM_1, ROOM, ROOM));
 /// assert_eq!((room(&[]), room(&[2])), (ROOM_1, ROOM_1));
 ///
-/// // A byte less, and the file isn't looked at.
+/// // With one byte less, 17 comes before any look at the file.
 /// let file = std::fs::read("../../examples/head-nurse/juniors.clinic")?;
 /// let mut out = vec![0; room(&file)];
 /// assert!(pilzdamo::place(&file, &mut out).is_placed());
@@ -88,15 +87,15 @@ pub fn room(file: &[u8]) -> usize {
     }
 }
 
-/// Judges a clinic file by refusals 1 to 10.
+/// Checks the form, the names and the kinds of a clinic file: refusals 1 to 10.
 ///
-/// Any bytes will do, of any length. Nothing is written and nothing is kept.
+/// Accepts any input; never panics.
 ///
 /// ```
 /// let file = std::fs::read("../../examples/booking.clinic")?;
 /// assert!(pilzdamo::read(&file).is_clean());
 ///
-/// // Zero bytes are the file of a clinic with nothing planned. One byte is none.
+/// // Zero bytes are the file of a clinic with nothing planned. One byte is no file.
 /// assert!(pilzdamo::read(&[]).is_clean());
 /// assert_eq!(pilzdamo::read(&[1]).number, 1);
 ///
@@ -109,16 +108,16 @@ pub fn read(file: &[u8]) -> Verdict {
     raw::read(file)
 }
 
-/// Judges a clinic file by refusals 1 to 13: by those of [`read`], and then
-/// by the roles that are active at each node.
+/// Checks a clinic file: refusals 1 to 13. These are those of [`read`], then those of
+/// the roles that are active at each node.
 ///
-/// Any bytes will do, of any length. Nothing is written and nothing is kept.
+/// Accepts any input; never panics.
 ///
 /// ```
-/// // What is refused by 1 to 10 is refused alike.
+/// // What `read` refuses, `check` refuses in the same way.
 /// assert_eq!(pilzdamo::check(&[9; 26]), pilzdamo::read(&[9; 26]));
 ///
-/// // Role 1 is put on twice and off once, and node 4 then needs it.
+/// // Role 1 is switched on twice and off once; then node 4 needs it.
 /// let file = std::fs::read("../../examples/refused/13-role.clinic")?;
 /// assert!(pilzdamo::read(&file).is_clean());
 /// assert_eq!(pilzdamo::check(&file).to_string(), "refused 13 4");
@@ -129,20 +128,20 @@ pub fn check(file: &[u8]) -> Verdict {
     raw::check(file)
 }
 
-/// [`check`] at a minute of the week, counted from Monday 00:00 on, with a table of
-/// hours: a role that isn't open then can't be put on.
+/// [`check`] for a minute of the week, counted from Monday 00:00, with a table of hours:
+/// a session can't switch on a role that is closed then.
 ///
 /// `hours` has three words a row, at most [`ROWS`] rows: a role, its first minute and
-/// its end minute. A role is open at a minute if one of its rows has a first minute
-/// not after it, and an end minute behind it; a role without rows is always open. A
-/// closed role with which a session starts goes on permitting, and so do the closed
-/// juniors of an open one.
+/// its end minute. A role is open at minute m if one of its rows has first ≤ m < end; a
+/// role without rows is always open. A closed role in a starting mask still permits, and
+/// so do the closed juniors of an open role.
 ///
-/// Refusal 22 comes first, for a minute that no week has, a table that ends within a
-/// row, or too many rows; then 1 to 8; then 23, for a row with no such role, or with a
-/// first minute not below its end, or an end behind the week's; then 9 and 10; and
-/// then 11 to 13 with 24, for an on of a closed role, which comes behind 11. Any
-/// words will do, of any length.
+/// The order of refusals: 22 for a minute past the week, a table of broken rows or too
+/// many rows; 1 to 8; 23 for a row with no such role, first not below end, or an end
+/// past the week; 9 and 10; then 11 to 13 with 24, an on of a closed role, directly
+/// after 11.
+///
+/// Accepts any input; never panics.
 ///
 /// ```
 /// // Admissions, role 1, from 07:00 to 15:00 on Monday.
@@ -150,11 +149,11 @@ pub fn check(file: &[u8]) -> Verdict {
 /// let file = std::fs::read("../../examples/hours/by-day.clinic")?;
 /// assert!(pilzdamo::check_at(&file, &hours, 7 * 60).is_clean());
 ///
-/// // Its first node puts role 1 on.
+/// // Its first node switches role 1 on.
 /// let verdict = pilzdamo::check_at(&file, &hours, 15 * 60);
 /// assert_eq!(verdict.to_string(), "refused 24 1");
 ///
-/// // There is no role 9; and no minute behind the week's last.
+/// // There is no role 9, and no minute past the week's last.
 /// let verdict = pilzdamo::check_at(&file, &[9, 0, 1], 0);
 /// assert_eq!(verdict.to_string(), "refused 23 1");
 /// let verdict = pilzdamo::check_at(&file, &hours, pilzdamo::WEEK);
@@ -166,13 +165,12 @@ pub fn check_at(file: &[u8], hours: &[u16], minute: u16) -> Verdict {
     raw::check_at(file, hours, minute)
 }
 
-/// Places the roles of a clinic file: by refusal 17, by 1 to 10, and then by
-/// 14 to 16. If none refuses it, the placed file stands at the start of `out`.
+/// Places the roles of a clinic file: refusals 17, 1 to 10, 14 to 16. Writes the placed
+/// file to the start of `out`.
 ///
-/// Any bytes will do, of any length. `out` must have as many bytes as [`room`]
-/// says, or more; [`ROOM`] will do for any file. Where the answer is a refusal nothing of `out` is
-/// written, and otherwise nothing past the answer's length. [`placed`] has an
-/// output of its own.
+/// Accepts any input; never panics. `out` must have [`room`] bytes or more; [`ROOM`] is
+/// enough for any file. A refusal writes nothing, and nothing past the answer's length
+/// is written. See [`placed`] for the allocating version.
 ///
 /// ```
 /// // Role 1 may send on kind 1, role 2 on kinds 1 and 2; user 1 has both. The
@@ -192,7 +190,7 @@ pub fn check_at(file: &[u8], hours: &[u16], minute: u16) -> Verdict {
 /// let placed = pilzdamo::place(&file, &mut out);
 /// assert_eq!(placed.to_string(), "placed in 94 bytes, on steps: 1");
 ///
-/// // Role 2 is on from before the first send to behind the second.
+/// // Role 2 is on from before the first send until after the second.
 /// let nodes: [u16; 15] = [7, 2, 0, 6, 257, 2, 6, 258, 2, 8, 2, 0, 0, 0, 0];
 /// assert_eq!(out[64..94], nodes.map(u16::to_le_bytes).concat());
 /// assert!(pilzdamo::check(&out[..94]).is_clean());
@@ -203,12 +201,12 @@ pub fn place(file: &[u8], out: &mut [u8]) -> Placed {
     raw::place(file, out)
 }
 
-/// [`place`] at a minute of the week, with a table of hours as [`check_at`] has it:
-/// only roles that are open then are put on.
+/// [`place`] for a minute of the week, with a table of hours as in [`check_at`]: only
+/// open roles are switched on.
 ///
-/// Refusal 17 comes first, then 22, 1 to 8, 23, 9 and 10, and then 14 to 16, of
-/// which 15 is for a send or receive that no open role of the user permits. The
-/// placed file has its input's users, with all their roles.
+/// The order of refusals: 17, 22, 1 to 8, 23, 9 and 10, 14 to 16; 15 is for a send or
+/// receive that no open role of the user permits. The placed file has its input's users
+/// with all their roles.
 ///
 /// ```
 /// // Admissions, role 1, closes at 15:00 on Monday. Role 2 is the night desk's.
@@ -218,7 +216,7 @@ pub fn place(file: &[u8], out: &mut [u8]) -> Placed {
 /// let role_at = |minute, out: &mut [u8]| {
 ///     let placed = pilzdamo::place_at(&file, &hours, minute, out);
 ///     assert_eq!((placed.number, placed.on_steps), (0, 1));
-///     // The role that its first node puts on: the nodes stand behind the rest.
+///     // The role that its first node switches on: the nodes stand last.
 ///     let nodes = file.len() - 3 * 6;
 ///     u16::from_le_bytes([out[nodes + 2], out[nodes + 3]])
 /// };
@@ -231,7 +229,7 @@ pub fn place_at(file: &[u8], hours: &[u16], minute: u16, out: &mut [u8]) -> Plac
     raw::place_at(file, hours, minute, out)
 }
 
-/// [`place_at`] with an output of its own: the placed file and its on steps.
+/// The allocating version of [`place_at`]: the placed file and its on steps.
 ///
 /// ```
 /// let file = std::fs::read("../../examples/hours/desk.clinic")?;
@@ -250,9 +248,8 @@ pub fn placed_at(file: &[u8], hours: &[u16], minute: u16) -> Result<(Vec<u8>, u1
     kept(placed, out)
 }
 
-/// What [`place`] answers in an output that is long enough: the length and on
-/// steps of the placed file, or the refusal. Nothing is written, and 17 is never
-/// answered.
+/// What [`place`] answers in an output that is long enough: the length and on steps of
+/// the placed file, or the refusal. Writes nothing and never answers 17.
 ///
 /// ```
 /// use pilzdamo::{measure, place, ROOM};
@@ -288,21 +285,21 @@ pub fn measure_at(file: &[u8], hours: &[u16], minute: u16) -> Placed {
     raw::measure_at(file, hours, minute)
 }
 
-/// What was placed in an output, cut to its length.
+/// The placed file, truncated to its length.
 fn kept(placed: Placed, mut out: Vec<u8>) -> Result<(Vec<u8>, u16), Verdict> {
     placed.verdict().result()?;
     out.truncate(placed.length.into());
     Ok((out, placed.on_steps))
 }
 
-/// [`place`] with an output of its own: the placed file and its on steps.
+/// The allocating version of [`place`]: the placed file and its on steps.
 ///
 /// ```
 /// let file = std::fs::read("../../examples/transfer.clinic")?;
 /// let (placed, on_steps) = pilzdamo::placed(&file)?;
 /// assert_eq!(on_steps, 3);
 ///
-/// // What is placed can't be placed again: node 2 puts a role on.
+/// // A placed file can't be placed again: node 2 switches a role on.
 /// let refusal = pilzdamo::placed(&placed).unwrap_err();
 /// assert_eq!(refusal.to_string(), "refused 14 2");
 /// # Ok::<(), Box<dyn std::error::Error>>(())
@@ -313,20 +310,19 @@ pub fn placed(file: &[u8]) -> Result<(Vec<u8>, u16), Verdict> {
     kept(placed, out)
 }
 
-/// Runs a clinic file through a list of choices, two words each: a thread and
-/// its partner, 0 where it steps alone. Refusal 17 comes first, then 1 to 10,
-/// and then the choices up to the first that is refused.
+/// Runs a clinic file through a list of choices, two words each: a thread and its
+/// partner, 0 if the thread steps alone. Refusals 17, 1 to 10, then that of the first
+/// choice that is refused.
 ///
-/// Any bytes and any words will do, of any length. `out` must have [`RUN_ROOM`]
-/// bytes or more. A refusal before the choices leaves it as it was. Otherwise
-/// the state after the last choice that was done stands at its start, also
-/// where a choice is refused; the answer's place is then that choice's number,
-/// from 1. Nothing past the state is written.
+/// Accepts any input; never panics. `out` must have [`RUN_ROOM`] bytes or more. 17 and 1
+/// to 10 write nothing. Otherwise the state after the last choice done is written to the
+/// start of `out`, also if a choice is refused; the answer's place is then that choice's
+/// number, from 1. Nothing past the state is written.
 ///
-/// The state has these words, low byte first: choices done, the refusal or 0,
-/// the number of threads, that of the channels made; for each of those its owner
-/// and kind; for each thread its user, node, mask of active roles, the number of
-/// these, and its eight variables. [`State::of`](crate::State::of) reads them.
+/// The state has these words, low byte first: choices done; the refusal or 0; the number
+/// of threads; the number of made channels; for each made channel its owner and kind;
+/// for each thread its user, node, mask of active roles, the number of these, and its
+/// eight variables. [`State::of`](crate::State::of) reads them.
 ///
 /// ```
 /// // Role 1 may send on kind 1, role 2 may receive; user 1 has role 1, user 2
@@ -343,7 +339,7 @@ pub fn placed(file: &[u8]) -> Result<(Vec<u8>, u16), Verdict> {
 /// let file: Vec<u8> = words.into_iter().flat_map(u16::to_le_bytes).collect();
 /// let mut out = [0; pilzdamo::RUN_ROOM];
 ///
-/// // Thread 1 sends to thread 2 and ends. The other is then thread 1.
+/// // Thread 1 sends to thread 2 and ends. The other thread then has number 1.
 /// assert!(pilzdamo::run(&file, &[1, 2, 1, 0], &mut out).is_clean());
 /// let state: [u16; 16] = [2, 0, 1, 0, 2, 4, 2, 1, 1, 0, 0, 0, 0, 0, 0, 0];
 /// assert_eq!(out[..32], state.map(u16::to_le_bytes).concat());
@@ -358,19 +354,18 @@ pub fn run(file: &[u8], choices: &[u16], out: &mut [u8]) -> Verdict {
     raw::run(file, choices, out)
 }
 
-/// A dispatcher's round after a list of choices: who steps next, and with whom.
+/// A dispatcher's round after a list of choices: which threads step next, and with whom.
 ///
-/// The threads that are there when the round begins are visited in order, each once,
-/// also one that was met before its visit. One that is visited does its lone step, if
-/// that isn't refused; one at a send meets the first thread in order that stands at a
-/// receive, has not moved in this round, and can meet it. Threads made meanwhile wait
-/// for the next round. A round without a choice says that none can be done.
+/// The round visits the threads present at its start in order, each once, also one that
+/// was met before its visit. A visited thread does its lone step, unless it is refused.
+/// A visited sender meets the first receiver in order that it can meet and that has not
+/// moved in this round. Threads made meanwhile wait for the next round. An empty round
+/// means that no choice can be done.
 ///
-/// Any bytes and any words will do, of any length. Refusal 17 comes first, also for
-/// a list of over [`BEFORE_ROUND`] choices, and then those of [`run`]; a list that
-/// stops has no round. `out` must have [`RUN_ROOM`] bytes or more. What is written is
-/// what [`run`] writes for the list, and behind it the round's choices; the answer
-/// has its length. Nothing past that is written.
+/// Accepts any input; never panics. Refusals 17, also for over [`BEFORE_ROUND`] choices,
+/// then those of [`run`]; a list that halts has no round. `out` must have [`RUN_ROOM`]
+/// bytes or more. It gets the state after the list and the round's choices; the answer
+/// has the state's length. Nothing past it is written.
 ///
 /// ```
 /// use pilzdamo::{round, run, State, RUN_ROOM};
@@ -380,7 +375,7 @@ pub fn run(file: &[u8], choices: &[u16], out: &mut [u8]) -> Verdict {
 /// let (file, _) = pilzdamo::placed(&file)?;
 /// let mut out = [0; RUN_ROOM];
 ///
-/// // All put a role on. Then thread 1 meets the desk; thread 2 doesn't, since the
+/// // All switch a role on. Then thread 1 meets the desk; thread 2 doesn't, since the
 /// // desk has moved in that round.
 /// let mut choices = Vec::new();
 /// for due in ["choices 1 0, 2 0, 3 0", "choices 1 3"] {
@@ -405,13 +400,11 @@ pub fn round(file: &[u8], choices: &[u16], out: &mut [u8]) -> Round {
     raw::round(file, choices, out)
 }
 
-/// The ready pair of the state to which a list of choices leads, by the
-/// refusals of [`run`]: the lowest sender, then the lowest receiver that can
-/// meet it.
+/// The ready pair after a list of choices: the lowest sender that can send, and the
+/// lowest receiver that can meet it. The refusals are those of [`run`].
 ///
-/// Any bytes and any words will do, of any length. As there is no output, 17
-/// comes for the list alone: an odd number of words, or over 65,535 choices.
-/// Nothing is written and nothing is kept.
+/// Accepts any input; never panics. There is no output, so 17 is for the list alone: an
+/// odd number of words, or over 65,535 choices.
 ///
 /// ```
 /// # let words = [
@@ -430,13 +423,12 @@ pub fn ready(file: &[u8], choices: &[u16]) -> Ready {
     raw::ready(file, choices)
 }
 
-/// Who is waiting on what after a list of choices: for each kind how many threads
-/// stand at a receive whose channel has that kind, whatever roles they hold.
+/// Who is waiting on what after a list of choices: for each kind, how many threads stand
+/// at a receive on a channel of that kind, whatever roles they hold.
 ///
-/// Any bytes and any words will do, of any length. The refusals are those of
-/// [`run`]; as there is no output, 17 comes for the list alone. Where the list stops
-/// the totals are those of the state before the choice that is refused. Nothing is
-/// written and nothing is kept.
+/// Accepts any input; never panics. The refusals are those of [`run`]; there is no
+/// output, so 17 is for the list alone. If the list halts, the totals are those of the
+/// state before the refused choice.
 ///
 /// ```
 /// # let words = [
@@ -460,36 +452,36 @@ pub fn totals(file: &[u8], choices: &[u16]) -> Totals {
     raw::totals(file, choices)
 }
 
-/// A [`run`] with seats: a table gives each role of the file its seats, one word a role,
+/// A [`run`] with seats. A table gives each role of the file its seats, one word a role:
 /// 0 for no limit, else 1 to [`SEATS`].
 ///
 /// A session has a seat in a role while any of its threads has the role active. An on by
-/// a session without one gets a seat exactly if one is free, and nobody is in the role's
-/// line or the session is the first there; it leaves the line as it takes the seat. An
-/// on that gets none is answered 26: its session joins the line at the end, if it isn't in it, and nothing
-/// else changes. That halts nothing: the choice counts as done, and is to be made again
-/// when a seat may be free. [`seats`] says who has a seat and who waits.
+/// a session without a seat gets one exactly if one is free and the line is empty or the
+/// session is its head; the head leaves the line as it takes the seat. An on that gets
+/// no seat is answered 26: its session is queued at the end of the line, unless it is in
+/// it already, and nothing else changes. The run goes on and the choice counts as done;
+/// make it again when a seat may be free. [`seats`] says who has a seat and who waits.
 ///
-/// Refusals and output are those of [`run`], and between 1 to 10 and the choices come 17
-/// for another number of words than roles or a word above [`SEATS`], and 26 for the
-/// lowest session whose starting mask, taken in order, overfills a role. The answer has
-/// the length of what is written, also where a choice halts the run.
+/// Refusals and output are those of [`run`]. Between 1 to 10 and the choices come two
+/// more: 17 for another number of words than roles or a word above [`SEATS`], and 26 for
+/// the lowest session whose starting mask, taken in order, overfills a role. The answer
+/// has the length of what is written, also if a choice halts the run.
 ///
 /// ```
 /// use pilzdamo::{run, run_seated, State, RUN_ROOM};
 ///
-/// // Two schedulers that put role 1 on and, later, role 2. Role 1 has one seat.
+/// // Two schedulers that switch on role 1 and, later, role 2. Role 1 has one seat.
 /// let file = std::fs::read("../../examples/spring/cut.clinic")?;
 /// let (seats, mut out) = ([1, 0, 0], [0; RUN_ROOM]);
 /// let written = run_seated(&file, &[1, 0, 2, 0], &seats, &mut out);
 /// written.verdict().result()?;
 /// let state = State::of(&out[..written.length.into()]).unwrap();
 ///
-/// // The second is still at its on, and waits. Both choices are done.
+/// // The second is still at its on and waits. Both choices are done.
 /// assert_eq!(state.done, 2);
 /// assert_eq!((state.threads[0].mask, state.threads[1].mask), (1, 0));
 ///
-/// // Without limits it is a run.
+/// // Without limits it is a plain run.
 /// let mut due = [0; RUN_ROOM];
 /// run(&file, &[1, 0, 2, 0], &mut due).result()?;
 /// let written = run_seated(&file, &[1, 0, 2, 0], &[0, 0, 0], &mut out);
@@ -505,8 +497,8 @@ pub fn run_seated(file: &[u8], choices: &[u16], seats: &[u16], out: &mut [u8]) -
     raw::run_seated(file, choices, seats, out)
 }
 
-/// A dispatcher's [`round`] with seats, as [`run_seated`] has them. A thread that gets no
-/// seat at its visit is in the round's list all the same, and its session in the line.
+/// A dispatcher's [`round`] with seats, as in [`run_seated`]. A visit that gets no seat is
+/// in the round's list, and its session is queued.
 ///
 /// Refusals and output are those of [`round`], with 17 and 26 for the seats as in
 /// [`run_seated`].
@@ -514,7 +506,7 @@ pub fn run_seated(file: &[u8], choices: &[u16], seats: &[u16], out: &mut [u8]) -
 /// ```
 /// use pilzdamo::{round_seated, RUN_ROOM};
 ///
-/// // Both schedulers, and four of the desk; role 1 has one seat.
+/// // Both schedulers, and four sessions of the desk; role 1 has one seat.
 /// let file = std::fs::read("../../examples/spring/cut.clinic")?;
 /// let mut out = [0; RUN_ROOM];
 /// let round = round_seated(&file, &[], &[1, 0, 0], &mut out);
@@ -530,23 +522,22 @@ pub fn round_seated(file: &[u8], choices: &[u16], seats: &[u16], out: &mut [u8])
     raw::round_seated(file, choices, seats, out)
 }
 
-/// Who has a role, and who waits for a seat, after a list of choices with a table of
-/// seats as [`run_seated`] has it.
+/// Who has a role and who waits for a seat, after a list of choices with a table of
+/// seats as in [`run_seated`].
 ///
-/// Any bytes and any words will do, of any length. The refusals are those of
-/// [`run_seated`]; as there is no output, 17 comes for the list and the table alone.
-/// Where the list stops, what is read is of the state before the choice that is refused.
-/// Nothing is written and nothing is kept.
+/// Accepts any input; never panics. The refusals are those of [`run_seated`]; there is
+/// no output, so 17 is for the list and the table alone. If the list halts, the answer
+/// is about the state before the refused choice.
 ///
 /// ```
-/// // One seat in role 1, for which both schedulers ask.
+/// // Role 1 has one seat, and both schedulers ask for it.
 /// let file = std::fs::read("../../examples/spring/cut.clinic")?;
 /// let seats = |choices: &[u16]| pilzdamo::seats(&file, choices, &[1, 0, 0]);
 /// let asked = seats(&[1, 0, 2, 0]);
 /// assert_eq!((asked.in_role(1), asked.line_of(1)), (1, &[2][..]));
 /// assert_eq!((asked.waited, asked.last), (1, 26));
 ///
-/// // The one that has it can't put it off before it has read; the other asks again.
+/// // The second asks again, while the first still has the seat.
 /// let again = seats(&[1, 0, 2, 0, 2, 0]);
 /// assert_eq!((again.line_of(1), again.waited), (&[2][..], 2));
 /// # Ok::<(), std::io::Error>(())
@@ -556,9 +547,9 @@ pub fn seats(file: &[u8], choices: &[u16], seats: &[u16]) -> Seats {
     raw::seats(file, choices, seats)
 }
 
-/// How many threads wait on a kind, from the words beside a list of threads, such as
-/// [`start`] and [`choose`] leave there: one word is read. It is 0 for a kind outside
-/// 1 to 32, and where there are other than [`BESIDE`] words.
+/// How many threads wait on a kind, from the words beside a list of threads that
+/// [`start`] and [`choose`] keep. Reads one word. The answer is 0 for a kind outside 1 to
+/// 32, and for another number of words than [`BESIDE`].
 ///
 /// ```
 /// # let words = [
@@ -573,11 +564,11 @@ pub fn seats(file: &[u8], choices: &[u16], seats: &[u16]) -> Seats {
 /// assert!(start(&file, &mut threads, &mut beside).is_clean());
 /// assert_eq!((total(&beside, 1), total(&beside, 2)), (1, 0));
 ///
-/// // Thread 1 sends to thread 2, which then waits no more.
+/// // Thread 1 sends to thread 2, which then no longer waits.
 /// assert!(choose(&file, &mut threads, &mut beside, 1, 2).is_clean());
 /// assert_eq!(total(&beside, 1), 0);
 ///
-/// // No kind has number 0 or 33, and these are no desk's words.
+/// // No kind has number 0 or 33, and a desk has more words.
 /// assert_eq!((total(&[9; BESIDE], 0), total(&[9; BESIDE], 33)), (0, 0));
 /// assert_eq!(total(&[9; BESIDE - 1], 1), 0);
 /// ```
@@ -586,17 +577,16 @@ pub fn total(beside: &[u16], kind: u16) -> u16 {
     raw::total(beside, kind)
 }
 
-/// A refusal as a sentence of fixed words: what its number means, what its place
-/// counts, the place, and, for 9 to 15 at a node, that node's tag. It stands at the
-/// start of `out`, and its length in bytes is answered.
+/// Writes a refusal as a sentence of fixed words to the start of `out`: what its number
+/// means, what its place counts, the place, and, for 9 to 15 at a node, that node's tag.
+/// Answers the sentence's length in bytes.
 ///
-/// There are sentences for these, and for nothing else: the number is that of a
-/// refusal, and what is counted is one of those that it has ([`Reason`] has the table);
-/// the place is 0 where nothing is counted, and 1 to 65,535 else; the tag is 0 to 8 for
-/// 9 to 15 at a node, and [`NO_TAG`](crate::NO_TAG) else. For anything else, and where
-/// `out` has under [`SENTENCE`] bytes, the answer is 0 and nothing is written. Nothing
-/// past the length is. No two reasons share a sentence. [`Reason::sentence`] has an
-/// output of its own.
+/// A reason has a number of a refusal and a count that this number may have ([`Reason`]
+/// has the table); place 0 if nothing is counted, else 1 to 65,535; a tag from 0 to 8
+/// for 9 to 15 at a node, else [`NO_TAG`](crate::NO_TAG). For anything else, and if `out`
+/// has under [`SENTENCE`] bytes, the answer is 0 and nothing is written. Nothing past the
+/// length is written. No two reasons share a sentence. See [`Reason::sentence`] for the
+/// allocating version.
 ///
 /// ```
 /// use pilzdamo::{reason, Counts, Reason, NO_TAG, SENTENCE};
@@ -608,7 +598,7 @@ pub fn total(beside: &[u16], kind: u16) -> u16 {
 /// let sentence = b"Refused 13: no active role permits the step at node 4, a send.";
 /// assert_eq!(&out[..length], sentence);
 ///
-/// // Its tag belongs to it; and 3 has no place.
+/// // 13 at a node needs a tag; 3 has no place.
 /// assert_eq!(reason(Reason { tag: NO_TAG, ..of }, &mut out), 0);
 /// assert_eq!(reason(Reason { number: 3, ..of }, &mut out), 0);
 ///
@@ -620,9 +610,8 @@ pub fn reason(reason: Reason, out: &mut [u8]) -> u16 {
     raw::reason(reason, out)
 }
 
-/// The reason that a sentence of [`reason`] says: all that it was written from. Any
-/// other bytes, of any length, are answered with 0 in all four words, number 0 being
-/// none.
+/// Reads a sentence of [`reason`] back: the reason that it was written from. Any other
+/// bytes are answered with 0 in all four fields.
 ///
 /// ```
 /// use pilzdamo::{read_reason, Counts};
@@ -631,7 +620,7 @@ pub fn reason(reason: Reason, out: &mut [u8]) -> u16 {
 /// assert_eq!((told.number, told.place, told.tag), (13, 4, 6));
 /// assert_eq!(told.counted(), Some(Counts::Node));
 ///
-/// // Node 04 is no place.
+/// // A leading zero makes it another text.
 /// let told = read_reason(b"Refused 13: no active role permits the step at node 04, a send.");
 /// assert_eq!((told.number, told.counts, told.place, told.tag), (0, 0, 0, 0));
 /// assert!(!told.is_one());
@@ -641,10 +630,10 @@ pub fn read_reason(sentence: &[u8]) -> Reason {
     raw::read_reason(sentence)
 }
 
-/// What a refusal's number means, at the start of `out`, and its length in bytes: the
-/// first part of its sentences. For a number that no refusal has, and where `out` has
-/// under [`SENTENCE`] bytes, the answer is 0 and nothing is written. [`meaning`] has an
-/// output of its own.
+/// Writes what a refusal's number means to the start of `out`, and answers its length in
+/// bytes: the first part of the number's sentences. For a number that no refusal has,
+/// and if `out` has under [`SENTENCE`] bytes, the answer is 0 and nothing is written. See
+/// [`meaning`] for the allocating version.
 ///
 /// ```
 /// let mut out = [0; pilzdamo::SENTENCE];
@@ -657,7 +646,8 @@ pub fn phrase(number: u16, out: &mut [u8]) -> u16 {
     raw::phrase(number, out)
 }
 
-/// [`phrase`] with an output of its own: what a number means, if a refusal has it.
+/// The allocating version of [`phrase`]: what a number means, or `None` if no refusal
+/// has it.
 ///
 /// ```
 /// let meaning = pilzdamo::meaning(12).unwrap();
@@ -668,7 +658,7 @@ pub fn meaning(number: u16) -> Option<String> {
     said(|out| phrase(number, out))
 }
 
-/// What is written into an output of its own, if anything is.
+/// What a call writes, or `None` if it writes nothing.
 pub(crate) fn said(write: impl FnOnce(&mut [u8]) -> u16) -> Option<String> {
     let mut out = vec![0; SENTENCE];
     let length = usize::from(write(&mut out));
@@ -677,19 +667,17 @@ pub(crate) fn said(write: impl FnOnce(&mut [u8]) -> u16) -> Option<String> {
     (length > 0).then(|| String::from_utf8_lossy(&out).into_owned())
 }
 
-/// Makes a list of threads that is lent start as the file does, so that [`choose`]
-/// can go on from there. [`Desk::start`](crate::Desk::start) has a list of its own.
+/// Writes the start of a run into a list of threads, from which [`choose`] goes on. See
+/// [`Desk::start`](crate::Desk::start) for a desk that owns its list.
 ///
-/// `threads` must have [`RECORDS`] records, and `beside` [`BESIDE`] words. They may
-/// hold anything. Each session has a thread, in order, in the first records: the
-/// session's user, root and starting mask, and no variable bound. The first word of
-/// `beside` becomes the number of these threads, the second 0, as no channel is made
-/// yet, and the last [`TOTALS`] say how many of these threads wait on each kind. All
-/// other records and words stay as they were.
+/// `threads` must have [`RECORDS`] records and `beside` [`BESIDE`] words, of any content.
+/// The first records get one thread for each session, in order: the session's user,
+/// root and starting mask, and no variable bound. The first word of `beside` gets the
+/// number of threads, the second 0, as no channel is made yet; the last [`TOTALS`] words
+/// get how many of these threads wait on each kind. All other records and words stay.
 ///
-/// Refusals 1 to 10 come first, and then 18 at place 0 for another number of records
-/// or words. Any bytes will do, of any length. Where the answer is a refusal nothing
-/// is written.
+/// Refusals 1 to 10, then 18 at place 0 for another number of records or words. A
+/// refusal writes nothing. Accepts any input; never panics.
 ///
 /// ```
 /// # let words = [
@@ -699,7 +687,7 @@ pub(crate) fn said(write: impl FnOnce(&mut [u8]) -> u16) -> Option<String> {
 /// # let file: Vec<u8> = words.into_iter().flat_map(u16::to_le_bytes).collect();
 /// use pilzdamo::{start, Thread, BESIDE, RECORDS};
 ///
-/// // The file of `run`'s example, and lists that hold something else.
+/// // The file of `run`'s example, and lists with other content.
 /// let old = Thread { user: 9, node: 9, mask: 9, vars: [9; 8] };
 /// let (mut threads, mut beside) = ([old; RECORDS], [9; BESIDE]);
 /// assert!(start(&file, &mut threads, &mut beside).is_clean());
@@ -721,23 +709,20 @@ pub fn start(file: &[u8], threads: &mut [Thread], beside: &mut [u16]) -> Verdict
     raw::start(file, threads, beside)
 }
 
-/// Carries out one choice in a list of threads that is lent: thread `thread`
-/// steps, alone if `partner` is 0. From a state of a [`run`] it gives the run's
-/// next state. A [`Desk`](crate::Desk) keeps such a list.
+/// Carries out one choice in the caller's list of threads: `thread` steps, alone if
+/// `partner` is 0. From a state of a [`run`] it gives the run's next state. A
+/// [`Desk`](crate::Desk) owns such a list.
 ///
-/// `threads` must have [`RECORDS`] records, and `beside` [`BESIDE`] words: the
-/// number of threads, which are the first records, that of the made channels, the
-/// owner and kind of each made channel, of which there is room for 64, and in the last
-/// [`TOTALS`] words, for each kind from 1 on, how many threads stand at a receive
-/// whose channel has that kind. What stands past the two numbers may be anything; the
-/// totals must all be right, 0 for kinds that the file doesn't have. [`start`] makes
-/// such a list, and [`total`] reads a total of it.
+/// `threads` must have [`RECORDS`] records, of which the first are the threads. `beside`
+/// must have [`BESIDE`] words: the number of threads; the number of made channels; owner
+/// and kind of up to 64 made channels; and, for each kind from 1 to [`TOTALS`], how many
+/// threads stand at a receive on a channel of that kind. Records and made channels past
+/// their numbers may hold anything. All totals must be right, 0 for kinds that the file
+/// doesn't have. [`start`] makes such a list, and [`total`] reads a total of it.
 ///
-/// Refusals 1 to 10 come first, then 18 at place 0 for anything wrong with what
-/// is lent, and then the refusal of the choice itself, at place 1. Any bytes and
-/// any words will do, of any length. A choice that is refused leaves everything
-/// as it was. One that is done changes what it must and nothing else; where a
-/// thread ends, the last of the old list stays behind the new one.
+/// Refusals 1 to 10, then 18 at place 0 for anything wrong with the list, then that of
+/// the choice itself, at place 1. A refused choice changes nothing. After an end, the
+/// record past the new last thread keeps its words. Accepts any input; never panics.
 ///
 /// ```
 /// # let words = [
@@ -756,7 +741,7 @@ pub fn start(file: &[u8], threads: &mut [Thread], beside: &mut [u16]) -> Verdict
 /// assert_eq!(threads[0].node, 2);
 /// assert_eq!((threads[1].node, threads[1].vars[0]), (4, 1));
 ///
-/// // It ends. The other is then thread 1, and its old record stays.
+/// // Thread 1 ends. The other is then thread 1, and its old record stays.
 /// let last = threads[1];
 /// assert!(choose(&file, &mut threads, &mut beside, 1, 0).is_clean());
 /// assert_eq!((beside[0], threads[0], threads[1]), (1, last, last));
@@ -786,20 +771,18 @@ pub fn choose(
     raw::choose(file, threads, beside, thread, partner)
 }
 
-/// Makes one file of two, both of version 1: the first file's users, channels, sessions
-/// and nodes, and then the second's, with the numbers that these have behind the
-/// first's. Roles and kinds must be the same tables in both.
+/// Merges two version 1 files: the first file's users, channels, sessions and nodes, then
+/// the second's, renumbered. Both must have the same tables of roles and kinds.
 ///
 /// The merged file passes the [`check`] exactly if both do. If all three can be placed,
 /// it has the on steps of both together.
 ///
-/// Any bytes will do, of any length. Refusal 17 comes first: `out` must have [`ROOM_1`]
-/// bytes or more. Then comes the first file's own by 1 to 10, then the second's, where
-/// another version than 1 is 2; then 25 for tables that differ, and 3 at place 0 for
-/// over 32 users, 64 channels, 32 sessions or 1,024 nodes together. If none refuses
-/// them, the merged file stands at the start of `out`. Where the answer is a refusal
-/// nothing of `out` is written, and otherwise nothing past the answer's length.
-/// [`merged`] has an output of its own.
+/// The order of refusals: 17 for an output under [`ROOM_1`] bytes; the first file's own
+/// by 1 to 10, then the second's, where another version than 1 is 2; 25 for tables that
+/// differ; 3 at place 0 for over 32 users, 64 channels, 32 sessions or 1,024 nodes
+/// together. The merged file is written to the start of `out`. A refusal writes nothing,
+/// and nothing past the answer's length is written. Accepts any input; never panics. See
+/// [`merged`] for the allocating version.
 ///
 /// ```
 /// // User 1 sends on channel 1, which is user 2's.
@@ -834,7 +817,7 @@ pub fn choose(
 /// other[34] = 1;
 /// assert_eq!(pilzdamo::merge(&file, &other, &mut out).to_string(), "refused 25 0");
 ///
-/// // A byte less of output, and the files aren't looked at.
+/// // With one byte of output less, 17 comes before any look at the files.
 /// let written = pilzdamo::merge(&file, &[1], &mut out[1..]);
 /// assert_eq!(written.to_string(), "refused 17 0");
 /// ```
@@ -843,7 +826,7 @@ pub fn merge(first: &[u8], second: &[u8], out: &mut [u8]) -> Written {
     raw::merge(first, second, out)
 }
 
-/// [`merge`] with an output of its own: the merged file.
+/// The allocating version of [`merge`]: the merged file.
 ///
 /// ```
 /// let north = std::fs::read("../../examples/house/north.clinic")?;
@@ -863,18 +846,16 @@ pub fn merged(first: &[u8], second: &[u8]) -> Result<Vec<u8>, Verdict> {
     cut(written, out)
 }
 
-/// Writes a file of version 2 in version 3, which has its nodes by column: all tags,
+/// Turns a version 2 file into version 3, which stores the nodes by column: all tags,
 /// then all f1, then all f2. All else stays, and so does the length.
 ///
-/// Every other function answers the column file as it does the file with its nodes by
-/// row, and what is placed keeps the form in which it came. [`to_rows`] gives the file
-/// back, byte by byte.
+/// Every other call answers the column file as it answers the row file, and a placed
+/// file keeps the form of its input. [`to_rows`] restores the file, byte by byte.
 ///
-/// Any bytes will do, of any length. Refusal 17 comes first: `out` must have [`ROOM`]
-/// bytes or more. Then come 1 to 5, where another version than 2 is 2, and that is all:
-/// the records aren't judged. Where the answer is a refusal nothing of `out` is written,
-/// and otherwise nothing past the answer's length. [`in_columns`] has an output of its
-/// own.
+/// Refusals: 17 for an output under [`ROOM`] bytes, then 1 to 5, where another version
+/// than 2 is 2. The records aren't checked. A refusal writes nothing, and nothing past
+/// the answer's length is written. Accepts any input; never panics. See [`in_columns`]
+/// for the allocating version.
 ///
 /// ```
 /// // A file with two nodes: user 1 compares herself with herself, and ends.
@@ -903,9 +884,9 @@ pub fn to_columns(file: &[u8], out: &mut [u8]) -> Written {
     raw::to_columns(file, out)
 }
 
-/// Writes a file of version 3 in version 2, which has its nodes by row: the other way
-/// of [`to_columns`], which gives the file back, byte by byte. Another version than 3 is
-/// 2; all else is as there. [`in_rows`] has an output of its own.
+/// Turns a version 3 file into version 2, which stores the nodes by row: the inverse of
+/// [`to_columns`]. Another version than 3 is refused with 2; all else is as there. See
+/// [`in_rows`] for the allocating version.
 ///
 /// ```
 /// use pilzdamo::{to_columns, to_rows, ROOM};
@@ -918,7 +899,7 @@ pub fn to_columns(file: &[u8], out: &mut [u8]) -> Written {
 /// let length = usize::from(to_columns(&rows, &mut out).length);
 /// assert_eq!(out[..length], columns);
 ///
-/// // It has its nodes by row already; and a byte less of output.
+/// // A row file can't be turned to rows; and an output with one byte less.
 /// assert_eq!(to_rows(&rows, &mut out).to_string(), "refused 2 0");
 /// assert_eq!(to_rows(&columns, &mut out[1..]).to_string(), "refused 17 0");
 /// # Ok::<(), std::io::Error>(())
@@ -928,7 +909,7 @@ pub fn to_rows(file: &[u8], out: &mut [u8]) -> Written {
     raw::to_rows(file, out)
 }
 
-/// [`to_columns`] with an output of its own: the column file.
+/// The allocating version of [`to_columns`]: the column file.
 ///
 /// ```
 /// let rows = std::fs::read("../../examples/head-nurse/juniors.clinic")?;
@@ -947,7 +928,7 @@ pub fn in_columns(file: &[u8]) -> Result<Vec<u8>, Verdict> {
     cut(written, out)
 }
 
-/// [`to_rows`] with an output of its own: the row file.
+/// The allocating version of [`to_rows`]: the row file.
 ///
 /// ```
 /// let rows = std::fs::read("../../examples/head-nurse/juniors.clinic")?;
@@ -960,25 +941,24 @@ pub fn in_rows(file: &[u8]) -> Result<Vec<u8>, Verdict> {
     cut(written, out)
 }
 
-/// What was written into an output, cut to its length.
+/// What was written, truncated to its length.
 fn cut(written: Written, mut out: Vec<u8>) -> Result<Vec<u8>, Verdict> {
     written.verdict().result()?;
     out.truncate(written.length.into());
     Ok(out)
 }
 
-/// Which of two notices is in force on a day, and the part of it that is its file: of
-/// that very notice, not a copy.
+/// Which of two notices is in force on a day, and its file, as a slice of that notice.
 ///
 /// A notice is a word with the first day of validity, in days since 1 January 2000, a
-/// word with the file's length in bytes, and the file. Of those that have begun the one
-/// with the later first day supersedes; with equal first days, the second.
+/// word with the file's length in bytes, and the file. Of the notices that have begun the
+/// one with the later first day is in force; with equal first days, the second.
 ///
-/// Any bytes will do, of any length. Refusal 27, at place 1 or 2, is for a notice under
-/// 4 bytes, whose length word isn't the number of bytes behind it, or whose file
-/// [`read`] refuses; both notices are judged, the first before the second, before any
-/// day is looked at. Then comes 28, where neither has begun. With a refusal the part is
-/// the empty one at the first notice's start. [`file_in_force`] has the part alone.
+/// Refusals: 27 at place 1 or 2 for a notice under 4 bytes, one whose length word isn't
+/// the number of bytes after it, or one whose file [`read`] refuses, the first notice
+/// before the second and both before any look at the days; then 28 if neither has begun.
+/// With a refusal the slice is the empty one at the first notice's start. Accepts any
+/// input; never panics. See [`file_in_force`] for the file alone.
 ///
 /// ```
 /// let file = std::fs::read("../../examples/booking.clinic")?;
@@ -1009,10 +989,10 @@ pub fn in_force<'a>(first: &'a [u8], second: &'a [u8], day: u16) -> (InForce, &'
     (told, &notice[at..at + usize::from(told.length)])
 }
 
-/// The part of [`in_force`], or the refusal.
+/// The file in force, as in [`in_force`], or the refusal.
 ///
 /// ```
-/// // Nothing is planned from day 7 on; the second notice has a byte too few.
+/// // Nothing is planned from day 7 on; then the second notice lacks a byte.
 /// let sound = [7, 0, 0, 0];
 /// assert_eq!(pilzdamo::file_in_force(&sound, &sound, 7), Ok(&[][..]));
 /// let refusal = pilzdamo::file_in_force(&sound, &sound[..3], 7).unwrap_err();
@@ -1024,12 +1004,12 @@ pub fn file_in_force<'a>(first: &'a [u8], second: &'a [u8], day: u16) -> Result<
     Ok(part)
 }
 
-/// The figures of many files in a row, each behind a word with its length in bytes: what
-/// [`place`] gives each of them by itself, added up.
+/// The figures of many files in a row, each after a word with its length in bytes: the
+/// sums of what [`place`] answers for each of them.
 ///
-/// Any bytes will do, of any length. The sheet ends behind [`SHEET_FILES`] files, or at
-/// the first record that isn't whole, which is not counted. The order of the files is no
-/// matter. [`records`] makes such an input.
+/// The sheet ends after [`SHEET_FILES`] files, or at the first record that isn't whole,
+/// which is not counted. The order of the files doesn't matter. [`records`] makes such an
+/// input. Accepts any input; never panics.
 ///
 /// ```
 /// let read = |name: &str| std::fs::read(format!("../../examples/{name}.clinic"));
@@ -1040,7 +1020,7 @@ pub fn file_in_force<'a>(first: &'a [u8], second: &'a [u8], day: u16) -> Result<
 /// assert_eq!((sheet.sessions, sheet.on_steps, sheet.most), (4, 4, 1));
 /// assert_eq!((sheet.quotient, sheet.remainder), (1_000, 0));
 ///
-/// // Cut off, it ends before the third file.
+/// // Without its last byte the sheet ends before the third file.
 /// assert_eq!(pilzdamo::sheet(&input[..input.len() - 1]).files, 2);
 /// # Ok::<(), std::io::Error>(())
 /// ```
@@ -1049,8 +1029,8 @@ pub fn sheet(input: &[u8]) -> Sheet {
     raw::sheet(input)
 }
 
-/// Files in a row, each behind a word with its length in bytes; none if one of them has
-/// over 65,535 bytes, which no word can say.
+/// Files in a row, each after a word with its length in bytes. `None` if a file has over
+/// 65,535 bytes, which a word can't hold.
 ///
 /// ```
 /// assert_eq!(pilzdamo::records([&[7, 8][..], &[]]), Some(vec![2, 0, 7, 8, 0, 0]));

@@ -1,17 +1,17 @@
-//! A live desk: a list of threads that goes on choice by choice.
+//! A live desk: a run that goes on choice by choice.
 
 use crate::{choose, run, start, total, totals, Channel, State, Thread, Verdict};
 use crate::{BESIDE, RECORDS, RUN_ROOM, TOTALS};
 use std::fmt;
 use std::sync::Arc;
 
-/// A file, the list of threads of a run of it, and beside that its made channels and
-/// how many threads wait on each kind, which go on choice by choice.
+/// A run of a file that goes on choice by choice: the file, the threads, the made
+/// channels, and how many threads wait on each kind.
 ///
-/// It begins with what the engine writes, only the engine changes it, and its file is
-/// its own: so it is always a state of a run of that file. A caller that has another
-/// place for the list lends it to [`start`] and [`choose`] itself. A clone stays behind
-/// when the desk goes on, so that a choice can be taken back; both share the file.
+/// A desk owns a copy of its file, and only the engine changes its state. So it always
+/// holds a state of a run of that file. To undo a choice, clone the desk before it; the
+/// clones share the file. A caller that keeps the list in its own memory calls
+/// [`start`] and [`choose`] instead.
 ///
 /// ```
 /// use pilzdamo::Desk;
@@ -20,7 +20,7 @@ use std::sync::Arc;
 /// let (file, _) = pilzdamo::placed(&file)?;
 /// let mut desk = Desk::start(&file)?;
 ///
-/// // Ward 1 makes a channel, puts role 1 on and forks.
+/// // Ward 1 makes a channel, switches role 1 on and forks.
 /// for _ in 0..3 {
 ///     desk.choose(1, 0)?;
 /// }
@@ -34,7 +34,7 @@ use std::sync::Arc;
 /// let refusal = desk.choose(1, 0).unwrap_err();
 /// assert_eq!(refusal.to_string(), "refused 18 1");
 ///
-/// // Ward 3 repeats; its new thread puts role 2 on, and can take the request.
+/// // Ward 3 repeats; its new thread switches role 2 on, and can take the request.
 /// desk.choose(3, 0)?;
 /// desk.choose(5, 0)?;
 /// assert_eq!(desk.choices(), [(1, 5), (2, 0), (3, 0)]);
@@ -42,7 +42,7 @@ use std::sync::Arc;
 /// desk.choose(1, 5)?;
 /// assert_eq!(desk.threads()[4].vars[0], 385);
 ///
-/// // It is taken back.
+/// // Undo it.
 /// desk = before;
 /// assert_eq!(desk.threads()[4].vars[0], 0);
 /// # Ok::<(), Box<dyn std::error::Error>>(())
@@ -55,8 +55,8 @@ pub struct Desk {
 }
 
 impl Desk {
-    /// The start of a file's run: one thread for each session. The file is judged
-    /// by refusals 1 to 10, and copied.
+    /// Starts a run: one thread for each session. Refuses a file by 1 to 10; copies
+    /// the file.
     ///
     /// ```
     /// let file = std::fs::read("../../examples/spring/cut.clinic")?;
@@ -73,8 +73,8 @@ impl Desk {
         Ok(desk)
     }
 
-    /// What a list of choices leads to, such as a desk's record of those that it
-    /// made. Any refusal of [`run`] is the error, also one that halts the run.
+    /// The desk to which a list of choices leads, such as a stored list of choices
+    /// done. Any refusal of [`run`] is the error, also one that halts the run.
     ///
     /// ```
     /// use pilzdamo::Desk;
@@ -107,7 +107,7 @@ impl Desk {
         }
     }
 
-    /// Lays a state and its totals out as they are lent.
+    /// A state and its totals, in the layout of a lent list.
     fn of(file: &[u8], state: &State, totals: &[u16; TOTALS]) -> Desk {
         let mut desk = Desk::empty(file);
         desk.threads[..state.threads.len()].copy_from_slice(&state.threads);
@@ -121,8 +121,8 @@ impl Desk {
         desk
     }
 
-    /// Carries out one choice: thread `thread` steps, alone if `partner` is 0. The
-    /// refusals are those of [`choose`]; a refused choice changes nothing.
+    /// Carries out one choice: `thread` steps, alone if `partner` is 0. The refusals
+    /// are those of [`choose`]; a refused choice changes nothing.
     ///
     /// ```
     /// let file = std::fs::read("../../examples/refused/choices.clinic")?;
@@ -144,8 +144,8 @@ impl Desk {
         choose(file, threads, beside, thread, partner).result()
     }
 
-    /// Why a choice can't be done here, by the refusal of [`choose`](Desk::choose);
-    /// none where it can. Nothing is changed.
+    /// The refusal that [`choose`](Desk::choose) would answer, or `None` if the choice
+    /// can be done. Changes nothing.
     ///
     /// ```
     /// let file = std::fs::read("../../examples/refused/choices.clinic")?;
@@ -160,12 +160,12 @@ impl Desk {
         self.clone().choose(thread, partner).err()
     }
 
-    /// All choices that can be done here, thread and partner (0 where the thread steps
-    /// alone), in the order of the threads and then of the partners. Each was tried on a
-    /// copy of the list, and was done there.
+    /// All choices that can be done now, as thread and partner (0 if the thread steps
+    /// alone), ordered by thread and then by partner. The engine has done each of them
+    /// on a copy of the desk.
     ///
     /// ```
-    /// // Two bookings, and the desk that takes them; each puts its role on.
+    /// // Two bookings, and the desk that takes them; each switches its role on.
     /// let (file, _) = pilzdamo::placed(&std::fs::read("../../examples/desks.clinic")?)?;
     /// let mut desk = pilzdamo::Desk::start(&file)?;
     /// assert_eq!(desk.choices(), [(1, 0), (2, 0), (3, 0)]);
@@ -183,7 +183,8 @@ impl Desk {
         for thread in 1..=self.beside[0] {
             match self.why_not(thread, 0) {
                 None => choices.push((thread, 0)),
-                // Only who sends or receives is refused so alone, and only they can meet.
+                // A lone choice is refused with 18 only at a send or a receive, and only
+                // such threads can meet.
                 Some(Verdict { number: 18, .. }) => paired.push(thread),
                 Some(_) => (),
             }
@@ -197,7 +198,7 @@ impl Desk {
         choices
     }
 
-    /// The file that it runs.
+    /// The file of the run.
     pub fn file(&self) -> &[u8] {
         &self.file
     }
@@ -207,15 +208,15 @@ impl Desk {
         &self.threads[..self.beside[0].into()]
     }
 
-    /// The channels made, the first of them first.
+    /// The made channels, in the order in which they were made.
     pub fn made(&self) -> impl ExactSizeIterator<Item = Channel> + '_ {
         let (channels, _) = self.beside[2..].as_chunks();
         let made = &channels[..self.beside[1].into()];
         made.iter().map(|&[owner, kind]| Channel { owner, kind })
     }
 
-    /// How many threads stand at a receive whose channel has this kind; 0 for a kind
-    /// outside 1 to 32. It is one word that is read, whatever the number of threads.
+    /// How many threads stand at a receive on a channel of this kind; 0 for a kind
+    /// outside 1 to 32. Reads one word, whatever the number of threads.
     ///
     /// ```
     /// use pilzdamo::Desk;
@@ -225,7 +226,7 @@ impl Desk {
     /// let waiting = |desk: &Desk| [1, 2, 3].map(|kind| desk.total(kind));
     /// assert_eq!(waiting(&desk), [0, 0, 0]);
     ///
-    /// // The first scheduler puts its role on, and waits to read (kind 1).
+    /// // The first scheduler switches its role on, and waits to read (kind 1).
     /// desk.choose(1, 0)?;
     /// assert_eq!(waiting(&desk), [1, 0, 0]);
     /// assert_eq!((desk.total(0), desk.total(33)), (0, 0));

@@ -1,42 +1,41 @@
-//! Safe calls to the engine for the routines that book hospital beds, which is
-//! proved to do what the paper says.
+//! Safe calls to Pilzdamo, the proved engine for hospital-bed routines.
 //!
-//! A clinic's file says who its users are and which roles they have, which kinds of
-//! channels a role may send and receive on, and what each session does, node by
-//! node. The engine judges such a file, places roles into it, and runs it. It takes
-//! any bytes, and answers a refusal by a number and a place where it must.
+//! A clinic's file lists its users and their roles, the kinds of channels that each
+//! role may send and receive on, and the steps of each session. The engine checks such
+//! a file, places roles into it, and runs it. Every call accepts any input and never
+//! panics. It answers, or refuses with a number and a place.
 //!
-//! Wherever refusals 1 to 10 are spoken of, 21 is among them: it has its turn behind
-//! 6 and before 7.
+//! "Refusals 1 to 10" includes 21, which comes after 6 and before 7. docs/API.md of the
+//! project tells how to build a desk on this crate; docs/SPECIFICATION.md says what each
+//! call must answer.
 //!
 //! | to | call |
 //! |---|---|
-//! | judge a file's form, names and kinds: refusals 1 to 10 | [`read`] |
-//! | judge the roles as well: 1 to 13 | [`check`] |
-//! | put the roles into a file that has none | [`place`], [`placed`] |
+//! | check a file's form, names and kinds: refusals 1 to 10 | [`read`] |
+//! | check the roles as well: 1 to 13 | [`check`] |
+//! | place the roles of a file that has none | [`place`], [`placed`] |
 //! | know the length and on steps that placing would give | [`measure`] |
-//! | do these for a minute of the week, with roles that have hours | [`check_at`], [`place_at`], [`placed_at`], [`measure_at`] |
-//! | carry out a list of choices | [`run`], and [`State`] for what it wrote |
-//! | find the two threads that can meet | [`ready`] |
+//! | do these for a minute of the week, with opening hours | [`check_at`], [`place_at`], [`placed_at`], [`measure_at`] |
+//! | run a list of choices | [`run`], and [`State`] to read its output |
+//! | find two threads that can meet | [`ready`] |
 //! | let a dispatcher choose, round by round | [`round`] |
-//! | see how many threads wait on each kind | [`totals`]; [`Desk::total`], and [`total`] of a list of one's own |
-//! | give roles a number of seats, with a line for those who wait | [`run_seated`], [`round_seated`], [`seats`] |
-//! | say a refusal in a sentence, and read one back | [`reason`], [`Reason::sentence`], [`read_reason`]; [`phrase`], [`meaning`] for a number alone |
-//! | go on choice by choice, and list what can be done next | [`Desk`]; [`start`] and [`choose`] in a list of one's own |
-//! | make one file of two | [`merge`], [`merged`] |
-//! | have the nodes by column, and by row again | [`to_columns`], [`in_columns`], [`to_rows`], [`in_rows`] |
-//! | find the plan that is in force on a day | [`in_force`], [`file_in_force`] |
+//! | count the threads that wait on each kind | [`totals`]; [`Desk::total`], and [`total`] for a list of your own |
+//! | limit the seats of a role, and queue who waits | [`run_seated`], [`round_seated`], [`seats`] |
+//! | turn a refusal into a sentence, and back | [`reason`], [`Reason::sentence`], [`read_reason`]; [`phrase`], [`meaning`] for a number alone |
+//! | run choice by choice, and list what can be done next | [`Desk`]; [`start`] and [`choose`] for a list of your own |
+//! | merge two files | [`merge`], [`merged`] |
+//! | store the nodes by column, or by row again | [`to_columns`], [`in_columns`], [`to_rows`], [`in_rows`] |
+//! | find the plan in force on a day | [`in_force`], [`file_in_force`] |
 //! | sum up the figures of many files | [`sheet`], [`records`] |
 //!
-//! The examples below read files of the project's folder `examples`, and are run as
-//! tests.
+//! The examples below read files of the project's folder `examples`. They run as tests.
 //!
-//! # A file is read and checked
+//! # Read and check a file
 //!
 //! ```
 //! let file = std::fs::read("../../examples/booking.clinic")?;
 //!
-//! // Its form, its names and its kinds are in order.
+//! // Its form, its names and its kinds are right.
 //! assert!(pilzdamo::read(&file).is_clean());
 //!
 //! // It doesn't pass the check: node 1 sends, and no role is on there.
@@ -46,10 +45,10 @@
 //! # Ok::<(), std::io::Error>(())
 //! ```
 //!
-//! # Its roles are placed
+//! # Place its roles
 //!
-//! Placing puts in the on and off nodes that a file needs to pass, with as few on
-//! nodes as there can be.
+//! Placing adds the on and off nodes that a file needs to pass the check, with the
+//! fewest possible on nodes.
 //!
 //! ```
 //! let file = std::fs::read("../../examples/booking.clinic")?;
@@ -61,8 +60,8 @@
 //!
 //! # A clinic with nothing planned
 //!
-//! A new clinic sends zero bytes before its first plan. Wherever a file is taken they
-//! are read as the file of version 1 with all counts 0; 1 to 25 bytes are refused.
+//! A new clinic sends zero bytes before its first plan. Every call reads them as the
+//! version 1 file with all counts 0. It refuses 1 to 25 bytes.
 //!
 //! ```
 //! assert!(pilzdamo::check(&[]).is_clean());
@@ -77,9 +76,9 @@
 //!
 //! # Senior roles
 //!
-//! In version 2 of the format a role has a word of juniors, lower roles whose grants
-//! it has as well as its own: those of a head nurse, say, are a nurse's and her own.
-//! Nobody gets a role by this that isn't assigned.
+//! In version 2 of the format a role has a word of juniors: lower roles whose grants it
+//! has beside its own. A head nurse may do what a nurse may. Nobody can switch on a
+//! junior role by this.
 //!
 //! ```
 //! // The nurse's grants were copied into the head nurse's record, and one forgotten.
@@ -87,7 +86,7 @@
 //! let refusal = pilzdamo::placed(&file).unwrap_err();
 //! assert_eq!(refusal.to_string(), "refused 15 2");
 //!
-//! // With the nurse's role as the head nurse's junior she has all of them.
+//! // With the nurse's role as a junior, the head nurse has all of them.
 //! let file = std::fs::read("../../examples/head-nurse/juniors.clinic")?;
 //! let (placed, on_steps) = pilzdamo::placed(&file)?;
 //! assert_eq!((placed[0], on_steps), (2, 3));
@@ -97,8 +96,8 @@
 //!
 //! # Roles with opening hours
 //!
-//! A table of hours is lent beside the file, three words a row: a role, its first
-//! minute and its end minute, counted from Monday 00:00.
+//! A table of hours has three words a row: a role, its first minute and its end minute,
+//! counted from Monday 00:00.
 //!
 //! ```
 //! // Admissions, role 1, is open on weekdays from 07:00 to 15:00.
@@ -106,13 +105,13 @@
 //! let hours = [0, 1, 2, 3, 4].map(day).concat();
 //! let (monday_noon, sunday_noon) = (12 * 60, 6 * 24 * 60 + 12 * 60);
 //!
-//! // At noon it is put on; on Sunday the file is placed in role 2.
+//! // At noon role 1 is open; on Sunday the file is placed in role 2.
 //! let file = std::fs::read("../../examples/hours/desk.clinic")?;
 //! let (by_day, _) = pilzdamo::placed_at(&file, &hours, monday_noon)?;
 //! let (on_sunday, _) = pilzdamo::placed_at(&file, &hours, sunday_noon)?;
 //! assert_ne!(by_day, on_sunday);
 //!
-//! // The file of a weekday doesn't do for Sunday.
+//! // The file of a weekday doesn't pass on Sunday.
 //! let verdict = pilzdamo::check_at(&by_day, &hours, sunday_noon);
 //! assert_eq!(verdict.to_string(), "refused 24 1");
 //! # Ok::<(), Box<dyn std::error::Error>>(())
@@ -120,8 +119,8 @@
 //!
 //! # Two clinics move into one house
 //!
-//! Two files with the same roles and kinds become one. The second's users, channels,
-//! sessions and nodes stand behind the first's, with the numbers that they have there.
+//! Two files with the same roles and kinds become one. The second file's users,
+//! channels, sessions and nodes follow the first's and are renumbered.
 //!
 //! ```
 //! let north = std::fs::read("../../examples/house/north.clinic")?;
@@ -141,9 +140,9 @@
 //!
 //! # Nodes by column
 //!
-//! In version 3 of the format the nodes stand by column, so that equal words stand
-//! together; all else is version 2. Every answer on a column file is the one on its row
-//! file, and what is placed keeps its form.
+//! Version 3 of the format stores the nodes by column, so that equal words stand
+//! together; all else is version 2. A column file has the answers of its row file, and
+//! a placed file keeps the form of its input.
 //!
 //! ```
 //! let rows = std::fs::read("../../examples/head-nurse/juniors.clinic")?;
@@ -160,8 +159,8 @@
 //! # The plan in force
 //!
 //! A group sends next month's file early, as a notice: the first day of validity (in
-//! days since 1 January 2000), the file's length, the file. Of two notices the one that
-//! is in force on a day hands its file back, as a part of itself.
+//! days since 1 January 2000), the file's length, the file. For two notices and a day
+//! the call returns the file in force, as a slice of its notice.
 //!
 //! ```
 //! let november = std::fs::read("../../examples/notices/november.notice")?;
@@ -177,7 +176,7 @@
 //!
 //! # The group's quarterly sheet
 //!
-//! A group reads up to 1,000 files in a row, each behind a word with its length.
+//! The input is up to 1,000 files in a row, each after a word with its length.
 //!
 //! ```
 //! let read = |name: &str| std::fs::read(format!("../../examples/{name}.clinic"));
@@ -191,10 +190,10 @@
 //! # Ok::<(), std::io::Error>(())
 //! ```
 //!
-//! # A list of choices is run
+//! # Run a list of choices
 //!
-//! A run starts with a thread for each session. A choice names a thread, and the
-//! partner that it sends to, or 0.
+//! A run starts with one thread for each session. A choice names a thread and the
+//! partner that it sends to; partner 0 means that the thread steps alone.
 //!
 //! ```
 //! use pilzdamo::{State, RUN_ROOM};
@@ -204,10 +203,10 @@
 //! let (file, _) = pilzdamo::placed(&file)?;
 //! let choices = [
 //!     1, 0, // ward 1 makes a channel,
-//!     1, 0, // puts role 1 on,
+//!     1, 0, // switches role 1 on,
 //!     1, 0, // and forks: thread 4 will wait for the answer
 //!     3, 0, // ward 3 repeats: thread 5 takes a request
-//!     5, 0, // ward 3 puts role 2 on
+//!     5, 0, // ward 3 switches role 2 on
 //!     1, 5, // ward 1 asks, and hands over the channel that it made
 //!     5, 4, // ward 3 answers on it
 //! ];
@@ -224,10 +223,10 @@
 //! # Ok::<(), Box<dyn std::error::Error>>(())
 //! ```
 //!
-//! # A dispatcher chooses
+//! # Let a dispatcher choose
 //!
-//! A round visits every thread once, in order: each that can step alone does, and one
-//! that sends meets the first that can receive from it and hasn't moved in this round.
+//! A round visits every thread once, in order. A thread that can step alone does so. A
+//! sender meets the first receiver that it can meet and that hasn't moved in this round.
 //!
 //! ```
 //! use pilzdamo::{State, RUN_ROOM};
@@ -247,7 +246,7 @@
 //!     rounds += 1;
 //! }
 //!
-//! // In the end nothing can be done, here since all have ended.
+//! // In the end nothing can be done: here all threads have ended.
 //! assert_eq!((rounds, choices.len() / 2), (7, 13));
 //! assert!(State::of(&out).unwrap().threads.is_empty());
 //! # Ok::<(), Box<dyn std::error::Error>>(())
@@ -255,8 +254,8 @@
 //!
 //! # Who is waiting on what
 //!
-//! For each kind the engine keeps how many threads stand at a receive on a channel of
-//! that kind, and a screen reads one word for it.
+//! For each kind the engine counts the threads that stand at a receive on a channel of
+//! that kind. A screen reads one word for it.
 //!
 //! ```
 //! // Two bookings, and the desk that takes them, on kind 1 and then on kind 2.
@@ -267,7 +266,7 @@
 //! assert_eq!(waiting(&[3, 0]), "waiting: 1 on kind 1");
 //! assert_eq!(waiting(&[3, 0, 1, 0, 1, 3]), "waiting: 1 on kind 2");
 //!
-//! // A desk has them too.
+//! // A desk has the same counts.
 //! let desk = pilzdamo::Desk::after(&file, &[3, 0])?;
 //! assert_eq!((desk.total(1), desk.total(2)), (1, 0));
 //! # Ok::<(), Box<dyn std::error::Error>>(())
@@ -275,8 +274,9 @@
 //!
 //! # Seats per role
 //!
-//! A table may give each role a number of seats. A session that puts such a role on when
-//! no seat is free, or others are before it, waits in the role's line; nothing stops.
+//! A table may limit the seats of each role. A session that switches such a role on
+//! while no seat is free, or while others are before it, is queued in the role's line.
+//! The run goes on.
 //!
 //! ```
 //! use pilzdamo::{run_seated, seats, State, RUN_ROOM};
@@ -299,11 +299,11 @@
 //! # Ok::<(), Box<dyn std::error::Error>>(())
 //! ```
 //!
-//! # A run is driven choice by choice
+//! # Run choice by choice
 //!
-//! A [`Desk`] has a file of its own and the threads, lists the choices that can be done,
-//! and goes on by one at a time. Whatever is chosen, no choice in a placed file is ever
-//! refused for a role: with 11, 12 or 13.
+//! A [`Desk`] owns a copy of the file and the threads. It lists the choices that can be
+//! done and carries out one at a time. No choice in a placed file is ever refused for a
+//! role (11, 12 or 13), whatever was chosen before.
 //!
 //! ```
 //! use pilzdamo::Desk;
@@ -318,7 +318,7 @@
 //!     choices.extend([thread, partner]);
 //! }
 //!
-//! // All have ended but one, which has a note to pass on and nobody to take it.
+//! // All threads have ended but one, which has a note to send and no receiver.
 //! assert_eq!(desk.threads().len(), 1);
 //! assert_eq!((desk.threads()[0].user, desk.threads()[0].node), (3, 31));
 //! assert_eq!(desk.why_not(1, 0).map(|refusal| refusal.number), Some(18));
@@ -328,12 +328,11 @@
 //! # Ok::<(), Box<dyn std::error::Error>>(())
 //! ```
 //!
-//! # What is refused
+//! # Handle a refusal
 //!
-//! A [`Verdict`] has the refusal's number and place, and is an error for `?`. What
-//! the place counts is said there. A [`Reason`] is all of it in a sentence of fixed
-//! words; who can mend it, and how, is told by `pilzdamo explain N` of the project's
-//! command.
+//! A [`Verdict`] has the refusal's number and place, and is an error for `?`. Its
+//! documentation says what the place counts. A [`Reason`] puts a refusal into a
+//! sentence. The command `pilzdamo explain N` says who can mend it, and how.
 //!
 //! ```
 //! use pilzdamo::{Desk, Verdict};
@@ -348,11 +347,11 @@
 //! let read = |name: &str| std::fs::read(format!("../../examples/{name}"));
 //! assert_eq!(both_wait(&read("spring/cut.clinic")?)?.threads()[1].mask, 1);
 //!
-//! // At node 1 a role is put on that its user doesn't have.
+//! // Node 1 switches on a role that isn't assigned to its user.
 //! let refusal = both_wait(&read("refused/11-on.clinic")?).unwrap_err();
 //! assert_eq!((refusal.number, refusal.place), (11, 1));
 //!
-//! // Thread 1 compares two users who aren't the same; the choice has number 1.
+//! // Thread 1 compares two different users; the choice has number 1.
 //! let refusal = both_wait(&read("refused/choices.clinic")?).unwrap_err();
 //! assert_eq!((refusal.number, refusal.place), (19, 1));
 //! # Ok::<(), Box<dyn std::error::Error>>(())
@@ -360,8 +359,8 @@
 //!
 //! # Reasons in words
 //!
-//! A refusal has a sentence for those who don't know the numbers, and the sentence can
-//! be read back. No two reasons share one.
+//! A sentence says a refusal to those who don't know the numbers. It can be read back,
+//! and no two reasons share one.
 //!
 //! ```
 //! use pilzdamo::{read_reason, Counts};
@@ -380,13 +379,13 @@
 //!
 //! # What is proved
 //!
-//! The engine's functions are: what they answer, every byte that they write, and
-//! that they ask nothing of their caller but memory that is there. This crate adds
-//! plain Rust: each slice is handed over with its own length, [`State`] names the
-//! words that a run wrote, a [`Desk`] begins with what the engine started or wrote, and
-//! [`in_force`] cuts the part that the engine named out of the notice. The only unsafe code is in those calls; users need none.
+//! The engine's functions are proved: what they answer, every byte that they write, and
+//! that they need nothing from their caller but valid memory. This crate is plain Rust
+//! around them. It passes each slice with its length, [`State`] names the words of a
+//! run's output, a [`Desk`] holds what the engine wrote, and [`in_force`] slices the
+//! notice where the engine says. Only these calls use unsafe code.
 //!
-//! For C there is the header `pilzdamo.h` beside this crate's `Cargo.toml`.
+//! C programs use the header `pilzdamo.h`, which stands beside this crate's `Cargo.toml`.
 
 #![deny(missing_docs, unsafe_code)]
 

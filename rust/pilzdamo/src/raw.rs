@@ -1,9 +1,7 @@
-//! The engine's functions, and a safe call to each. No other module has unsafe
-//! code.
+//! The engine's functions, with a safe call to each. No other module has unsafe code.
 //!
-//! Of every function it is proved that, during the call, it reads only what the
-//! pointers and lengths name, writes only what is lent by a pointer to `mut`, and
-//! ends; it keeps no pointer.
+//! Every function is proved to read only what the pointers and lengths name, to write
+//! only through pointers to `mut`, and to end. It keeps no pointer.
 
 use crate::{
     InForce, Placed, Ready, Reason, Round, Seats, Sheet, Thread, Totals, Verdict, Written,

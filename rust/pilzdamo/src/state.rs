@@ -1,8 +1,7 @@
 //! The state of a run in records.
 
-/// A thread: where it stands, which roles it holds and what it knows. It is also
-/// a record of the list that is lent to [`start`](crate::start) and
-/// [`choose`](crate::choose).
+/// A thread: its node, its active roles and its variables. Also a record of the list
+/// that [`start`](crate::start) and [`choose`](crate::choose) take.
 #[repr(C)]
 #[derive(Clone, Copy, Debug, Default, PartialEq, Eq, Hash)]
 pub struct Thread {
@@ -16,7 +15,7 @@ pub struct Thread {
     pub vars: [u16; 8],
 }
 
-/// A channel that was made in a run. Made channel i has value 384 + i.
+/// A channel made in a run. Made channel i has value 384 + i.
 #[derive(Clone, Copy, Debug, PartialEq, Eq, Hash)]
 pub struct Channel {
     /// The user who made it.
@@ -34,14 +33,14 @@ pub struct State {
     pub refusal: u16,
     /// The threads, thread 1 first.
     pub threads: Vec<Thread>,
-    /// The channels made, the first of them first.
+    /// The made channels, in the order in which they were made.
     pub made: Vec<Channel>,
 }
 
 impl State {
     /// Reads the state at the start of the bytes that [`run`](crate::run) or
-    /// [`round`](crate::round) wrote. None where they are too few for the threads and
-    /// channels they speak of.
+    /// [`round`](crate::round) wrote. `None` if there are too few bytes for the threads
+    /// and channels that it counts.
     ///
     /// ```
     /// // A compare of users 1 and 2, and beside it a repeat.
@@ -78,7 +77,7 @@ impl State {
     }
 }
 
-/// The next words, if there are so many.
+/// The next words, or `None` if there are fewer.
 fn some<const N: usize>(words: &mut impl Iterator<Item = u16>) -> Option<[u16; N]> {
     let mut next = [0; N];
     for word in &mut next {
