@@ -123,7 +123,7 @@ pub enum Cause {
     StartOverfills,
     /// A notice that ends within its two words.
     NoticeShort,
-    /// A notice whose length word isn't the number of bytes behind it.
+    /// A notice whose length word isn't the number of bytes after it.
     NoticeLength,
     /// A notice whose file is refused with this number.
     NoticeFile(u16),

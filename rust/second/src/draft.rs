@@ -1,4 +1,4 @@
-//! A file in the making: its sections as lists of words. The header follows
+//! A draft of a file: its sections as lists of words. The header follows
 //! from them.
 
 use crate::file::{word, File, Version};

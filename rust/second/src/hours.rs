@@ -11,7 +11,7 @@ const MOST_ROWS: usize = 64;
 /// The minutes of a week, from Monday 00:00 on.
 const WEEK: u16 = 7 * 24 * 60;
 
-/// The mask of all roles, open where no hours are spoken of.
+/// The mask of all roles, which are open without hours.
 pub const ALWAYS: u16 = u16::MAX;
 
 /// A table of hours and a minute of the week, which 22 leaves clean.

@@ -1,8 +1,8 @@
-//! The second implementation of the clinic file's judge, in plain Rust.
+//! A second implementation of the engine, in plain Rust.
 //!
-//! It is written from the paper and from the requests made after it, and shares
-//! nothing with the engine, so that the two can be compared. Where 1 to 8 or 1 to 10
-//! are spoken of, 21 is among them. The timed functions, [`read`], [`read_names`],
+//! It is written from the paper and the requests alone and shares nothing with the
+//! engine, so that the two can be compared. "1 to 8" and "1 to 10" include 21. The timed
+//! functions, [`read`], [`read_names`],
 //! [`check`], [`check_at`], [`place`], [`place_at`], [`measure`], [`measure_at`],
 //! [`run`], [`round`], [`ready`], [`totals`], [`run_seated`], [`round_seated`],
 //! [`seats`], [`start`], [`choose`], [`merge`], [`to_columns`], [`to_rows`],
@@ -191,7 +191,7 @@ pub fn totals(file: &[u8], choices: &[u16]) -> Totals {
 /// one is free and there is no line or the session is its head, which then leaves it.
 /// An on that gets none is answered 26: its session joins the role's line at the end,
 /// once, nothing else changes, and the choice counts as done. Another number of words
-/// than roles, or a word above 32, is 17 behind 1 to 10, and then comes 26 for the
+/// than roles, or a word above 32, is 17, after 1 to 10; then comes 26 for the
 /// lowest session whose starting mask overfills a role.
 pub fn run_seated(file: &[u8], choices: &[u16], seats: &[u16], out: &mut [u8]) -> Written {
     let judged = running::judge_room(out.len());
@@ -366,8 +366,8 @@ pub fn in_force(first: &[u8], second: &[u8], day: u16) -> InForce {
     }
 }
 
-/// The sheet of the files in an input, each behind a word with its length in bytes. It
-/// ends behind [`MOST_FILES`] of them, or at the first that isn't there to its end.
+/// The sheet of the files in an input, each after a word with its length in bytes. It
+/// ends after [`MOST_FILES`] of them, or at the first that isn't whole.
 pub fn sheet(input: &[u8]) -> Sheet {
     let (mut sheet, mut plan) = (Sheet::default(), Plan::new());
     for file in whole_files(input) {
@@ -573,8 +573,8 @@ fn judge_starting(file: &[u8], threads: &mut [Thread], beside: &mut [u16]) -> Re
     Ok(())
 }
 
-/// The lists are looked at before the names of the file's nodes are judged, so
-/// that one pass over these will do, but refused only after it.
+/// Looks at the lists before judging the names of the file's nodes, so that one pass
+/// over these is enough, but refuses them only after it.
 fn judge_lent<'a, 'l>(
     file: &'a [u8],
     threads: &'l mut [Thread],

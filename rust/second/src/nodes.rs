@@ -13,7 +13,7 @@ pub enum Nodes<'a> {
     Columns(Columns<'a>),
 }
 
-/// Does the same for nodes in either layout, each with machine code of its own.
+/// Does the same for nodes in either layout, compiled once for each.
 macro_rules! in_layout {
     ($nodes:expr, $nodes_in:ident => $result:expr) => {
         match $nodes {

@@ -83,7 +83,7 @@ impl Grants {
         known
     }
 
-    /// Whether one active role has a grant that will do.
+    /// Whether one active role permits it.
     fn any(&self, mut active: u16, will_do: impl Fn((u32, u32)) -> bool) -> bool {
         while active != 0 {
             if will_do(self.0[active.trailing_zeros() as usize]) {

@@ -62,7 +62,7 @@ pub struct Run<'a> {
 }
 
 impl<'a> Run<'a> {
-    /// The file's start, in lists of its own.
+    /// The file's start, in owned lists.
     pub(crate) fn start(file: File<'a>) -> Run<'a> {
         let (mut threads, mut beside) = ([Thread::default(); RECORDS], [0; BESIDE]);
         let lists = Lent {

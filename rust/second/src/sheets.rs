@@ -14,7 +14,7 @@ pub struct Share {
     pub most: u16,
 }
 
-/// The files at the start of an input, each behind a word with its length in bytes, up
+/// The files at the start of an input, each after a word with its length in bytes, up
 /// to the most that a sheet reads or to the first that isn't there to its end.
 pub fn whole_files(input: &[u8]) -> impl Iterator<Item = &[u8]> {
     let mut rest = input;

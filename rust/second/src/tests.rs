@@ -343,7 +343,7 @@ fn the_largest_files() {
     assert_eq!(ROOM, 6_908);
 }
 
-/// 21 has its turn behind 6.
+/// 21 comes after 6.
 fn turn(cause: &Cause) -> u16 {
     match cause.number() {
         21 => 2 * 6 + 1,

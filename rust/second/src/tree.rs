@@ -82,7 +82,7 @@ pub fn judge(file: &File) -> Result<(), Refusal> {
     in_layout!(file.nodes, nodes => judge_in(file, nodes))
 }
 
-/// A function of its own in the machine code too: inlined, it is slower.
+/// Not inlined: inlined it is slower.
 #[inline(never)]
 fn judge_in(file: &File, nodes: impl Layout) -> Result<(), Refusal> {
     let mut lowest = Lowest(None);

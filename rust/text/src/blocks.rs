@@ -38,15 +38,15 @@ struct Block {
     bound: Vec<String>,
 }
 
-/// A session's nodes, in the making.
+/// A session's nodes while its lines are read.
 pub struct Blocks<'a> {
     tables: &'a Tables,
     /// How many nodes stand before these.
     before: usize,
     open: Vec<Block>,
-    /// Whether a line was indented by a tab, which is told of by itself.
+    /// Whether a line was indented by a tab, which has a message of its own.
     tabbed: bool,
-    /// Whether nothing can be said of the lines from here on for that tab.
+    /// Whether the lines from here on can't be judged because of that tab.
     lost: bool,
     grown: Grown,
 }
@@ -290,8 +290,7 @@ impl<'a> Blocks<'a> {
         cursor.end()
     }
 
-    /// A node that binds a variable, which is bound even if the rest can't be
-    /// understood.
+    /// A node that binds a variable. It is bound even if the rest of the line is wrong.
     fn binder(
         &mut self,
         cursor: &mut Cursor,

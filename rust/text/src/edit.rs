@@ -10,8 +10,8 @@ struct Insertion {
     lines: Vec<String>,
 }
 
-/// The text with the on and off steps of its placed file put in; none if that isn't
-/// this text's file with on and off put in.
+/// The text with the on and off steps of its placed file added. `None` if that file isn't
+/// this text's file with on and off added.
 pub fn placed(text: &str, packed: &Packed, placed: &Records) -> Option<String> {
     let lines: Vec<&str> = text.split('\n').collect();
     let mut insertions: Vec<Insertion> = Vec::new();
@@ -69,8 +69,8 @@ fn inserted(lines: &[&str], insertions: Vec<Insertion>) -> String {
     all.join("\n")
 }
 
-/// Puts lines behind the last, which has no end. It gets that of the line above it, and
-/// the last of those put in has none.
+/// Adds lines after the last, which has no line end. It gets that of the line above it,
+/// and the last line added has none.
 fn put_behind(all: &mut Vec<String>, insertion: Insertion) {
     let above = all.iter().rev().nth(1);
     if above.is_some_and(|line| line.ends_with('\r')) {
@@ -95,7 +95,7 @@ fn put(all: &mut Vec<String>, insertion: Insertion) {
     all.extend(insertion.lines.into_iter().map(|line| line + end));
 }
 
-/// The text without its on and off steps. What a comment says behind one stays.
+/// The text without its on and off steps. A comment after one of them stays.
 pub fn stripped(text: &str, packed: &Packed) -> String {
     let nodes = packed.records.nodes.iter().zip(&packed.source.nodes);
     let gone: Vec<usize> = nodes

@@ -6,9 +6,9 @@ use crate::tree;
 use crate::unpack::write;
 use crate::{pack, unpack_named};
 
-/// What is wrong with names for a file that 1 to 5 let through: a count that is another
-/// than the file's, or a name that can't stand where it does. None where they fit, or
-/// where it can't be told because 1 to 6, 8 or 9 refuse the file.
+/// What is wrong with names for a file that 1 to 5 let through: a count that differs from
+/// the file's, or a name that isn't allowed in its place. `None` if they fit, or if 1 to
+/// 6, 8 or 9 refuse the file.
 pub fn misfit(bytes: &[u8], names: &Names) -> Option<String> {
     let records = Records::of(bytes)?;
     if let Some(other) = other_count(&records, names) {

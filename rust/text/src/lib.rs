@@ -1,5 +1,5 @@
-//! The text form of a clinic's file: text to bytes and back. `docs/FORMAT.md` has its
-//! grammar. Nothing is judged here that the engine judges.
+//! The text form of a clinic's file: text to bytes and back. `docs/FORMAT.md` has the
+//! grammar. What the engine checks is left to the engine.
 //!
 //! ```
 //! let text = "clinic 1\nkind note\nuser desk\nchannel notes: note, owner desk\n";

@@ -56,7 +56,7 @@ impl Line {
         }
     }
 
-    /// Behind its last word.
+    /// The place after its last word.
     pub fn end(&self) -> At {
         let at = self.at();
         At {

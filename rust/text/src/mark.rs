@@ -1,4 +1,4 @@
-//! Texts told from bytes, and places in them shown.
+//! Tells texts from bytes, and shows places in texts.
 
 use crate::line::{At, Flaw};
 use crate::pack::pack;
@@ -43,8 +43,8 @@ pub fn undecoded(bytes: &[u8]) -> Vec<Flaw> {
             flaw.at.line = number;
             flaws.push(flaw);
         }
-        // Such bytes are mostly letters of Latin-1. Taken for them, names stay names, and
-        // other lines are told nothing wrong.
+        // Such bytes are mostly letters of Latin-1. Read as such, names stay names, and
+        // other lines get no false messages.
         for chunk in line.utf8_chunks() {
             text += chunk.valid();
             text.extend(chunk.invalid().first().map(|&byte| char::from(byte)));
@@ -100,7 +100,7 @@ pub fn told(file: &str, text: impl AsRef<[u8]>, at: At, what: &str) -> String {
     let first = column.saturating_sub(1) - skipped;
     let (before, behind) = shown.split_at(first.min(shown.len()));
     let marked = &behind[..width.min(behind.len())];
-    // The mark may stand behind the end of the line.
+    // The mark may stand past the end of the line.
     let room = width.clamp(1, SHOWN.saturating_sub(first).max(1));
     let before = lead.len() + wide(before) + first - before.len();
     let mark = wide(marked) + room.saturating_sub(marked.len());

@@ -46,7 +46,7 @@ pub struct NodeAt {
     pub at: At,
     /// How far its steps are indented.
     pub indent: usize,
-    /// Whether it is an end, so that it stands behind its line.
+    /// Whether it is an end, so that its place is after its line.
     pub behind: bool,
 }
 

@@ -1,4 +1,4 @@
-//! What would not show in a message, or would show as something else, written out.
+//! Writes out what would not show in a message, or would show as something else.
 
 /// Words in a message. Control characters are written `\n` or `\x1b`, other characters
 /// that don't show or turn the line round `\u{202e}`, bytes that are no characters `\xff`,

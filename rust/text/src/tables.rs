@@ -49,7 +49,7 @@ pub struct Tables {
 
 impl Tables {
     /// Those that the lines at the margin define. A name that is a word of the form is
-    /// left to whoever reads the line to complain about.
+    /// reported when the line is read.
     pub fn of(lines: &[Line], flaws: &mut Vec<Flaw>) -> Tables {
         let mut tables = Tables {
             users: Table::new("user", MOST[0]),
@@ -68,8 +68,8 @@ impl Tables {
         let [word, rest @ ..] = &line.tokens[..] else {
             return Ok(());
         };
-        // A line without a proper name defines a record all the same, so that
-        // those behind it have their numbers.
+        // A line without a proper name still defines a record, so that later ones
+        // keep their numbers.
         let (name, at) = match rest.first() {
             Some(name) if name.is_name() && !is_reserved(&name.text) => (&name.text[..], name.at),
             _ => ("", line.at()),

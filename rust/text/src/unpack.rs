@@ -6,8 +6,8 @@ use crate::records::{COMPARE, FORK, NEW, OFF, ON, RECEIVE, REPEAT, SEND};
 use crate::tree::{self, Spot};
 use crate::{pack, Packed};
 
-/// The canonical text of a file, with names that are invented; none where 1 to
-/// 6, 8 or 9 refuse the file.
+/// The canonical text of a file, with invented names. `None` if 1 to 6, 8 or 9 refuse
+/// the file.
 pub fn unpack(bytes: &[u8]) -> Option<String> {
     let records = Records::of(bytes)?;
     let spots = tree::follow(&records)?;
@@ -15,7 +15,7 @@ pub fn unpack(bytes: &[u8]) -> Option<String> {
     write(&records, &spots, &names)
 }
 
-/// The canonical text with these names; none where they don't fit the file, too.
+/// The canonical text with these names. `None` also if they don't fit the file.
 pub fn unpack_named(bytes: &[u8], names: &Names) -> Option<String> {
     let records = Records::of(bytes)?;
     let spots = tree::follow(&records)?;

@@ -1,5 +1,5 @@
-//! What the engine refuses in a text: where it stands, and who or what is to blame,
-//! in names. The engine judges; here the place that it names is looked up and told.
+//! What the engine refuses in a text: its line, and who or what is to blame, in names.
+//! The engine judges; this module looks up the place that it names.
 
 use crate::line::At;
 use crate::pack::{pack, Packed};
@@ -17,8 +17,8 @@ pub struct Culprit {
 /// What an operand stands for: 0 a plain value, j a channel of kind j.
 type Kind = u16;
 
-/// Where a refusal of this number and place stands in a text, in names. None for those
-/// that have no place in it.
+/// Where a refusal of this number and place stands in a text, in names. `None` if it has
+/// no place there.
 pub fn why(packed: &Packed, number: u16, place: u16) -> Option<Culprit> {
     let spots = tree::follow(&packed.records)?;
     let told = Told {
@@ -101,7 +101,7 @@ impl Told<'_> {
     }
 
     /// 26 before the first choice: the starting roles of a session, of which one has
-    /// no seat left. Which it is lies with the table of seats.
+    /// no seat left. The table of seats decides which.
     fn unseated(&self, index: usize) -> Option<Culprit> {
         let session = self.packed.records.sessions.get(index)?;
         let at = *self.packed.source.starts.get(index)?.first()?;
@@ -216,7 +216,7 @@ impl Told<'_> {
         own || juniors.any(|junior| self.permits(junior, tag, kind))
     }
 
-    /// What an operand stands for, by rule 1; none where that can't be told.
+    /// What an operand stands for, by rule 1; `None` if that isn't known.
     fn kind_of(&self, operand: u16, spot: &Spot) -> Option<Kind> {
         let records = &self.packed.records;
         match operand {

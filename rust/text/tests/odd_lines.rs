@@ -37,7 +37,7 @@ fn line_ends_of_a_placed_text() {
     }
 }
 
-/// A tab is told once for its line, and what doesn't fit to it is not told.
+/// A tab is reported once for its line; what doesn't fit because of it isn't.
 #[test]
 fn tabs() {
     let tab = |line: usize| format!("{line}:1: a tab; lines are indented by spaces");
@@ -74,7 +74,7 @@ fn a_name_is_listed_once() {
     );
 }
 
-/// Where a line could go on, what it could go on with is told beside its end.
+/// If a line could go on, the message says with what.
 #[test]
 fn a_sign_that_is_missing() {
     let below = |line: &str| flaws(&format!("{HEAD}{line}\n"));
@@ -132,7 +132,7 @@ fn a_sign_that_is_missing_in_names() {
     );
 }
 
-/// A byte that is no character is told for its line, and what is wrong in others beside it.
+/// A byte that is no character is reported for its line, along with flaws of other lines.
 /// A name that has one is a name all the same.
 #[test]
 fn bytes_that_are_no_characters() {

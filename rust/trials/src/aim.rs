@@ -218,7 +218,7 @@ fn node_of_tag<'a>(rng: &mut Rng, draft: &'a mut Draft, tag: u16) -> Option<&'a 
 }
 
 /// Puts nodes with one child in front of the node at index `at`, and renumbers
-/// roots and second children behind it.
+/// roots and second children after it.
 pub fn insert(draft: &mut Draft, at: usize, nodes: &[[u16; 3]]) {
     if draft.nodes.len() + nodes.len() > usize::from(Section::Nodes.most()) {
         return;

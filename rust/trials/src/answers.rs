@@ -2,7 +2,7 @@
 
 use std::fmt::Display;
 
-/// A refusal's number and place, whoever gave it.
+/// A refusal's number and place, of either implementation.
 pub type Answer = (u16, u16);
 
 /// The engine, refusals 1 to 10.

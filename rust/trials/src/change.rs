@@ -99,7 +99,7 @@ pub fn any_bytes(rng: &mut Rng, file: &mut Vec<u8>) {
     }
 }
 
-/// Random bytes, mostly few. In versions 2 and 3, behind a first word that says so.
+/// Random bytes, mostly few. In versions 2 and 3 the first word says so.
 pub fn noise(rng: &mut Rng, version: Version) -> Vec<u8> {
     let most = *rng.of(&[30, 80, 80, 300, 7_000]);
     let length = rng.below(most);

@@ -1,4 +1,4 @@
-//! What placing makes the least of.
+//! What placing minimises.
 
 use std::iter::Sum;
 use std::ops::Add;

@@ -130,7 +130,7 @@ fn grown(rng: &mut Rng, version: Version, size: Size, heed: Heed) -> Draft {
     draft
 }
 
-/// Sends and receives with no heed to roles. Most sessions start with all that
+/// Sends and receives that ignore roles. Most sessions start with all that
 /// their user has, and some roles are put on and off.
 fn heedless(rng: &mut Rng, version: Version) -> Draft {
     let mut draft = lively(rng, version, Heed::Nothing);
@@ -203,7 +203,7 @@ pub fn put_in_talk(rng: &mut Rng, draft: &mut Draft, heed: Heed) {
 }
 
 /// What a tree of a session starts with: perhaps a repeat, and on for all roles
-/// of its user, where heed is paid to what is active.
+/// of its user, if active roles matter.
 fn beginning(rng: &mut Rng, draft: &Draft, session: usize, heed: Heed) -> Vec<[u16; 3]> {
     let [user, _, _] = draft.sessions[session];
     let [assigned] = draft.users[usize::from(user) - 1];

@@ -60,7 +60,7 @@ impl Bent {
     }
 }
 
-/// What a send or receive pays heed to.
+/// What a send or receive takes into account.
 #[derive(Clone, Copy, PartialEq)]
 pub enum Heed {
     /// The active set: on for a role that permits it comes first.
@@ -289,7 +289,7 @@ impl Grower<'_> {
             .any(|(i, role)| mask & 1 << i != 0 && granted(role))
     }
 
-    /// A name that will do. Variables come up as often as users and channels.
+    /// A name that fits. Variables come up as often as users and channels.
     pub fn name(&mut self, point: &Point, will_do: impl Fn(&Name) -> bool) -> Option<Name> {
         let lists = [&self.names, &point.variables];
         let first = self.rng.below(2);

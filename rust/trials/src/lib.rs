@@ -82,7 +82,7 @@ pub use totals::{agreed_totals, compare_totals, deal_totals, engine_totals, Tota
 pub use trees::Trees;
 pub use wards::{compare_wards, deal_wards, OwnTree, Wards, WardsTally};
 
-/// A sound file with bytes behind it, to several lengths, and the number that each
+/// A sound file with bytes after it, to several lengths, and the number that each
 /// is refused with.
 pub fn lengthened(sound: &[u8]) -> impl Iterator<Item = (Vec<u8>, u16)> + '_ {
     let by_size = [6_874, 6_875, 6_908, 6_909, 6_910, 65_536, 65_537, 131_098];

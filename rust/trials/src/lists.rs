@@ -75,7 +75,7 @@ pub fn by_engine(
     Verdict { number, place }
 }
 
-/// A call on what is lent with a file. `name` says which, with what it is told
+/// A call on a file and lent lists. `name` says which, with its arguments
 /// besides, and `origin` how to have the same lists again.
 pub struct Call<'a, N, O> {
     pub name: N,

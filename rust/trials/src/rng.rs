@@ -55,7 +55,7 @@ impl Rng {
         &list[self.below(list.len())]
     }
 
-    /// The index of an item that will do, if there is one.
+    /// The index of an item that fits, if there is one.
     pub fn find<T>(&mut self, list: &[T], will_do: impl Fn(&T) -> bool) -> Option<usize> {
         if list.is_empty() {
             return None;
@@ -66,7 +66,7 @@ impl Rng {
             .find(|&i| will_do(&list[i]))
     }
 
-    /// A mask of items 1 to `count`; each is in it with a chance of its own.
+    /// A mask of items 1 to `count`; each is in it independently.
     pub fn mask(&mut self, count: usize) -> u32 {
         let any = self.number();
         let mask = match any >> 61 {

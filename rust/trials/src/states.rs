@@ -62,7 +62,7 @@ pub fn cheapest<C: Ord>(trees: &Trees, cost: impl Fn(&[u16]) -> C) -> Vec<Vec<u1
 
 /// The lowest role that permits a send or receive of its user, step by step;
 /// other nodes have their parent's state. With `stays` the parent's state is
-/// kept where it will do.
+/// kept if it permits the step.
 pub fn greedy(trees: &Trees, stays: bool) -> Vec<u16> {
     let mut states = Vec::new();
     for (at, node) in trees.nodes.iter().enumerate() {

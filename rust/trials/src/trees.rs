@@ -15,8 +15,8 @@ pub struct Node {
     variables: Variables,
     /// The roles that are assigned to the session's user.
     pub assigned: u16,
-    /// The roles, assigned or not, that permit a send or receive; none where
-    /// the node asks for no role.
+    /// The roles, assigned or not, that permit a send or receive; `None` if the
+    /// node needs no role.
     pub permitted: Option<u16>,
 }
 

@@ -2,7 +2,7 @@
 
 use crate::grow::{Grower, Heed, Name, Point, VARIABLES};
 
-/// What the wild node pays no heed to.
+/// What the wild node ignores.
 #[derive(Clone, Copy)]
 pub enum Wild {
     /// Which numbers name something.
@@ -16,7 +16,7 @@ pub enum Wild {
 }
 
 impl Grower<'_> {
-    /// A node that pays no heed to the active set.
+    /// A node that ignores the active set.
     pub fn reckless(&mut self, point: &mut Point) -> Option<[u16; 3]> {
         match self.rng.from(5, 8) {
             5 => self.receive(point, Heed::Nothing),
@@ -26,7 +26,7 @@ impl Grower<'_> {
         }
     }
 
-    /// A send or receive that pays no heed to who may.
+    /// A send or receive that ignores grants and owners.
     pub fn unpermitted(&mut self, point: &mut Point) -> Option<[u16; 3]> {
         match self.rng.below(2) {
             0 => self.receive(point, Heed::Nothing),

@@ -131,7 +131,7 @@ fn every_prefix_of_a_notice() {
     }
 }
 
-/// Every length word, behind a notice of some bytes and of none.
+/// Every length word, in a notice of some bytes and of none.
 #[test]
 fn every_length_word() {
     let Notices { first, .. } = typical_notices(seed());

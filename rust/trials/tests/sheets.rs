@@ -62,7 +62,7 @@ fn near_a_thousand() {
         let sheet = agreed_sheet(&input, count);
         assert_eq!(sheet.files as usize, count.min(1_000));
         assert_eq!((sheet.sessions, sheet.most), (sheet.files, 1));
-        // Whatever stands behind it.
+        // Whatever follows it.
         for rest in [&[][..], &[1], &[0, 0], &[1, 0], &[1, 0, 1]] {
             let input = [&input[..], rest].concat();
             let whole = match rest {

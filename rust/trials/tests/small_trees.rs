@@ -25,7 +25,7 @@ fn clinic(sessions: usize, root: u16) -> Draft {
     draft
 }
 
-/// Tries all lists of `count` nodes behind `binders` binders; gives the number
+/// Tries all lists of `count` nodes after `binders` binders; gives the number
 /// of lists and how many of them pass.
 fn try_all(draft: &mut Draft, binders: u16, count: u16) -> (u64, u64) {
     let choices = choices(binders + count);

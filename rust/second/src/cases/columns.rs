@@ -231,7 +231,7 @@ fn rooms() -> Vec<TurnCase> {
     .collect()
 }
 
-/// 1 to 5, and what is judged behind them is not judged here.
+/// 1 to 5; later refusals play no part here.
 fn refusals() -> Vec<TurnCase> {
     let mut cases = Vec::new();
     for turn in Turn::ALL {

@@ -117,7 +117,7 @@ const ALL_SORTS: [[u16; 3]; 18] = [
     [1, 17, 0], [2, 0, 0], END, [8, 1, 0], END,
 ];
 
-/// The same behind two users, three channels and four nodes.
+/// The same after two users, three channels and four nodes.
 #[rustfmt::skip]
 const ALL_SORTS_BEHIND: [[u16; 3]; 18] = [
     [7, 1, 0], [7, 2, 0], [3, 1, 0],

@@ -8,7 +8,7 @@ use crate::draft::to_bytes;
 /// section where the header ends.
 pub const NOTHING: [u16; 13] = [1, 0, 0, 0, 0, 0, 0, 13, 13, 13, 13, 13, 13];
 
-/// These bytes as far as a length, with zeros behind them.
+/// These bytes cut or extended with zeros to a length.
 fn of_length(length: usize) -> Vec<u8> {
     let mut file = to_bytes(&NOTHING);
     file.resize(length, 0);

@@ -167,7 +167,7 @@ fn lengths() -> Vec<NoticeCase> {
             UNSOUND_2,
         ));
     }
-    // The length of the bytes behind it, less 65,536.
+    // The number of bytes after it, less 65,536.
     let mut wrapped = notice(5, &to_bytes(&BOOKING));
     wrapped.resize(4 + 82 + 65_536, 0);
     all.push(case("65,536 bytes more", [&wrapped, &sound], 9, UNSOUND_1));
@@ -183,7 +183,7 @@ fn lengths() -> Vec<NoticeCase> {
     all
 }
 
-/// 27 by a file that is refused, for each case of 1 to 10. What 11 to 13 refuse will do.
+/// 27 by a file that is refused, for each case of 1 to 10. A file that 11 to 13 refuse is sound.
 fn files() -> Vec<NoticeCase> {
     let sound = other(5);
     let mut all = Vec::new();

@@ -26,7 +26,7 @@ pub fn sheet_cases() -> Vec<SheetCase> {
         .collect()
 }
 
-/// Files, each behind a word with its length in bytes.
+/// Files, each after a word with its length in bytes.
 pub fn records<F: AsRef<[u8]>>(files: impl IntoIterator<Item = F>) -> Vec<u8> {
     let mut input = Vec::new();
     for file in files {

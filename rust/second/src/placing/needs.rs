@@ -1,4 +1,4 @@
-//! The roles that will do at each send and receive: refusals 14 and 15.
+//! The roles that permit each send and receive: refusals 14 and 15.
 
 use super::{refuse, MOST_NODES};
 use crate::cause::{Cause, Refusal};

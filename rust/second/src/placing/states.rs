@@ -84,7 +84,7 @@ impl Waiting {
 }
 
 /// Sets the choices of one tree's nodes. `needs` has the roles that permit a
-/// node, 0 where any state will do.
+/// node, 0 if it may have any state.
 pub fn choose(
     tags: &[u16],
     assigned: u16,
@@ -177,7 +177,7 @@ impl Row {
         }
     }
 
-    /// The mask of the roles whose cost will do.
+    /// The mask of the roles whose cost is low enough.
     fn roles_where(&self, will_do: impl Fn(i16) -> bool) -> u16 {
         let bit = |(&cost, bit)| if will_do(cost) { bit } else { 0 };
         let bits = self.roles.iter().zip(BITS).map(bit);

@@ -181,7 +181,7 @@ impl Aim<'_> {
         }
     }
 
-    /// A counted thread at a node of the file that will do.
+    /// A counted thread at a node of the file that fits.
     fn thread_where(&mut self, will_do: impl Fn(&Thread) -> bool) -> Option<&mut Thread> {
         let counted = &self.lists.threads[..self.counted()];
         let nodes = 1..=self.clinic.draft.nodes.len();

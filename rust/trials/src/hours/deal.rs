@@ -42,7 +42,7 @@ pub fn deal_at(versions: &[Version], seed: u64, index: u64) -> At {
     let rng = &mut Rng::new(seed.rotate_left(6), index);
     // So that each family of files comes up in all versions.
     let version = versions[(index / 27) as usize % versions.len()];
-    // Some of the files in which on, off, send and receive pay no heed.
+    // Some of the files in which on, off, send and receive ignore the active set.
     let of_roles = index / 27 * 27 + 8 + rng.number() % 4;
     let index = *rng.of(&[index, index, of_roles]);
     let file = deal(version, !seed, index);

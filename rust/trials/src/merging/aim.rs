@@ -170,7 +170,7 @@ impl Spot<'_> {
         self.draft.kinds[usize::from(kind) - 1][0]
     }
 
-    /// A kind that carries what will do.
+    /// A kind that carries something that fits.
     fn kind(&mut self, will_do: impl Fn(u16) -> bool) -> Option<u16> {
         let found = self
             .rng

@@ -14,7 +14,7 @@ const LEAST_OF_CAUSE: u64 = 500;
 
 /// What has to come up in files of either version, and how often: placed with
 /// fewer on steps than the lowest permitting role gives, step by step, and than if
-/// the role that is on is kept where it will do; placed in exactly 1,024 nodes, in
+/// the role that is on is kept if it permits; placed in exactly 1,024 nodes, in
 /// all the bytes of the largest file, and in an output that is longer than need
 /// be; and what comes of counting idle nodes before the smallest list.
 const LEAST: [(&str, u64); 10] = [
@@ -55,7 +55,7 @@ pub struct PlaceTally {
     others: u64,
 }
 
-/// The on steps of a file; none where it is not placed.
+/// The on steps of a file; `None` if it is not placed.
 fn fewest(draft: &Draft) -> Option<u16> {
     let placed = second::place(&draft.bytes(), &mut [0; ROOM]);
     (placed.number == 0).then_some(placed.on_steps)

@@ -119,7 +119,7 @@ fn as_long_as_can_be(rng: &mut Rng, version: Version, count: usize) -> (Vec<u8>,
 }
 
 /// Has the list stop for a cause that is drawn, if there is such a choice, with
-/// others behind it or none.
+/// others after it or none.
 fn stop(rng: &mut Rng, file: &[u8], choices: &mut Vec<u16>) {
     let Ok(mut run) = second::begin(file) else {
         return;

@@ -103,7 +103,7 @@ fn grow(rng: &mut Rng, draft: &mut Draft, user: u16, steps: usize, forks: usize)
     draft.nodes.push(END);
 }
 
-/// A relay with a session behind the others that repeats until there are 64
+/// A relay with a last session that repeats until there are 64
 /// threads, or up to three less.
 pub fn full_of_threads(rng: &mut Rng, version: Version) -> Done {
     let mut draft = relay(rng, version, 12);

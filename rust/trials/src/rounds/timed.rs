@@ -26,7 +26,7 @@ fn forked(branches: impl Fn(u16) -> [Vec<[u16; 3]>; 2]) -> (Vec<u8>, Vec<u16>) {
     (draft.bytes(), forks())
 }
 
-/// A file, and choices that lead to 32 threads that send and behind them 32 that
+/// A file, and choices that lead to 32 threads that send, followed by 32 that
 /// receive, the last of these from the first of those, and then step.
 pub fn meeting_round() -> (Vec<u8>, Vec<u16>) {
     forked(|session| {

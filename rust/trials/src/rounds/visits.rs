@@ -190,7 +190,7 @@ impl<'a> Visits<'a> {
         Some(partner)
     }
 
-    /// Notes why a receiver isn't met, with another behind it or none.
+    /// Notes why a receiver isn't met, with another after it or none.
     fn pass_over(&mut self, receiver: u16, halt: Option<Halt>, for_another: bool) {
         let label = self.label_of(receiver);
         if halt.is_none() {

@@ -8,7 +8,7 @@ use second::Version;
 const END: [u16; 3] = [0, 0, 0];
 const REPEAT: [u16; 3] = [2, 0, 0];
 
-/// A tree in the making.
+/// A tree that is being built.
 struct Tree<'d> {
     nodes: &'d mut Vec<[u16; 3]>,
     /// The roles of its user, and how many there are in all.
@@ -146,7 +146,7 @@ impl Tree<'_> {
     }
 }
 
-/// One session that receives, on a channel of its own, for each of the two users, so that
+/// One session that receives on its own channel for each of the two users, so that
 /// the others can send.
 pub fn add_takers(draft: &mut Draft) {
     let all = draft.users[0][0];

@@ -41,7 +41,7 @@ pub struct Witness<'a> {
 
 impl<'a> Witness<'a> {
     /// Goes through the list, and then through the round, if there is one, and asserts that
-    /// all is as it was told. None where something is refused before the first choice.
+    /// all is as it was answered. `None` if something is refused before the first choice.
     pub fn of(seated: &'a Seated, told: &Told, origin: &str) -> Option<Witness<'a>> {
         if told.run.length == 0 {
             return None;

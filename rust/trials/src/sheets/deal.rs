@@ -7,7 +7,7 @@ use second::cases::records;
 use second::draft::set_word;
 use second::{Version, MOST_FILES};
 
-/// Files in a row, and what stands behind them.
+/// Files in a row, and what follows them.
 #[derive(Clone, Debug)]
 pub struct Dealing {
     pub files: Vec<Vec<u8>>,
@@ -97,7 +97,7 @@ fn third(rng: &mut Rng) -> Vec<u8> {
     file
 }
 
-/// What stands behind the files: mostly nothing, or the start of a record.
+/// What follows the files: mostly nothing, or the start of a record.
 fn rest(rng: &mut Rng) -> Vec<u8> {
     let record = records([small(rng)]);
     match rng.below(8) {

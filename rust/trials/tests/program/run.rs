@@ -48,7 +48,7 @@ impl Program {
     }
 
     /// Asserts what it writes: on the input at once, in small pieces, and in
-    /// small pieces behind as many bytes as the largest file has.
+    /// small pieces after as many bytes as the largest file has.
     pub fn assert_writes(&self, input: &[u8], due: &[u8], what: &str) {
         let (start, rest) = input.split_at(input.len().min(6_908));
         let ways = [
@@ -100,7 +100,7 @@ fn head_of_version_2() -> Vec<u8> {
     draft.bytes()
 }
 
-/// Inputs of any length: zeros, and zeros behind a sound file, which is cut
+/// Inputs of any length: zeros, and zeros after a sound file, which is cut
 /// where it is longer.
 pub fn of_any_length(sound: Vec<u8>) -> Vec<(String, Vec<u8>)> {
     let starts = [

@@ -17,7 +17,7 @@
 //! fields are separated by one space, and each line ends with a newline. R.. are
 //! the numbers of the roles in the mask, the lowest first, or `-` if there are
 //! none; all eight variables are there, 0 where nothing is bound. A run that is
-//! halted has the line `refused N P` behind its state, the one before the choice;
+//! halted has the line `refused N P` after its state, the one before the choice;
 //! a run that is refused before its first choice has that line and nothing else.
 //!
 //! A list whose length in bytes is no multiple of 4 is an odd list, 17, a lone
@@ -47,7 +47,7 @@ struct Files {
 }
 
 impl Files {
-    /// Each test has a folder of its own.
+    /// Each test has its own folder.
     fn of(test: &str) -> Files {
         let folder = Path::new(env!("CARGO_TARGET_TMPDIR")).join(format!("run-{test}"));
         fs::create_dir_all(&folder).expect("a folder is made");

@@ -33,7 +33,7 @@ pub fn against_21() -> Vec<u8> {
     draft.bytes()
 }
 
-/// The threads of a meeting, before it and behind it.
+/// The threads of a meeting, before and after it.
 fn before(sends: u16, receives: u16) -> [Vec<u16>; 2] {
     [
         thread(1, 1, sends, sends.count_ones() as u16, &[]),

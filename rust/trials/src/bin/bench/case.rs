@@ -34,7 +34,7 @@ pub enum Input {
         choices: Vec<u16>,
         count: usize,
     },
-    /// A run to the end of its list, a round behind that, and what is read of the seats,
+    /// A run to the end of its list, a round after it, and what is read of the seats,
     /// with a table of seats.
     RunSeated(Seated),
     RoundSeated(Seated),

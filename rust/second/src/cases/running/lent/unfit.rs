@@ -25,7 +25,7 @@ fn lent() -> Lent {
     Lent::of(&threads, &[[1, 1], [2, 2]])
 }
 
-/// Lists that are no state of a run, and will do.
+/// Lists that are no state of a run and may be lent.
 pub fn fitting() -> Vec<ChooseCase> {
     // The second thread compares.
     let fits = |name, change: &dyn Fn(&mut Lent)| {
