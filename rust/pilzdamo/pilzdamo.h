@@ -14,7 +14,7 @@
  *
  * Bytes and words may have any value. Every call ends. No call keeps a pointer,
  * allocates, or changes memory of its own, so that calls are safe from several threads
- * at once. No call needs over 46,000 bytes of stack.
+ * at once. No call needs over 48,000 bytes of stack.
  *
  * A refusal is a number from 1 to 28 and a place; both are 0 if nothing is refused.
  * What the place counts depends on the number: nothing (0) for 1 to 5, 16, 17, 22, 25

@@ -33,8 +33,8 @@ fn second(verdict: second::Verdict) -> Answer {
     (verdict.number, verdict.place)
 }
 
-/// What both answer by 1 to 13, once they have agreed by 1 to 10. Panics where
-/// they differ, with the file.
+/// What both answer by 1 to 13, once they have agreed by 1 to 10. Panics if they
+/// differ, with the file.
 pub fn agreed(file: &[u8], origin: impl Display) -> Answer {
     let same = |question, ours: Answer, theirs: Answer| {
         assert!(

@@ -39,8 +39,8 @@ pub fn engine_choose(
     })
 }
 
-/// What both answer, and what both leave in the lists. Panics where they
-/// differ, and where what they leave is not as it should be.
+/// What both answer, and what both leave in the lists. Panics if they differ, or if the
+/// answer is wrong.
 pub fn agreed_choice(
     file: &[u8],
     before: &Lists,

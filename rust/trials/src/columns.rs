@@ -80,8 +80,8 @@ pub fn assert_placed_as_rows(
     assert!(out == of_rows, "another output by row: {origin}");
 }
 
-/// What both answer, and what both leave in the output. Panics where they differ, and
-/// where what they say is not as it should be.
+/// What both answer, and what both leave in the output. Panics if they differ, or if
+/// the answer is wrong.
 pub fn agreed_turn(turned: &Turned, origin: impl Display) -> (Written, Vec<u8>) {
     let Turned { turn, file, before } = turned;
     let (mut out, mut of_second) = (before.clone(), before.clone());

@@ -23,7 +23,7 @@ pub enum Use {
     Roles,
     /// Sends and receives that rule 6 refuses.
     Permission,
-    /// As many threads and channels as there can be.
+    /// The most threads and channels possible.
     Crowd,
 }
 

@@ -46,7 +46,7 @@ pub fn without_roles(draft: &Draft, roles: u16) -> Draft {
     less
 }
 
-/// What both answer at the minute. Panics where they differ.
+/// What both answer at the minute. Panics if they differ.
 pub fn agreed_check_at(at: &At, origin: impl Display) -> Verdict {
     let At {
         file,
@@ -64,8 +64,7 @@ pub fn agreed_check_at(at: &At, origin: impl Display) -> Verdict {
 }
 
 /// What both answer at the minute, given an output and what it holds, and what both
-/// leave in it. Panics where they differ, and where what they say is not as it should
-/// be.
+/// leave in it. Panics if they differ, or if the answer is wrong.
 pub fn agreed_placing_at(at: &At, before: &[u8], origin: impl Display) -> (Placed, Vec<u8>) {
     let At {
         file,

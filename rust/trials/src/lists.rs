@@ -85,8 +85,8 @@ pub struct Call<'a, N, O> {
 }
 
 impl<N: Display, O: Display> Call<'_, N, O> {
-    /// What both answer, and what both leave in the lists. Panics where they
-    /// differ, and where the judge finds a fault in what they leave.
+    /// What both answer, and what both leave in the lists. Panics if they differ, or
+    /// if the judge finds a fault in what they leave.
     pub fn agreed(
         &self,
         engine: impl Fn(&[u8], &mut [Thread], &mut [u16]) -> Verdict,

@@ -29,7 +29,7 @@ pub fn engine_measure_at(file: &[u8], hours: &[u16], minute: u16) -> Placed {
 }
 
 /// What both answer, which is what the engine's placing answers in the room that it
-/// wants. Panics where they differ.
+/// wants. Panics if they differ.
 pub fn agreed_measure(file: &[u8], origin: impl Display) -> Placed {
     let placed = engine_place(file, &mut vec![0; room_for(file)]);
     let measured = [engine_measure(file), second::measure(file)];

@@ -34,8 +34,8 @@ pub fn as_read(file: &[u8]) -> Vec<u8> {
     }
 }
 
-/// What both answer, and what both leave in the output. Panics where they differ, and
-/// where what they say is not as it should be.
+/// What both answer, and what both leave in the output. Panics if they differ, or if
+/// the answer is wrong.
 pub fn agreed_merge(pair: &Pair, origin: impl Display) -> (Written, Vec<u8>) {
     let Pair {
         first,

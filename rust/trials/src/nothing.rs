@@ -42,8 +42,7 @@ pub struct Answers {
     pub merge: (Written, Vec<u8>),
 }
 
-/// What both answer to every call. Panics where they differ, in a byte of an output
-/// too.
+/// What both answer to every call. Panics if they differ, in a byte of an output too.
 pub fn agreed_answers(asked: &Asked, origin: impl Display) -> Answers {
     let Asked {
         at,

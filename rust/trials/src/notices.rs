@@ -24,8 +24,8 @@ pub fn engine_in_force<'a>(first: &'a [u8], second: &'a [u8], day: u16) -> (InFo
     (told, part)
 }
 
-/// What both answer. Panics where they differ, and where what they say is not as it
-/// should be, or the part isn't a notice's own.
+/// What both answer. Panics if they differ, if the answer is wrong, or if the part isn't
+/// a notice's own memory.
 pub fn agreed_in_force(notices: &Notices, origin: impl Display) -> InForce {
     let Notices { first, second, day } = notices;
     let (told, part) = engine_in_force(first, second, *day);

@@ -28,9 +28,8 @@ pub fn in_form(placed: pilzdamo::Placed) -> Placed {
     }
 }
 
-/// What both answer, given an output and what it holds, and what both leave in
-/// it. Panics where they differ, and where what they say is not as it should
-/// be.
+/// What both answer, given an output and what it holds, and what both leave in it.
+/// Panics if they differ, or if the answer is wrong.
 pub fn agreed_placing(file: &[u8], before: &[u8], origin: impl Display) -> (Placed, Vec<u8>) {
     let (mut out, mut of_second) = (before.to_vec(), before.to_vec());
     let placed = engine_place(file, &mut out);

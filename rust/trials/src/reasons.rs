@@ -45,8 +45,8 @@ pub fn engine_read_reason(sentence: &[u8]) -> Reason {
 }
 
 /// What both write at the start of an output that holds `before`, if they write
-/// anything. Panics where they differ in the length or in any byte of the output, and
-/// where the length is none that there can be.
+/// anything. Panics if they differ in the length or in any byte of the output, or if the
+/// length is impossible.
 fn agreed_output(
     origin: impl Display,
     before: &[u8],

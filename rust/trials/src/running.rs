@@ -40,8 +40,8 @@ pub struct Dealt {
     pub before: Vec<u8>,
 }
 
-/// What both answer, and what both leave in the output. Panics where they
-/// differ, and where what they say is not as it should be.
+/// What both answer, and what both leave in the output. Panics if they differ, or if
+/// the answer is wrong.
 pub fn agreed<Answer: PartialEq + Debug>(
     dealt: &Dealt,
     origin: impl Display,

@@ -1,4 +1,4 @@
-//! Lists of choices for a file: mostly such as are done, up to a choice that is
+//! Lists of choices for a file: mostly choices that can be done, up to a choice that is
 //! to be refused.
 
 use crate::deal::typical;
@@ -158,8 +158,8 @@ pub fn any_choice(rng: &mut Rng, threads: usize) -> [u16; 2] {
     [number(), number()]
 }
 
-/// Choices from the file's start: such as are done, as many as the goal wants,
-/// then one that is refused as it wants, if there is such a one.
+/// Choices from the file's start that can be done, as many as the goal wants, then one
+/// that is refused as it wants, if there is such a one.
 pub fn schedule(rng: &mut Rng, file: &[u8], goal: Goal) -> Vec<u16> {
     let mut choices = Vec::new();
     let Ok(mut run) = second::begin(file) else {

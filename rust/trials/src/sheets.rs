@@ -26,7 +26,7 @@ pub fn engine_sheet(input: &[u8]) -> Sheet {
     }
 }
 
-/// What both answer. Panics where they differ.
+/// What both answer. Panics if they differ.
 pub fn agreed_sheet(input: &[u8], origin: impl Display) -> Sheet {
     let (engine, second) = (engine_sheet(input), second::sheet(input));
     assert_eq!(engine, second, "engine and second at {origin}");

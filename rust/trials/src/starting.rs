@@ -18,8 +18,8 @@ pub fn engine_start(file: &[u8], threads: &mut [Thread], beside: &mut [u16]) -> 
     by_engine(threads, |records| pilzdamo::start(file, records, beside))
 }
 
-/// What both answer, and what both leave in the lists. Panics where they
-/// differ, and where it is not as it should be.
+/// What both answer, and what both leave in the lists. Panics if they differ, or if the
+/// answer is wrong.
 pub fn agreed_start(file: &[u8], before: &Lists, origin: impl Display) -> (Verdict, Lists) {
     let call = Call {
         name: "start",

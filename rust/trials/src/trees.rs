@@ -3,7 +3,7 @@
 use crate::juniors;
 use second::draft::Draft;
 
-/// A node, and where it hangs.
+/// A node, and its place in the tree.
 pub struct Node {
     /// The parent's index; a root has none.
     pub parent: Option<usize>,

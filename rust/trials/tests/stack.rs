@@ -12,10 +12,13 @@ use std::ffi::{c_int, c_ulong, c_void};
 use std::hint::black_box;
 
 /// The most that a call may need, as docs/API.md says.
-const MOST: usize = 46_000;
+const MOST: usize = 48_000;
 
-/// What a thread is given in these trials.
-const GIVEN: usize = 64 * 1024;
+/// What is enough for a thread that makes calls, as docs/API.md says.
+const ENOUGH: usize = 64 * 1024;
+
+/// What a thread is given while its use is measured: more, since nothing guards its end.
+const GIVEN: usize = 4 * ENOUGH;
 
 const PAINT: u8 = 0xa5;
 
@@ -133,7 +136,10 @@ impl Needs {
             black_box(call());
         });
         let whole = used(&mut job);
-        assert!(whole < GIVEN, "{name}: the stack was too short");
+        assert!(
+            whole <= ENOUGH,
+            "{name}: a thread needs {whole} bytes of stack"
+        );
         let needs = whole.saturating_sub(self.itself);
         match self.most.iter_mut().find(|(there, _)| *there == name) {
             Some((_, most)) => *most = needs.max(*most),
@@ -229,19 +235,31 @@ fn every_call_in_64_kibibytes() {
     }
 }
 
+/// A thread that has no more: the calls that need most, and a desk.
 #[test]
-fn a_desk_in_64_kibibytes() {
+fn on_a_thread_of_64_kibibytes() {
+    let Files { all, runs } = files();
+    let sheet = pilzdamo::records(&all).expect("records");
     let (file, choices) = trials::meeting_round();
-    let small = std::thread::Builder::new().stack_size(GIVEN);
+    let small = std::thread::Builder::new().stack_size(ENOUGH);
     let joined = small.spawn(move || {
+        let mut out = vec![0; ROOM];
+        for file in &all {
+            let _ = black_box(pilzdamo::place(file, &mut out));
+            let _ = black_box(pilzdamo::measure(file));
+        }
+        let _ = black_box(pilzdamo::sheet(&sheet));
+        for (file, choices) in &runs {
+            let seats = vec![0; file[4].into()];
+            let _ = black_box(pilzdamo::run(file, choices, &mut out));
+            let _ = black_box(pilzdamo::seats(file, choices, &seats));
+        }
         let mut desk = Desk::after(&file, &choices).expect("it runs");
         let next = desk.choices();
         let &(thread, partner) = next.first().expect("one that can be done");
         desk.choose(thread, partner).expect("it can be done");
-        next.len()
     });
-    let choices = joined.expect("a thread").join().expect("it ends");
-    assert!(choices > 0);
+    joined.expect("a thread").join().expect("it ends");
 }
 
 /// The calls keep nothing between them: many threads at once have the answers of one.

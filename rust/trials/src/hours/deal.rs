@@ -81,7 +81,7 @@ pub fn grant_more(rng: &mut Rng, draft: &mut Draft) {
     }
 }
 
-/// A table for the file and a minute, mostly such as can be.
+/// A table for the file and a minute, mostly valid ones.
 pub fn with_hours(rng: &mut Rng, file: Vec<u8>) -> At {
     let any = rng.from(0, WEEK - 1);
     let minute = *rng.of(&[any, any, any, 0, 420, WEEK - 1]);

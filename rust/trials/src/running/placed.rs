@@ -22,8 +22,8 @@ pub struct PlacedRuns {
     pub tried: u64,
 }
 
-/// Places `files` files of a version by both, half of them for a minute, and runs
-/// what can be placed on several lists. Panics where a run is stopped for a role.
+/// Places `files` files of a version by both, half of them for a minute, and runs what
+/// can be placed on several lists. Panics if a run is stopped for a role.
 pub fn run_placed(version: Version, seed: u64, files: u64) -> PlacedRuns {
     let mut came_up = PlacedRuns::default();
     for index in 0..files {

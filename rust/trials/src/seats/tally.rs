@@ -53,7 +53,7 @@ pub struct SeatTally {
     version: Version,
     by_number: BTreeMap<u16, u64>,
     counts: Came,
-    /// Lists of as many choices as there can be, the last of them answered 26.
+    /// Lists of the most choices, the last of them answered 26.
     longest: u64,
     inputs: u64,
 }

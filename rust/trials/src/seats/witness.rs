@@ -1,5 +1,5 @@
-//! A run with seats gone through again over a run without: whose thread it is goes by
-//! the tree in which its node lies, and the lines are lists of sessions.
+//! A run with seats gone through again over a run without: a thread's session is found
+//! by the tree in which its node lies, and the lines are lists of sessions.
 
 use super::{Seated, Told};
 use crate::rounds::choices_of;

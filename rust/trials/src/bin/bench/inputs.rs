@@ -49,8 +49,7 @@ pub struct Inputs {
     pub free_seated: Seated,
     pub largest_seated: Seated,
     pub typical_seated: Seated,
-    /// Two to be merged, whose records together are as many as there can be; and two
-    /// of 40 nodes.
+    /// Two to be merged, whose records together reach every limit; and two of 40 nodes.
     pub largest_pair: [Vec<u8>; 2],
     pub typical_pair: [Vec<u8>; 2],
     /// Notices of two files of 40 nodes.
@@ -345,7 +344,7 @@ fn with_hours(file: &[u8]) -> At {
     }
 }
 
-/// With as many seats in each role as there can be.
+/// With the most seats in each role.
 fn free_seated((file, choices): Run) -> Seated {
     let roles = Draft::of(&file).roles.len();
     seated((file, choices, vec![32; roles]))
