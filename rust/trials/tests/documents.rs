@@ -363,3 +363,42 @@ fn the_picture_of_crates_is_that_of_the_list() {
     }
     assert_eq!(block, due, "UPDATE=1 writes it anew");
 }
+
+/// What a heading is called in a link.
+fn anchor(heading: &str) -> String {
+    let kept = |c: &char| c.is_alphanumeric() || *c == ' ' || *c == '-' || *c == '_';
+    let plain: String = heading.trim().chars().filter(kept).collect();
+    plain.to_lowercase().replace(' ', "-")
+}
+
+#[test]
+fn links_lead_somewhere() {
+    for page in [
+        "CONTRIBUTING.md",
+        "docs/API.md",
+        "docs/DECISIONS.md",
+        "docs/PROMISES.md",
+        "docs/SPECIFICATION.md",
+    ] {
+        let whole = text(page);
+        let folder = Path::new(page).parent().expect("a folder");
+        for link in whole
+            .split("](")
+            .skip(1)
+            .filter_map(|rest| rest.split(')').next())
+        {
+            let (file, part) = link.split_once('#').unwrap_or((link, ""));
+            let target = match file {
+                "" => root().join(page),
+                _ => root().join(folder).join(file),
+            };
+            assert!(target.exists(), "{page}: {link} leads nowhere");
+            if !part.is_empty() {
+                let there = std::fs::read_to_string(&target).expect("a page");
+                let headings = there.lines().filter(|line| line.starts_with('#'));
+                let mut anchors = headings.map(|line| anchor(line.trim_start_matches('#')));
+                assert!(anchors.any(|it| it == part), "{page}: no heading {link}");
+            }
+        }
+    }
+}
