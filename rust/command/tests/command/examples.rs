@@ -2,8 +2,8 @@
 
 use crate::common::{example, example_bytes};
 use crate::files;
+use crate::markdown::page;
 use std::fs;
-use std::process::Command;
 
 #[test]
 fn every_file_has_its_bytes() {
@@ -32,50 +32,17 @@ fn the_booking_is_the_papers() {
     assert_eq!(example_bytes("booking.clinic").len(), 82);
 }
 
-/// A command of the README.
-struct Typed {
-    /// The words before it.
-    before: String,
-    command: String,
-    /// What it prints, if that stands there.
-    printed: Option<String>,
-}
-
-/// The README's commands, one for each item of its lists.
-fn commands() -> Vec<Typed> {
-    let readme = fs::read_to_string(example("README.md")).expect("a README");
-    let mut all: Vec<Typed> = Vec::new();
-    for line in readme.lines() {
-        if line.starts_with("- ") {
-            all.push(typed(line).expect("a command"));
-        } else if let Some(printed) = line.strip_prefix("      ") {
-            let last = all.last_mut().expect("a command before it");
-            let text = last.printed.get_or_insert_default();
-            *text += &format!("{printed}\n");
-        }
-    }
-    all
-}
-
-fn typed(line: &str) -> Option<Typed> {
-    let (before, after) = line.split_once("`./pilzdamo ")?;
-    let (command, _) = after.split_once('`')?;
-    Some(Typed {
-        before: before.to_string(),
-        command: format!("./pilzdamo {command}"),
-        printed: None,
-    })
-}
-
-/// Each file and list has a command in the README.
+/// Each file and list has a command in a page; `pages` runs them.
 #[test]
 fn the_readme_names_every_example() {
-    let commands: String = commands().into_iter().map(|typed| typed.command).collect();
+    let pages = ["examples/README.md", "examples/published/README.md"].map(page);
+    let commands: String = pages.concat();
     let folders = [
         "head-nurse/",
         "hours/",
         "house/",
         "notices/",
+        "published/",
         "spring/",
         "seats/",
         "wards/",
@@ -90,44 +57,4 @@ fn the_readme_names_every_example() {
             }
         }
     }
-}
-
-/// What is said to be refused is refused so, and the rest is answered, with what
-/// the README says that it prints.
-#[test]
-fn the_readmes_commands() {
-    let mut printed = 0;
-    for typed in commands() {
-        let command = &typed.command;
-        let program = concat!("'", env!("CARGO_BIN_EXE_pilzdamo"), "'");
-        let output = Command::new("bash")
-            .args(["-c", &command.replace("./pilzdamo", program)])
-            .current_dir(example(".."))
-            .output()
-            .expect("bash starts");
-        let status = output.status.code();
-        let err = String::from_utf8_lossy(&output.stderr);
-        match refusal(&typed.before) {
-            Some(due) => assert!(status == Some(1) && err.contains(&due), "{command}\n{err}"),
-            None => assert_eq!(status, Some(0), "{command}\n{err}"),
-        }
-        if let Some(due) = typed.printed {
-            assert_eq!(String::from_utf8_lossy(&output.stdout), due, "{command}");
-            printed += 1;
-        }
-    }
-    assert_eq!(printed, 19);
-}
-
-/// The refusal that a line begins with, `- 6 at word 27: ` or `- 3: `: its sentence, up
-/// to the place.
-fn refusal(before: &str) -> Option<String> {
-    let (refusal, _) = before.strip_prefix("- ")?.split_once([':', '('])?;
-    let (number, place) = match refusal.trim().split_once(" at ") {
-        Some((number, place)) => (number, format!(" at {place}")),
-        None => (refusal.trim(), "; no place".to_string()),
-    };
-    let number: u16 = number.parse().ok()?;
-    let meaning = pilzdamo::meaning(number).expect("a refusal");
-    Some(format!("{meaning}{place}"))
 }

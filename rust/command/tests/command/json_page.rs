@@ -1,19 +1,15 @@
-//! What `docs/FORMAT.md` says of `--json`: its examples are what the command prints, and its
-//! tables have the keys.
+//! The tables of `docs/JSON.md` have the keys of the objects that stand there. That these are what the
+//! command prints is seen by `pages`.
 
 use crate::common::{pilzdamo, Folder};
-use crate::format::{example, page, FORMAT};
+use crate::format::example;
 use crate::json::{parsed, Value};
-use std::process::Command;
+use crate::markdown::page;
 
-const SECTION: &str = "\n## For programs: --json\n";
-
-/// The part of the section below a heading, or what stands before the first.
+/// The part of the page below a heading.
 fn part(heading: &str) -> String {
-    let page = page(FORMAT);
-    let (_, section) = page.split_once(SECTION).expect("the section");
-    let section = section.split("\n## ").next().unwrap_or_default();
-    let mut parts = section.split("\n### ");
+    let page = page("docs/JSON.md");
+    let mut parts = page.split("\n## ");
     let found = parts.find(|part| part.lines().next() == Some(heading));
     found
         .unwrap_or_else(|| panic!("no heading {heading}"))
@@ -37,65 +33,24 @@ fn tables(heading: &str) -> Vec<Vec<String>> {
     tables
 }
 
-/// A command of the page, and the lines that it prints, each joined again where the page
-/// breaks it.
-fn commands(heading: &str) -> Vec<(String, Vec<String>)> {
-    let mut commands: Vec<(String, Vec<String>)> = Vec::new();
-    for line in part(heading).lines() {
-        let Some(line) = line.strip_prefix("    ") else {
-            continue;
-        };
-        if let Some(command) = line.strip_prefix("$ ") {
-            commands.push((command.to_string(), Vec::new()));
-            continue;
-        }
-        let printed = &mut commands.last_mut().expect("a command").1;
-        match line.strip_prefix(' ') {
-            Some(more) => {
-                let before = printed.last_mut().expect("a line before it");
-                *before += &format!(" {}", more.trim_start());
-            }
-            None => printed.push(line.to_string()),
-        }
-    }
-    commands
-}
-
-/// A folder with what the examples are about.
-fn folder(name: &str) -> Folder {
-    let folder = Folder::new(name);
-    let ward = folder.file("ward.txt", example());
-    let placed = pilzdamo(&["place", &ward]).out;
-    folder.file("placed.txt", placed);
-    folder.file(
-        "asked.choices",
-        "ask ask ask  serve serve.2  ask -> serve.2",
-    );
-    folder.file("first.choices", "ask ask ask  serve serve.2");
-    folder.file("one.seats", "1 0");
-    let head = crate::format::block("clinic 3\n");
-    folder.file("head.txt", head);
-    folder
-}
-
-/// The objects that the commands of a part print, which are those that stand there.
+/// The objects that stand in a part, each joined again where the page wraps it.
 fn printed(heading: &str) -> Vec<Value> {
-    let folder = folder(&format!("json page {heading}"));
-    let program = concat!("'", env!("CARGO_BIN_EXE_pilzdamo"), "'");
-    let mut objects = Vec::new();
-    for (command, due) in commands(heading) {
-        let output = Command::new("bash")
-            .args(["-c", &command.replace("./pilzdamo", program)])
-            .current_dir(folder.path())
-            .output()
-            .expect("bash starts");
-        let out = String::from_utf8(output.stdout).expect("text");
-        assert_eq!(out, due.join("\n") + "\n", "{command}");
-        assert_eq!(String::from_utf8_lossy(&output.stderr), "", "{command}");
-        objects.extend(due.iter().map(|line| parsed(line).expect("JSON")));
+    let mut objects: Vec<String> = Vec::new();
+    let part = part(heading);
+    let blocks = crate::markdown::blocks(&part).into_iter();
+    for block in blocks.filter(|block| block.info == "console wrapped") {
+        for line in block.body.lines().filter(|line| !line.starts_with("$ ")) {
+            match (line.strip_prefix(' '), objects.last_mut()) {
+                (Some(more), Some(before)) => *before += more,
+                _ => objects.push(line.to_string()),
+            }
+        }
     }
     assert!(!objects.is_empty(), "{heading}");
+    let objects = objects.iter();
     objects
+        .map(|object| parsed(object).expect("JSON"))
+        .collect()
 }
 
 /// Each table of a part has the keys of its object.
@@ -139,8 +94,9 @@ fn runs() {
 #[test]
 fn a_file() {
     let told = &printed("show")[0];
-    let ward = folder("json page ward");
-    let ward = pilzdamo(&["show", &ward.at("ward.txt"), "--json"]);
+    let folder = Folder::new("json page ward");
+    let ward = folder.file("ward.txt", example());
+    let ward = pilzdamo(&["show", &ward, "--json"]);
     let ward = parsed(ward.text()).expect("JSON");
     for told in [told, &ward] {
         let session = &told["sessions"][0];

@@ -127,7 +127,7 @@ fn lists_in_names() {
         assert_eq!(run("-named"), run(""));
         let list = example_bytes(&format!("spring/{name}-both-write-named.choices"));
         let list = String::from_utf8(list).expect("text");
-        let printed: String = list.lines().map(|line| format!("    {line}\n")).collect();
+        let printed = format!("```text\n{list}```\n");
         assert!(readme.contains(&printed), "{name}");
     }
 }
