@@ -1,27 +1,27 @@
-# The words that only a checkout has: build and install. Read by the script pilzdamo at the root.
+# The commands that only a checkout has: build and install. Read by the script pilzdamo at the root.
 # shellcheck shell=bash disable=SC2154
 
-# The help of the words that only this script has.
+# The help of the commands that only this script has.
 help_here() { # WORD
     case $1 in
     build) print <<'TEXT' ;;
 ./pilzdamo build
 
-Proves the engine and builds the command if they are yet to be built, or if a
-source has changed, and does nothing else. Every other word does so by itself.
-Exit status: 0 all is built, 3 it could not be.
+Proves the engine and builds the program, if a source has changed since the last
+build, and does nothing else. Every other command builds too, if it must.
+Exit status: 0 all is built, 3 something could not be built.
 TEXT
     install) print <<'TEXT' ;;
 ./pilzdamo install [DIR]
 
-Builds the command if need be, and puts the program into DIR, or else into
-.local/bin of your home, and its man page beside it: into ../share/man/man1 if
-DIR is called bin, else into DIR. Says where each went, and whether DIR is on the
-PATH. The program there needs neither this checkout nor a toolchain.
+Builds if it must, and copies the program into DIR, or into .local/bin of your
+home, and its man page into ../share/man/man1 if DIR is called bin, else into
+DIR. It prints both paths, and whether DIR is on the PATH. The installed program
+needs neither this checkout nor a toolchain.
   ./pilzdamo install             into ~/.local/bin
   ./pilzdamo install /opt/bin    into /opt/bin
-Exit status: 0 both are there, 2 DIR can't be written, 3 the command could not be
-built.
+Exit status: 0 both are installed, 2 DIR can't be written, 3 something could not
+be built.
 TEXT
     esac
 }
@@ -57,7 +57,7 @@ install_into() { # DIR
     } | print
 }
 
-# The words that only this script has.
+# The commands that only this script has.
 carry_out_here() { # WORD [DIR]
     local word=$1 most=0
     operands=()

@@ -1,5 +1,5 @@
-# What is answered without building, from the texts that the program has too: help, the version, explain, and that words can't be
-# understood. Read by the script pilzdamo at the root.
+# What is answered without building, from the texts that the program has too: help, the version, explain, and invalid arguments.
+# Read by the script pilzdamo at the root.
 # shellcheck shell=bash disable=SC2154
 
 # Prints files, or standard input.
@@ -10,7 +10,7 @@ print() {
     }
 }
 
-# The program's words: each has a page of help.
+# The program's commands: each has a page of help.
 words() {
     local page
     for page in "$texts"/help/*.txt; do
@@ -24,10 +24,10 @@ is_word() { [[ $1 && $1 != */* && -f $texts/help/$1.txt ]]; }
 no_word() { # WORD
     local all
     all=$(words)
-    misused "there is no word '$(shown "$1")'; the words are ${all//$'\n'/, }, and here build and install"
+    misused "there is no command '$(shown "$1")'; the commands are ${all//$'\n'/, }, and here build and install"
 }
 
-# The help of a word, or the whole page.
+# The help of a command, or the whole page.
 help() { # [WORD]
     case ${1-} in
     build | install) help_here "$1" ;;
@@ -55,7 +55,7 @@ explain() { # N [--json]
     if [[ ${2-} ]]; then object "$number" "$page" | print; else print "$page"; fi
 }
 
-# A page of explain as an object: its first line is the meaning, each part behind it begins with its key, and lines that are indented go on.
+# A page of explain as an object: its first line is the meaning, each later part begins with its key, and indented lines continue it.
 object() { # NUMBER PAGE
     local line key object="{\"number\": $1"
     while IFS= read -r line; do
@@ -74,11 +74,11 @@ object() { # NUMBER PAGE
     printf '%s"}\n' "$object"
 }
 
-# Of the word's options: how messages call each, and what it wants behind it, if it does. And those that are given, with their values, and in order.
+# The options of the command: how messages call each, and what value it needs, if any. And the options given, with their values, and in order.
 declare -A called=() wants=() given=()
 typed=()
 
-# Reads the options that a word's help describes: "  -o OUT, --output OUT".
+# Reads the options that a command's help describes: "  -o OUT, --output OUT".
 read_options() { # WORD
     local line parts part name option value
     while IFS= read -r line; do
@@ -96,30 +96,30 @@ read_options() { # WORD
 
 has() { [[ ${given[$1]+there} ]]; } # OPTION
 
-# Keeps an option that is there, with its value, which may be the next word.
+# Keeps an option, with its value, which may be the next argument.
 keep_option() { # WORD OPTION TYPED [NEXT]
     local name=${called[$2]} value=
     if [[ -z ${wants[$2]} ]]; then
-        [[ $3 != *=* ]] || misused "$1: $2 stands by itself, not as '$(shown "$3")'"
+        [[ $3 != *=* ]] || misused "$1: $2 takes no value, as in '$(shown "$3")'"
     else
         case $3 in
         "$2")
             local due='the name of a file'
             if [[ ${wants[$2]} == TIME ]]; then due='a day and a time'; fi
-            (($# > 3)) || misused "$1: $2 wants $due behind it"
+            (($# > 3)) || misused "$1: $2 needs $due"
             value=$4
             ;;
         --*) value=${3#*=} ;;
         *) value=${3#"$2"} ;;
         esac
-        ! has "$name" || misused "$1: $name stands there twice"
+        ! has "$name" || misused "$1: $name is given twice"
     fi
     given[$name]=$value
     typed+=("$name")
 }
 
-# Tells the operands behind a word from its options, and keeps both. Ends at an option that the word's help doesn't describe, and at
-# --help, which is answered.
+# Separates the operands of a command from its options, and keeps both. Ends at an option that the command's help doesn't describe, and
+# at --help, which is answered.
 sort_operands() { # WORD OPERAND...
     local word=$1 next option
     operands=()
@@ -153,7 +153,7 @@ sort_operands() { # WORD OPERAND...
     done
 }
 
-# The names of a word's operands, by the first line of its help.
+# The names of a command's operands, by the first line of its help.
 operand_names() { # WORD
     local line
     read -r _ _ line <"$texts/help/$1.txt"
@@ -161,7 +161,7 @@ operand_names() { # WORD
     read -r -a names <<<"${line%%\[-*}"
 }
 
-# Ends where more than one of the files that are read is standard input.
+# Ends if more than one of the files that are read is standard input.
 one_standard_input() { # WORD
     local names at name value all=() inputs=0
     operand_names "$1"
@@ -196,7 +196,7 @@ add_input() { # NAME FILE
     if [[ $2 == - ]]; then inputs=$((inputs + 1)); fi
 }
 
-# Ends where options don't go together.
+# Ends if options don't go together.
 fit_options() { # WORD
     local other
     case $1 in
@@ -205,7 +205,7 @@ fit_options() { # WORD
         ;;
     place)
         ! has --json || [[ ${given[-o]--} != - ]] ||
-            misused "place: --json wants -o OUT: the placed file goes there, and the object to standard output"
+            misused "place: --json needs -o OUT: the placed file goes there, and the object to standard output"
         ;;
     run)
         for other in --trace --json; do
@@ -220,7 +220,7 @@ fit_options() { # WORD
     esac
 }
 
-# Ends where a word has too few operands or too many, by the first line of its help.
+# Ends if a command has too few operands or too many, by the first line of its help.
 count_operands() { # WORD
     local names least=0 name
     operand_names "$1"
@@ -232,12 +232,12 @@ count_operands() { # WORD
         misused "$1: '$(shown "${operands[${#names[@]}]}")' is too many"
 }
 
-# Whether a word is a number from LEAST to 65535.
+# Whether an argument is a number from LEAST to 65535.
 is_number() { # WORD LEAST
     [[ $1 =~ ^0*([0-9]{1,5})$ ]] && ((10#${BASH_REMATCH[1]} >= $2 && 10#${BASH_REMATCH[1]} <= 65535))
 }
 
-# Whether a word is a date that has a number.
+# Whether an argument is a date that has a number.
 is_date() { # WORD
     [[ $1 =~ ^([0-9]{4})-([0-9]{2})-([0-9]{2})$ ]] || return
     local year=$((10#${BASH_REMATCH[1]})) month=$((10#${BASH_REMATCH[2]})) day=$((10#${BASH_REMATCH[3]})) days=31
@@ -248,23 +248,23 @@ is_date() { # WORD
     ((1 <= month && month <= 12 && 1 <= day && day <= days)) && [[ ! $1 < 2000-01-01 && ! $1 > 2179-06-06 ]]
 }
 
-# Ends where DATE or DAY is no day.
+# Ends if DATE or DAY is no day.
 fit_day() { # WORD NAME
     local day=${operands[0]} due="a date from 2000-01-01 to 2179-06-06, or a number of days from 0 to 65535"
     is_number "$day" 0 || is_date "$day" || misused "$1: $2 is $due, not '$(shown "$day")'"
 }
 
-# Ends where one of --at and --hours is missing, or TIME is none.
+# Ends if one of --at and --hours is missing, or TIME is invalid.
 fit_hours() { # WORD
     # White space may be any that the program knows, so all but letters and digits passes for it.
     local LC_ALL=C space='[^a-z0-9:]' time
     time="^$space*(mon|tue|wed|thu|fri|sat|sun)$space+([01]?[0-9]|2[0-3]):[0-5][0-9]$space*\$"
     if has --at; then has --hours; else ! has --hours; fi || misused "$1: --at and --hours go together"
     ! has --at || [[ ${given[--at],,} =~ $time ]] ||
-        misused "$1: --at wants a day and a time such as \"Mon 07:30\", not '$(shown "${given[--at]}")'"
+        misused "$1: --at needs a day and a time such as \"Mon 07:30\", not '$(shown "${given[--at]}")'"
 }
 
-# Ends where the operands don't fit the options, or say nothing.
+# Ends if the operands don't fit the options, or are invalid.
 fit_operands() { # WORD
     case $1 in
     run)
@@ -288,7 +288,7 @@ fit_operands() { # WORD
     esac
 }
 
-# Ends with an answer if the texts have it.
+# Ends with an answer if the texts have one.
 answer_unbuilt() { # WORD...
     if ((!$#)); then
         help >&2

@@ -60,7 +60,7 @@ fn told(file: &NamedFile, hours: Option<&Hours>, json: bool) -> Result<Told, Wro
     }
     let mut message = refused(&bytes, hours, verdict);
     if verdict.number == 13 && Clinic::of(&bytes).is_bare() {
-        message += "\n  the routine has no on or off yet: pilzdamo place puts them in";
+        message += "\n  the routine has no on or off yet: pilzdamo place adds them";
     }
     Ok(Told::Refused(message))
 }

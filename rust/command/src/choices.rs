@@ -12,7 +12,7 @@ pub fn numbers(text: &[u8]) -> Result<Vec<u16>, Vec<Flaw>> {
             match number(word) {
                 Some(number) => numbers.push(number),
                 None => {
-                    let what = format!("'{}' is no number from 0 to 65535", shown(word));
+                    let what = format!("'{}' isn't a number from 0 to 65535", shown(word));
                     flaws.push(Flaw { at, what });
                 }
             }
@@ -67,7 +67,7 @@ mod tests {
             .collect();
         assert_eq!(places, [(2, 1), (4, 4)]);
         let flawed = |text: &[u8]| numbers(text).unwrap_err()[0].what.clone();
-        let due = |word: &str| format!("'{word}' is no number from 0 to 65535");
+        let due = |word: &str| format!("'{word}' isn't a number from 0 to 65535");
         for word in [
             "-1",
             "+1",

@@ -128,7 +128,7 @@ impl<'a> Course<'a> {
         let is_last = usize::from(thread) > self.desk.threads().len();
         match self.called.input.text.is_some() || is_last {
             true => "ends".to_string(),
-            false => "ends; the threads behind it move down by one".to_string(),
+            false => "ends; the threads after it move down by one".to_string(),
         }
     }
 

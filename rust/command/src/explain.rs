@@ -5,7 +5,7 @@ use crate::refusals::Refusal;
 /// The widest line, if its words allow it.
 const WIDTH: usize = 78;
 
-/// All that there is to say of a refusal, behind the engine's phrase for it.
+/// All that there is to say of a refusal, after the engine's phrase for it.
 pub fn text(number: u16, refusal: &Refusal) -> String {
     let meaning = pilzdamo::meaning(number).unwrap_or_else(|| format!("Refused {number}"));
     let mut text = wrapped(&meaning) + "\n";

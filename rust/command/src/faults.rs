@@ -83,7 +83,7 @@ fn start(clinic: &Clinic) -> Option<String> {
     let (number, &[_, mask, _]) = sessions.find(|(_, [_, mask, _])| *mask != 0)?;
     let roles = list("role", mask.into(), 16);
     Some(format!(
-        "session {number} starts with {roles}, and one that is to be placed starts with none"
+        "session {number} starts with {roles}, and a session to be placed starts with none"
     ))
 }
 

@@ -35,7 +35,7 @@ fn trace(listed: &Listed) -> String {
 }
 
 /// A line for each choice that can be done where a list leads or halts, as a list has it,
-/// with what it would do behind `#`. That there is none is said beside.
+/// with a comment on what it would do. A message says if there is none.
 pub fn choices(listed: &Listed) -> String {
     let Listed { input, list, table } = listed;
     let called = Called::of(input);

@@ -54,18 +54,29 @@ fn rows(words: &[(At, &[u8])]) -> Result<Vec<[u16; 3]>, Flaw> {
     let (&[start, role, days, times], &[(start_at, _), (role_at, _), (days_at, _), (times_at, _)]) =
         (&told[..], words)
     else {
-        let what = format!("'{}' has not four words", shown(told.join(" ")));
+        let what = format!("'{}' doesn't have four words", shown(told.join(" ")));
         return Err(flaw(spaced::over(words), what));
     };
     if !start.eq_ignore_ascii_case("role") {
         let what = format!("'{}' is not the word 'role'", shown(start));
         return Err(flaw(start_at, what));
     }
-    let no_role = || flaw(role_at, format!("'{}' is no number of a role", shown(role)));
+    let no_role = || {
+        flaw(
+            role_at,
+            format!("'{}' isn't the number of a role", shown(role)),
+        )
+    };
     let role = number(role).ok_or_else(no_role)?;
     let (first, last) = days.split_once('-').unwrap_or((days, days));
     let [first, last] = [first, last].map(|name| {
-        let what = || format!("'{}' is no day, which are {}", shown(name), DAYS.join(", "));
+        let what = || {
+            format!(
+                "'{}' isn't one of the days {}",
+                shown(name),
+                DAYS.join(", ")
+            )
+        };
         day(name).ok_or_else(|| flaw(days_at, what()))
     });
     let (begin, end) = stretch(times).map_err(|what| flaw(times_at, what))?;
@@ -103,7 +114,7 @@ fn stretch(text: &str) -> Result<(u16, u16), String> {
     });
     match times {
         None => Err(format!(
-            "'{}' is no stretch such as 07:00-15:00",
+            "'{}' isn't a stretch such as 07:00-15:00",
             shown(text)
         )),
         Some((begin, end)) if begin == end => Err(format!("'{}' ends as it begins", shown(text))),
@@ -195,12 +206,12 @@ mod tests {
             (
                 "role 1 Mon",
                 1,
-                "'role 1 Mon' has not four words".to_string(),
+                "'role 1 Mon' doesn't have four words".to_string(),
             ),
             (
                 "\nrole 1 Mon 1:00-2:00 x",
                 2,
-                "'role 1 Mon 1:00-2:00 x' has not four words".into(),
+                "'role 1 Mon 1:00-2:00 x' doesn't have four words".into(),
             ),
             (
                 "rolle 1 Mon 1:00-2:00",
@@ -210,62 +221,62 @@ mod tests {
             (
                 "role x Mon 1:00-2:00",
                 1,
-                "'x' is no number of a role".into(),
+                "'x' isn't the number of a role".into(),
             ),
             (
                 "role -1 Mon 1:00-2:00",
                 1,
-                "'-1' is no number of a role".into(),
+                "'-1' isn't the number of a role".into(),
             ),
             (
                 "role 65536 Mon 1:00-2:00",
                 1,
-                "'65536' is no number of a role".into(),
+                "'65536' isn't the number of a role".into(),
             ),
             (
                 "role 1 Mo 1:00-2:00",
                 1,
-                format!("'Mo' is no day, which are {days}"),
+                format!("'Mo' isn't one of the days {days}"),
             ),
             (
                 "role 1 Mon- 1:00-2:00",
                 1,
-                format!("'' is no day, which are {days}"),
+                format!("'' isn't one of the days {days}"),
             ),
             (
                 "role 1 Mon-Fri-Sun 1:00-2:00",
                 1,
-                format!("'Fri-Sun' is no day, which are {days}"),
+                format!("'Fri-Sun' isn't one of the days {days}"),
             ),
             (
                 "role 1 Mon 1:00",
                 1,
-                "'1:00' is no stretch such as 07:00-15:00".into(),
+                "'1:00' isn't a stretch such as 07:00-15:00".into(),
             ),
             (
                 "role 1 Mon 1:60-2:00",
                 1,
-                "'1:60-2:00' is no stretch such as 07:00-15:00".into(),
+                "'1:60-2:00' isn't a stretch such as 07:00-15:00".into(),
             ),
             (
                 "role 1 Mon 1:0-2:00",
                 1,
-                "'1:0-2:00' is no stretch such as 07:00-15:00".into(),
+                "'1:0-2:00' isn't a stretch such as 07:00-15:00".into(),
             ),
             (
                 "role 1 Mon 24:00-2:00",
                 1,
-                "'24:00-2:00' is no stretch such as 07:00-15:00".into(),
+                "'24:00-2:00' isn't a stretch such as 07:00-15:00".into(),
             ),
             (
                 "role 1 Mon 1:00-24:01",
                 1,
-                "'1:00-24:01' is no stretch such as 07:00-15:00".into(),
+                "'1:00-24:01' isn't a stretch such as 07:00-15:00".into(),
             ),
             (
                 "role 1 Mon 001:00-2:00",
                 1,
-                "'001:00-2:00' is no stretch such as 07:00-15:00".into(),
+                "'001:00-2:00' isn't a stretch such as 07:00-15:00".into(),
             ),
             (
                 "role 1 Mon 1:00-01:00",

@@ -74,7 +74,7 @@ impl Bytes for Input {
 }
 
 impl Input {
-    /// Text and bytes are told apart by the first word.
+    /// A text is recognized by its first word.
     pub fn of(name: String, bytes: Start) -> Result<Input, WrongUse> {
         match text::is_text(&bytes) {
             true if !bytes.is_whole() => Err(too_long(&name, LONGEST_TEXT)),
@@ -119,7 +119,7 @@ impl Input {
             let (file, from) = (&self.name, names.name());
             let why = "--names is for bytes";
             return Err(WrongUse(format!(
-                "{from}: {file} is a text and has its own names; {why}"
+                "{from}: {file} is a text and has names of its own; {why}"
             )));
         }
         let text = self.named_text(&names.name(), &read_names(names)?)?;
@@ -258,10 +258,10 @@ pub fn decoded<'a>(name: &str, bytes: &'a [u8]) -> Result<&'a str, WrongUse> {
     text::decoded(bytes).map_err(|flaw| flawed(name, bytes, &[flaw]))
 }
 
-/// How many flaws are told at once.
+/// How many errors are reported at once.
 const TOLD: usize = 20;
 
-/// Tells what can't be understood in a text.
+/// Reports the errors in a text.
 pub fn flawed(name: &str, text: impl AsRef<[u8]>, flaws: &[Flaw]) -> WrongUse {
     for flaw in flaws.iter().take(TOLD) {
         output::say(&text::told(name, &text, flaw.at, &flaw.what));
@@ -270,6 +270,6 @@ pub fn flawed(name: &str, text: impl AsRef<[u8]>, flaws: &[Flaw]) -> WrongUse {
         Some(more @ 1..) => format!(" ({more} more)"),
         _ => String::new(),
     };
-    let places = crate::names::several(flaws.len(), "place");
-    WrongUse(format!("{name}: {places} can't be understood{more}"))
+    let errors = crate::names::several(flaws.len(), "error");
+    WrongUse(format!("{name}: {errors}{more}"))
 }

@@ -80,7 +80,7 @@ impl<'a> Driven<'a> {
         let prompts = io::stdin().is_terminal();
         self.tell();
         if prompts {
-            output::say("a number does that choice; help lists what else can be typed");
+            output::say("a number does that choice; help lists the other inputs");
         }
         while let Some(line) = next_line(prompts)? {
             match typed::read(&line, &sessions) {
@@ -279,7 +279,7 @@ impl<'a> Driven<'a> {
             force: false,
         };
         if output::spare(inputs, &out).is_err() {
-            output::say(&format!("{name} is an input, and is not written over"));
+            output::say(&format!("{name} is an input, and isn't overwritten"));
             return;
         }
         match output::deliver_text(self.list().as_bytes(), &out) {

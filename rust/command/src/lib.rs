@@ -1,5 +1,5 @@
-//! What the command does. The engine judges, places and runs; here are only
-//! the files, the words of the command line and the lines that are printed.
+//! What the command does. The engine judges, places and runs; this crate reads
+//! arguments and files and prints answers.
 
 #![forbid(unsafe_code)]
 
@@ -62,7 +62,7 @@ use std::ffi::OsString;
 enum Outcome {
     Answer,
     Refusal,
-    /// There was wrong use, which has been told.
+    /// There was wrong use, which has been reported.
     Unanswered,
 }
 
@@ -76,7 +76,7 @@ impl WrongUse {
     }
 }
 
-/// Does what the words ask for. The exit status: 0 for an answer, 1 for a
+/// Does what the arguments ask for. The exit status: 0 for an answer, 1 for a
 /// refusal, 2 for wrong use.
 pub fn go(words: impl Iterator<Item = OsString>) -> u8 {
     match words::job(words).and_then(jobs::carry_out) {

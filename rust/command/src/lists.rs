@@ -82,7 +82,7 @@ impl List {
     ) -> Result<List, WrongUse> {
         let text = decoded(&name, bytes)?;
         let (tokens, sessions) = (tokens(text), input.sessions());
-        // Of a refused file that refusal is told, whatever names the list has.
+        // A refused file is reported first, whatever names the list has.
         let known = Desk::start(input).is_ok().then_some(&sessions[..]);
         let choices = named(&tokens, known).map_err(|flaws| {
             let WrongUse(why) = flawed(&name, text, &flaws);

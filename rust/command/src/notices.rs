@@ -59,7 +59,9 @@ fn unsound(notice: &Start) -> String {
         Length::MoreThan(bytes) => format!("more than {}", bytes - 4),
     };
     if length.to_string() != behind {
-        return format!("its length word is {length}, and the bytes behind it are {behind}");
+        return format!(
+            "its length word is {length}, and the number of bytes after it is {behind}"
+        );
     }
     let verdict = pilzdamo::read(file);
     let sentence = report::sentence_of(&Clinic::of(file), verdict);

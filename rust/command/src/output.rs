@@ -44,13 +44,13 @@ impl Out {
     }
 }
 
-/// Writes to standard output. A reader that has left is told as any other failure.
+/// Writes to standard output. A reader that has left is reported as any other failure.
 pub fn print(bytes: &[u8]) -> Result<(), WrongUse> {
     let mut out = io::stdout().lock();
     let printed = out.write_all(bytes).and_then(|()| out.flush());
     printed.map_err(|error| {
         let why = match error.kind() {
-            ErrorKind::BrokenPipe => "nobody reads it any more".to_string(),
+            ErrorKind::BrokenPipe => "nobody reads it".to_string(),
             _ => reason(&error),
         };
         WrongUse(format!("standard output can't be written: {why}"))

@@ -58,7 +58,7 @@ pub fn unpack(source: &Source, out: &Out, names: Option<&Source>) -> Result<Outc
     Ok(Outcome::Answer)
 }
 
-/// `strip FILE`: takes on and off out again, of a text as of bytes.
+/// `strip FILE`: removes on and off from a text or from bytes.
 pub fn strip(source: &Source, out: &Out) -> Result<Outcome, WrongUse> {
     output::spare(&[source], out)?;
     let input = source.clinic()?;
@@ -83,12 +83,12 @@ pub fn strip(source: &Source, out: &Out) -> Result<Outcome, WrongUse> {
     Ok(Outcome::Answer)
 }
 
-/// Writes a placed file as the text that it came from, with on and off put in.
+/// Writes a placed file as the text that it came from, with on and off added.
 pub fn deliver_placed(from: &Text, placed: &[u8], out: &Out) -> Result<(), WrongUse> {
     let Text { text, packed, .. } = from;
     let records = Records::of(placed);
     let placed = records.and_then(|records| text::placed(text, packed, &records));
-    let why = "what was placed is not this text with on and off put in";
+    let why = "the placed file isn't this text with on and off added";
     let placed = placed.ok_or_else(|| WrongUse(why.to_string()))?;
     let placed = match packed.bytes()[..] {
         [] => without_records(&placed, packed.source.clinic),

@@ -85,14 +85,14 @@ pub const ALL: [Refusal; 28] = [
         wrong: "The head counts the records: at most 32 users, 16 roles, 32 kinds, 64 channels, \
             32 sessions and 1,024 nodes. One of the counts is higher; or two files to be merged \
             have more together.",
-        mend: "Correct the count, or share out the routines over two files. `pilzdamo show` marks \
+        mend: "Correct the count, or split the routines between two files. `pilzdamo show` marks \
             the count. Two files with too many records together stay two.",
     },
     Refusal {
         place: NOTHING,
         who: WRITER,
         wrong: "The sections (users, roles, in versions 2 and 3 the roles' juniors, kinds, \
-            channels, sessions, nodes) stand back to back behind the head, and the head says at which word \
+            channels, sessions, nodes) follow the head back to back, and the head has the word at which \
             each begins. One of these offsets isn't the one that follows from the counts.",
         mend: "Correct the offset, or the count before it. `pilzdamo show` names the offset that \
             is due.",
@@ -101,7 +101,7 @@ pub const ALL: [Refusal; 28] = [
         place: NOTHING,
         who: WRITER,
         wrong: "The file is longer or shorter than its head and the records that it counts.",
-        mend: "Correct the count that is wrong, or leave away what stands behind the last node. A \
+        mend: "Correct the count that is wrong, or remove what follows the last node. A \
             file that is too short may have been cut off on its way.",
     },
     Refusal {
@@ -163,8 +163,8 @@ pub const ALL: [Refusal; 28] = [
         who: AUTHOR,
         wrong: "An off step may only put off a role that is on. A role is on once: on 1, on 1, \
             off 1 leaves it off.",
-        mend: "Leave the off step away, or put the role on before it. `pilzdamo show` tells which \
-            roles are held at each node. The runs of a placed file never come to this.",
+        mend: "Remove the off step, or put the role on before it. `pilzdamo show` prints the \
+            roles held at each node. The runs of a placed file never come to this.",
     },
     Refusal {
         place: NODE_OR_CHOICE,
@@ -174,25 +174,24 @@ pub const ALL: [Refusal; 28] = [
             kind of the channel, by its own record or by those of its juniors. The roles of the \
             session's own user count, never those of the channel's owner.",
         mend:
-            "A routine that has no on and off yet is to be placed (`pilzdamo place`), which puts \
-            them in. Otherwise put on a role that permits the step. The runs of a placed file \
+            "If the routine has no on and off yet, place it: `pilzdamo place` adds them. Otherwise put on a role that permits the step. The runs of a placed file \
             never come to this.",
     },
     Refusal {
         place: "nodes, from 1: the on or off; or nothing, and is 0, for a starting role",
         who: AUTHOR,
-        wrong: "Placing puts every on and off in by itself. This file or text has some already, \
+        wrong: "Placing adds every on and off itself. This file or text has some already, \
             or a session that starts with a role (`as` in a text, a starting mask in bytes).",
         mend:
-            "`pilzdamo strip` takes on and off out. Starting roles stay: take `as` and the roles \
-            behind it out of the session's line, or in bytes set the starting mask to 0. A file \
-            that is placed already is left as it is; `pilzdamo check` judges it.",
+            "`pilzdamo strip` removes on and off. Starting roles stay: remove `as` and the roles \
+            after it from the session's line, or set the starting mask of bytes to 0. A file \
+            that is placed already needs no placing; `pilzdamo check` judges it.",
     },
     Refusal {
         place: NODE,
         who: AUTHOR,
         wrong: "Not one role of the session's user may send, or receive, on the kind of this \
-            channel, by its own record or by those of its juniors, so that no placement exists.",
+            channel, by its own record or by those of its juniors, so no placement exists.",
         mend:
             "Let another user's session make the step; or the schema's keeper grants the kind to \
             one of the user's roles, makes a role that has it the junior of one of them (in \
@@ -202,9 +201,9 @@ pub const ALL: [Refusal; 28] = [
         place: NOTHING,
         who: AUTHOR,
         wrong:
-            "With the on and off nodes that placing puts in, the file is longer than a file may \
+            "With the on and off nodes that placing adds, the file is longer than a file may \
             be.",
-        mend: "Share out the sessions over two files, shorten the routines, or have the schema's \
+        mend: "Split the sessions between two files, shorten the routines, or have the schema's \
             keeper grant the steps that follow each other to one role.",
     },
     Refusal {
@@ -212,7 +211,7 @@ pub const ALL: [Refusal; 28] = [
         who: CALLER,
         wrong: "A choice is two numbers, thread and partner, and the list has half a choice too \
             many; or it is longer than a list may be, which before a round is 64 choices less. \
-            Or a table of seats has not one number for each role, or one above 32. (A program that calls the engine itself gets this number for an output that is too \
+            Or a table of seats doesn't have one number for each role, or has one above 32. (A program that calls the engine itself gets this number for an output that is too \
             small as well.)",
         mend: "Give each choice its partner, 0 where the thread steps alone, and each role its \
             seats, 0 where it has no limit.",
@@ -220,11 +219,10 @@ pub const ALL: [Refusal; 28] = [
     Refusal {
         place: CHOICE,
         who: CALLER,
-        wrong: "Threads are numbered in the order of the list, and after an end those behind it \
+        wrong: "Threads are numbered in the order of the list, and when one ends those after it \
             move down by one. A send needs a partner that stands at a receive; the sender is \
             named first. Every other step has the partner 0.",
-        mend: "Look at the state that the run printed: it has every thread and the step that it \
-            stands at. Correct the choice.",
+        mend: "Look at the state that the run printed: it has every thread and its next step. Correct the choice.",
     },
     Refusal {
         place: CHOICE,
@@ -248,7 +246,7 @@ pub const ALL: [Refusal; 28] = [
         wrong:
             "In versions 2 and 3 a role has a word of juniors: the roles whose grants it has as well as \
             its own. A junior must have a lower number than its senior. This word has the role \
-            itself, a higher one, or one above the count. It is judged behind every 6.",
+            itself, a higher one, or one above the count. It is judged after every 6.",
         mend:
             "Take the junior out, or number the roles anew, juniors first. `pilzdamo show` marks \
             the role.",
@@ -267,7 +265,7 @@ pub const ALL: [Refusal; 28] = [
         who: CALLER,
         wrong:
             "The row's role is 0 or above the file's count, its first minute isn't below its end \
-            minute, or its end minute is above 10,080. It is judged behind 8 and before 9.",
+            minute, or its end minute is above 10,080. It is judged after 8 and before 9.",
         mend:
             "Correct the row's role. If the table was written for another file, take that file's \
             own.",
@@ -288,8 +286,8 @@ pub const ALL: [Refusal; 28] = [
         who: KEEPER,
         wrong:
             "Two files are made one only if they have the same roles and the same kinds: as many \
-            of each, with the same records in the same order. It is judged behind all that is \
-            wrong with either file by itself.",
+            of each, with the same records in the same order. It is judged after everything \
+            that is wrong with either file alone.",
         mend: "Agree on one table of roles and one of kinds, and write both files with them. \
             `pilzdamo merge` names the first record that differs.",
     },
@@ -301,7 +299,7 @@ pub const ALL: [Refusal; 28] = [
             "A role has a number of seats, and a session has one while any of its threads has the \
             role on. With the starting masks of the sessions taken in order, this session is one \
             too many in a role. In a run 26 stops nothing: an on that gets no seat waits, its \
-            session stands in the role's line, and the choice counts as done.",
+            session is queued, and the choice counts as done.",
         mend:
             "Give the role more seats, or let fewer sessions start with it. In a run make the \
             choice again once a seat is free and the session is the first in line: `pilzdamo \
@@ -312,9 +310,9 @@ pub const ALL: [Refusal; 28] = [
         who: SENDER,
         wrong:
             "A notice is a word with its first day, a word with its file's length in bytes, and \
-            the file. This one has under 4 bytes, another number of bytes behind these words than \
+            the file. This one has under 4 bytes, another number of bytes after these words than \
             the second of them says, or a file that is refused with 1 to 10 or 21. Both notices \
-            are judged before any day is looked at.",
+            are judged before the day.",
         mend:
             "Fetch the notice again: most often it was cut off on its way. If its file is refused, \
             mend that, and make the notice anew (`pilzdamo notice`).",

@@ -139,7 +139,7 @@ fn mend(verdict: Verdict) -> Vec<String> {
     let Verdict { number, place } = verdict;
     let out = match (number, place) {
         (14, 0) => Some("the roles that this session starts with are to be taken out by hand"),
-        (14, _) => Some("pilzdamo strip FILE takes on and off out"),
+        (14, _) => Some("pilzdamo strip FILE removes on and off"),
         _ => None,
     };
     let who = refusals::of(number).map(|refusal| {

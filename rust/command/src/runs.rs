@@ -1,4 +1,4 @@
-//! A run of a text, told in its names.
+//! A run of a text, in its names.
 
 use crate::called::Called;
 use crate::clinic::Clinic;
@@ -135,7 +135,7 @@ impl Told<'_> {
         match self.source(node).filter(|_| self.text.has_lines) {
             None => format!("node {node}"),
             Some(NodeAt { at, behind, .. }) => match behind {
-                true => format!("the end behind line {}", at.line),
+                true => format!("the end after line {}", at.line),
                 false => format!("line {}", at.line),
             },
         }

@@ -158,7 +158,7 @@ impl Reader<'_> {
             return Ok(Who::Numbered(number));
         }
         if token.text.bytes().all(|byte| byte.is_ascii_digit()) {
-            let what = format!("'{}' is no number from 0 to 65535", shown(&token.text));
+            let what = format!("'{}' isn't a number from 0 to 65535", shown(&token.text));
             return Err(Flaw { at: token.at, what });
         }
         if !token.is_name() {

@@ -53,10 +53,10 @@ pub fn read(line: &str, sessions: &[String]) -> Result<Typed, String> {
     }
 }
 
-/// What stands behind `save`, to the end of the line.
+/// The rest of the line after `save`.
 fn path(line: &str) -> Result<Typed, String> {
     match line.trim().strip_prefix("save").map(str::trim) {
-        None | Some("") => Err("save wants the name of a file behind it".to_string()),
+        None | Some("") => Err("save needs the name of a file".to_string()),
         Some(path) => Ok(Typed::Save(path.to_string())),
     }
 }

@@ -1,4 +1,4 @@
-//! The words of the command line.
+//! The arguments of the command line.
 
 mod given;
 mod jobs;
@@ -131,7 +131,7 @@ pub enum Job {
     Reason {
         sentence: Vec<u8>,
     },
-    /// The help for a word, or the whole page.
+    /// The help of a command, or the whole page.
     Help(Option<&'static Word>),
     Version,
 }
@@ -149,10 +149,10 @@ pub struct At {
     pub hours: Source,
 }
 
-/// The job that the words name.
+/// The job that the arguments name.
 pub fn job(mut words: impl Iterator<Item = OsString>) -> Result<Job, WrongUse> {
     let Some(first) = words.next() else {
-        return misused(&format!("what to do? One of {}", table::all_words()));
+        return misused(&format!("no command; one of {}", table::all_words()));
     };
     match first.as_encoded_bytes() {
         b"-h" | b"--help" => return Ok(Job::Help(None)),
@@ -168,7 +168,7 @@ pub fn job(mut words: impl Iterator<Item = OsString>) -> Result<Job, WrongUse> {
     (word.job)(given)
 }
 
-/// The word of this name.
+/// The command of this name.
 fn known(name: &OsStr) -> Result<&'static Word, WrongUse> {
     let text = shown(name);
     table::ALL
@@ -178,18 +178,18 @@ fn known(name: &OsStr) -> Result<&'static Word, WrongUse> {
             || {
                 let names = table::ALL.iter().map(|word| word.name);
                 let hint = near::hint(&text, names.chain(["--help", "--version"]));
-                misused(&format!("there is no word '{text}'{hint}"))
+                misused(&format!("there is no command '{text}'{hint}"))
             },
             Ok,
         )
 }
 
-/// A word of the command line in a message.
+/// An argument in a message.
 fn shown(word: &OsStr) -> String {
     text::printable(word.as_encoded_bytes())
 }
 
 fn misused<T>(why: &str) -> Result<T, WrongUse> {
-    let way = "pilzdamo --help lists what can be asked";
+    let way = "pilzdamo --help lists all commands";
     Err(WrongUse(format!("{why}\n  {way}")))
 }

@@ -135,7 +135,7 @@ impl Told<'_> {
         let sessions = self.packed.records.sessions.iter();
         let mut starts = sessions.zip(&self.packed.source.starts);
         let (_, places) = starts.find(|(session, _)| session.mask != 0)?;
-        let what = "a session that is to be placed starts with no role".to_string();
+        let what = "a session to be placed starts without a role".to_string();
         let at = *places.first()?;
         Some(Culprit { at, what })
     }
@@ -165,7 +165,7 @@ impl Told<'_> {
                     self.roles(may)
                 )
             }
-            14 => "on and off are put in by placing, and this one stands there already".to_string(),
+            14 => "placing adds every on and off itself, and this one is there already".to_string(),
             15 => {
                 let (act, kind, may) = self.act(node, spot)?;
                 // A role that is assigned and may is one that is shut at the minute asked for.

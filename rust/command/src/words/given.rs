@@ -1,4 +1,4 @@
-//! What stands behind a word: operands and options.
+//! The operands and options of a command.
 
 use super::near;
 use super::options::Opt;
@@ -11,17 +11,17 @@ use std::ffi::{OsStr, OsString};
 use std::os::unix::ffi::OsStrExt;
 use std::path::PathBuf;
 
-/// The words behind the first, sorted.
+/// The arguments after the command, sorted.
 pub struct Given {
     pub word: &'static Word,
     pub plain: Vec<OsString>,
-    /// Each with what stands behind it, if it wants that.
+    /// Each with its value, if it needs one.
     options: Vec<(Opt, Option<OsString>)>,
     pub help: bool,
 }
 
 impl Given {
-    /// Tells the operands from the options. Behind `--` all are operands.
+    /// Separates operands from options. After `--` all are operands.
     pub fn sorted(
         word: &'static Word,
         mut words: impl Iterator<Item = OsString>,
@@ -48,7 +48,7 @@ impl Given {
         Ok(given)
     }
 
-    /// Keeps an option, with the word behind it if it wants one that isn't in it.
+    /// Keeps an option, with the next argument as its value if it needs one that isn't in it.
     fn keep(
         &mut self,
         typed: &OsStr,
@@ -62,7 +62,7 @@ impl Given {
             (None, Some(_)) => {
                 let typed = shown(typed);
                 return misused(&format!(
-                    "{verb}: {} stands by itself, not as '{typed}'",
+                    "{verb}: {} takes no value, as in '{typed}'",
                     option.long()
                 ));
             }
@@ -71,12 +71,12 @@ impl Given {
                 Some(value) => Some(value),
                 None => {
                     let typed = shown(typed);
-                    return misused(&format!("{verb}: {typed} wants {wants} behind it"));
+                    return misused(&format!("{verb}: {typed} needs {wants}"));
                 }
             },
         };
         if value.is_some() && self.has(option) {
-            return misused(&format!("{verb}: {} stands there twice", option.name()));
+            return misused(&format!("{verb}: {} is given twice", option.name()));
         }
         self.options.push((option, value));
         Ok(())
@@ -96,18 +96,18 @@ impl Given {
         self.options.iter().any(|(given, _)| *given == option)
     }
 
-    /// What stands behind an option.
+    /// The value of an option.
     pub fn value(&self, option: Opt) -> Option<&OsString> {
         let mut given = self.options.iter().filter(|(given, _)| *given == option);
         given.next().and_then(|(_, value)| value.as_ref())
     }
 
-    /// The file behind an option that is read.
+    /// The file to read that an option names.
     pub fn source(&self, option: Opt) -> Option<Source> {
         self.value(option).cloned().map(Source::named)
     }
 
-    /// Where what is made is to go.
+    /// Where the output goes.
     pub fn out(&self) -> Out {
         self.out_behind(Opt::Out).unwrap_or(Out {
             path: None,
@@ -115,7 +115,7 @@ impl Given {
         })
     }
 
-    /// Where an option says that something is to go.
+    /// Where an option sends an output.
     pub fn out_behind(&self, option: Opt) -> Option<Out> {
         let value = self.value(option)?;
         Some(Out {
@@ -132,7 +132,7 @@ impl Given {
         }
     }
 
-    /// Fails if more than one of the files that are read is standard input.
+    /// Fails if more than one of the files to read is standard input.
     pub fn one_standard_input(&self) -> Result<(), WrongUse> {
         let operands = self.plain.iter().zip(self.word.names());
         let operands = operands.filter(|(_, name)| is_source(name));
@@ -154,7 +154,7 @@ impl Given {
         misused(&format!("{verb}: only {which} can be standard input"))
     }
 
-    /// As many operands as there are to be, the first of those that the word has.
+    /// Exactly N operands, the first of those that the command takes.
     pub fn exactly<const N: usize>(&mut self) -> Result<[OsString; N], WrongUse> {
         let plain = std::mem::take(&mut self.plain);
         let verb = self.word.name;

@@ -1,4 +1,4 @@
-//! The job of each word.
+//! The job of each command.
 
 use super::given::Given;
 use super::options::Opt;
@@ -28,7 +28,7 @@ pub fn place(mut given: Given) -> Result<Job, WrongUse> {
     let (out, json) = (given.out(), given.has(Opt::Json));
     if json && out.path.is_none() {
         let why = "the placed file goes there, and the object to standard output";
-        return misused(&format!("place: --json wants -o OUT: {why}"));
+        return misused(&format!("place: --json needs -o OUT: {why}"));
     }
     Ok(Job::Place {
         file: named_file(&mut given)?,
@@ -302,7 +302,7 @@ fn minute_and_hours(given: &Given) -> Result<Option<At>, WrongUse> {
     };
     let Some(minute) = hours::minute(&at.to_string_lossy()) else {
         let (due, at) = ("a day and a time such as \"Mon 07:30\"", shown(at));
-        return misused(&format!("{verb}: --at wants {due}, not '{at}'"));
+        return misused(&format!("{verb}: --at needs {due}, not '{at}'"));
     };
     Ok(Some(At { minute, hours }))
 }

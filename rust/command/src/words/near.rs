@@ -1,6 +1,6 @@
-//! Words that were perhaps meant.
+//! Suggestions for misspelled commands and options.
 
-/// What to say behind a word that isn't there, if names that are there are near to it.
+/// A suggestion for an unknown word, if known names are near to it.
 pub fn hint<'a>(word: &str, names: impl Iterator<Item = &'a str>) -> String {
     let near: Vec<String> = names
         .filter(|name| is_near(word, name))

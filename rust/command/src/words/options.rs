@@ -1,4 +1,4 @@
-//! The options of the words.
+//! The options of the commands.
 
 /// An option.
 #[derive(Clone, Copy, PartialEq)]
@@ -9,7 +9,7 @@ pub enum Opt {
     Hours,
     Seats,
     Names,
-    /// `--names` of a word that writes them.
+    /// `--names` of a command that writes them.
     NamesOut,
     Json,
     Bytes,
@@ -48,7 +48,7 @@ impl Opt {
         self.short().unwrap_or(self.long())
     }
 
-    /// What stands behind it, if anything does.
+    /// The value that it needs, if any.
     pub fn wants(self) -> Option<&'static str> {
         match self {
             Opt::At => Some("a day and a time"),
@@ -59,7 +59,7 @@ impl Opt {
         }
     }
 
-    /// What the file behind it is called, if it is one that is read.
+    /// What its file is called, if the command reads it.
     pub fn source(self) -> Option<&'static str> {
         match self {
             Opt::Hours => Some("HOURS"),
@@ -69,7 +69,7 @@ impl Opt {
         }
     }
 
-    /// The option that a word begins, with what stands behind it in the same word.
+    /// The option that an argument begins with, and the value in the same argument.
     pub fn begun<'a>(word: &'a [u8], among: &[Opt]) -> Option<(Opt, Option<&'a [u8]>)> {
         among.iter().find_map(|&option| {
             let behind = option.behind(word)?;
@@ -77,7 +77,7 @@ impl Opt {
         })
     }
 
-    /// What stands behind this option in a word; outermost nothing if the word is another.
+    /// The value of this option in an argument; None if the argument is another.
     fn behind(self, word: &[u8]) -> Option<Option<&[u8]>> {
         if let Some(rest) = word.strip_prefix(self.long().as_bytes()) {
             return match rest {

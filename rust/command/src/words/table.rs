@@ -1,4 +1,4 @@
-//! All words, each with its operands, its options, its help and what makes a job of them.
+//! All commands, each with its operands, its options, its help and its job.
 
 use super::given::Given;
 use super::jobs;
@@ -6,14 +6,14 @@ use super::options::Opt::{self, *};
 use super::Job;
 use crate::WrongUse;
 
-/// A word that names a job.
+/// A command.
 pub struct Word {
     pub name: &'static str,
     /// As they stand in its usage: in brackets what may be left out, with dots what may
     /// stand there several times.
     pub operands: &'static [&'static str],
     pub options: &'static [Opt],
-    /// Whether what begins with a hyphen, and is none of its options, is an operand.
+    /// Whether an argument with a hyphen that is none of its options is an operand.
     pub hyphens: bool,
     pub help: &'static str,
     pub job: fn(Given) -> Result<Job, WrongUse>,
@@ -66,10 +66,10 @@ pub const ALL: [Word; 23] = [
     word!("strip", ["FILE"], [Out, Force], jobs::strip),
     Word { hyphens: true, ..word!("explain", ["N"], [Json], jobs::explain) },
     Word { hyphens: true, ..word!("reason", ["SENTENCE"], [], jobs::reason) },
-    word!("help", ["[WORD]"], [], jobs::help),
+    word!("help", ["[COMMAND]"], [], jobs::help),
 ];
 
-/// The words in a sentence.
+/// The commands in a sentence.
 pub fn all_words() -> String {
     let names = ALL.each_ref().map(|word| word.name);
     let (last, others) = names.split_last().expect("there are words");

@@ -6,7 +6,7 @@ use std::fs;
 /// Fails as wrong use, with this message.
 fn wrong(words: &[&str], due: &str) {
     let answer = pilzdamo(words);
-    let way = "\n  pilzdamo --help lists what can be asked\n";
+    let way = "\n  pilzdamo --help lists all commands\n";
     let due = format!("pilzdamo: {due}{way}");
     assert_eq!((answer.status, answer.text()), (2, ""), "{words:?}");
     assert_eq!(answer.err, due, "{words:?}");
@@ -66,15 +66,15 @@ fn an_option_twice_in_two_forms() {
         ["place", "a", "-ob", "--output=c"],
         ["place", "a", "--output=b", "-oc"],
     ] {
-        wrong(&words, "place: -o stands there twice");
+        wrong(&words, "place: -o is given twice");
     }
     wrong(
         &["check", "a", "--at=b", "--at=c"],
-        "check: --at stands there twice",
+        "check: --at is given twice",
     );
     wrong(
         &["round", "a", "b", "--seats=c", "--seats", "d"],
-        "round: --seats stands there twice",
+        "round: --seats is given twice",
     );
 }
 
@@ -82,11 +82,11 @@ fn an_option_twice_in_two_forms() {
 fn what_stands_behind_an_option() {
     wrong(
         &["place", "a", "--output"],
-        "place: --output wants the name of a file behind it",
+        "place: --output needs the name of a file",
     );
     wrong(
         &["sheet", "a", "--json=yes"],
-        "sheet: --json stands by itself, not as '--json=yes'",
+        "sheet: --json takes no value, as in '--json=yes'",
     );
     wrong(&["run", "-ia", "b"], "run has no option '-ia'");
     wrong(
@@ -137,13 +137,13 @@ fn sentences_and_numbers_may_begin_with_a_hyphen() {
 fn nearly_right() {
     wrong(
         &["plaec", "a"],
-        "there is no word 'plaec'; did you mean 'place'?",
+        "there is no command 'plaec'; did you mean 'place'?",
     );
     wrong(
         &["inforce"],
-        "there is no word 'inforce'; did you mean 'in-force'?",
+        "there is no command 'inforce'; did you mean 'in-force'?",
     );
-    wrong(&["show-all"], "there is no word 'show-all'");
+    wrong(&["show-all"], "there is no command 'show-all'");
     wrong(
         &["place", "a", "--ouput", "b"],
         "place has no option '--ouput'; did you mean '--output'?",

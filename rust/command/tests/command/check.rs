@@ -33,7 +33,7 @@ fn a_bare_routine_is_to_be_placed() {
          user 1 has no role on that may send on kind 1 \
          (roles on: none; roles that may: role 1, role 2)\n  \
          the routine's author can mend it; more: pilzdamo explain 13\n  \
-         the routine has no on or off yet: pilzdamo place puts them in\n"
+         the routine has no on or off yet: pilzdamo place adds them\n"
     );
     assert_eq!(answer.err, due);
 }

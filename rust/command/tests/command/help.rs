@@ -11,7 +11,7 @@ fn folder() -> PathBuf {
 /// The words, as the command lists them where it is given none.
 fn words() -> Vec<String> {
     let all = pilzdamo::<&str>(&[]).err;
-    let (_, words) = all.split_once("One of ").expect("the words");
+    let (_, words) = all.split_once("one of ").expect("the words");
     let (words, _) = words.split_once('\n').expect("a line");
     let words = words.replace(" and ", ", ");
     words.split(", ").map(str::to_string).collect()
@@ -41,7 +41,7 @@ fn each_word_has_its_own() {
 fn of_no_word() {
     let answer = pilzdamo(&["help", "judge"]);
     assert_eq!((answer.status, answer.text()), (2, ""));
-    let due = "pilzdamo: there is no word 'judge'\n";
+    let due = "pilzdamo: there is no command 'judge'\n";
     assert!(answer.err.starts_with(due), "{}", answer.err);
     let answer = pilzdamo(&["help", "chekc"]);
     assert!(

@@ -125,7 +125,7 @@ fn refused_files() {
         .contains("at node 1, a send.\n  node 1: send user 2 on channel 1\n"));
     assert!(answer
         .err
-        .ends_with("has no on or off yet: pilzdamo place puts them in\n"));
+        .ends_with("has no on or off yet: pilzdamo place adds them\n"));
 }
 
 #[test]
@@ -150,17 +150,17 @@ fn lines_that_are_wrong() {
         (
             "role 1 Mon-Fri",
             "1:1",
-            "'role 1 Mon-Fri' has not four words",
+            "'role 1 Mon-Fri' doesn't have four words",
         ),
         (
             "# a\nrole 1 Mo 07:00-15:00",
             "2:8",
-            "'Mo' is no day, which are Mon, Tue",
+            "'Mo' isn't one of the days Mon, Tue",
         ),
         (
             "role 1 Mon 7-15\nrole",
             "1:12",
-            "'7-15' is no stretch such as 07:00-15:00",
+            "'7-15' isn't a stretch such as 07:00-15:00",
         ),
     ] {
         let hours = folder.file("wrong.hours", text);

@@ -181,7 +181,7 @@ fn wrong_words() {
         "there is no choice 99999999999999999999 (choices listed: 2)\n",
         "there is no session 'what' (sessions: ask, serve)",
         "expected a thread to meet, but the list ends",
-        "save wants the name of a file behind it\n",
+        "save needs the name of a file\n",
         "there is no thread ask.2 here (threads: ask, serve)\n",
         "refused 18: serve stands at line 24 (repeat), and ask stands at line 13 (new reply: answer); a step that is no send takes no partner: serve\n",
     ] {
@@ -205,7 +205,7 @@ fn saved_and_shown() {
     assert!(answer.err.ends_with(state.text()), "{}", answer.err);
     let answer = driven(&[&file], &format!("ask\nsave {file}\nsave {path}/none\n"));
     assert!(
-        answer.err.contains(" is an input, and is not written over"),
+        answer.err.contains(" is an input, and isn't overwritten"),
         "{}",
         answer.err
     );
@@ -220,7 +220,7 @@ fn saved_and_shown() {
     let table = folder.file("one.seats", "1 0");
     let typed = format!("ask\nsave {list}\nsave {table}\n");
     let answer = driven(&[&file, &list, "--seats", &table], &typed);
-    let refused = answer.err.matches(" is an input, and is not written over");
+    let refused = answer.err.matches(" is an input, and isn't overwritten");
     assert_eq!(refused.count(), 2, "{}", answer.err);
     let kept = [&list, &table].map(|path| fs::read_to_string(path).expect("it"));
     assert_eq!(kept, ["ask # so far", "1 0"]);

@@ -250,7 +250,7 @@ fn place_without_a_file_for_it() {
     ] {
         let answer = pilzdamo(words);
         assert_eq!((answer.status, answer.text()), (2, ""));
-        let due = "pilzdamo: place: --json wants -o OUT: the placed file goes there, and the \
+        let due = "pilzdamo: place: --json needs -o OUT: the placed file goes there, and the \
                    object to standard output\n";
         assert!(answer.err.starts_with(due), "{}", answer.err);
     }

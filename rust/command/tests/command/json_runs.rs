@@ -116,7 +116,7 @@ fn thread(thread: &Value) -> String {
         return format!("  thread {number}: {user}, node {node} ({step}), {roles}{variables}");
     };
     let stands = match (step, thread["line"].number()) {
-        ("end", line) => format!("the end behind line {line}"),
+        ("end", line) => format!("the end after line {line}"),
         (step, line) => format!("line {line} ({step})"),
     };
     let roles = match &roles[..] {

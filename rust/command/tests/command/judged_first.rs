@@ -82,7 +82,7 @@ fn names_for_bytes() {
 {list}:1:1: there is no session 'ask' (sessions: s1, s2)
      1 | ask
        | ^^^
-pilzdamo: {list}: 1 place can't be understood
+pilzdamo: {list}: 1 error
   bytes have no names, and their sessions are s1, s2 and so on; --names NAMES gives them names
 "
     );

@@ -80,7 +80,9 @@ fn a_file_of_any_length_is_answered_at_once() {
         .contains("it has 50000000000 bytes, and a file of a sheet"));
     let force = pilzdamo(&["in-force", "0", &path, &path]);
     assert!(
-        force.err.contains("the bytes behind it are 49999999996"),
+        force
+            .err
+            .contains("the number of bytes after it is 49999999996"),
         "{}",
         force.err
     );
@@ -109,7 +111,7 @@ fn endless(filled: &str, words: &[&str]) -> (Option<i32>, String) {
         .stdin(source.stdout.take().expect("a pipe"))
         .output()
         .expect("the command ends");
-    // It ends by itself: nobody reads it any more.
+    // It ends by itself: nobody reads it.
     source.wait().expect("yes ends");
     assert!(begun.elapsed() < AT_ONCE);
     assert_eq!(output.stdout, b"");
@@ -166,7 +168,7 @@ fn a_device_without_an_end() {
     let answer = pilzdamo(&["in-force", "0", "/dev/zero", "/dev/zero"]);
     assert!(answer
         .err
-        .contains("its length word is 0, and the bytes behind it are more than"));
+        .contains("its length word is 0, and the number of bytes after it is more than"));
     assert!(begun.elapsed() < AT_ONCE);
 }
 

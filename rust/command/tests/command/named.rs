@@ -85,13 +85,13 @@ pilzdamo: {file}: {}
   node 3: send reply on inbox
   nurse has no role on that may send on request (roles on: none; roles that may: caller)
   the routine's author can mend it; more: pilzdamo explain 13
-  the routine has no on or off yet: pilzdamo place puts them in
+  the routine has no on or off yet: pilzdamo place adds them
 ",
         sentence(13, "node 3, a send")
     );
     assert_eq!((answer.status, answer.err), (1, due));
     let answer = ward.ask("place", &[], "");
-    let due = "\n  node 2: on caller\n  on and off are put in by placing, and this one stands there already\n";
+    let due = "\n  node 2: on caller\n  placing adds every on and off itself, and this one is there already\n";
     assert_eq!(answer.status, 1);
     assert!(answer.err.contains(due), "{}", answer.err);
     let other = bare_ward().replace("session serve by desk", "session serve by desk as caller");
@@ -225,7 +225,7 @@ fn as_of_the_text() {
 
 /// The words of a state but for where each thread stands.
 fn without_places(state: &str) -> String {
-    let places = ["line ", "node ", "the end behind "];
+    let places = ["line ", "node ", "the end after "];
     let is_place = |part: &&str| places.iter().any(|place| part.starts_with(place));
     let parts = state.split(", ").filter(|part| !is_place(part));
     parts.collect::<Vec<_>>().join(", ")
@@ -315,7 +315,7 @@ fn names_that_say_nothing() {
     assert_eq!((answer.status, answer.text()), (2, ""));
     let names = &ward.names;
     let due = format!(
-        "pilzdamo: {names}: {text} is a text and has its own names; --names is for bytes\n"
+        "pilzdamo: {names}: {text} is a text and has names of its own; --names is for bytes\n"
     );
     assert_eq!(answer.err, due);
     // Zero bytes have no records to be named.

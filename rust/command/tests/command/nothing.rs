@@ -185,7 +185,7 @@ fn placed_in_a_file() {
 #[test]
 fn said_by_help_and_explain() {
     let help = pilzdamo(&["--help"]);
-    let due = "A FILE of zero bytes is that of a clinic with nothing planned: it passes.\n";
+    let due = "A FILE of zero bytes, that of a clinic with nothing planned, passes.\n";
     assert!(help.text().contains(due));
     let explained = pilzdamo(&["explain", "1"]);
     let words: Vec<&str> = explained.text().split_whitespace().collect();

@@ -166,11 +166,11 @@ fn unsound_notices() {
         ),
         (
             &longer,
-            "its length word is 0, and the bytes behind it are 1",
+            "its length word is 0, and the number of bytes after it is 1",
         ),
         (
             &cut,
-            "its length word is 150, and the bytes behind it are 149",
+            "its length word is 150, and the number of bytes after it is 149",
         ),
         (&wrong, &one_line),
         (&kinds, &kinds_line),

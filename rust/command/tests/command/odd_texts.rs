@@ -38,7 +38,7 @@ fn a_name_without_letters() {
 fn an_option_that_stands_alone_and_is_nearly_right() {
     for (typed, meant) in [("--versoin", "--version"), ("--hlep", "--help")] {
         let answer = pilzdamo(&[typed]);
-        let due = format!("pilzdamo: there is no word '{typed}'; did you mean '{meant}'?\n");
+        let due = format!("pilzdamo: there is no command '{typed}'; did you mean '{meant}'?\n");
         assert!(answer.err.starts_with(&due), "{}", answer.err);
         assert_eq!(answer.status, 2);
     }

@@ -48,8 +48,8 @@ fn in_the_words_of_the_command_line() {
     let word = OsString::from_vec(NAME.to_vec());
     let option = OsString::from_vec([b"--", NAME].concat());
     let calls: [(&[&str], &OsStr, String); 8] = [
-        (&[], &word, format!("there is no word '{TOLD}'")),
-        (&["help"], &word, format!("there is no word '{TOLD}'")),
+        (&[], &word, format!("there is no command '{TOLD}'")),
+        (&["help"], &word, format!("there is no command '{TOLD}'")),
         (
             &["place"],
             &option,
@@ -73,7 +73,7 @@ fn in_the_words_of_the_command_line() {
         (
             &["check", "a", "--hours=b", "--at"],
             &word,
-            format!("check: --at wants a day and a time such as \"Mon 07:30\", not '{TOLD}'"),
+            format!("check: --at needs a day and a time such as \"Mon 07:30\", not '{TOLD}'"),
         ),
         (
             &["reason"],
@@ -125,7 +125,7 @@ fn bytes_that_are_no_characters() {
     let due = "standard input:1:12: a byte that is no character: a text is written in UTF-8\n     \
                1 | clinic 1 # \\xe9\n       |            ^^^^\nstandard input:2:1: expected \
                'kind', 'role', 'user', 'channel' or 'session', not 'usr'\n     2 | usr a\n       \
-               | ^^^\npilzdamo: standard input: 2 places can't be understood\n";
+               | ^^^\npilzdamo: standard input: 2 errors\n";
     assert_eq!((answer.status, &*answer.err), (2, due));
     let folder = Folder::new("no characters");
     let file = example("desks.clinic");
@@ -143,7 +143,7 @@ fn bytes_that_are_no_characters() {
     assert!(answer.err.starts_with(&due), "{}", answer.err);
     let seats = folder.file("seats", b"1 \x9b");
     let answer = pilzdamo(&["seats", &file, &example("desks.choices"), &seats]);
-    let due = format!("{seats}:1:3: '\\x9b' is no number from 0 to 65535\n     1 | 1 \\x9b\n");
+    let due = format!("{seats}:1:3: '\\x9b' isn't a number from 0 to 65535\n     1 | 1 \\x9b\n");
     assert!(answer.err.starts_with(&due), "{}", answer.err);
 }
 

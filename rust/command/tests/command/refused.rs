@@ -91,8 +91,8 @@ const FILES: [(&str, &str, u16, &str, &str); 17] = [
         "place",
         14,
         "node 1, an on",
-        "node 1: on role 2\n  on and off are put in by placing, and this one stands there \
-         already\n  pilzdamo strip FILE takes on and off out",
+        "node 1: on role 2\n  placing adds every on and off itself, and this one is there \
+         already\n  pilzdamo strip FILE removes on and off",
     ),
     (
         "15-no-role",

@@ -161,12 +161,12 @@ fn roles() {
     let place = |file: Draft, number, due: &[&str]| {
         assert_told(&["place", "-"], &file.bytes(), number, due);
     };
-    let due = "on and off are put in by placing, and this one stands there already";
+    let due = "placing adds every on and off itself, and this one is there already";
     let file = ward().session(1, &[on(1), END]);
-    let strip = "pilzdamo strip FILE takes on and off out";
+    let strip = "pilzdamo strip FILE removes on and off";
     place(file, 14, &["node 1: on role 1", due, strip]);
     let file = ward().session(1, &[END]).session_with(2, &[2], &[END]);
-    let due = "session 2 starts with role 2, and one that is to be placed starts with none";
+    let due = "session 2 starts with role 2, and a session to be placed starts with none";
     let by_hand = "the roles that this session starts with are to be taken out by hand";
     place(file, 14, &[due, by_hand]);
     let due = "user 2 has no role that may send on kind 1 (roles that may: role 1)";

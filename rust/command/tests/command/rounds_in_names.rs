@@ -178,7 +178,7 @@ choices done: 65535
 threads: 3
   1 first: one, line 7 (repeat), no role
   2 second: two, line 12 (repeat), no role
-  3 first.16385: one, the end behind line 9, no role
+  3 first.16385: one, the end after line 9, no role
 made channels: 0
 ";
     assert_eq!((answer.status, answer.text()), (0, due));

@@ -137,7 +137,7 @@ fn a_list_that_is_no_list() {
 {list}:3:3: there is no session 'zero' (sessions: s1)
      3 | 2 zero
        |   ^^^^
-pilzdamo: {list}: 1 place can't be understood
+pilzdamo: {list}: 1 error
 "
     );
     assert_eq!(answer.err, due);

@@ -115,10 +115,10 @@ fn a_table_that_is_no_table() {
     let answer = pilzdamo_fed(&["seats", &file, &list, "-"], b"1\nmany");
     assert_eq!((answer.status, answer.text()), (2, ""));
     let due = "\
-standard input:2:1: 'many' is no number from 0 to 65535
+standard input:2:1: 'many' isn't a number from 0 to 65535
      2 | many
        | ^^^^
-pilzdamo: standard input: 1 place can't be understood
+pilzdamo: standard input: 1 error
   seats are text, a number for each role: 0 for no limit, else 1 to 32
 ";
     assert_eq!(answer.err, due);

@@ -26,7 +26,7 @@ fn fed(words: &[&str], file: &str, out: Stdio) -> Output {
 
 #[test]
 fn a_reader_that_has_left() {
-    let due = b"pilzdamo: standard output can't be written: nobody reads it any more\n";
+    let due = b"pilzdamo: standard output can't be written: nobody reads it\n";
     for words in [["show", "-"], ["check", "-"], ["dispatch", "-"]] {
         let output = fed(&words, "spring/cut.clinic", Stdio::piped());
         assert_eq!(output.status.code(), Some(2));

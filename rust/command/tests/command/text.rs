@@ -173,7 +173,7 @@ fn what_is_stripped_and_placed_again() {
     assert!(again.err.contains(&sentence(14, "")), "{}", again.err);
     assert!(pilzdamo(&["help", "strip"])
         .text()
-        .contains("\nrefuses them (14).\n"));
+        .contains("stay, and place refuses them\nwith 14.\n"));
 }
 
 #[test]
@@ -258,7 +258,7 @@ standard input:17:18: expected 'on', not 'inbox'
 standard input:24:10: there is no user, channel or variable 'bed' here (variables bound here: back)
     24 |     send bed on back
        |          ^^^
-pilzdamo: standard input: 3 places can't be understood
+pilzdamo: standard input: 3 errors
 ",
             "{word}"
         );
@@ -268,7 +268,7 @@ pilzdamo: standard input: 3 places can't be understood
     assert_eq!(answer.err.lines().count(), 3 * 20 + 1);
     assert!(answer
         .err
-        .ends_with("standard input: 30 places can't be understood (10 more)\n"));
+        .ends_with("standard input: 30 errors (10 more)\n"));
     let answer = pilzdamo_fed(&["check", "-"], b"clinic 1\nuser \xff\x07");
     assert_eq!(answer.status, 2);
     assert!(answer
@@ -305,8 +305,8 @@ fn refusals_in_names() {
         ("check", placed("off caller", "off keeper"), "19:7: refused 12: keeper is not on here (roles on: caller)"),
         ("check", placed("  on caller", "  off caller"), "14:3: refused 12: caller is not on here (roles on: none)"),
         ("check", WARD.to_string(), "17:7: refused 13: nurse has no role on that may send on request (roles on: none; roles that may: caller)"),
-        ("place", placed_ward(), "14:3: refused 14: on and off are put in by placing, and this one stands there already"),
-        ("place", with("by desk", "by desk as keeper"), "21:26: refused 14: a session that is to be placed starts with no role"),
+        ("place", placed_ward(), "14:3: refused 14: placing adds every on and off itself, and this one is there already"),
+        ("place", with("by desk", "by desk as keeper"), "21:26: refused 14: a session to be placed starts without a role"),
         ("place", with("user nurse: caller", "user nurse: keeper"), "17:7: refused 15: nurse has no role that may send on request (roles that may: caller)"),
         ("measure", with("user nurse: caller", "user nurse"), "17:7: refused 15: nurse has no role that may send on request (roles that may: caller)"),
     ];
@@ -367,7 +367,7 @@ ask.2
 choices done: 10
 threads: 3
   1 serve: desk, line 25 (repeat), no role
-  2 ask.2: nurse, the end behind line 22, no role; reply = made channel 1, found = bed
+  2 ask.2: nurse, the end after line 22, no role; reply = made channel 1, found = bed
   3 serve.2: desk, line 29 (off keeper), as keeper; back = made channel 1
 made channels: 1
   made channel 1: answer, owner nurse
@@ -427,7 +427,7 @@ fn choices_that_are_refused() {
         "standard input:3:3: expected '->' and a thread, or the partner's number (0 if it steps alone), not 'serve'\n",
         "standard input:4:1: expected a thread: a session's name, with .2 for its second thread, or a number, not '->'\n",
         "standard input:5:5: expected a thread's number in its session, from 1, not '0'\n",
-        "pilzdamo: standard input: 4 places can't be understood\n",
+        "pilzdamo: standard input: 4 errors\n",
     ] {
         assert!(wrong.err.contains(due), "{}", wrong.err);
     }
@@ -519,7 +519,7 @@ fn nothing_planned_is_placed() {
 /// What is in the way of placing, and what takes it out.
 #[test]
 fn placed_already() {
-    let strip = "\n  pilzdamo strip FILE takes on and off out\n";
+    let strip = "\n  pilzdamo strip FILE removes on and off\n";
     let by_hand = "\n  the roles that this session starts with are to be taken out by hand\n";
     let started = WARD.replace("by desk", "by desk as keeper");
     for (text, due) in [(placed_ward(), strip), (started, by_hand)] {
@@ -539,17 +539,14 @@ fn wrong_use() {
         (&["pack", "a", "--bytes"], "pack has no option '--bytes'"),
         (
             &["pack", "a", "--names"],
-            "pack: --names wants the name of a file behind it",
+            "pack: --names needs the name of a file",
         ),
         (&["unpack"], "unpack: FILE is missing"),
         (
             &["unpack", "a", "--names", "b", "--names", "c"],
-            "unpack: --names stands there twice",
+            "unpack: --names is given twice",
         ),
-        (
-            &["strip", "a", "-o"],
-            "strip: -o wants the name of a file behind it",
-        ),
+        (&["strip", "a", "-o"], "strip: -o needs the name of a file"),
         (
             &["strip", "a", "--names", "b"],
             "strip has no option '--names'",

@@ -87,7 +87,7 @@ choices that got no seat: 2
     let freed = "first second first second second second.2";
     let answer = seated("run", freed);
     assert_eq!(answer.status, 0, "{}", answer.err);
-    let due = "\n  3 second.2: two, the end behind line 16, no role\n";
+    let due = "\n  3 second.2: two, the end after line 16, no role\n";
     assert!(answer.text().contains(due), "{}", answer.text());
     // Where the list halts, its threads stand as the seats left them.
     let answer = seated("run", "first second second -> first");

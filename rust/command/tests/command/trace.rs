@@ -70,7 +70,7 @@ fn the_last_thread_that_ends() {
     let file = Draft::default().user(&[]).session(1, &[END]);
     let file = folder.file("ends.clinic", file.session(1, &[END]).bytes());
     let [lines, _] = around(&file, "1 0 1 0", &[]);
-    let due = "1  1 0: ends; the threads behind it move down by one\n2  1 0: ends\n";
+    let due = "1  1 0: ends; the threads after it move down by one\n2  1 0: ends\n";
     assert_eq!(lines, due);
 }
 
@@ -103,7 +103,7 @@ fn bytes_in_numbers() {
     );
     assert_eq!(why, "stopped: all choices are done\n");
     let [lines, _] = around(&file, &format!("{list} 4 0"), &[]);
-    let due = "\n18  4 0: ends; the threads behind it move down by one\n";
+    let due = "\n18  4 0: ends; the threads after it move down by one\n";
     assert!(lines.ends_with(due), "{lines}");
     // Of bytes, names that are invented are understood, and numbers are said.
     let [lines, _] = around(&file, "s1 s3", &[]);

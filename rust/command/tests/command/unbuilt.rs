@@ -208,7 +208,7 @@ fn a_word_that_is_not_there() {
     ] {
         let said = place.call(typed);
         assert_eq!((said.status, said.out.as_str()), (2, ""));
-        let due = "pilzdamo: there is no word 'chekc'; the words are check, ";
+        let due = "pilzdamo: there is no command 'chekc'; the commands are check, ";
         assert!(said.err.starts_with(due), "{}", said.err);
         let (line, _) = said.err.split_once('\n').expect("a line");
         for word in words()
@@ -223,7 +223,7 @@ fn a_word_that_is_not_there() {
     }
     for word in ["../help", "check.txt", "/", ".", "--frob", ""] {
         let said = place.call(&[word]);
-        let due = format!("pilzdamo: there is no word '{word}'; ");
+        let due = format!("pilzdamo: there is no command '{word}'; ");
         assert!(
             said.status == 2 && said.err.starts_with(&due),
             "{}",

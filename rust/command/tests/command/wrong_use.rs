@@ -19,19 +19,19 @@ fn help_and_version() {
 #[test]
 fn words() {
     let wrong: [(&[&str], &str); 91] = [
-        (&[], "what to do?"),
-        (&[""], "there is no word ''"),
-        (&["judge", "a"], "there is no word 'judge'"),
-        (&["--verbose"], "there is no word '--verbose'"),
+        (&[], "no command; one of check, "),
+        (&[""], "there is no command ''"),
+        (&["judge", "a"], "there is no command 'judge'"),
+        (&["--verbose"], "there is no command '--verbose'"),
         (&["check"], "check: FILE is missing"),
         (&["check", "-x"], "check has no option '-x'"),
         (&["check", "a", "-o", "b"], "check has no option '-o'"),
         (&["place"], "place: FILE is missing"),
-        (&["place", "-o"], "place: -o wants the name of a file"),
+        (&["place", "-o"], "place: -o needs the name of a file"),
         (&["place", "a", "b"], "place: 'b' is too many"),
         (
             &["place", "a", "-o", "b", "-o", "c"],
-            "place: -o stands there twice",
+            "place: -o is given twice",
         ),
         (
             &["check", "a", "--at", "Mon 07:30"],
@@ -43,27 +43,27 @@ fn words() {
         ),
         (
             &["check", "a", "--at", "noon", "--hours", "b"],
-            "check: --at wants a day and a time such as \"Mon 07:30\", not 'noon'",
+            "check: --at needs a day and a time such as \"Mon 07:30\", not 'noon'",
         ),
         (
             &["place", "a", "--at", "Sun 24:00", "--hours", "b"],
-            "place: --at wants a day and a time such as \"Mon 07:30\", not 'Sun 24:00'",
+            "place: --at needs a day and a time such as \"Mon 07:30\", not 'Sun 24:00'",
         ),
         (
             &["check", "a", "--at"],
-            "check: --at wants a day and a time behind it",
+            "check: --at needs a day and a time",
         ),
         (
             &["place", "a", "--hours"],
-            "place: --hours wants the name of a file behind it",
+            "place: --hours needs the name of a file",
         ),
         (
             &["check", "a", "--at", "b", "--at", "c"],
-            "check: --at stands there twice",
+            "check: --at is given twice",
         ),
         (
             &["check", "a", "--hours", "b", "--hours", "c"],
-            "check: --hours stands there twice",
+            "check: --hours is given twice",
         ),
         (
             &["check", "-", "--at", "Mon 07:30", "--hours", "-"],
@@ -90,11 +90,11 @@ fn words() {
         ),
         (
             &["merge", "a", "b", "-o"],
-            "merge: -o wants the name of a file",
+            "merge: -o needs the name of a file",
         ),
         (
             &["merge", "-o", "c", "a", "b", "-o", "c"],
-            "merge: -o stands there twice",
+            "merge: -o is given twice",
         ),
         (
             &["merge", "a", "b", "--at", "Mon 07:30"],
@@ -105,7 +105,7 @@ fn words() {
         (&["notice", "0", "a", "b"], "notice: 'b' is too many"),
         (
             &["notice", "0", "a", "-o"],
-            "notice: -o wants the name of a file",
+            "notice: -o needs the name of a file",
         ),
         (
             &["notice", "1999-12-31", "a"],
@@ -140,7 +140,7 @@ fn words() {
         ),
         (
             &["in-force", "0", "a", "b", "-o"],
-            "in-force: -o wants the name of a file",
+            "in-force: -o needs the name of a file",
         ),
         (
             &["in-force", "0", "a", "b", "--at", "Mon 07:30"],
@@ -185,11 +185,11 @@ fn words() {
         ),
         (
             &["run", "a", "b", "--seats"],
-            "run: --seats wants the name of a file behind it",
+            "run: --seats needs the name of a file",
         ),
         (
             &["run", "--seats", "c", "a", "b", "--seats", "c"],
-            "run: --seats stands there twice",
+            "run: --seats is given twice",
         ),
         (&["run", "a", "--seats", "c"], "run: CHOICES is missing"),
         (
@@ -249,9 +249,7 @@ fn words() {
             "{}",
             answer.err
         );
-        assert!(answer
-            .err
-            .ends_with("pilzdamo --help lists what can be asked\n"));
+        assert!(answer.err.ends_with("pilzdamo --help lists all commands\n"));
     }
 }
 
