@@ -1,4 +1,4 @@
-//! A file's records, as far as they can be told apart. Nothing is judged here.
+//! A file's records, as far as they can be recognized. Nothing is judged here.
 
 use crate::length::{Bytes, Length};
 
@@ -62,7 +62,7 @@ fn head_words(version: u16) -> usize {
 /// The word of the head at which the offsets begin.
 const OFFSETS: usize = 1 + COUNTED.len();
 
-/// What zero bytes are read as: version 1, no records, every section behind the head.
+/// What zero bytes are read as: version 1, no records, every section after the head.
 const NOTHING_PLANNED: [u16; 13] = [1, 0, 0, 0, 0, 0, 0, 13, 13, 13, 13, 13, 13];
 
 /// A file taken apart.

@@ -49,7 +49,7 @@ impl<'a> Course<'a> {
         Ok(before.map_or(String::new(), |before| self.did(&before, thread, partner)))
     }
 
-    /// What a choice that can be done would do behind these words; with a table of seats it
+    /// What a choice that can be done would do after these words; with a table of seats it
     /// may wait.
     pub fn would(&self, table: Option<&Table>, words: &[u16], choice: [u16; 2]) -> String {
         let [thread, partner] = choice;
@@ -71,7 +71,7 @@ impl<'a> Course<'a> {
         self.desk.threads().get(index).copied()
     }
 
-    /// Whether a choice behind these words gets no seat by a table, if there is one.
+    /// Whether a choice after these words gets no seat by a table, if there is one.
     pub fn is_waiting(&self, table: Option<&Table>, words: &[u16], choice: [u16; 2]) -> bool {
         let role = self.role_put_on(choice[0]);
         let table = table.filter(|table| role.is_some_and(|role| table.limits(role)));
@@ -190,7 +190,7 @@ impl<'a> Course<'a> {
         let (role, user) = (self.called.role(role), self.called.value(thread.user));
         let has = self.called.each_role(self.called.assigned(thread.user));
         Some(format!(
-            "{role} is no role of {user} (roles of {user}: {has})"
+            "{role} isn't a role of {user} (roles of {user}: {has})"
         ))
     }
 

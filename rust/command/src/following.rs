@@ -54,7 +54,7 @@ pub fn choices(listed: &Listed) -> String {
     aligned(found.into_iter().map(|(_, line)| line).collect())
 }
 
-/// The choices that can be done behind these words, each in the list's form and with what
+/// The choices that can be done after these words, each in the list's form and with what
 /// it would do.
 pub fn possible(
     course: &Course,

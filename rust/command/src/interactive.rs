@@ -217,7 +217,7 @@ impl<'a> Driven<'a> {
         }
     }
 
-    /// Says why a choice behind those that are done is refused.
+    /// Says why a choice after those that are done is refused.
     fn refused(&self, refusal: Verdict, choice: [u16; 2]) {
         let number = refusal.number;
         let place = u16::try_from(self.done.len() + 1).unwrap_or(u16::MAX);

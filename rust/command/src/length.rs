@@ -25,7 +25,7 @@ impl Display for Length {
     }
 }
 
-/// Bytes that can be answered for, though there may be more behind them.
+/// Bytes that can be answered for, though there may be more after them.
 pub trait Bytes {
     fn start(&self) -> &[u8];
 

@@ -46,8 +46,8 @@ impl Listed {
         lists::waited(&self.input, &self.list.words, self.table.as_ref())
     }
 
-    /// What there is to say where the list leads, or behind it the refusal: of a run that
-    /// halted behind what there is to say of that.
+    /// What there is to say where the list leads, or after it the refusal: of a run that
+    /// halted after what there is to say of that.
     pub fn answered(
         &self,
         verdict: Verdict,

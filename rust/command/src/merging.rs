@@ -117,7 +117,7 @@ fn unequal<const W: usize>(one: &[[u16; W]], other: &[[u16; W]]) -> Option<(u16,
     Some((number, [*one, *other]))
 }
 
-/// What a role may, behind the file's name: of a text at its place and in its names. The
+/// What a role may, after the file's name: of a text at its place and in its names. The
 /// kinds' numbers stand with them, since those are what is compared.
 fn role(input: &Input, number: u16, record: [u16; 4], kinds: usize) -> String {
     let Some(text) = &input.text else {

@@ -1,4 +1,4 @@
-//! Notices: a file made one, and what is to be said of two.
+//! Notices: made from a file, and compared.
 
 use crate::clinic::Clinic;
 use crate::days::date;

@@ -1,4 +1,4 @@
-//! What `--json` prints: for each answer one object on one line. docs/FORMAT.md has their
+//! What `--json` prints: for each answer one object on one line. docs/JSON.md has their
 //! keys. A key that has nothing to say is null, never left out.
 
 mod explained;

@@ -66,7 +66,7 @@ impl Page {
         }
     }
 
-    /// Adds a line, and the refusal behind it, if this is its place.
+    /// Adds a line, and the refusal after it, if this is its place.
     pub fn marked(&mut self, line: &str, spot: Spot) {
         self.line(line);
         self.mark(spot);

@@ -138,7 +138,7 @@ pub fn below_choice(verdict: Verdict) -> String {
 fn mend(verdict: Verdict) -> Vec<String> {
     let Verdict { number, place } = verdict;
     let out = match (number, place) {
-        (14, 0) => Some("the roles that this session starts with are to be taken out by hand"),
+        (14, 0) => Some("remove the roles with which this session starts by hand"),
         (14, _) => Some("pilzdamo strip FILE removes on and off"),
         _ => None,
     };

@@ -21,7 +21,7 @@ impl Roll {
     }
 
     /// What a choice of the thread of this number leaves, which are so many: one more
-    /// behind the others, or all but that thread, or the same.
+    /// after the others, or all but that thread, or the same.
     pub fn step(&mut self, thread: u16, left: usize) {
         let index = usize::from(thread) - 1;
         let before = self.threads.len();

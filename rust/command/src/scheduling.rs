@@ -142,7 +142,7 @@ pub fn dispatch(file: &NamedFile, most: Option<u16>) -> Result<Outcome, WrongUse
     let (mut choices, mut rounds) = (Vec::new(), Vec::new());
     let why = loop {
         if most.is_some_and(|most| rounds.len() == usize::from(most)) {
-            break "as many rounds as were asked for".to_string();
+            break "all rounds are done".to_string();
         }
         if choices.len() > 2 * BEFORE_ROUND {
             break "no round follows over 65,471 choices".to_string();

@@ -45,7 +45,7 @@ pub fn session_line(
     format!("session {number}: {user_text}, {roles} at the start, {root}")
 }
 
-/// What is to be said below a tree that has no end.
+/// The line below a tree that has no end.
 fn past_end(page: &mut Page, clinic: &Clinic, tree: &Tree) {
     if let Some(remark) = unended(tree) {
         page.line(&format!("  ({remark})"));
@@ -65,7 +65,7 @@ pub fn unended(tree: &Tree) -> Option<&'static str> {
     }
 }
 
-/// The nodes behind those that the sessions' trees have.
+/// The nodes after those that the sessions' trees have.
 fn loose_nodes(page: &mut Page, clinic: &Clinic, reached: usize) {
     let loose = clinic.nodes.get(reached..).unwrap_or_default();
     if loose.is_empty() {

@@ -13,7 +13,7 @@ use pilzdamo::Verdict;
 
 /// Said of a file whose counts say nothing.
 pub(crate) const NO_RECORDS: &str =
-    "no records can be told apart: that takes a head of version 1 to 3, counts in range";
+    "no records can be recognized: that takes a head of version 1 to 3, counts in range";
 
 /// Any bytes whatever, as far as they can be followed as a clinic's file. What
 /// the engine's check refuses is marked at its place.
@@ -150,7 +150,7 @@ fn role_table(page: &mut Page, clinic: &Clinic) {
     }
 }
 
-/// The records of a section, with what is to be said of each.
+/// The records of a section, each with its description.
 fn section<const W: usize>(
     page: &mut Page,
     clinic: &Clinic,
@@ -175,7 +175,7 @@ pub(crate) fn cut_off(page: &mut Page, clinic: &Clinic, section: Section, there:
     }
 }
 
-/// What is to be said if the file ends before a section's last record.
+/// The line for a file that ends before a section's last record.
 pub(crate) fn missing(clinic: &Clinic, section: Section, there: usize) -> Option<String> {
     let missing = clinic.count(section) - there;
     let records = || several(missing, section.one);

@@ -177,7 +177,7 @@ pub fn too_long(name: &str, most: u64) -> WrongUse {
 pub fn reason(error: &io::Error) -> String {
     match error.kind() {
         ErrorKind::NotFound => "there is no such file or folder".to_string(),
-        ErrorKind::PermissionDenied => "it isn't permitted".to_string(),
+        ErrorKind::PermissionDenied => "permission denied".to_string(),
         ErrorKind::IsADirectory => "it is a folder".to_string(),
         _ => error.to_string(),
     }

@@ -136,7 +136,7 @@ impl Reader<'_> {
         takes
     }
 
-    /// The number behind a number.
+    /// The number after a number.
     fn partner(&mut self) -> Result<Who, Flaw> {
         let due = "'->' and a thread, or the partner's number (0 if it steps alone)";
         let start = self.next;
@@ -212,7 +212,7 @@ impl Reader<'_> {
         })
     }
 
-    /// Goes on behind the line of this word.
+    /// Goes on after the line of this word.
     fn skip_line(&mut self, start: usize) {
         let at = start.max(self.next.min(self.tokens.len() - 1));
         let line = self.tokens[at].at.line;

@@ -1,4 +1,4 @@
-//! What is typed in a run that is driven so.
+//! The inputs of an interactive run.
 
 use crate::threads::{asked, named, Choice};
 use text::Token;
@@ -28,7 +28,7 @@ state                the whole state, as run prints it
 save PATH            writes the choices done so far to a file
 help, ?              these lines
 quit, q              ends; so does the end of the input
-A session that is called as a command is chosen by its thread's number: 1 0";
+A session with the name of an input is chosen by its thread's number: 1 0";
 
 /// Understands a line; `#` starts a comment.
 pub fn read(line: &str, sessions: &[String]) -> Result<Typed, String> {
@@ -65,5 +65,5 @@ fn choices(tokens: &[Token], sessions: &[String]) -> Result<Typed, String> {
     named(tokens, Some(sessions))
         .map(Typed::Choices)
         .map_err(|flaws| flaws.into_iter().map(|flaw| flaw.what).next())
-        .map_err(|what| what.unwrap_or_default() + "; help lists what can be typed")
+        .map_err(|what| what.unwrap_or_default() + "; help lists the inputs")
 }

@@ -26,7 +26,7 @@ pub enum Job {
         file: NamedFile,
         at: Option<At>,
         out: Out,
-        /// Whether a text is to be answered with bytes.
+        /// Whether to answer a text with bytes.
         bytes: bool,
         json: bool,
     },

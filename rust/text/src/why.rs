@@ -30,7 +30,7 @@ pub fn why(packed: &Packed, number: u16, place: u16) -> Option<Culprit> {
         2 => Some(Culprit {
             at: packed.source.clinic,
             what: format!(
-                "version {} is not taken here",
+                "version {} can't be used here",
                 packed.records.version.number()
             ),
         }),
@@ -96,7 +96,7 @@ impl Told<'_> {
         let role = self.role(role as u16);
         Some(Culprit {
             at,
-            what: format!("{role} is no role of {user} (roles of {user}: {has})"),
+            what: format!("{role} isn't a role of {user} (roles of {user}: {has})"),
         })
     }
 
@@ -150,7 +150,7 @@ impl Told<'_> {
             10 => self.mistaken(node, spot, session.user)?,
             11 => {
                 let has = self.roles(self.assigned(session.user));
-                format!("{role} is no role of {user} (roles of {user}: {has})")
+                format!("{role} isn't a role of {user} (roles of {user}: {has})")
             }
             12 => {
                 let held = self.roles(spot.active);
@@ -284,7 +284,7 @@ impl Told<'_> {
                 format!("{one} carries {due}, and {other} is {found}")
             }
             RECEIVE if f1 >= 512 => format!(
-                "{one} was received, and is only to be sent on: a channel is received on by its owner, or where it was made by new"
+                "{one} was received, so it serves for sending alone: a channel is received on by its owner, or below the new that makes it"
             ),
             RECEIVE => {
                 let channel = self.packed.records.channels.get(usize::from(f1) - 257)?;

@@ -58,7 +58,7 @@ impl<'a> Cursor<'a> {
         match self.token() {
             Some(token) if is_reserved(&token.text) => {
                 let word = &token.text;
-                let what = format!("expected {what}: '{word}' is a word of the form and no name");
+                let what = format!("expected {what}: '{word}' is a reserved word");
                 Err(Flaw { at: token.at, what })
             }
             Some(token) if token.is_name() => {

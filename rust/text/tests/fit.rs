@@ -48,7 +48,7 @@ fn names_fit_their_own_file_and_no_other() {
     );
     assert_eq!(
         wrong(|names| names.users[1] = "fork".to_string()),
-        "expected a name for the user: 'fork' is a word of the form and no name"
+        "expected a name for the user: 'fork' is a reserved word"
     );
     assert_eq!(
         wrong(|names| names.roles[0] = "a, b".to_string()),

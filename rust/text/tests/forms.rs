@@ -295,7 +295,7 @@ session ask of nurse
             "3:22: there is no kind 'anser' (kinds: answer, request)",
             "4:27: expected ',' or ';' or the end of the line, not 'receive'",
             "5:14: expected 'send', 'receive' or 'juniors', not 'sends'",
-            "6:21: 'caller' stands there twice",
+            "6:21: 'caller' is there twice",
             "7:6: 'nurse' is the name of a user already (line 6)",
             "8:1: expected 'kind', 'role', 'user', 'channel' or 'session', not 'usr'",
             "9:15: expected ':', not 'request'",
@@ -333,7 +333,7 @@ fn more_wrong_texts() {
     );
     assert_eq!(
         below("user on"),
-        "2:6: expected a name for the user: 'on' is a word of the form and no name"
+        "2:6: expected a name for the user: 'on' is a reserved word"
     );
     assert_eq!(
         below("user 7"),
@@ -349,7 +349,7 @@ fn more_wrong_texts() {
     );
     assert_eq!(
         below("kind k\nrole b: send k; send k"),
-        "3:17: 'send' stands there twice"
+        "3:17: 'send' is there twice"
     );
     assert_eq!(
         below("  user a"),

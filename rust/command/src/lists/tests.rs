@@ -33,7 +33,7 @@ fn example(name: &str) -> Input {
     }
 }
 
-/// A list of up to so many choices that aren't refused, at times with one behind them that
+/// A list of up to so many choices that aren't refused, at times with one after them that
 /// is.
 fn list(input: &Input, table: &Table, dice: &mut Dice, most: usize) -> Vec<u16> {
     let mut run = Follower::start(input, Seating::Asked(table)).expect("a run");

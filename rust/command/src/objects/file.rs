@@ -170,7 +170,7 @@ impl File<'_> {
         }))
     }
 
-    /// The nodes behind those that the sessions' trees have.
+    /// The nodes after those that the sessions' trees have.
     fn loose(&self, reached: usize) -> Json {
         let loose = reached + 1..=self.clinic.nodes.len();
         list(loose.map(|number| self.nodes.loose(number)))

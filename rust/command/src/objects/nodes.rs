@@ -39,7 +39,7 @@ impl<'a> Nodes<'a> {
         names.map_or(&[], Vec::as_slice)
     }
 
-    /// The line of a node's step, and of an end the one behind which it stands.
+    /// The line of a node's step, and of an end the one after which it stands.
     pub fn line(&self, number: usize) -> Option<usize> {
         let places = &lines(self.input)?.packed.source.nodes;
         let place = places.get(number.checked_sub(1)?)?;

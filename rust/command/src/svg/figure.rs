@@ -46,7 +46,7 @@ pub struct Figure {
     pub remark: Option<&'static str>,
 }
 
-/// A file that is to be drawn.
+/// A file to draw.
 pub struct Subject<'a> {
     pub input: &'a Input,
     pub clinic: Clinic,
@@ -70,7 +70,7 @@ impl Subject<'_> {
         }
     }
 
-    /// The sessions, and the nodes behind their trees.
+    /// The sessions, and the nodes after their trees.
     pub fn figures(&self) -> Vec<Figure> {
         let (trees, reached) = tree::follow(&self.clinic);
         let mut figures = Vec::new();

@@ -78,7 +78,7 @@ impl Column {
         self.x + self.bands() + self.boxes / 2
     }
 
-    /// The row behind its last node.
+    /// The row after its last node.
     fn end(&self) -> usize {
         self.row + self.steps.len()
     }
@@ -148,7 +148,7 @@ fn box_width(step: &Step, labels: &Labels) -> usize {
     PADDING + number_width(step) + words + marks
 }
 
-/// How wide a node's number is, with the space behind it.
+/// How wide a node's number is, with the space after it.
 pub fn number_width(step: &Step) -> usize {
     width(&step.node.to_string(), SMALL) + PADDING
 }

@@ -45,7 +45,7 @@ fn noise(dice: &mut Dice) -> Vec<u8> {
     (0..length).map(|_| dice.next() as u8).collect()
 }
 
-/// Any records behind a head that fits them.
+/// Any records after a head that fits them.
 fn records(dice: &mut Dice) -> Vec<u8> {
     let roles: Vec<[u16; 4]> = dice.records(4);
     let masks: Vec<[u16; 1]> = roles.iter().map(|_| [dice.word()]).collect();

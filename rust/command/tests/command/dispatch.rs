@@ -34,9 +34,7 @@ fn until_so_many_are_done() {
         assert_eq!(answer.status, 0);
         assert_eq!(answer.text(), DESKS[..rounds].concat());
         let many = if rounds == 1 { "" } else { "s" };
-        let due = format!(
-            "standard input: {rounds} round{many}, {choices}; as many rounds as were asked for\n"
-        );
+        let due = format!("standard input: {rounds} round{many}, {choices}; all rounds are done\n");
         assert_eq!(answer.err, due);
     }
     for rounds in ["8", "65535"] {

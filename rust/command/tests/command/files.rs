@@ -80,7 +80,7 @@ pub fn overlap() -> Draft {
     ])
 }
 
-/// As placed: the cut is behind the second send, though role 2 permits it as
+/// As placed: the cut is after the second send, though role 2 permits it as
 /// well as the third.
 fn placed_overlap() -> Draft {
     overlap_of(&[

@@ -3,8 +3,8 @@
 use crate::common::{pilzdamo_fed, sentence, Folder};
 use crate::format;
 
-/// What is said of the last choice of a list behind `refused` and its number: by `run`, and
-/// by `why not` behind the others.
+/// What is said of the last choice of a list after `refused` and its number: by `run`, and
+/// by `why not` after the others.
 fn why(text: &str, list: &[&str]) -> String {
     let thread = std::thread::current();
     let folder = Folder::new(thread.name().expect("a test has a name"));
@@ -55,7 +55,7 @@ const AT: [&str; 2] = [
 #[test]
 fn a_role_that_is_not_the_users() {
     let text = |roles| format!("clinic 1\nrole r\nrole q\nuser u{roles}\nsession s by u\n  on q\n");
-    let at = "11: s stands at line 6 (on q); q is no role of u (roles of u: ";
+    let at = "11: s stands at line 6 (on q); q isn't a role of u (roles of u: ";
     assert_eq!(why(&text(": r"), &["s"]), format!("{at}r)"));
     assert_eq!(why(&text(""), &["s"]), format!("{at}none)"));
 }

@@ -157,7 +157,7 @@ fn wrong_use() {
     let mut call = place.command(&place.at("pilzdamo"));
     let homeless = said(call.arg("install").env_remove("HOME"));
     is_wrong(homeless, "install: DIR is missing, and HOME isn't set");
-    // All this is told before anything is built; the rest needs the program.
+    // All this is reported before anything is built; the rest needs the program.
     assert_eq!(place.proofs(), 0);
     place.call(&["build"]);
     is_wrong(place.call(&["install", "the root"]), "is the checkout");

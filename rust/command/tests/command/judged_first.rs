@@ -1,11 +1,11 @@
-//! A file that is refused is told before the names in a list are looked up.
+//! A refused file is reported before the names in a list are looked up.
 
 use crate::common::{example, pilzdamo, pilzdamo_fed, sentence, Folder};
 use crate::format;
 
 const DAY: &str = "ask ask ask\nserve serve.2\nask -> serve.2\n";
 
-/// The words that take a list, and what each has behind it.
+/// The words that take a list, and what each has after it.
 const WORDS: [&[&str]; 6] = [
     &["run"],
     &["run", "-i"],
@@ -36,7 +36,7 @@ fn without_its_first_line() {
     assert!(answer.text().contains(refusal), "{}", answer.text());
 }
 
-/// A text and bytes that are refused behind the head.
+/// A text and bytes that are refused after the head.
 #[test]
 fn any_refused_file() {
     let folder = Folder::new("judged first");

@@ -8,7 +8,7 @@ use std::time::{Duration, Instant};
 /// Long enough for a busy machine, and too short for all of an endless input.
 const AT_ONCE: Duration = Duration::from_secs(20);
 
-/// A sound file with zeros behind it, up to this length.
+/// A sound file with zeros after it, up to this length.
 fn padded(length: usize) -> Vec<u8> {
     let mut bytes = example_bytes("spring/cut.clinic");
     bytes.resize(length, 0);

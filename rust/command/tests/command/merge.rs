@@ -53,7 +53,7 @@ fn to_a_file() {
     }
 }
 
-/// The second file comes behind the first, so that the order counts.
+/// The second file comes after the first, so that the order counts.
 #[test]
 fn in_the_other_order() {
     let answer = pilzdamo(&["merge", &south(), &north()]);

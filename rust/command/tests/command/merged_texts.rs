@@ -1,4 +1,4 @@
-//! `merge A B` where one or both are texts: refusals are told in names, at their lines.
+//! `merge A B` of texts: refusals are in names, at their lines.
 
 use crate::common::{example, pilzdamo, sentence, Folder};
 use crate::format;
@@ -52,7 +52,7 @@ fn another_version() {
         panic!("{checked}");
     };
     assert!(
-        first.contains(": refused 2: version 2 is not taken here"),
+        first.contains(": refused 2: version 2 can't be used here"),
         "{first}"
     );
     assert!(err.starts_with(&format!("{first}\n")), "{err}");

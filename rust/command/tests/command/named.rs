@@ -1,4 +1,4 @@
-//! `--names`: bytes that are told in names that stand beside them.
+//! `--names`: reports on bytes in names.
 
 use crate::common::{example, pilzdamo, pilzdamo_fed, sentence, Answer, Folder};
 use crate::files;
@@ -98,7 +98,7 @@ pilzdamo: {file}: {}
     let other = pilzdamo_fed(&["pack", "-"], other.as_bytes()).out;
     let other = ward.folder.file("other.clinic", other);
     let answer = pilzdamo(&["check", &other, "--names", names]);
-    let due = "\n  session serve by desk as caller\n  caller is no role of desk (roles of desk: keeper)\n";
+    let due = "\n  session serve by desk as caller\n  caller isn't a role of desk (roles of desk: keeper)\n";
     assert_eq!(answer.status, 1);
     assert!(answer.err.contains(due), "{}", answer.err);
 }
@@ -199,8 +199,7 @@ fn rounds_in_names() {
     assert!(run.text().starts_with(done), "{}", run.text());
 }
 
-/// What is told of bytes with the names of a text is what is told of the text, but for
-/// lines.
+/// A report on bytes with the names of a text is the report on the text, but for lines.
 #[test]
 fn as_of_the_text() {
     for name in files::BARE {

@@ -30,7 +30,7 @@ fn asked(file: &str, input: &[u8], folder: &Folder, list: &str) -> Vec<Answer> {
     all.map(|words| pilzdamo_fed(&words, input)).collect()
 }
 
-/// The same by name and on standard input; gives what stands behind the name.
+/// The same by name and on standard input; gives what stands after the name.
 fn both_ways(bytes: &[u8], folder: &Folder, list: &str) -> Vec<(i32, Vec<u8>, String)> {
     let file = folder.file("clinic", bytes);
     let without = |answers: Vec<Answer>, name: &str| -> Vec<_> {

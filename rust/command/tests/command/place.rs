@@ -5,7 +5,7 @@ use crate::draft::{off, on};
 use crate::files;
 use std::fs;
 
-/// The booking with role 2 on from before the first send to behind the second.
+/// The booking with role 2 on from before the first send to after the second.
 fn placed_booking() -> Vec<u8> {
     let mut draft = files::booking();
     draft.nodes.insert(0, on(2));

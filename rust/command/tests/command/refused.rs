@@ -70,7 +70,7 @@ const FILES: [(&str, &str, u16, &str, &str); 17] = [
         "check",
         11,
         "node 1, an on",
-        "node 1: on role 1\n  role 1 is no role of user 2 (roles of user 2: none)",
+        "node 1: on role 1\n  role 1 isn't a role of user 2 (roles of user 2: none)",
     ),
     (
         "12-off",
@@ -117,7 +117,7 @@ const FILES: [(&str, &str, u16, &str, &str); 17] = [
     ),
 ];
 
-/// The line of a shown file behind which the refusal of a check is marked.
+/// The line of a shown file after which the refusal of a check is marked.
 const MARKED: [(&str, &str); 14] = [
     ("01-odd", "length: 83 bytes (82 by the counts)"),
     ("02-version", "version: 9"),
@@ -168,7 +168,7 @@ fn who(number: u16) -> &'static str {
     }
 }
 
-/// The lines that are due, behind the name of the file.
+/// The lines that are due, after the name of the file.
 fn message(number: u16, place: &str, more: &str) -> String {
     let sentence = sentence(number, place);
     let more = match more {
@@ -197,7 +197,7 @@ fn files() {
 /// Makes a record wrong.
 type Change = fn(&mut Draft);
 
-/// Each sort of record is told in words.
+/// Each sort of record is described in words.
 #[test]
 fn records_in_words() {
     let mut counts = files::booking().words();
@@ -327,7 +327,7 @@ fn seats() {
     }
 }
 
-/// The first line of a message, behind the name, is a sentence that `reason` reads.
+/// The first line of a message, after the name, is a sentence that `reason` reads.
 fn assert_read_back(message: &str, name: &str, number: u16, place: &str) {
     let line = message.lines().next().expect("a line");
     let (_, sentence) = line.split_once(&format!("{name}: ")).expect("a name");

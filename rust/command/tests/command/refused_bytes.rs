@@ -123,7 +123,7 @@ fn kinds_and_owners() {
             &[receive(channel(2)), receive(variable(1)), END],
             [
                 "node 2: receive variable 2 on variable 1",
-                "variable 1 was received, and is only to be sent on: a channel is received on by its owner, or where it was made by new",
+                "variable 1 was received, so it serves for sending alone: a channel is received on by its owner, or below the new that makes it",
             ],
         ),
         (
@@ -148,7 +148,7 @@ fn roles() {
         let file = ward().session(1, nodes).bytes();
         assert_told(&["check", "-"], &file, number, &due);
     };
-    let due = "role 2 is no role of user 1 (roles of user 1: role 1)";
+    let due = "role 2 isn't a role of user 1 (roles of user 1: role 1)";
     check(&[on(2), END], 11, ["node 1: on role 2", due]);
     let due = "role 1 is not on here (roles on: none)";
     check(&[off(1), END], 12, ["node 1: off role 1", due]);
@@ -167,7 +167,7 @@ fn roles() {
     place(file, 14, &["node 1: on role 1", due, strip]);
     let file = ward().session(1, &[END]).session_with(2, &[2], &[END]);
     let due = "session 2 starts with role 2, and a session to be placed starts with none";
-    let by_hand = "the roles that this session starts with are to be taken out by hand";
+    let by_hand = "remove the roles with which this session starts by hand";
     place(file, 14, &[due, by_hand]);
     let due = "user 2 has no role that may send on kind 1 (roles that may: role 1)";
     place(ward().session(2, &sends), 15, &[step, due]);
@@ -232,7 +232,7 @@ fn seats() {
     asked("2 33", 17, &[due, "number 2 of the table is 33"]);
 }
 
-/// A choice is told with where its threads stand.
+/// A refused choice says where its threads stand.
 #[test]
 fn choices() {
     let folder = Folder::new("refused choices");
@@ -284,7 +284,7 @@ fn choices() {
     }
 }
 
-/// A notice's file is told as the file is.
+/// The file of a notice is reported as the file is.
 #[test]
 fn notices() {
     let folder = Folder::new("refused notices");

@@ -3,7 +3,7 @@
 use crate::common::{example, example_bytes, pilzdamo, pilzdamo_fed, placed, sentence, Folder};
 use crate::draft::{compare, Draft, END, REPEAT};
 
-/// The round behind the list of the example, and what the run then stands at.
+/// The round after the list of the example, and what the run then stands at.
 const FIFTH: &str = "\
 round: 1 0  1 2  2 0
 choices done: 10

@@ -49,7 +49,7 @@ fn what_is_dispatched_is_run() {
     );
 }
 
-/// A round's line behind its list leads where the round led.
+/// A round's line after its list leads where the round led.
 #[test]
 fn a_round_is_run() {
     let folder = Folder::new("rounds in names");

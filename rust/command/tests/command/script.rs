@@ -264,7 +264,7 @@ fn fails(place: &Place, alone: bool, words: &[&str]) {
     assert!(!place.folder.path().join("new").exists());
 }
 
-/// What is missing is told before anything is proved.
+/// What is missing is reported before anything is proved.
 #[test]
 fn without_the_toolchains() {
     let due = "install it, or put its folder on the PATH";

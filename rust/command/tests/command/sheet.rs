@@ -24,7 +24,7 @@ on steps per 1,000 sessions: 1250, remainder 0
 const JSON: &str = "{\"files\": 5, \"refused\": {\"9\": 1, \"15\": 1}, \"sessions\": 4, \
     \"on_steps\": 5, \"most\": 2, \"quotient\": 1250, \"remainder\": 0}\n";
 
-/// The word, and these examples behind it.
+/// The word, and these examples after it.
 fn words(files: &[&str]) -> Vec<String> {
     let files = files.iter().map(|name| example(name));
     std::iter::once("sheet".to_string()).chain(files).collect()

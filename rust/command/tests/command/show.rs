@@ -86,7 +86,7 @@ session 3: user 3, no role at the start, root 21
           26  -        end
 ";
 
-/// Asserts that the refusal is marked behind these lines, with its place.
+/// Asserts that the refusal is marked after these lines, with its place.
 fn assert_marked(text: &str, lines: &str, number: u16, place: &str) {
     let due = format!("{lines}!! {} (", sentence(number, place));
     assert!(text.contains(&due), "{text}");
@@ -121,7 +121,7 @@ fn juniors() {
                !! Refused 21: a junior role's number is not lower than its senior's at word 25. \
                (the schema's keeper)\n";
     assert!(text.contains(due), "{text}");
-    // A 6 further behind comes first.
+    // A 6 further after comes first.
     let mut draft = files::booking().juniors(&[&[1], &[]]);
     draft.channels[1] = [2, 3];
     let text = command::show::text(&draft.bytes());

@@ -32,7 +32,7 @@ session serve by desk
     send bed on back
 ";
 
-/// The lines that placing puts into it, each with the number of the line behind which it
+/// The lines that placing puts into it, each with the number of the line after which it
 /// goes.
 const PUT_IN: [(usize, &str); 5] = [
     (13, "  on caller"),
@@ -295,13 +295,13 @@ fn refusals_in_names() {
         placed_ward().replacen(from, to, 1)
     };
     let cases = [
-        ("check", with("by nurse", "by nurse as keeper"), "12:25: refused 7: keeper is no role of nurse (roles of nurse: caller)"),
+        ("check", with("by nurse", "by nurse as keeper"), "12:25: refused 7: keeper isn't a role of nurse (roles of nurse: caller)"),
         ("check", with("send reply on inbox", "send bed on inbox"), "17:7: refused 10: inbox carries a channel of kind answer, and bed is a plain value"),
         ("check", with("send reply on inbox", "send reply on bed"), "17:7: refused 10: bed is a plain value, and no channel"),
         ("check", with("receive found on reply", "receive found on inbox"), "19:7: refused 10: nurse receives on inbox, and its owner is desk"),
-        ("check", with("send bed on back", "receive more on back"), "24:5: refused 10: back was received, and is only to be sent on: a channel is received on by its owner, or where it was made by new"),
+        ("check", with("send bed on back", "receive more on back"), "24:5: refused 10: back was received, so it serves for sending alone: a channel is received on by its owner, or below the new that makes it"),
         ("check", with("send bed on back", "compare bed with back"), "24:5: refused 10: bed is a plain value, and back is a channel of kind answer"),
-        ("check", placed("on caller", "on keeper"), "14:3: refused 11: keeper is no role of nurse (roles of nurse: caller)"),
+        ("check", placed("on caller", "on keeper"), "14:3: refused 11: keeper isn't a role of nurse (roles of nurse: caller)"),
         ("check", placed("off caller", "off keeper"), "19:7: refused 12: keeper is not on here (roles on: caller)"),
         ("check", placed("  on caller", "  off caller"), "14:3: refused 12: caller is not on here (roles on: none)"),
         ("check", WARD.to_string(), "17:7: refused 13: nurse has no role on that may send on request (roles on: none; roles that may: caller)"),
@@ -520,7 +520,7 @@ fn nothing_planned_is_placed() {
 #[test]
 fn placed_already() {
     let strip = "\n  pilzdamo strip FILE removes on and off\n";
-    let by_hand = "\n  the roles that this session starts with are to be taken out by hand\n";
+    let by_hand = "\n  remove the roles with which this session starts by hand\n";
     let started = WARD.replace("by desk", "by desk as keeper");
     for (text, due) in [(placed_ward(), strip), (started, by_hand)] {
         for word in ["place", "measure"] {

@@ -140,7 +140,7 @@ fn handed_on_as_bytes() {
     let booking = example("booking.txt");
     let answer = pilzdamo(&["columns", &booking]);
     assert_eq!((answer.status, answer.text()), (1, ""));
-    let due = format!("{booking}:2:1: refused 2: version 1 is not taken here\n");
+    let due = format!("{booking}:2:1: refused 2: version 1 can't be used here\n");
     assert!(answer.err.starts_with(&due), "{}", answer.err);
     let due = "only files of version 2 are turned to columns\n";
     assert!(answer.err.ends_with(due), "{}", answer.err);

@@ -10,7 +10,7 @@ fn traced(file: &str, list: &str, more: &[&str]) -> Answer {
     pilzdamo_fed(&words, list.as_bytes())
 }
 
-/// The lines before those that `run` prints without `--trace`, and those behind.
+/// The lines before those that `run` prints without `--trace`, and those after.
 fn around(file: &str, list: &str, more: &[&str]) -> [String; 2] {
     let answer = traced(file, list, more);
     let words = [&["run", file, "-"][..], more].concat();

@@ -290,7 +290,7 @@ fn no_words() {
     assert_eq!((said.status, said.out, said.err), (2, String::new(), help));
 }
 
-/// What can't be told wrong is not told so: it asks for what a build needs.
+/// Arguments that aren't known to be wrong ask for what a build needs.
 #[test]
 fn words_that_are_right() {
     let place = Place::new("unbuilt right");

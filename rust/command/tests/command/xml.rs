@@ -134,7 +134,7 @@ fn start(tag: &str) -> Result<Element, String> {
     Ok(element)
 }
 
-/// A name, and what stands behind it.
+/// A name, and what stands after it.
 fn name(text: &str) -> Result<(&str, &str), String> {
     let end = text.find(|c: char| !(c.is_ascii_alphanumeric() || c == '-'));
     let (name, rest) = text.split_at(end.unwrap_or(text.len()));
