@@ -11,7 +11,7 @@
 //! | an item that begins with `- 6 at word 27: ` | its command is refused so |
 //! | six spaces below an item | what its command prints on standard output |
 
-use crate::common::Folder;
+use crate::common::{example_bytes, pilzdamo as call, Folder};
 use crate::markdown::{code, page};
 use crate::script::{repository, said, Place, CARGO, RT};
 use crate::unbuilt::words;
@@ -287,6 +287,45 @@ fn the_examples() {
 #[test]
 fn the_published_examples() {
     holds("examples/published/README.md", 10);
+}
+
+/// The files that the examples of the help pages speak of.
+fn files_of_the_help(folder: &Folder) {
+    let ward = crate::format::example();
+    folder.file("ward.txt", &ward);
+    let second = folder.file("second.txt", ward.replace("clinic 1", "clinic 2"));
+    folder.file("placed.txt", crate::format::placed());
+    folder.file("day.choices", "ask ask ask");
+    folder.file("ward.seats", "1 0");
+    folder.file("east.clinic", example_bytes("house/north.clinic"));
+    folder.file("west.clinic", example_bytes("house/south.clinic"));
+    for notice in ["november.notice", "december.notice"] {
+        folder.file(notice, example_bytes(&format!("notices/{notice}")));
+    }
+    let [bytes, columns, names] =
+        ["ward.clinic", "ward-by-column.clinic", "ward.names"].map(|name| folder.at(name));
+    let pack = ["pack", &second, "-o", &bytes, "--names", &names];
+    assert_eq!(call(&pack).status, 0);
+    assert_eq!(call(&["columns", &bytes, "-o", &columns]).status, 0);
+}
+
+/// The examples of the help pages and of the man page are answered.
+#[test]
+fn the_help() {
+    let man = page("docs/pilzdamo.1").replace("\\-", "-");
+    let (_, examples) = man.split_once(".SH EXAMPLES\n.nf\n").expect("examples");
+    let (examples, _) = examples.split_once(".fi").expect("their end");
+    let mut examples: Vec<String> = examples.lines().map(str::to_string).collect();
+    for word in words() {
+        let help = page(&format!("rust/command/src/help/{word}.txt"));
+        let (_, example) = help.split_once("\nExample:\n  ").expect("an example");
+        examples.push(example.trim_end().to_string());
+    }
+    for example in examples {
+        let mut desk = Desk::new("help");
+        files_of_the_help(&desk.folder);
+        desk.answered(&format!("./{example}"));
+    }
 }
 
 /// In prose a line has one sentence, so that a change of one can be read.

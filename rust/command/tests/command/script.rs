@@ -199,7 +199,7 @@ fn builds_once_and_is_silent_then() {
         "pilzdamo: crate 1 of 2: masks proved (3 s)",
         "pilzdamo: crate 2 of 2: engine proved (9 s)",
         "pilzdamo: writing the engine's library",
-        "pilzdamo: building the command: about a minute",
+        "pilzdamo: building the command: up to a minute",
         "   Compiling command",
     ];
     assert_eq!(lines[1..], due_lines);
