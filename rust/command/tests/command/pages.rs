@@ -47,7 +47,7 @@ impl Desk {
     fn run(&mut self, command: &str) -> Output {
         self.commands += 1;
         Command::new("bash")
-            .args(["-c", command])
+            .args(["-o", "pipefail", "-c", command])
             .current_dir(self.folder.path())
             .output()
             .expect("bash starts")
