@@ -333,7 +333,6 @@ fn the_help() {
 fn one_sentence_a_line() {
     for name in [
         "README.md",
-        "CHANGELOG.md",
         "docs/GUIDE.md",
         "docs/CLI.md",
         "docs/FORMAT.md",
