@@ -200,7 +200,7 @@ impl Reader<'_> {
                 _ => return cursor.expected("'send', 'receive' or 'juniors'"),
             };
             if let (true, Some(at)) = (said.contains(&word), at) {
-                let what = format!("'{word}' stands there twice");
+                let what = format!("'{word}' is there twice");
                 return Err(Flaw { at, what });
             }
             said.push(word);
@@ -357,7 +357,7 @@ fn mask(cursor: &mut Cursor, table: &Table) -> Result<(u32, Vec<At>), Flaw> {
         if mask & bit != 0 {
             return Err(Flaw {
                 at: token.at,
-                what: format!("'{}' stands there twice", shown(&token.text)),
+                what: format!("'{}' is there twice", shown(&token.text)),
             });
         }
         mask |= bit;
