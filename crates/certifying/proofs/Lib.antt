@@ -1,0 +1,5 @@
+pub mod StandLaws
+pub mod ReadLaws
+pub mod LoadLaws
+pub mod ExploreLaws
+pub mod EntryLaws
