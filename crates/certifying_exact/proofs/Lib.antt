@@ -2,3 +2,4 @@ pub mod ChoiceBounds
 pub mod ChoiceEight
 pub mod Explored
 pub mod Certified
+pub mod CasesShown
