@@ -134,8 +134,8 @@ module _ (f seats states places next : List ℕ) (fine : closing f seats states 
       (ws, run-state L ws S ∙ path-ends (seatedChoice L) ws S (rowState K k) path)
 
   -- So what holds of all rows holds of every schedule.
-  pub rows-hold : (P : SeatedState → Type 0) → ((k : ℕ) → k < length places → P (rowState K k)) → (ws : List ℕ) → P (seatedRanOf f seats ws .seating)
-  rows-hold P each ws =
+  pub each-row-holds : (P : SeatedState → Type 0) → ((k : ℕ) → k < length places → P (rowState K k)) → (ws : List ℕ) → P (seatedRanOf f seats ws .seating)
+  each-row-holds P each ws =
       let (k, low, is, words) = schedule-is-a-row ws in
       subst P (sym is) (each k low)
 

@@ -217,6 +217,10 @@ use Rattle.wards.specs.WardCases.{alone, aloneFile, alonePlaced, beside, beside
 use Rattle.wards.proofs.Wards.{isolated, isolated-at}
 use Rattle.wards.proofs.WardNodes.{from-root, isolated-words, isolated-words-at}
 use Rattle.wards.proofs.WardsShown.{wards-agree, wards-shown}
+use Rattle.certifying.specs.Certificate.{certificateOf, rowState, isRow, closing, closedFine}
+use Rattle.certifying_exact.specs.CertificateCases.{CertificateShown, certificateCases}
+use Rattle.certifying_exact.proofs.Certified.{schedule-is-a-row, row-is-reached, each-row-holds, plain-schedule-is-a-row}
+use Rattle.certifying_exact.proofs.CasesShown.{certificates-shown}
 use Rattle.engine.proofs.LongInputs.{kept-alike}
 use Rattle.engine.proofs.NothingPlanned.{nothing-alike, nothing-checked, nothing-measured, nothing-placed, nothing-short, nothing-over, nothing-run, nothing-chosen, short-one, short-second}
 use Rattle.reading_exact.proofs.Bytes.{length-bytesOf, word-back, small-bytes}
@@ -1833,3 +1837,30 @@ wards-in-words-agree = wards-agree
 
 pub wards-in-words : WardShown alone alonePlaced 1 × WardShown beside besidePlaced 2
 wards-in-words = wards-shown
+
+-- All schedules: a certificate. `pilzdamo_closed` answers `closing`; where that is fine, after every list of choices, of any words and any length, the run with seats stands in a state of the table,
+-- whose words the row has.
+pub every-schedule-is-a-row : (f seats states places next : List ℕ) → closing f seats states places next ≡ closedFine → (ws : List ℕ)
+    → (k : ℕ) × (k < length places) × (seatedRanOf f seats ws .seating ≡ rowState (certificateOf (contentsOf f) seats states places next) k)
+    × (isRow (certificateOf (contentsOf f) seats states places next) k (seatedRanOf f seats ws .seating) ≡ true)
+every-schedule-is-a-row = schedule-is-a-row
+
+-- No row is there in vain: each is the state after some list of choices.
+pub every-row-is-reached : (f seats states places next : List ℕ) → closing f seats states places next ≡ closedFine → (k : ℕ) → k < length places
+    → (ws : List ℕ) × (seatedRanOf f seats ws .seating ≡ rowState (certificateOf (contentsOf f) seats states places next) k)
+every-row-is-reached = row-is-reached
+
+-- So what holds of all rows holds of every schedule.
+pub what-holds-of-rows-holds-of-schedules : (f seats states places next : List ℕ) → closing f seats states places next ≡ closedFine → (P : SeatedState → Type 0)
+    → ((k : ℕ) → k < length places → P (rowState (certificateOf (contentsOf f) seats states places next) k)) → (ws : List ℕ) → P (seatedRanOf f seats ws .seating)
+what-holds-of-rows-holds-of-schedules = each-row-holds
+
+-- With a table of seats of zeros: the run without seats.
+pub every-plain-schedule-is-a-row : (f seats states places next : List ℕ) → closing f seats states places next ≡ closedFine → All (λ w. w ≡ 0) seats → (ws : List ℕ)
+    → (k : ℕ) × (k < length places) × (ranOf f ws .state ≡ rowState (certificateOf (contentsOf f) seats states places next) k .state)
+every-plain-schedule-is-a-row = plain-schedule-is-a-row
+
+-- In literal words: two sessions that end, and two that want one seat, with their tables accepted; and tables with another first row, a target one off, not known yet or missing, a row missing or
+-- never reached, refused at their rows.
+pub certificates-in-words : All CertificateShown certificateCases
+certificates-in-words = certificates-shown

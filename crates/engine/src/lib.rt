@@ -4,6 +4,7 @@ mod choosing;
 mod starting;
 mod walk;
 
+use certifying::Closing;
 use choosing::choose_by;
 use dispatching::Round;
 use format::Verdict;
@@ -36,6 +37,7 @@ ghost use Rattle.seating.specs.SeatedRunning.{seatedOver};
 ghost use Rattle.seating.specs.SeatsRead.{seatsAfter};
 ghost use Rattle.seating.specs.SeatedRound.{seatedRounding, seatedRoundOver};
 ghost use Rattle.seated.specs.SeatedEntry.{seatedWritten};
+ghost use Rattle.certifying.specs.Certificate.{closing};
 ghost use Rattle.reasons.specs.Reasons.{reasonOf, understood, reasonLength, reasonOver, meaningLength, meaningOver};
 ghost use Rattle.lending.specs.Lent.{choosing, recordsOver, besideOver};
 ghost use Rattle.lending.specs.Starting.{starting, recordsStarted, besideStarted};
@@ -243,6 +245,22 @@ pub extern "C" fn pilzdamo_seats(file: &[u8], choices: &[u16], seats: &[u16]) ->
     ensures { λ r. ⌜ r ≡ seatsAfter (now (file .entry)) (now (choices .entry)) (now (seats .entry)) ⌝ }
 {
     seated::seats_after(file, choices, seats)
+}
+
+// Whether a table of states has every state that a run of the file with a table of seats can come to, and no other. `places` has the word of `states` at which each row
+// begins, in the order in which a breadth-first search finds them (threads outside, partners inside), and `next` the number of the row, from 0 on, that each choice which is done leads to.
+// 17 for no row or 2 ^ 32 - 1 rows and more; refused as the run with seats is; 18 at the row at fault, from 1 on; or 0, 0, 0.
+#[no_mangle]
+pub extern "C" fn pilzdamo_closed(
+    file: &[u8],
+    seats: &[u16],
+    states: &[u16],
+    places: &[u32],
+    next: &[u32],
+) -> Closing
+    ensures { λ r. ⌜ r ≡ closing (now (file .entry)) (now (seats .entry)) (now (states .entry)) (now (places .entry)) (now (next .entry)) ⌝ }
+{
+    certifying::check_closed(file, seats, states, places, next)
 }
 
 // Carries out one choice in the list that the live desk lends: 64 records of threads, and beside them 162 words: the thread count, the number of made
