@@ -227,6 +227,38 @@ impl Seats {
     }
 }
 
+/// What is said of a certificate. `row` is the number from 1 on of the row at fault, with
+/// 18, and else 0.
+#[derive(Clone, Copy, Debug, PartialEq, Eq)]
+pub struct Closing {
+    pub number: u16,
+    pub place: u16,
+    pub row: u32,
+}
+
+impl Closing {
+    /// The answer where the certificate holds.
+    pub const CLEAN: Closing = Closing::refused(0, 0);
+
+    /// The answer where there is no row to blame.
+    pub const fn refused(number: u16, place: u16) -> Closing {
+        Closing {
+            number,
+            place,
+            row: 0,
+        }
+    }
+
+    /// The answer where this row, from 1 on, is at fault.
+    pub const fn at(row: u32) -> Closing {
+        Closing {
+            number: 18,
+            place: 0,
+            row,
+        }
+    }
+}
+
 /// Which of two notices is in force: 1 or 2, and where its file stands in it, in bytes.
 /// Refused, it is the first notice's empty part at 0.
 #[derive(Clone, Copy, Debug, PartialEq, Eq)]

@@ -22,6 +22,7 @@ pub use notices::{notice, notice_cases, NoticeCase};
 pub use placing::{Due, PlaceCase};
 pub use reasons::{cases as reason_cases, ReasonCase, NO_SENTENCES};
 pub use running::{booking, choose_cases, placed_booking, round_cases, start_cases};
+pub use running::{closing_cases, ClosingCase};
 pub use running::{seat_cases, seated_round_cases, SeatCase, SeatedRoundCase};
 pub use running::{totals_cases, ChooseCase, Lent, RoundCase, RunCase, StartCase, TotalsCase};
 pub use sheets::{records, sheet_cases, SheetCase};

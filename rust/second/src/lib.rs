@@ -5,7 +5,7 @@
 //! functions, [`read`], [`read_names`],
 //! [`check`], [`check_at`], [`place`], [`place_at`], [`measure`], [`measure_at`],
 //! [`run`], [`round`], [`ready`], [`totals`], [`run_seated`], [`round_seated`],
-//! [`seats`], [`start`], [`choose`], [`merge`], [`to_columns`], [`to_rows`],
+//! [`seats`], [`closing`], [`start`], [`choose`], [`merge`], [`to_columns`], [`to_rows`],
 //! [`in_force`] and [`sheet`], go over the file a few times, in place, and allocate
 //! nothing; nor do [`reason`], [`read_reason`] and [`phrase`].
 
@@ -14,6 +14,7 @@
 mod answers;
 pub mod cases;
 mod cause;
+mod certificate;
 pub mod draft;
 mod file;
 mod hours;
@@ -31,8 +32,11 @@ mod tree;
 mod turning;
 
 pub use answers::NUMBERS;
-pub use answers::{InForce, Placed, Ready, Reason, Round, Seats, Sheet, Totals, Verdict, Written};
+pub use answers::{
+    Closing, InForce, Placed, Ready, Reason, Round, Seats, Sheet, Totals, Verdict, Written,
+};
 pub use cause::{is_of_file, is_of_reading, Cause, Refusal};
+pub use certificate::Certificate;
 pub use file::{Section, Version};
 pub use merging::MERGED_ROOM;
 pub use placing::{room_for, ROOM};
@@ -252,6 +256,46 @@ pub fn seats(file: &[u8], choices: &[u16], seats: &[u16]) -> Seats {
             Seats::refused(number, place)
         }
     }
+}
+
+/// Whether a certificate holds: whether its rows are the states that [`run_seated`] comes
+/// to by any list of choices, all of them and no others. Row k, from 0 on, begins at word
+/// `places[k]` of `states`, and has the run's output from its third word on, the session of
+/// each thread, and for each word of the table of seats how many wait for that role and who.
+/// `next` has the number of the row that follows for each choice that isn't refused: rows in
+/// order, then threads, then partners. A row has the number with which this order comes to
+/// it first.
+///
+/// 17 without a row or for 2^32 - 1 or more, 1 to 10, 17 for the table, 26 at a session, and
+/// then 18 at a row, from 1 on: the first, if it isn't the start; else the lowest of which a
+/// choice has no word in `next`, or one that is above the rows come to so far, or of no row,
+/// or of a row with other words; else the first that isn't come to.
+pub fn closing(
+    file: &[u8],
+    seats: &[u16],
+    states: &[u16],
+    places: &[u32],
+    next: &[u32],
+) -> Closing {
+    if places.is_empty() || places.len() >= u32::MAX as usize {
+        return Closing::refused(17, 0);
+    }
+    match begin_seated(file, seats) {
+        Ok(start) => match certificate::row_at_fault(start, states, places, next) {
+            Some(row) => Closing::at(row as u32 + 1),
+            None => Closing::CLEAN,
+        },
+        Err(refusal) => {
+            let Verdict { number, place } = refusal.verdict();
+            Closing::refused(number, place)
+        }
+    }
+}
+
+/// The certificate of all states that a run with seats comes to, if nothing is refused
+/// before the first choice and there are at most so many states.
+pub fn search(file: &[u8], seats: &[u16], limit: usize) -> Option<Certificate> {
+    certificate::search(begin_seated(file, seats).ok()?, limit)
 }
 
 /// The total of a kind from the words beside a list of threads: 0 for a kind outside

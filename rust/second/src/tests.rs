@@ -1,10 +1,11 @@
+use crate::cases::closing_cases;
 use crate::cases::{booking, cases, choose_cases, place_cases, placed_booking, run_cases};
 use crate::cases::{check_at_cases, place_at_cases, round_cases, start_cases, totals_cases};
 use crate::cases::{merge_cases, notice_cases, reason_cases, records, sheet_cases};
 use crate::cases::{seat_cases, seated_round_cases, turn_cases, Turn};
 use crate::cases::{Due, DueOfBoth, BOOKING, NO_SENTENCES};
 use crate::draft::{set_word, to_bytes, Draft};
-use crate::{begin, merge, resume, total, totals};
+use crate::{begin, closing, merge, resume, search, total, totals};
 use crate::{cause, cause_in_choosing, cause_in_placing, cause_in_run, cause_in_starting};
 use crate::{cause_at, cause_in_merging, cause_in_placing_at, cause_in_round, check_at};
 use crate::{cause_in_notice, cause_in_notices, in_force, sheet, whole_files, Sheet};
@@ -164,6 +165,24 @@ fn named_cases_of_seats() {
     }
     for case in seated_round_cases() {
         case.demand("second", round_seated);
+    }
+}
+
+#[test]
+fn named_cases_of_certificates() {
+    for case in closing_cases() {
+        case.demand("second", closing);
+        if case.found {
+            let states = case.certificate.places.len();
+            let found = |limit| search(&case.file, &case.seats, limit);
+            assert_eq!(
+                found(states),
+                Some(case.certificate.clone()),
+                "{}",
+                case.name
+            );
+            assert_eq!(found(states - 1), None, "{}", case.name);
+        }
     }
 }
 

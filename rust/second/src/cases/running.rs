@@ -1,6 +1,7 @@
 //! Cases of runs.
 
 mod booking;
+mod certificates;
 mod halts;
 mod juniors;
 mod lent;
@@ -13,6 +14,7 @@ mod steps;
 mod totals;
 
 pub use booking::{booking, placed_booking};
+pub use certificates::{cases as closing_cases, ClosingCase};
 pub use lent::{cases as choose_cases, start_cases, ChooseCase, Lent, StartCase};
 pub use rounds::{cases as round_cases, RoundCase};
 pub use seats::{cases as seat_cases, round_cases as seated_round_cases};

@@ -1,5 +1,7 @@
 //! Seats per role: runs in which a role may have a limit, and sessions wait in line.
 
+mod row;
+
 use super::round::{go_round, Choices, Visited};
 use super::state::{node_of, State, ON, RECORDS, TOTALS};
 use super::{refuse_if, Halt, Run, Thread};
@@ -49,6 +51,13 @@ impl Line {
         sessions: [0; SESSIONS],
         count: 0,
     };
+
+    fn of(waiting: &[u16]) -> Line {
+        let mut line = Line::EMPTY;
+        line.sessions[..waiting.len()].copy_from_slice(waiting);
+        line.count = waiting.len();
+        line
+    }
 
     fn waiting(&self) -> &[u16] {
         &self.sessions[..self.count]

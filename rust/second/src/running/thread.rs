@@ -81,6 +81,16 @@ impl Thread {
         Ok(())
     }
 
+    /// The thread of a record in a run's output.
+    pub(super) fn of(&[user, node, mask, _, ref variables @ ..]: &[u16; 4 + MOST]) -> Thread {
+        Thread {
+            user,
+            node,
+            mask,
+            variables: *variables,
+        }
+    }
+
     /// Its record in a run's output.
     pub(super) fn words(&self) -> [u16; 4 + MOST] {
         let mut words = [0; 4 + MOST];
