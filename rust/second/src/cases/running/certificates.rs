@@ -1,6 +1,6 @@
 //! Certificates for all lists of choices.
 
-use super::{desk, on, thread};
+use super::{desk, new, on, receive, send, thread};
 use crate::cases::END;
 use crate::draft::Draft;
 use crate::{Certificate, Closing};
@@ -113,7 +113,7 @@ fn found(
 
 /// All of them.
 pub fn cases() -> Vec<ClosingCase> {
-    [nothing(), one(), two(), seats(), refused()]
+    [nothing(), one(), two(), meetings(), seats(), refused()]
         .into_iter()
         .flatten()
         .collect()
@@ -218,6 +218,70 @@ fn two() -> Vec<ClosingCase> {
             it.places[3] = u32::MAX
         }),
         all,
+    ]
+}
+
+/// A sender and a receiver, whichever comes first, and a made channel.
+fn meetings() -> Vec<ClosingCase> {
+    let sender: &[_] = &[send(257, 3), END];
+    let receiver: &[_] = &[receive(257), END];
+    let next = [1, 2, 3, 4, 4];
+    let rows = |before: [Vec<u16>; 2], [one, other]: [Vec<u16>; 2]| {
+        [
+            row(&before, &[1, 2], &[]),
+            row(&[one.clone(), other.clone()], &[1, 2], &[]),
+            row(&[other], &[2], &[]),
+            row(&[one], &[1], &[]),
+            row(&[], &[], &[]),
+        ]
+    };
+    let behind = found(
+        "a receiver behind its sender",
+        desk(&[(1, 1, sender), (2, 2, receiver)]).bytes(),
+        &[0; 3],
+        &rows(
+            [thread(1, 1, 1, 1, &[]), thread(2, 3, 2, 1, &[])],
+            [thread(1, 2, 1, 1, &[]), thread(2, 4, 2, 1, &[3])],
+        ),
+        &next,
+    );
+    let before = found(
+        "a receiver before its sender",
+        desk(&[(2, 2, receiver), (1, 1, sender)]).bytes(),
+        &[0; 3],
+        &rows(
+            [thread(2, 1, 2, 1, &[]), thread(1, 3, 1, 1, &[])],
+            [thread(2, 2, 2, 1, &[3]), thread(1, 4, 1, 1, &[])],
+        ),
+        &next,
+    );
+    let made = |threads: &[Vec<u16>], sessions: &[u16]| {
+        let mut words = row(threads, sessions, &[]);
+        words[1] = 1;
+        words.splice(2..2, [1, 17]);
+        words
+    };
+    let start = row(&[thread(1, 1, 0, 0, &[])], &[1], &[]);
+    let rows = [
+        start,
+        made(&[thread(1, 2, 0, 0, &[385])], &[1]),
+        made(&[], &[]),
+    ];
+    let file = desk(&[(1, 0, &[new(17), END])]).bytes();
+    let makes = found("a made channel of kind 17", file, &[0; 3], &rows, &[1, 2]);
+    let owner = makes.certificate.places[2] as usize + 2;
+    let at = Closing::at;
+    vec![
+        behind.with("the value isn't received", at(1), |it| it.states[49] = 0),
+        makes.with("of another's", at(2), |it| it.states[owner] = 2),
+        makes.with("of another kind", at(2), |it| it.states[owner + 1] = 1),
+        makes.with("forgotten", at(2), |it| {
+            it.states.drain(owner..owner + 2);
+            it.states[owner - 1] = 0;
+        }),
+        behind,
+        before,
+        makes,
     ]
 }
 
