@@ -141,6 +141,13 @@ typedef struct {
     uint16_t totals[PILZDAMO_TOTALS];   /* as in pilzdamo_kind_totals */
 } pilzdamo_role_seats;
 
+/* A refusal, or 0 and 0 for a certificate that holds; and the row that is at fault. */
+typedef struct {
+    uint16_t number;
+    uint16_t place;
+    uint32_t row; /* from 1, with 18; else 0 */
+} pilzdamo_closing;
+
 /* A refusal as a sentence has it; all 0 for bytes that are no sentence. */
 typedef struct {
     uint16_t number;
@@ -306,6 +313,32 @@ pilzdamo_round_choices pilzdamo_round_seated(const uint8_t *file, size_t file_le
 pilzdamo_role_seats pilzdamo_seats(const uint8_t *file, size_t file_len,
                                    const uint16_t *choices, size_t words,
                                    const uint16_t *seats, size_t seats_len);
+
+/*
+ * Judges a certificate for all lists of choices with a table of seats; a table of zeros
+ * is for runs without seats. Where it holds, every list leads to a state that is a row of
+ * it, and every row is a state that some list leads to.
+ *
+ * Row k, from 0 on, begins at word places[k] of states. Its words are what
+ * pilzdamo_run_seated writes from its third word on; the session of each thread; and for
+ * each word of seats how many sessions wait for that role, and these, the first in front.
+ * next has the number of the row that follows, from 0 on, for each choice that is done,
+ * also one that waits for a seat: rows in order, in each the threads from 1 on, with each
+ * of these the partners from 0 up to the number of threads. Row 0 is the file's start, and
+ * the others are numbered as this order first comes to them, as a breadth-first search
+ * does. Numbers past the last that is asked for aren't looked at.
+ *
+ * Refusals 17 without a row or for 2^32 - 1 rows or more; 1 to 10; 17 and 26 for the seats
+ * as in pilzdamo_run_seated; then 18 at place 0 with a row, from 1 on: the first, where it
+ * isn't the start; else the lowest with a choice whose number isn't there, is no row's, is
+ * that of a row that hasn't had its turn to be found, or is that of a row with other words
+ * than the state that follows; else the first that nothing leads to.
+ */
+pilzdamo_closing pilzdamo_closed(const uint8_t *file, size_t file_len,
+                                 const uint16_t *seats, size_t seats_len,
+                                 const uint16_t *states, size_t words,
+                                 const uint32_t *places, size_t rows,
+                                 const uint32_t *next, size_t next_len);
 
 /*
  * The total of a kind, from the words that pilzdamo_start and pilzdamo_choose keep beside

@@ -20,7 +20,7 @@ use std::fmt;
 /// | 14 | the node, or 0 for a starting mask |
 /// | 15 | the node |
 /// | 16 | 0: the placed file would have over 1,024 nodes |
-/// | 17 | 0: an output that is too short, or a bad list of choices or table of seats |
+/// | 17 | 0: an output that is too short, or a bad list of choices, table of seats or list of rows |
 /// | 22 | 0: a minute past the week, or a bad table of hours |
 /// | 23 | the row of the table of hours, from 1 |
 /// | 24 | the node |
@@ -28,7 +28,7 @@ use std::fmt;
 /// | 26 | the session, from 1, whose starting mask overfills a role |
 /// | 27 | the notice, 1 or 2 |
 /// | 28 | 0: neither notice has begun |
-/// | 18 to 20 | the choice, from 1; 18 at 0 for a lent list that isn't one of the file's threads with their totals |
+/// | 18 to 20 | the choice, from 1; 18 at 0 for a lent list that isn't one of the file's threads with their totals, and for a certificate, with the row |
 ///
 /// In [`choose`](crate::choose) the choice has number 1. A [`Reason`] puts all of this
 /// into a sentence.
@@ -477,6 +477,63 @@ impl fmt::Display for Seats {
             return out.write_str("no role is taken");
         }
         out.write_str(&parts.join("; "))
+    }
+}
+
+/// What [`closed`](crate::closed) answers: a refusal's number and place, and the row of the
+/// certificate that is at fault.
+#[repr(C)]
+#[must_use]
+#[derive(Clone, Copy, Debug, PartialEq, Eq, Hash)]
+pub struct Closing {
+    /// The refusal's number, 0 if the certificate holds.
+    pub number: u16,
+    /// Where it stands: a word, a session or a node, as its number says; 0 for 17 and 18.
+    pub place: u16,
+    /// With 18 the row that is at fault, from 1; else 0.
+    pub row: u32,
+}
+
+impl Closing {
+    /// Whether the certificate holds.
+    ///
+    /// ```
+    /// // Nothing planned has one state, in which there is nothing.
+    /// assert!(pilzdamo::closed(&[], &[], &[0, 0], &[0], &[]).is_closed());
+    /// assert!(!pilzdamo::closed(&[], &[], &[1, 0], &[0], &[]).is_closed());
+    /// ```
+    pub fn is_closed(self) -> bool {
+        self.number == 0
+    }
+
+    /// The refusal's number and place alone.
+    ///
+    /// ```
+    /// let closing = pilzdamo::closed(&[1], &[], &[0, 0], &[0], &[]);
+    /// assert_eq!(closing.verdict(), pilzdamo::read(&[1]));
+    /// ```
+    pub fn verdict(self) -> Verdict {
+        let Closing { number, place, .. } = self;
+        Verdict { number, place }
+    }
+}
+
+/// `closed`, `refused N P`, or `refused 18 0, row R`.
+///
+/// ```
+/// let closed = |states: &[u16]| pilzdamo::closed(&[], &[], states, &[0], &[]).to_string();
+/// assert_eq!((closed(&[0, 0]), closed(&[0])), ("closed".into(), "refused 18 0, row 1".into()));
+/// ```
+impl fmt::Display for Closing {
+    fn fmt(&self, out: &mut fmt::Formatter<'_>) -> fmt::Result {
+        if self.is_closed() {
+            return out.write_str("closed");
+        }
+        write!(out, "{}", self.verdict())?;
+        if self.row == 0 {
+            return Ok(());
+        }
+        write!(out, ", row {}", self.row)
     }
 }
 

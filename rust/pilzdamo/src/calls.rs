@@ -2,7 +2,7 @@
 
 use crate::raw;
 use crate::{
-    InForce, Placed, Ready, Reason, Round, Seats, Sheet, Thread, Totals, Verdict, Written,
+    Closing, InForce, Placed, Ready, Reason, Round, Seats, Sheet, Thread, Totals, Verdict, Written,
 };
 
 /// The least length in bytes of an output of [`place`] for any file, and of
@@ -545,6 +545,66 @@ pub fn round_seated(file: &[u8], choices: &[u16], seats: &[u16], out: &mut [u8])
 #[inline]
 pub fn seats(file: &[u8], choices: &[u16], seats: &[u16]) -> Seats {
     raw::seats(file, choices, seats)
+}
+
+/// Judges a certificate for all lists of choices with a table of seats, as [`run_seated`]
+/// has it; without limits, with a table of zeros, for all of [`run`].
+///
+/// A certificate is what a search found: the states, and for each choice that is done the
+/// state that follows. Where it holds, every list of choices leads to a state that is a row
+/// of it, and every row is a state that some list leads to. What is seen in no row can't
+/// happen, whatever is chosen.
+///
+/// Row k, from 0 on, begins at word `places[k]` of `states`, and has these words: the run's
+/// output from its third word on (threads, made channels; owner and kind of each of these;
+/// for each thread its user, node, mask, the number of roles in it and its eight
+/// variables), the session of each thread, and for each word of `seats` how many sessions
+/// wait for that role, and these, the first in front. `next` has the number of a row, from 0
+/// on, for each choice that is done, also one that waits for a seat: rows in order, in each
+/// the threads from 1 on, with each of these the partners from 0 up to the number of
+/// threads. Row 0 is the file's start, and the others are numbered as this order first comes
+/// to them, as a breadth-first search does. What stands past the last number that is asked
+/// for is not looked at.
+///
+/// Any bytes, words and numbers will do, of any length. Refusals 17 without a row, or for
+/// 2^32 − 1 or more; 1 to 10; 17 and 26 for the seats as in [`run_seated`]; then 18 at place
+/// 0 with a row, from 1 on. It is row 1 where that isn't the file's start. Else it is the
+/// lowest row with a choice whose number isn't there, is no row's, is that of a row that
+/// hasn't had its turn to be found, or is that of a row with other words than the state that
+/// follows. Else it is the first row that nothing leads to. Nothing is written and nothing is
+/// kept.
+///
+/// ```
+/// # let words = [
+/// #     1, 2, 2, 1, 1, 2, 4, 13, 15, 23, 24, 26, 32, 1, 2, 1, 0, 0, 0, 0, 0, 1, 0, 0, 2, 1,
+/// #     1, 1, 1, 2, 2, 3, 6, 257, 1, 0, 0, 0, 5, 257, 0, 0, 0, 0u16,
+/// # ];
+/// # let file: Vec<u8> = words.into_iter().flat_map(u16::to_le_bytes).collect();
+/// // The file of `run`'s example: thread 1 sends user 1 to thread 2, and both end.
+/// let thread = |user, node, role, value| [user, node, role, 1, value, 0, 0, 0, 0, 0, 0, 0];
+/// let (sends, receives) = (thread(1, 1, 1, 0), thread(2, 3, 2, 0));
+/// let (sent, received) = (thread(1, 2, 1, 0), thread(2, 4, 2, 1));
+/// let row = |threads: &[[u16; 12]], sessions: &[u16]| {
+///     let counts = [threads.len() as u16, 0];
+///     [&counts, threads.as_flattened(), sessions, &[0, 0]].concat()
+/// };
+/// let rows = [
+///     row(&[sends, receives], &[1, 2]),
+///     row(&[sent, received], &[1, 2]),
+///     row(&[received], &[2]),
+///     row(&[sent], &[1]),
+///     row(&[], &[]),
+/// ];
+/// let (states, places) = (rows.concat(), [0, 30, 60, 77, 94]);
+/// let closed = |next: &[u32]| pilzdamo::closed(&file, &[0, 0], &states, &places, next);
+/// assert!(closed(&[1, 2, 3, 4, 4]).is_closed());
+///
+/// // Row 3, as they are counted in refusals, ends in the last and not in itself.
+/// assert_eq!(closed(&[1, 2, 3, 2, 4]).to_string(), "refused 18 0, row 3");
+/// ```
+#[inline]
+pub fn closed(file: &[u8], seats: &[u16], states: &[u16], places: &[u32], next: &[u32]) -> Closing {
+    raw::closed(file, seats, states, places, next)
 }
 
 /// How many threads wait on a kind, from the words beside a list of threads that

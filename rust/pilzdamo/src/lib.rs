@@ -299,6 +299,11 @@
 //! # Ok::<(), Box<dyn std::error::Error>>(())
 //! ```
 //!
+//! # All lists of choices
+//!
+//! A search goes over all states that lists of choices lead to, and [`closed`] judges the
+//! table that it leaves: where it holds, no list leads to a state that isn't in it.
+//!
 //! # Run choice by choice
 //!
 //! A [`Desk`] owns a copy of the file and the threads. It lists the choices that can be
@@ -396,9 +401,9 @@ mod desk;
 mod raw;
 mod state;
 
-pub use answers::{Counts, InForce, Placed, Ready, Reason, Round, Seats, Sheet};
+pub use answers::{Closing, Counts, InForce, Placed, Ready, Reason, Round, Seats, Sheet};
 pub use answers::{Totals, Verdict, Written, NO_TAG};
-pub use calls::{check, check_at, choose, measure, measure_at, merge, merged};
+pub use calls::{check, check_at, choose, closed, measure, measure_at, merge, merged};
 pub use calls::{
     file_in_force, in_columns, in_force, in_rows, records, sheet, to_columns, to_rows, NUMBERS,
     SHEET_FILES,

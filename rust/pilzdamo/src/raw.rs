@@ -4,7 +4,7 @@
 //! only through pointers to `mut`, and to end. It keeps no pointer.
 
 use crate::{
-    InForce, Placed, Ready, Reason, Round, Seats, Sheet, Thread, Totals, Verdict, Written,
+    Closing, InForce, Placed, Ready, Reason, Round, Seats, Sheet, Thread, Totals, Verdict, Written,
 };
 
 extern "C" {
@@ -81,6 +81,18 @@ extern "C" {
         seats: *const u16,
         seats_len: usize,
     ) -> Seats;
+    fn pilzdamo_closed(
+        file: *const u8,
+        len: usize,
+        seats: *const u16,
+        seats_len: usize,
+        states: *const u16,
+        words: usize,
+        places: *const u32,
+        rows: usize,
+        next: *const u32,
+        next_len: usize,
+    ) -> Closing;
     fn pilzdamo_total(beside: *const u16, words: usize, kind: u16) -> u16;
     fn pilzdamo_reason(
         number: u16,
@@ -140,6 +152,7 @@ const _: () = {
     assert!(size_of::<Reason>() == 2 * 4);
     assert!(size_of::<Written>() == 2 * 3);
     assert!(size_of::<Seats>() == 2 * 580);
+    assert!(size_of::<Closing>() == 2 * 2 + 4);
     assert!(size_of::<InForce>() == 2 * 5);
     assert!(size_of::<Sheet>() == 4 * 34);
     assert!(size_of::<Thread>() == 2 * 11);
@@ -317,6 +330,28 @@ pub fn seats(file: &[u8], choices: &[u16], seats: &[u16]) -> Seats {
             choices.len(),
             seats.as_ptr(),
             seats.len(),
+        )
+    }
+}
+
+#[inline]
+pub fn closed(file: &[u8], seats: &[u16], states: &[u16], places: &[u32], next: &[u32]) -> Closing {
+    // SAFETY: the engine only reads the `len` bytes from `file` on, the `seats_len` words
+    // from `seats` on, the `words` words from `states` on, the `rows` numbers from `places`
+    // on and the `next_len` numbers from `next` on, during the call; the slices vouch for
+    // them.
+    unsafe {
+        pilzdamo_closed(
+            file.as_ptr(),
+            file.len(),
+            seats.as_ptr(),
+            seats.len(),
+            states.as_ptr(),
+            states.len(),
+            places.as_ptr(),
+            places.len(),
+            next.as_ptr(),
+            next.len(),
         )
     }
 }

@@ -1,6 +1,6 @@
 //! The header, tried by a C program: what it prints.
 
-use pilzdamo::{Counts, InForce, Placed, Ready, Reason, Round, Seats, Sheet};
+use pilzdamo::{Closing, Counts, InForce, Placed, Ready, Reason, Round, Seats, Sheet};
 use pilzdamo::{Thread, Totals, Verdict, Written, NUMBERS, SHEET_FILES};
 use pilzdamo::{BEFORE_ROUND, BESIDE, RECORDS, ROOM, ROOM_1, ROUND_WORDS, ROWS, RUN_ROOM};
 use pilzdamo::{LINE_WORDS, NO_TAG, ROLES, SEATS, SENTENCE, SESSIONS, TOTALS, WEEK};
@@ -106,6 +106,12 @@ a list that stops: refusal 18 5, 152 bytes
 too many seats: refusal 17 0, 0 bytes
 two start: refusal 26 2, 0 bytes
 round: refusal 0 0, 152 bytes, choices 1,0 2,0
+one state: refusal 0 0, row 0
+two rows: refusal 18 0, row 2
+a word less: refusal 18 0, row 1
+no row: refusal 17 0, row 0
+one byte: refusal 1 0, row 0
+a seat: refusal 17 0, row 0
 merge: refusal 0 0, 266 bytes
 its counts: 7 2 2 2 5 28
 behind it: ab
@@ -192,6 +198,7 @@ fn a_c_program_calls_the_engine() {
         size_of::<Thread>(),
         size_of::<InForce>(),
         size_of::<Sheet>(),
+        size_of::<Closing>(),
     ];
     let line = |name: &str, numbers: &[usize]| {
         let numbers: Vec<String> = numbers.iter().map(usize::to_string).collect();

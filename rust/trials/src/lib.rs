@@ -6,6 +6,7 @@
 mod aim;
 mod answers;
 mod bare;
+mod certificates;
 mod change;
 mod choosing;
 mod columns;
@@ -42,6 +43,8 @@ mod wild;
 pub use answers::{agreed, engine_check, engine_read, second_check, second_read, Answer};
 pub use bare::{chain_bare, deal_bare, full_bare, largest_bare, overfull_bare, small_bare};
 pub use bare::{tied_bare, typical_bare};
+pub use certificates::{agreed_closing, compare_certificates, engine_closing};
+pub use certificates::{CertificateTally, Certified};
 pub use choosing::{agreed_choice, compare_choosing, deal_lent, engine_choose, full_lent};
 pub use choosing::{long_run_by_choices, run_by_choices, typical_lent};
 pub use choosing::{ChooseTally, Lent, Steps};

@@ -462,17 +462,36 @@ static void reasons(void) {
            pilzdamo_reason(13, 4, 1, PILZDAMO_NO_TAG, out, sizeof out - 1));
 }
 
+static void print_closing(const char *call, pilzdamo_closing closing) {
+    printf("%s: refusal %d %d, row %lu\n", call, closing.number, closing.place,
+           (unsigned long)closing.row);
+}
+
+/* Nothing planned has one state, in which there is nothing. */
+static void certificates(void) {
+    uint8_t file[1] = {0};
+    uint16_t seats[1] = {0}, states[2] = {0, 0};
+    uint32_t places[2] = {0, 0}, next[1] = {0};
+    print_closing("one state", pilzdamo_closed(file, 0, seats, 0, states, 2, places, 1, next, 0));
+    print_closing("two rows", pilzdamo_closed(file, 0, seats, 0, states, 2, places, 2, next, 1));
+    print_closing("a word less", pilzdamo_closed(file, 0, seats, 0, states, 1, places, 1, next, 0));
+    print_closing("no row", pilzdamo_closed(file, 1, seats, 0, states, 2, places, 0, next, 0));
+    print_closing("one byte", pilzdamo_closed(file, 1, seats, 1, states, 2, places, 1, next, 0));
+    print_closing("a seat", pilzdamo_closed(file, 0, seats, 1, states, 2, places, 1, next, 0));
+}
+
 int main(int argc, char **argv) {
     if (argc != 2) {
         fprintf(stderr, "the folder of the examples is wanted\n");
         return 2;
     }
-    printf("sizes: %d %d %d %d %d %d %d %d %d %d %d\n", (int)sizeof(pilzdamo_verdict),
+    printf("sizes: %d %d %d %d %d %d %d %d %d %d %d %d\n", (int)sizeof(pilzdamo_verdict),
            (int)sizeof(pilzdamo_placed), (int)sizeof(pilzdamo_ready_pair),
            (int)sizeof(pilzdamo_round_choices), (int)sizeof(pilzdamo_kind_totals),
            (int)sizeof(pilzdamo_said), (int)sizeof(pilzdamo_written),
            (int)sizeof(pilzdamo_role_seats), (int)sizeof(pilzdamo_thread),
-           (int)sizeof(pilzdamo_notice_in_force), (int)sizeof(pilzdamo_figures));
+           (int)sizeof(pilzdamo_notice_in_force), (int)sizeof(pilzdamo_figures),
+           (int)sizeof(pilzdamo_closing));
     printf("rooms: %d %d %d %d %d\n", PILZDAMO_ROOM, PILZDAMO_ROOM_1, PILZDAMO_RUN_ROOM,
            PILZDAMO_RECORDS, PILZDAMO_BESIDE);
     printf("hours: %d %d\n", PILZDAMO_WEEK, PILZDAMO_ROWS);
@@ -492,6 +511,7 @@ int main(int argc, char **argv) {
     waiting(argv[1]);
     dispatch(argv[1]);
     seats(argv[1]);
+    certificates();
     house(argv[1]);
     turns(argv[1]);
     notices(argv[1]);

@@ -2,10 +2,10 @@
 
 use crate::timing::{Samples, Times, ROUNDS};
 use second::cases::Turn;
-use second::{Ready, Reason, Verdict, SENTENCE};
+use second::{Closing, Ready, Reason, Verdict, SENTENCE};
 use second::{BEFORE_TOTALS, MERGED_ROOM, ROOM, RUN_ROOM};
 use std::hint::black_box;
-use trials::{At, Dealt, Lent, Lists, Notices, Pair, Seated, Turned};
+use trials::{At, Certified, Dealt, Lent, Lists, Notices, Pair, Seated, Turned};
 
 /// A question and what it is asked of.
 #[derive(Clone)]
@@ -39,6 +39,8 @@ pub enum Input {
     RunSeated(Seated),
     RoundSeated(Seated),
     Seats(Seated),
+    /// A certificate that holds.
+    Closed(Certified),
     /// A ready pair that isn't there.
     Ready {
         file: Vec<u8>,
@@ -102,6 +104,7 @@ impl Case {
             Input::Merge([file, _]) | Input::Turn { file, .. } => file,
             Input::RunSeated(seated) | Input::RoundSeated(seated) => &seated.dealt.file,
             Input::Seats(seated) => &seated.dealt.file,
+            Input::Closed(certified) => &certified.file,
             Input::InForce(Notices { first, .. }) => first,
             Input::Sheet(input) => input,
             Input::MeasureEach(files) => &files[0],
@@ -115,6 +118,14 @@ impl Case {
             Input::InForce(Notices { first, second, .. }) => first.len() + second.len(),
             Input::MeasureEach(files) => files.iter().map(Vec::len).sum(),
             _ => self.bytes().len(),
+        }
+    }
+
+    /// How many states it goes through, of a certificate.
+    pub fn states(&self) -> Option<usize> {
+        match &self.input {
+            Input::Closed(certified) => Some(certified.certificate.places.len()),
+            _ => None,
         }
     }
 
@@ -166,6 +177,11 @@ impl Case {
                 let told = trials::agreed_seated(seated, name);
                 assert_eq!(told.run.number, 0, "{name}");
                 told.out
+            }
+            Input::Closed(certified) => {
+                let closing = trials::agreed_closing(certified, name);
+                assert_eq!(closing, Closing::CLEAN, "{name}");
+                Vec::new()
             }
             Input::Ready { file, choices } => {
                 let none = Ready::pair(0, 0);
@@ -311,6 +327,11 @@ impl Case {
                 samples,
                 |file, choices, seats, _| pilzdamo::seats(file, choices, seats),
                 |file, choices, seats, _| second::seats(file, choices, seats),
+            ),
+            Input::Closed(certified) => samples.take(
+                self.calls,
+                || black_box(certified).asked(trials::engine_closing),
+                || black_box(certified).asked(second::closing),
             ),
             Input::Ready { file, choices } => samples.take(
                 self.calls,

@@ -3,8 +3,8 @@
 use crate::case::{dealt, Case, Input};
 use second::cases::{run_cases, Turn};
 use second::draft::Draft;
-use second::{Version, RUN_ROOM};
-use trials::{juniors, At, Lent, Notices, Seated};
+use second::{Version, ROOM, RUN_ROOM};
+use trials::{juniors, At, Certified, Lent, Notices, Seated};
 
 /// A file, and a list of choices.
 pub type Run = (Vec<u8>, Vec<u16>);
@@ -49,6 +49,8 @@ pub struct Inputs {
     pub free_seated: Seated,
     pub largest_seated: Seated,
     pub typical_seated: Seated,
+    /// All states of spring's routine, placed, without seats.
+    pub spring: Certified,
     /// Two to be merged, whose records together reach every limit; and two of 40 nodes.
     pub largest_pair: [Vec<u8>; 2],
     pub typical_pair: [Vec<u8>; 2],
@@ -96,6 +98,7 @@ impl Inputs {
             free_seated: free_seated(trials::largest_run(seed)),
             largest_seated: seated(trials::largest_seated(seed)),
             typical_seated: seated(trials::typical_seated(seed)),
+            spring: spring(),
             largest_pair: trials::largest_pair(seed),
             typical_pair: trials::typical_pair(seed),
             notices: trials::typical_notices(seed),
@@ -200,6 +203,7 @@ impl Inputs {
             Case::new("seated typical", run_seated(&self.typical_seated), 300),
             Case::new("seated round", round_seated(&self.typical_seated), 300),
             Case::new("seats typical", seats(&self.typical_seated), 300),
+            Case::new("closed spring", Input::Closed(self.spring.clone()), 1),
             Case::new("run typical 2", run_2, 300),
             Case::new("choose largest 2", choose_2, 50),
             Case::new("read largest 3", read(&self.largest_3), 50),
@@ -270,6 +274,8 @@ impl Inputs {
              Seated, a run with seats: free has run largest's list and 32 seats in each role, so\n\
              that every on of a session without a seat gets one; largest has {};\n\
              typical has {}. Its round, and what is read of its seats.\n\
+             Closed, a certificate for all lists of choices: the {} states of spring's routine,\n\
+             placed, and {} choices that are done in them.\n\
              In force, of two notices; the bytes are those of both, whose files have 40 nodes each.\n\
              Sheet: the records of 1,000 files of 40 nodes, half of them in version 2. Measure each:\n\
              1,000 calls of measure for the same files. Sheet full, and each full: of 1,000 files\n\
@@ -284,6 +290,8 @@ impl Inputs {
             String::from_utf8_lossy(SENTENCE),
             waited(&self.largest_seated),
             waited(&self.typical_seated),
+            self.spring.certificate.places.len(),
+            self.spring.certificate.next.len(),
         )
     }
 }
@@ -353,6 +361,21 @@ fn free_seated((file, choices): Run) -> Seated {
 fn seated((file, choices, seats): (Vec<u8>, Vec<u16>, Vec<u16>)) -> Seated {
     let dealt = dealt(&file, &choices);
     Seated { dealt, seats }
+}
+
+/// The example of spring, placed, and the certificate of its states.
+fn spring() -> Certified {
+    let bare = include_bytes!("../../../../../examples/spring/bare.clinic");
+    let mut out = [0; ROOM];
+    let placed = second::place(bare, &mut out);
+    let file = out[..placed.length.into()].to_vec();
+    let seats = vec![0; Draft::of(&file).roles.len()];
+    let certificate = second::search(&file, &seats, 10_000).expect("it has an end");
+    Certified {
+        file,
+        seats,
+        certificate,
+    }
 }
 
 /// How many choices a list has, and how many of them get no seat.

@@ -26,6 +26,10 @@ Columns. Best nanoseconds a call by row, in version 2, and by column, in version
 factor between them.
 ";
 
+const STATES: &str = "
+Certificates. Best nanoseconds a state.
+";
+
 const GROWTH: &str = "
 Growth. Best nanoseconds a call, and the factor to the row before. Read and check: 32 nodes
 to a session. Place: a chain that needs one role; it has two nodes less than its result,
@@ -51,6 +55,8 @@ fn main() {
     print_table(&cases, of_cases);
     println!("{COLUMNS}");
     print_columns(&cases, of_cases);
+    println!("{STATES}");
+    print_states(&cases, of_cases);
     println!("{GROWTH}");
     print_growth(&by_nodes, of_nodes);
     println!();
@@ -124,6 +130,26 @@ fn print_columns(cases: &[Case], times: &[Times]) {
             of_second[0],
             of_second[1],
             of_second[1] / of_second[0],
+        );
+    }
+}
+
+/// The rows that go through states.
+fn print_states(cases: &[Case], times: &[Times]) {
+    println!(
+        "{:<16} {:>6} {:>9} {:>9} {:>7}",
+        "call", "states", "engine", "second", "ratio"
+    );
+    for (case, times) in cases.iter().zip(times) {
+        let Some(states) = case.states() else {
+            continue;
+        };
+        let [engine, second] =
+            [times.engine.best, times.second.best].map(|call| call / states as f64);
+        println!(
+            "{:<16} {states:>6} {engine:>9.0} {second:>9.0} {:>7.2}",
+            case.name,
+            engine / second
         );
     }
 }

@@ -144,6 +144,13 @@ fn seated_runs_wait() {
     assert_eq!(nodes(&inputs.typical_seated.dealt.file), 40);
 }
 
+/// As many states as a model checker finds for the same routine.
+#[test]
+fn spring_has_4_033_states() {
+    let certificate = Inputs::new(seed()).spring.certificate;
+    assert_eq!(certificate.places.len(), 4_033);
+}
+
 #[test]
 fn what_is_merged_is_as_large_as_can_be() {
     let inputs = Inputs::new(seed());
