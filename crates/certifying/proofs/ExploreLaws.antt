@@ -136,9 +136,10 @@ module _ (C : Contents) (seats states places next : List ℕ) where
       → RowFits (length seats) states (rowPlace K k) × Ordered (K .limited) (rowState K k)
   row-known w b os ls Z k stands =
       let R : Readable (length seats) (seatedIn w b os ls) = ordered-readable C seats (seatedIn w b os ls) (table-eights w 0 (threadCount b)) (Z .ordered) in
-      let made : length (madeIn b 2 (madeCount b)) ≡ madeCount b = made-length b 2 (madeCount b) in
-      (state-fits states (length seats) (seatedIn w b os ls) R (rowPlace K k) stands (omega (arith, threads-length w 0 (threadCount b), Z .sized .threads)) (omega (arith, made, Z .sized .made)) (few-wait ls (Z .rows)),
-      subst (Ordered (K .limited)) (sym (state-read states (length seats) (seatedIn w b os ls) R (rowPlace K k) stands)) (Z .ordered))
+      let made : length (madeIn b 2 (madeCount b)) ≡ madeCount b = made-length b 2 (madeCount b) in (
+        state-fits states (length seats) (seatedIn w b os ls) R (rowPlace K k) stands (omega (arith, threads-length w 0 (threadCount b), Z .sized .threads)) (omega (arith, made, Z .sized .made)) (few-wait ls (Z .rows)),
+        subst (Ordered (K .limited)) (sym (state-read states (length seats) (seatedIn w b os ls) R (rowPlace K k) stands)) (Z .ordered),
+      )
 
   pub first-known : (w b os ls : List ℕ) → Seated (K .limited) w b os ls → 0 < length places → isRow K 0 (seatedIn w b os ls) ≡ true → KnownRows K 1
   first-known w b os ls Z some stands = record {

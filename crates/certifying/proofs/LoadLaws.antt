@@ -291,17 +291,17 @@ module _ (roles : ℕ) (s : List ℕ) (at : ℕ) (F : RowFits roles s at) (w b b
       let from-owners : at + used + 12 * n ≡ ownersFrom s at = omega (arith, is-used, is-n) in
       let from-lines : at + used + 12 * n + n ≡ linesFrom s at = omega (arith, is-used, is-n) in
       let threads : threadsIn w 0 (threadCount b′) ≡ rowThreads s (threadsFrom s at) (getD s at 0) =
-          ap (threadsIn w 0) (counted ∙ sym is-n) ∙ threads-in ∙ ap₂ (rowThreads s) from-threads is-n in
+      ap (threadsIn w 0) (counted ∙ sym is-n) ∙ threads-in ∙ ap₂ (rowThreads s) from-threads is-n in
       let made : madeIn b′ 2 (madeCount b′) ≡ madeIn s (at + 2) (getD s (at + 1) 0) =
-          ap (madeIn b′ 2) made-counted
-          ∙ made-same b′ s 2 (at + 2) (getD s (at + 1) 0) (λ j lt. let e : at + (2 + j) ≡ at + 2 + j = omega arith in beside-word (2 + j) (omega (arith, lt, is-used)) ∙ ap (λ (x : ℕ). getD s x 0) e) in
+      ap (madeIn b′ 2) made-counted
+      ∙ made-same b′ s 2 (at + 2) (getD s (at + 1) 0) (λ j lt. let e : at + (2 + j) ≡ at + 2 + j = omega arith in beside-word (2 + j) (omega (arith, lt, is-used)) ∙ ap (λ (x : ℕ). getD s x 0) e) in
       let part : take n os′ ≡ take n (drop (at + used + 12 * n) s) =
-          same-part os′ s 0 (at + used + 12 * n) n (omega (arith, owners-long, is-n, F .threads)) (omega (arith, room-s))
-          (λ k lt. ap (λ (l : List ℕ). getD l (0 + k) 0) put-os
-          ∙ paste-in os (drop (at + used + 12 * n) s) 0 n (omega (arith, is-n, F .threads, long-os)) (omega (arith, room-s, length-drop (at + used + 12 * n) s)) k lt
-          ∙ getD-drop (at + used + 12 * n) s k 0) in
+      same-part os′ s 0 (at + used + 12 * n) n (omega (arith, owners-long, is-n, F .threads)) (omega (arith, room-s))
+      (λ k lt. ap (λ (l : List ℕ). getD l (0 + k) 0) put-os
+      ∙ paste-in os (drop (at + used + 12 * n) s) 0 n (omega (arith, is-n, F .threads, long-os)) (omega (arith, room-s, length-drop (at + used + 12 * n) s)) k lt
+      ∙ getD-drop (at + used + 12 * n) s k 0) in
       let owners : take (threadCount b′) os′ ≡ take (getD s at 0) (drop (ownersFrom s at) s) =
-          ap (λ (x : ℕ). take x os′) (counted ∙ sym is-n) ∙ part ∙ ap₂ (λ (x y : ℕ). take x (drop y s)) is-n from-owners in
+      ap (λ (x : ℕ). take x os′) (counted ∙ sym is-n) ∙ part ∙ ap₂ (λ (x y : ℕ). take x (drop y s)) is-n from-owners in
       let lines : linesIn ls ≡ linesAt roles s at = lines-in ∙ ap {B = ℕ → List ℕ} (λ (y : ℕ). λ (x : ℕ). getD ([] ∷ rowLines s y roles) x []) from-lines in
       record {
         sized = record { words = long-w; beside = beside-long; threads = omega (arith, counted, F .threads); made = omega (arith, made-counted, F .made) };

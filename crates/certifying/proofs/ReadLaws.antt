@@ -46,9 +46,10 @@ module _ (s : List ℕ) where
   stands-part (w ∷ ws) p le e =
       let (low, is, more) = stands-first p w ws e in
       let (fits, rest) = stands-part ws (p + 1) (omega (arith, low)) more in
-      let less : suc (length ws) - 1 ≡ length ws = omega arith in
-      (omega (arith, fits),
-      take-at s (suc (length ws)) p (omega arith) low ∙ ap (λ (x : ℕ). getD s p 0 ∷ take x (drop (p + 1) s)) less ∙ ap₂ (λ (x : ℕ) (l : List ℕ). x ∷ l) is rest)
+      let less : suc (length ws) - 1 ≡ length ws = omega arith in (
+        omega (arith, fits),
+        take-at s (suc (length ws)) p (omega arith) low ∙ ap (λ (x : ℕ). getD s p 0 ∷ take x (drop (p + 1) s)) less ∙ ap₂ (λ (x : ℕ) (l : List ℕ). x ∷ l) is rest,
+      )
 
   read-made : (ms : List Made) (p : ℕ) → standsAt s p (madeWords ms) ≡ true → madeIn s p (length ms) ≡ ms
   unfolding madeWords madeIn
@@ -76,7 +77,7 @@ module _ (s : List ℕ) where
   eight-words (a ∷ b ∷ c ∷ d ∷ f ∷ g ∷ h ∷ k ∷ x ∷ l) n p rest e = let no : ⊥ = omega (arith, n) in absurd no
   eight-words (a ∷ b ∷ c ∷ d ∷ f ∷ g ∷ h ∷ k ∷ []) n p rest e =
       let on : (q r w : ℕ) (ws : List ℕ) → q + 1 ≡ r → standsAt s q (w ∷ ws) ≡ true → (getD s q 0 ≡ w) × (standsAt s r ws ≡ true) =
-          λ q r w ws n e. let (l, is, m) = stands-first q w ws e in (is, subst (λ (x : ℕ). standsAt s x ws ≡ true) n m) in
+      λ q r w ws n e. let (l, is, m) = stands-first q w ws e in (is, subst (λ (x : ℕ). standsAt s x ws ≡ true) n m) in
       let (e4, t4) = on (p + 4) (p + 5) a _ (omega arith) e in
       let (e5, t5) = on (p + 5) (p + 6) b _ (omega arith) t4 in
       let (e6, t6) = on (p + 6) (p + 7) c _ (omega arith) t5 in

@@ -255,8 +255,8 @@ module _ (s w b os ls : List ℕ) (Z : Sized w b) (long : length os ≡ 64) (at 
       let O : List ℕ = take n (drop 0 os) in
       let D : List ℕ = lineWords (linesIn ls) 1 roles in
       let whole : rowWords roles (seatedIn w b os ls) ≡ A ++ (B ++ (O ++ D)) =
-          ap₂ (λ (x y : ℕ). x ∷ y ∷ madeWords (madeIn b 2 m) ++ (threadWords (threadsIn w 0 k) ++ (take k os ++ D))) (threads-length w 0 k) (made-length b 2 m)
-          ∙ ap₂ (λ (l : List ℕ) (x : ℕ). l ++ (threadWords (threadsIn w 0 x) ++ (take x os ++ D))) (sym front) (sym is-n) in
+      ap₂ (λ (x y : ℕ). x ∷ y ∷ madeWords (madeIn b 2 m) ++ (threadWords (threadsIn w 0 k) ++ (take k os ++ D))) (threads-length w 0 k) (made-length b 2 m)
+      ∙ ap₂ (λ (l : List ℕ) (x : ℕ). l ++ (threadWords (threadsIn w 0 x) ++ (take x os ++ D))) (sym front) (sym is-n) in
       let la : at + length A ≡ at + used = omega (arith, length-take-le used b (omega (arith, is-used, few, Z .beside))) in
       let lb : at + used + length B ≡ at + used + 12 * n = omega (arith, thread-words-length w 0 n) in
       let lo : at + used + 12 * n + length O ≡ at + used + 12 * n + n = omega (arith, length-take-le n os (omega (arith, is-n, least, long))) in

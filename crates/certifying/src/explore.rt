@@ -101,11 +101,22 @@ fn try_choice(
         × Trying (certificateOf (contentsAt (now file) head) (now seats) (now states) (now places) (now next)) at (search .known) (now threads) (now beside) (now owners) (now lines) ⌝ }
     ensures { λ r. ⌜ Tries (certificateOf (contentsAt (now (file .entry)) head) (now (seats .entry)) (now (states .entry)) (now (places .entry)) (now (next .entry))) at
         (choiceTried (certificateOf (contentsAt (now (file .entry)) head) (now (seats .entry)) (now (states .entry)) (now (places .entry)) (now (next .entry)))
-          (seatedAt (length (now (seats .entry))) (now (states .entry)) at) i p search) r
+        (seatedAt (length (now (seats .entry))) (now (states .entry)) at) i p search) r
         (now (threads .exit)) (now (beside .exit)) (now (owners .exit)) (now (lines .exit)) ⌝ }
 {
     let sat = choose_one(
-        file, head, sends, receives, table, seats, threads, beside, owners, lines, i, p,
+        file,
+        head,
+        sends,
+        receives,
+        table,
+        seats,
+        threads,
+        beside,
+        owners,
+        lines,
+        i,
+        p,
     );
     if !is_done(sat) {
         return Trial::Passes(search);
@@ -150,15 +161,30 @@ fn try_partners(
         × Trying (certificateOf (contentsAt (now file) head) (now seats) (now states) (now places) (now next)) at (search .known) (now threads) (now beside) (now owners) (now lines) ⌝ }
     ensures { λ r. ⌜ Tries (certificateOf (contentsAt (now (file .entry)) head) (now (seats .entry)) (now (states .entry)) (now (places .entry)) (now (next .entry))) at
         (partnersTried (certificateOf (contentsAt (now (file .entry)) head) (now (seats .entry)) (now (states .entry)) (now (places .entry)) (now (next .entry)))
-          (seatedAt (length (now (seats .entry))) (now (states .entry)) at) i 0 (count + 1) search) r
+        (seatedAt (length (now (seats .entry))) (now (states .entry)) at) i 0 (count + 1) search) r
         (now (threads .exit)) (now (beside .exit)) (now (owners .exit)) (now (lines .exit)) ⌝ }
 {
     let mut on = search;
     let mut p: u16 = 0;
     while p <= count {
         let trial = try_choice(
-            file, head, sends, receives, table, seats, states, places, next, threads, beside, owners,
-            lines, at, i, p, on,
+            file,
+            head,
+            sends,
+            receives,
+            table,
+            seats,
+            states,
+            places,
+            next,
+            threads,
+            beside,
+            owners,
+            lines,
+            at,
+            i,
+            p,
+            on,
         );
         p += 1;
         match trial {
@@ -196,7 +222,7 @@ fn try_threads(
         × Trying (certificateOf (contentsAt (now file) head) (now seats) (now states) (now places) (now next)) at (search .known) (now threads) (now beside) (now owners) (now lines) ⌝ }
     ensures { λ r. ⌜ Tries (certificateOf (contentsAt (now (file .entry)) head) (now (seats .entry)) (now (states .entry)) (now (places .entry)) (now (next .entry))) at
         (rowTried (certificateOf (contentsAt (now (file .entry)) head) (now (seats .entry)) (now (states .entry)) (now (places .entry)) (now (next .entry)))
-          (seatedAt (length (now (seats .entry))) (now (states .entry)) at) search) r
+        (seatedAt (length (now (seats .entry))) (now (states .entry)) at) search) r
         (now (threads .exit)) (now (beside .exit)) (now (owners .exit)) (now (lines .exit)) ⌝ }
 {
     let count = thread_count(&*beside);
@@ -205,8 +231,23 @@ fn try_threads(
     while i < count {
         i += 1;
         let trial = try_partners(
-            file, head, sends, receives, table, seats, states, places, next, threads, beside, owners,
-            lines, at, i, count, on,
+            file,
+            head,
+            sends,
+            receives,
+            table,
+            seats,
+            states,
+            places,
+            next,
+            threads,
+            beside,
+            owners,
+            lines,
+            at,
+            i,
+            count,
+            on,
         );
         match trial {
             Trial::Fails => {
@@ -241,7 +282,7 @@ pub fn try_rows(
         × (length (now seats) ≤ 16) × (length (now threads) ≡ threadTableWords) × (length (now beside) ≡ besideWords) × (length (now owners) ≡ 64) × (length (now lines) ≡ 528)
         × (length (now places) < 4294967295) × KnownRows (certificateOf (contentsAt (now file) head) (now seats) (now states) (now places) (now next)) (search .known) ⌝ }
     ensures { λ r. ⌜ (r ≡ rowsTried (certificateOf (contentsAt (now (file .entry)) head) (now (seats .entry)) (now (states .entry)) (now (places .entry)) (now (next .entry)))
-          0 (length (now (places .entry))) search) × (r < 4294967296) ⌝ }
+        0 (length (now (places .entry))) search) × (r < 4294967296) ⌝ }
 {
     let mut on = search;
     let mut j: usize = 0;
@@ -249,8 +290,21 @@ pub fn try_rows(
         let at = number_at(places, j);
         load_row(states, at, seats.len(), threads, beside, owners, lines);
         let trial = try_threads(
-            file, head, sends, receives, table, seats, states, places, next, threads, beside, owners,
-            lines, at, on,
+            file,
+            head,
+            sends,
+            receives,
+            table,
+            seats,
+            states,
+            places,
+            next,
+            threads,
+            beside,
+            owners,
+            lines,
+            at,
+            on,
         );
         j = index_after(places, j);
         match trial {

@@ -83,7 +83,7 @@ fn row_at_fault(
     requires { ⌜ Laid (now file) head × (length (now seats) ≤ 16) × (0 < length (now places)) × (length (now places) < 4294967295)
         × (overfilledAt (limitedOf (contentsAt (now file) head) (now seats)) (seatedStart (contentsAt (now file) head)) (length (now seats)) ≡ 0) ⌝ }
     ensures { λ r. ⌜ (r ≡ rowAtFault (certificateOf (contentsAt (now (file .entry)) head) (now (seats .entry)) (now (states .entry)) (now (places .entry)) (now (next .entry)))
-          (seatedStart (contentsAt (now (file .entry)) head))) × (r < 4294967296) ⌝ }
+        (seatedStart (contentsAt (now (file .entry)) head))) × (r < 4294967296) ⌝ }
 {
     let mut sends = [0u16; 33];
     let mut receives = [0u16; 33];
@@ -94,8 +94,17 @@ fn row_at_fault(
     let table = [0u64; 0];
     let none = [0u16; 0];
     run_seated_by(
-        file, head, &mut sends, &mut receives, &table, seats, &none, &mut threads, &mut beside,
-        &mut owners, &mut lines,
+        file,
+        head,
+        &mut sends,
+        &mut receives,
+        &table,
+        seats,
+        &none,
+        &mut threads,
+        &mut beside,
+        &mut owners,
+        &mut lines,
     );
     let at = number_at(places, 0);
     if !same_row(states, at, seats.len(), &threads, &beside, &owners, &lines) {

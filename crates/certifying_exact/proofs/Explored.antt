@@ -92,12 +92,12 @@ module _ (C : Contents) (seats states places next : List ℕ) where
             let read : rowState K (q .known) ≡ T = ap (rowState K) (sym is) ∙ good-read T g k ed in
             let more : suc (q .known) ≡ q .known + 1 = omega arith in
             let R′ : Reached (q .known + 1) = record {
-                  within = omega (arith, low, is);
-                  good = below-more (λ x. Good (rowState K x)) (q .known) (R .good) (subst Good (sym read) g);
-                  words = below-more (λ x. isRow K x (rowState K x) ≡ true) (q .known) (R .words) (ap₂ (isRow K) (sym is) read ∙ ed);
-                  generated = subst (Generated (seatedChoice L) seatedThreads (rowState K)) more
-                      (new-row-generated (seatedChoice L) seatedThreads (rowState K) (q .known) j i p lt (R .generated) (subst (Yields (seatedChoice L row i p)) (sym read) yields));
-                } in
+              within = omega (arith, low, is);
+              good = below-more (λ x. Good (rowState K x)) (q .known) (R .good) (subst Good (sym read) g);
+              words = below-more (λ x. isRow K x (rowState K x) ≡ true) (q .known) (R .words) (ap₂ (isRow K) (sym is) read ∙ ed);
+              generated = subst (Generated (seatedChoice L) seatedThreads (rowState K)) more
+                  (new-row-generated (seatedChoice L) seatedThreads (rowState K) (q .known) j i p lt (R .generated) (subst (Yields (seatedChoice L row i p)) (sym read) yields));
+            } in
             ((k, low, sym (good-read T g k ed)), (R′, omega (arith, lt)))
 
     choice-explored : (i p : ℕ) (q : Search) → On q → IfPasses (choiceTried K row i p q) (λ x. Leads (seatedChoice L row i p) × On x)

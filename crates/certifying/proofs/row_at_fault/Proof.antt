@@ -61,8 +61,7 @@ same-row-requires c κs =
 returns : tie.Need-returns
 returns c =
     let a = c .before .before .before .before .before .before .before .before .before .before .before .before .before .before .before .before .before .before .before .before .before .before .before .before .before .before .before .args in
-    let R = c .before .before .before .before .before .before .before .before .before .before .before .before .before .run-seated-by in
-    (
+    let R = c .before .before .before .before .before .before .before .before .before .before .before .before .before .run-seated-by in (
       start-differs (contentsAt (a .file .now) (a .head)) (a .seats .now) (a .states .now) (a .places .now) (a .next .now) _ _ _ _ _ _ _ (R .ensures .0) (c .before .before .before .before .before .before .number-at .result) (c .before .before .before .before .before .before .number-at .ensures .0) (sym (c .before .same-row .ensures) ∙ not-true (c .before .same-row .result) (c .if1 .taken)),
       omega arith,
     )
@@ -93,9 +92,16 @@ try-rows-requires c κs =
     let a = c .before .before .before .before .before .before .before .before .before .before .before .before .before .before .before .before .before .before .before .before .before .before .before .before .before .before .before .before .before .before .before .before .before .before .args in
     let q = c .before .before .before .before .before .before .before .before .before .before .before .before .before .before .before .before .before .before .before .before .before .before .before .before .before .before .before .before .before .before .before .before .before .before .pre in
     let R = c .before .before .before .before .before .before .before .before .before .before .before .before .before .before .before .before .before .before .before .before .run-seated-by in
-    let Z = R .ensures .0 .kept in
-    (
-      q .0, R .ensures .1, R .ensures .2, q .1, Z .sized .words, Z .sized .beside, Z .owners, Z .rows .words, q .3,
+    let Z = R .ensures .0 .kept in (
+      q .0,
+      R .ensures .1,
+      R .ensures .2,
+      q .1,
+      Z .sized .words,
+      Z .sized .beside,
+      Z .owners,
+      Z .rows .words,
+      q .3,
       start-known (contentsAt (a .file .now) (a .head)) (a .seats .now) (a .states .now) (a .places .now) (a .next .now) _ _ _ _ Z (q .2) (c .before .before .before .before .before .before .before .before .before .before .before .before .before .number-at .result) (c .before .before .before .before .before .before .before .before .before .before .before .before .before .number-at .ensures .0) (sym (c .before .before .before .before .before .before .before .before .same-row .ensures) ∙ not-false (c .before .before .before .before .before .before .before .before .same-row .result) (c .before .before .before .before .before .before .before .if1 .left)),
     )
 
@@ -103,8 +109,7 @@ returns-2 : tie.Need-returns-2
 returns-2 c =
     let a = c .before .before .before .before .before .before .before .before .before .before .before .before .before .before .before .before .before .before .before .before .before .before .before .before .before .before .before .before .before .before .before .before .before .before .before .before .before .before .before .args in
     let R = c .before .before .before .before .before .before .before .before .before .before .before .before .before .before .before .before .before .before .before .before .before .before .before .before .before .run-seated-by in
-    let t = c .before .before .before .before .try-rows in
-    (
+    let t = c .before .before .before .before .try-rows in (
       t .ensures .0 ∙ start-same (contentsAt (a .file .now) (a .head)) (a .seats .now) (a .states .now) (a .places .now) (a .next .now) _ _ _ _ _ _ _ (R .ensures .0) (c .before .before .before .before .before .before .before .before .before .before .before .before .before .before .before .before .before .before .number-at .result) (c .before .before .before .before .before .before .before .before .before .before .before .before .before .before .before .before .before .before .number-at .ensures .0) (sym (c .before .before .before .before .before .before .before .before .before .before .before .before .before .same-row .ensures) ∙ not-false (c .before .before .before .before .before .before .before .before .before .before .before .before .before .same-row .result) (c .before .before .before .before .before .before .before .before .before .before .before .before .if1 .left)),
       t .ensures .1,
     )

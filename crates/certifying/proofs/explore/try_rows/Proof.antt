@@ -83,8 +83,7 @@ returns : tie.Need-returns Inv-loop μ-loop
 returns c =
     let a = c .before .before .before .before .before .before .before .before .before .before .before .before .before .before .before .before .before .before .before .before .before .before .before .before .before .before .before .before .before .before .before .before .before .before .before .before .before .before .before .before .before .before .before .before .before .args in
     let l = c .before .before .before .before .before .before .before .before .before .before .before .before .before .before .before .before .before .before .before .before .before .before .before .before .before .before .before .before .before .before .before .before .loop in
-    let t = c .before .before .before .before .before .before .before .before .before .before .before .try-threads in
-    (
+    let t = c .before .before .before .before .before .before .before .before .before .before .before .try-threads in (
       c .before .before .index-after .ensures ∙ row-fails (certificateOf (contentsAt (a .file .now) (a .head)) (a .seats .now) (a .states .now) (a .places .now) (a .next .now)) (l .j) (length (a .places .now)) (l .on) (omega (arith, c .before .before .before .before .before .before .before .before .before .before .before .before .before .before .before .before .before .before .before .before .before .before .before .before .before .before .before .before .before .before .if1 .taken, c .before .before .before .before .before .before .before .before .before .before .before .before .before .before .before .before .before .before .before .before .before .before .before .before .before .before .before .before .before .before .before .before .loop .inv .5 .within)) (omega (arith, c .before .before .before .before .before .before .before .before .before .before .before .before .before .before .before .before .before .before .before .before .before .before .before .before .before .before .before .before .before .before .if1 .taken)) (t .result) (t .ensures .answered ∙ ap (λ (x : ℕ). rowTried (certificateOf (contentsAt (a .file .now) (a .head)) (a .seats .now) (a .states .now) (a .places .now) (a .next .now)) (seatedAt (length (a .seats .now)) (a .states .now) x) (l .on)) (c .before .before .before .before .before .before .before .before .before .before .before .before .before .before .before .before .before .before .before .before .before .before .before .before .before .before .before .before .before .number-at .ensures .0)) (c .enum-told .given .1) ∙ sym (l .inv .6),
       omega (arith, c .before .before .index-after .ensures, c .before .before .before .before .before .before .before .before .before .before .before .before .before .before .before .before .before .before .before .before .before .before .before .before .before .before .before .before .before .before .if1 .taken, l .inv .5 .within, c .before .before .before .before .before .before .before .before .before .before .before .before .before .before .before .before .before .before .before .before .before .before .before .before .before .before .before .before .before .before .before .before .before .before .before .before .before .before .before .before .before .before .before .before .before .pre .8),
     )
@@ -105,8 +104,7 @@ loop-again c =
     let t = c .before .before .before .before .before .before .before .before .before .before .before .before .try-threads in
     let T = passed-trying (t .result) _ (t .ensures .trying) _ (c .before .trial .given .1) in
     let Z = T .holds .seated in
-    let more = row-grows (certificateOf (contentsAt (a .file .now) (a .head)) (a .seats .now) (a .states .now) (a .places .now) (a .next .now)) _ (l .on) _ (sym (t .ensures .answered) ∙ c .before .trial .given .1) in
-    (
+    let more = row-grows (certificateOf (contentsAt (a .file .now) (a .head)) (a .seats .now) (a .states .now) (a .places .now) (a .next .now)) _ (l .on) _ (sym (t .ensures .answered) ∙ c .before .trial .given .1) in (
       omega (arith, c .before .before .before .index-after .ensures, c .before .before .before .before .before .before .before .before .before .before .before .before .before .before .before .before .before .before .before .before .before .before .before .before .before .before .before .before .before .before .before .if1 .taken, more),
       Z .sized .words,
       Z .sized .beside,
@@ -140,8 +138,7 @@ same-length-8 c = search needs
 returns-2 : tie.Need-returns-2 Inv-loop μ-loop
 returns-2 c =
     let a = c .before .before .before .before .before .before .before .before .before .before .before .before .before .before .before .before .args in
-    let l = c .before .before .before .loop in
-    (
+    let l = c .before .before .before .loop in (
       row-unknown (certificateOf (contentsAt (a .file .now) (a .head)) (a .seats .now) (a .states .now) (a .places .now) (a .next .now)) (l .j) (length (a .places .now)) (l .on) (omega (arith, c .if2 .taken)) (omega (arith, c .before .if1 .left)) (l .inv .0) ∙ sym (l .inv .6),
       omega (arith, c .if2 .taken, c .before .before .before .before .before .before .before .before .before .before .before .before .before .before .before .before .pre .8),
     )

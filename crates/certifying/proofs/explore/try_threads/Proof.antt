@@ -35,8 +35,7 @@ loop-holds c =
     let a = c .before .before .before .before .before .before .before .before .before .before .before .before .before .before .args in
     let T = c .before .before .before .before .before .before .before .before .before .before .before .before .before .before .pre .4 in
     let count = c .thread-count .ensures ∙ held-count (certificateOf (contentsAt (a .file .now) (a .head)) (a .seats .now) (a .states .now) (a .places .now) (a .next .now)) (a .at) _ _ _ _ (T .holds) in
-    let all : length (seatedAt (length (a .seats .now)) (a .states .now) (a .at) .state .threads) ≡ c .thread-count .result - 0 = omega (arith, count) in
-    (
+    let all : length (seatedAt (length (a .seats .now)) (a .states .now) (a .at) .state .threads) ≡ c .thread-count .result - 0 = omega (arith, count) in (
       omega arith,
       omega (arith, c .thread-count .ensures, T .holds .seated .sized .threads),
       T,
@@ -98,8 +97,7 @@ loop-again : tie.Need-loop-again Inv-loop μ-loop
 loop-again c =
     let a = c .before .before .before .before .before .before .before .before .before .before .before .before .before .before .before .before .before .before .before .before .before .before .before .before .before .before .before .before .before .before .before .before .args in
     let l = c .before .before .before .before .before .before .before .before .before .before .before .before .before .before .before .before .before .loop in
-    let t = c .before .before .before .before .before .before .before .before .before .before .before .try-partners in
-    (
+    let t = c .before .before .before .before .before .before .before .before .before .before .before .try-partners in (
       omega (arith, c .before .before .before .before .before .before .before .before .before .before .before .before .before .before .before .before .loop-test .taken),
       l .inv .1,
       passed-trying (t .result) _ (t .ensures .trying) _ (c .before .trial .given .1),
