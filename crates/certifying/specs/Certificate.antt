@@ -1,4 +1,5 @@
--- A certificate for all schedules: the states that a search found, where each begins, and for each choice that is done the number of the state that follows.
+-- A certificate for all schedules: the states that a search found, where each begins, and for each choice that is done
+-- the number of the state that follows.
 use Prim.Native.Nat.{ℕ, zero, suc, _+_, _≤_, _<_}
 use mathlib.Core.Path.{_≡_}
 use mathlib.Core.Bool.{Bool, true, false, cond, _&&_}
@@ -29,7 +30,13 @@ pub record Certificate : Type 0 where
   pub next : List ℕ
 
 abbrev pub certificateOf : Contents → List ℕ → List ℕ → List ℕ → List ℕ → Certificate
-certificateOf C seats states places next = record { limited = limitedOf C seats; roles = length seats; states = states; places = places; next = next }
+certificateOf C seats states places next = record {
+  limited = limitedOf C seats;
+  roles = length seats;
+  states = states;
+  places = places;
+  next = next;
+}
 
 -- where row k begins, and its state; rows are counted from 0 on
 abbrev pub rowPlace : Certificate → ℕ → ℕ
@@ -42,11 +49,13 @@ rowState K k = seatedAt (K .roles) (K .states) (rowPlace K k)
 abbrev pub isRow : Certificate → ℕ → SeatedState → Bool
 isRow K k S = standsAt (K .states) (rowPlace K k) (rowWords (K .roles) S)
 
--- A choice leads to a state: the word at the cursor is the number of a known row, or of the first that isn't known yet, and the row has the state's words.
+-- A choice leads to a state: the word at the cursor is the number of a known row, or of the first that isn't known yet,
+-- and the row has the state's words.
 unfoldable pub arrives : ℕ → List ℕ → List ℕ → List ℕ → SeatedState → Search → Trial
 arrives roles states places next S q =
     let k : ℕ = getD next (q .cursor) 0 in
-    cond (ltb (q .cursor) (length next) && (leb k (q .known) && (ltb k (length places) && standsAt states (getD places k 0) (rowWords roles S))))
+    cond (ltb (q .cursor) (length next)
+    && (leb k (q .known) && (ltb k (length places) && standsAt states (getD places k 0) (rowWords roles S))))
     (Passes (record { known = cond (eqb k (q .known)) (q .known + 1) (q .known); cursor = q .cursor + 1 })) Fails
 
 abbrev pub takenTried : Certificate → Taken SeatedState → Search → Trial
@@ -69,7 +78,8 @@ partnersTried K S i p (suc n) q = onward (choiceTried K S i p q) (λ x. partners
 -- so many threads from i on, each alone and with each thread as partner
 unfoldable pub threadsTried : Certificate → SeatedState → ℕ → ℕ → Search → Trial
 threadsTried K S i zero q = Passes q
-threadsTried K S i (suc n) q = onward (partnersTried K S i 0 (length (S .state .threads) + 1) q) (λ x. threadsTried K S (i + 1) n x)
+threadsTried K S i (suc n) q =
+    onward (partnersTried K S i 0 (length (S .state .threads) + 1) q) (λ x. threadsTried K S (i + 1) n x)
 
 abbrev pub rowTried : Certificate → SeatedState → Search → Trial
 rowTried K S q = threadsTried K S 1 (length (S .state .threads)) q
@@ -78,10 +88,12 @@ abbrev pub rowOnward : Trial → ℕ → (Search → ℕ) → ℕ
 rowOnward Fails j go = j + 1
 rowOnward (Passes q) j go = go q
 
--- so many rows from j on, as far as they are known: 0, or the number from 1 on of the first that fails, or of the first that is never reached
+-- so many rows from j on, as far as they are known: 0, or the number from 1 on of the first that fails, or of the first
+-- that is never reached
 unfoldable pub rowsTried : Certificate → ℕ → ℕ → Search → ℕ
 rowsTried K j zero q = 0
-rowsTried K j (suc n) q = cond (ltb j (q .known)) (rowOnward (rowTried K (rowState K j) q) j (λ x. rowsTried K (j + 1) n x)) (q .known + 1)
+rowsTried K j (suc n) q =
+    cond (ltb j (q .known)) (rowOnward (rowTried K (rowState K j) q) j (λ x. rowsTried K (j + 1) n x)) (q .known + 1)
 
 -- the first row is known once it is the start
 abbrev pub searchBegins : Search
@@ -103,10 +115,12 @@ faultAt k = cond (eqb k 0) closedFine (record { number = 18; place = 0; row = k 
 abbrev pub someRows : ℕ → Bool
 someRows n = ltb 0 n && ltb n 4294967295
 
--- of what a file holds: 17 for the table of seats and 26 for the start, as for a seated run; then 18 at the row at fault
+-- of what a file holds: 17 for the table of seats and 26 for the start, as for a seated run; then 18 at the row at
+-- fault
 abbrev pub closingBy : Contents → List ℕ → List ℕ → List ℕ → List ℕ → Closing
 closingBy C seats states places next =
-    cond (eqb (seatsBar C seats .number) 0) (faultAt (rowAtFault (certificateOf C seats states places next) (seatedStart C))) (closedBy (seatsBar C seats))
+    cond (eqb (seatsBar C seats .number) 0)
+    (faultAt (rowAtFault (certificateOf C seats states places next) (seatedStart C))) (closedBy (seatsBar C seats))
 
 -- 17 for the number of rows, then 1 to 10
 unfoldable pub closing : List ℕ → List ℕ → List ℕ → List ℕ → List ℕ → Closing

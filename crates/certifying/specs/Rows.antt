@@ -1,4 +1,5 @@
--- A state of a seated run as words: the run's output from its third word on, then the threads' sessions, then for each role how many wait and their sessions.
+-- A state of a seated run as words: the run's output from its third word on, then the threads' sessions, then for each
+-- role how many wait and their sessions.
 use Prim.Native.Nat.{ℕ, zero, suc, _+_, _*_, _≤_, _<_}
 use mathlib.Core.Path.{_≡_}
 use mathlib.Core.Bool.{Bool, true, _&&_}
@@ -29,13 +30,14 @@ unfoldable pub standsAt : List ℕ → ℕ → List ℕ → Bool
 standsAt s p [] = true
 standsAt s p (w ∷ ws) = ltb p (length s) && (eqb (getD s p 0) w && standsAt s (p + 1) ws)
 
--- the state that is read from p on: word 3 of a thread, the number of its roles, is not looked at
+-- the state that is read from p on; the fourth word of a thread, the number of its roles, is not looked at
 abbrev pub rowThread : List ℕ → ℕ → Thread
 rowThread s p = record {
   user = getD s p 0;
   node = getD s (p + 1) 0;
   mask = getD s (p + 2) 0;
-  vars = getD s (p + 4) 0 ∷ getD s (p + 5) 0 ∷ getD s (p + 6) 0 ∷ getD s (p + 7) 0 ∷ getD s (p + 8) 0 ∷ getD s (p + 9) 0 ∷ getD s (p + 10) 0 ∷ getD s (p + 11) 0 ∷ [];
+  vars = getD s (p + 4) 0 ∷ getD s (p + 5) 0 ∷ getD s (p + 6) 0 ∷ getD s (p + 7) 0
+      ∷ getD s (p + 8) 0 ∷ getD s (p + 9) 0 ∷ getD s (p + 10) 0 ∷ getD s (p + 11) 0 ∷ [];
 }
 
 unfoldable pub rowThreads : List ℕ → ℕ → ℕ → List Thread
@@ -58,13 +60,20 @@ abbrev pub linesFrom : List ℕ → ℕ → ℕ
 linesFrom s p = ownersFrom s p + getD s p 0
 
 abbrev pub stateAt : List ℕ → ℕ → State
-stateAt s p = record { threads = rowThreads s (threadsFrom s p) (getD s p 0); made = madeIn s (p + 2) (getD s (p + 1) 0) }
+stateAt s p = record {
+  threads = rowThreads s (threadsFrom s p) (getD s p 0);
+  made = madeIn s (p + 2) (getD s (p + 1) 0);
+}
 
 abbrev pub linesAt : ℕ → List ℕ → ℕ → ℕ → List ℕ
 linesAt roles s p r = getD ([] ∷ rowLines s (linesFrom s p) roles) r []
 
 abbrev pub seatedAt : ℕ → List ℕ → ℕ → SeatedState
-seatedAt roles s p = record { state = stateAt s p; owners = take (getD s p 0) (drop (ownersFrom s p) s); lines = linesAt roles s p }
+seatedAt roles s p = record {
+  state = stateAt s p;
+  owners = take (getD s p 0) (drop (ownersFrom s p) s);
+  lines = linesAt roles s p;
+}
 
 -- so many lines from p on, none of more than 32, with all their words
 abbrev pub LinesFit : List ℕ → ℕ → ℕ → Type 0

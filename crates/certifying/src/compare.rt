@@ -81,9 +81,11 @@ pub fn same_row(
     owners: &[u16],
     lines: &[u16],
 ) -> bool
-    requires { ⌜ (at < 4294967296) × (roles ≤ 16) × Sized (now threads) (now beside) × (length (now owners) ≡ 64) × LineRows (now lines) ⌝ }
+    requires { ⌜ (at < 4294967296) × (roles ≤ 16) × Sized (now threads) (now beside) × (length (now owners) ≡ 64)
+        × LineRows (now lines) ⌝ }
     ensures { λ r. ⌜ r ≡ standsAt (now (states .entry)) at
-        (rowWords roles (seatedIn (now (threads .entry)) (now (beside .entry)) (now (owners .entry)) (now (lines .entry)))) ⌝ }
+        (rowWords roles (seatedIn (now (threads .entry)) (now (beside .entry)) (now (owners .entry))
+        (now (lines .entry)))) ⌝ }
 {
     let used = 2 + 2 * wide(made_count(beside));
     let n = wide(thread_count(beside));

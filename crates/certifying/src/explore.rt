@@ -24,7 +24,8 @@ ghost use Rattle.seats.specs.Seats.{seatedChoice};
 ghost use Rattle.seating.specs.SeatTables.{LineRows};
 ghost use Rattle.seated.specs.SeatedTables.{seatedIn};
 ghost use Rattle.certifying.specs.Rows.{seatedAt};
-ghost use Rattle.certifying.specs.Certificate.{certificateOf, arrives, choiceTried, partnersTried, rowTried, rowsTried, isDone, KnownRows, Trying, Tries};
+ghost use Rattle.certifying.specs.Certificate.{certificateOf, arrives, choiceTried, partnersTried, rowTried};
+ghost use Rattle.certifying.specs.Certificate.{rowsTried, isDone, KnownRows, Trying, Tries};
 
 // A choice is done where it is a step or has to wait.
 fn is_done(sat: Sat) -> bool
@@ -96,11 +97,15 @@ fn try_choice(
     p: u16,
     search: Search,
 ) -> Trial
-    requires { ⌜ Laid (now file) head × Granting (schemaOf (contentsAt (now file) head)) Sends (now sends) × Granting (schemaOf (contentsAt (now file) head)) Receives (now receives)
+    requires { ⌜ Laid (now file) head × Granting (schemaOf (contentsAt (now file) head)) Sends (now sends)
+        × Granting (schemaOf (contentsAt (now file) head)) Receives (now receives)
         × (length (now seats) ≤ 16)
-        × Trying (certificateOf (contentsAt (now file) head) (now seats) (now states) (now places) (now next)) at (search .known) (now threads) (now beside) (now owners) (now lines) ⌝ }
-    ensures { λ r. ⌜ Tries (certificateOf (contentsAt (now (file .entry)) head) (now (seats .entry)) (now (states .entry)) (now (places .entry)) (now (next .entry))) at
-        (choiceTried (certificateOf (contentsAt (now (file .entry)) head) (now (seats .entry)) (now (states .entry)) (now (places .entry)) (now (next .entry)))
+        × Trying (certificateOf (contentsAt (now file) head) (now seats) (now states) (now places) (now next)) at
+        (search .known) (now threads) (now beside) (now owners) (now lines) ⌝ }
+    ensures { λ r. ⌜ Tries (certificateOf (contentsAt (now (file .entry)) head) (now (seats .entry))
+        (now (states .entry)) (now (places .entry)) (now (next .entry))) at
+        (choiceTried (certificateOf (contentsAt (now (file .entry)) head) (now (seats .entry)) (now (states .entry))
+        (now (places .entry)) (now (next .entry)))
         (seatedAt (length (now (seats .entry))) (now (states .entry)) at) i p search) r
         (now (threads .exit)) (now (beside .exit)) (now (owners .exit)) (now (lines .exit)) ⌝ }
 {
@@ -156,11 +161,15 @@ fn try_partners(
     count: u16,
     search: Search,
 ) -> Trial
-    requires { ⌜ Laid (now file) head × Granting (schemaOf (contentsAt (now file) head)) Sends (now sends) × Granting (schemaOf (contentsAt (now file) head)) Receives (now receives)
+    requires { ⌜ Laid (now file) head × Granting (schemaOf (contentsAt (now file) head)) Sends (now sends)
+        × Granting (schemaOf (contentsAt (now file) head)) Receives (now receives)
         × (length (now seats) ≤ 16) × (count ≤ 64)
-        × Trying (certificateOf (contentsAt (now file) head) (now seats) (now states) (now places) (now next)) at (search .known) (now threads) (now beside) (now owners) (now lines) ⌝ }
-    ensures { λ r. ⌜ Tries (certificateOf (contentsAt (now (file .entry)) head) (now (seats .entry)) (now (states .entry)) (now (places .entry)) (now (next .entry))) at
-        (partnersTried (certificateOf (contentsAt (now (file .entry)) head) (now (seats .entry)) (now (states .entry)) (now (places .entry)) (now (next .entry)))
+        × Trying (certificateOf (contentsAt (now file) head) (now seats) (now states) (now places) (now next)) at
+        (search .known) (now threads) (now beside) (now owners) (now lines) ⌝ }
+    ensures { λ r. ⌜ Tries (certificateOf (contentsAt (now (file .entry)) head) (now (seats .entry))
+        (now (states .entry)) (now (places .entry)) (now (next .entry))) at
+        (partnersTried (certificateOf (contentsAt (now (file .entry)) head) (now (seats .entry))
+        (now (states .entry)) (now (places .entry)) (now (next .entry)))
         (seatedAt (length (now (seats .entry))) (now (states .entry)) at) i 0 (count + 1) search) r
         (now (threads .exit)) (now (beside .exit)) (now (owners .exit)) (now (lines .exit)) ⌝ }
 {
@@ -217,11 +226,15 @@ fn try_threads(
     at: usize,
     search: Search,
 ) -> Trial
-    requires { ⌜ Laid (now file) head × Granting (schemaOf (contentsAt (now file) head)) Sends (now sends) × Granting (schemaOf (contentsAt (now file) head)) Receives (now receives)
+    requires { ⌜ Laid (now file) head × Granting (schemaOf (contentsAt (now file) head)) Sends (now sends)
+        × Granting (schemaOf (contentsAt (now file) head)) Receives (now receives)
         × (length (now seats) ≤ 16)
-        × Trying (certificateOf (contentsAt (now file) head) (now seats) (now states) (now places) (now next)) at (search .known) (now threads) (now beside) (now owners) (now lines) ⌝ }
-    ensures { λ r. ⌜ Tries (certificateOf (contentsAt (now (file .entry)) head) (now (seats .entry)) (now (states .entry)) (now (places .entry)) (now (next .entry))) at
-        (rowTried (certificateOf (contentsAt (now (file .entry)) head) (now (seats .entry)) (now (states .entry)) (now (places .entry)) (now (next .entry)))
+        × Trying (certificateOf (contentsAt (now file) head) (now seats) (now states) (now places) (now next)) at
+        (search .known) (now threads) (now beside) (now owners) (now lines) ⌝ }
+    ensures { λ r. ⌜ Tries (certificateOf (contentsAt (now (file .entry)) head) (now (seats .entry))
+        (now (states .entry)) (now (places .entry)) (now (next .entry))) at
+        (rowTried (certificateOf (contentsAt (now (file .entry)) head) (now (seats .entry)) (now (states .entry))
+        (now (places .entry)) (now (next .entry)))
         (seatedAt (length (now (seats .entry))) (now (states .entry)) at) search) r
         (now (threads .exit)) (now (beside .exit)) (now (owners .exit)) (now (lines .exit)) ⌝ }
 {
@@ -261,7 +274,8 @@ fn try_threads(
     Trial::Passes(on)
 }
 
-// The rows in order, as far as they are known to be reached: 0, or the number from 1 on of the first that fails, or of the first that is never reached.
+// The rows in order, as far as they are known to be reached: 0, or the number from 1 on of the first that fails, or
+// of the first that is never reached.
 pub fn try_rows(
     file: &[u8],
     head: Head,
@@ -278,10 +292,14 @@ pub fn try_rows(
     lines: &mut [u16],
     search: Search,
 ) -> usize
-    requires { ⌜ Laid (now file) head × Granting (schemaOf (contentsAt (now file) head)) Sends (now sends) × Granting (schemaOf (contentsAt (now file) head)) Receives (now receives)
-        × (length (now seats) ≤ 16) × (length (now threads) ≡ threadTableWords) × (length (now beside) ≡ besideWords) × (length (now owners) ≡ 64) × (length (now lines) ≡ 528)
-        × (length (now places) < 4294967295) × KnownRows (certificateOf (contentsAt (now file) head) (now seats) (now states) (now places) (now next)) (search .known) ⌝ }
-    ensures { λ r. ⌜ (r ≡ rowsTried (certificateOf (contentsAt (now (file .entry)) head) (now (seats .entry)) (now (states .entry)) (now (places .entry)) (now (next .entry)))
+    requires { ⌜ Laid (now file) head × Granting (schemaOf (contentsAt (now file) head)) Sends (now sends)
+        × Granting (schemaOf (contentsAt (now file) head)) Receives (now receives)
+        × (length (now seats) ≤ 16) × (length (now threads) ≡ threadTableWords) × (length
+        (now beside) ≡ besideWords) × (length (now owners) ≡ 64) × (length (now lines) ≡ 528)
+        × (length (now places) < 4294967295) × KnownRows (certificateOf (contentsAt (now file) head) (now seats)
+        (now states) (now places) (now next)) (search .known) ⌝ }
+    ensures { λ r. ⌜ (r ≡ rowsTried (certificateOf (contentsAt (now (file .entry)) head) (now (seats .entry))
+        (now (states .entry)) (now (places .entry)) (now (next .entry)))
         0 (length (now (places .entry))) search) × (r < 4294967296) ⌝ }
 {
     let mut on = search;

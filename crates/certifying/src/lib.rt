@@ -1,4 +1,5 @@
-// A certificate for all schedules: a table of states is checked to have every state that a run can come to, and no other.
+// A certificate for all schedules: a table of states is checked to have every state that a run can come to, and no
+// other.
 pub mod compare;
 pub mod explore;
 pub mod load;
@@ -71,7 +72,8 @@ fn has_rows(n: usize) -> bool
     false
 }
 
-// The rows against the runs of a file that neither 1 to 10 nor the table of seats refuse: 0, or the number of the row at fault.
+// The rows against the runs of a file that neither 1 to 10 nor the table of seats refuse: 0, or the number of the row
+// at fault.
 fn row_at_fault(
     file: &[u8],
     head: Head,
@@ -80,9 +82,12 @@ fn row_at_fault(
     places: &[u32],
     next: &[u32],
 ) -> usize
-    requires { ⌜ Laid (now file) head × (length (now seats) ≤ 16) × (0 < length (now places)) × (length (now places) < 4294967295)
-        × (overfilledAt (limitedOf (contentsAt (now file) head) (now seats)) (seatedStart (contentsAt (now file) head)) (length (now seats)) ≡ 0) ⌝ }
-    ensures { λ r. ⌜ (r ≡ rowAtFault (certificateOf (contentsAt (now (file .entry)) head) (now (seats .entry)) (now (states .entry)) (now (places .entry)) (now (next .entry)))
+    requires { ⌜ Laid (now file) head × (length (now seats) ≤ 16) × (0 < length (now places)) × (length
+        (now places) < 4294967295)
+        × (overfilledAt (limitedOf (contentsAt (now file) head) (now seats)) (seatedStart (contentsAt
+        (now file) head)) (length (now seats)) ≡ 0) ⌝ }
+    ensures { λ r. ⌜ (r ≡ rowAtFault (certificateOf (contentsAt (now (file .entry)) head) (now (seats .entry))
+        (now (states .entry)) (now (places .entry)) (now (next .entry)))
         (seatedStart (contentsAt (now (file .entry)) head))) × (r < 4294967296) ⌝ }
 {
     let mut sends = [0u16; 33];
@@ -141,7 +146,8 @@ fn closed_in(
     next: &[u32],
 ) -> Closing
     requires { ⌜ Laid (now file) head × (0 < length (now places)) × (length (now places) < 4294967295) ⌝ }
-    ensures { λ r. ⌜ r ≡ closingBy (contentsAt (now (file .entry)) head) (now (seats .entry)) (now (states .entry)) (now (places .entry)) (now (next .entry)) ⌝ }
+    ensures { λ r. ⌜ r ≡ closingBy (contentsAt (now (file .entry)) head) (now (seats .entry)) (now (states .entry))
+        (now (places .entry)) (now (next .entry)) ⌝ }
 {
     let bar = seats_bar(file, head, seats);
     if bar.number != 0 {
@@ -162,7 +168,8 @@ pub fn check_closed(
     places: &[u32],
     next: &[u32],
 ) -> Closing
-    ensures { λ r. ⌜ r ≡ closing (now (file .entry)) (now (seats .entry)) (now (states .entry)) (now (places .entry)) (now (next .entry)) ⌝ }
+    ensures { λ r. ⌜ r ≡ closing (now (file .entry)) (now (seats .entry)) (now (states .entry))
+        (now (places .entry)) (now (next .entry)) ⌝ }
 {
     if !has_rows(places.len()) {
         return Closing {

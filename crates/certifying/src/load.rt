@@ -36,7 +36,8 @@ fn thread_from(states: &[u16], at: usize) -> Thread
 
 fn load_threads(states: &[u16], at: usize, threads: &mut [u16], n: usize)
     requires { ⌜ (at + 12 * n ≤ length (now states)) × (n ≤ 64) × (length (now threads) ≡ threadTableWords) ⌝ }
-    ensures { λ r. ⌜ (threadsIn (now (threads .exit)) 0 n ≡ rowThreads (now (states .entry)) at n) × (length (now (threads .exit)) ≡ threadTableWords) ⌝ }
+    ensures { λ r. ⌜ (threadsIn (now (threads .exit)) 0 n ≡ rowThreads (now (states .entry)) at n) × (length
+        (now (threads .exit)) ≡ threadTableWords) ⌝ }
 {
     let mut k: usize = 0;
     while k < n {
@@ -59,7 +60,8 @@ fn clear_lines(lines: &mut [u16])
 
 fn load_lines(states: &[u16], at: usize, lines: &mut [u16], roles: usize)
     requires { ⌜ (roles ≤ 16) × LinesFit (now states) at roles × (length (now lines) ≡ 528) ⌝ }
-    ensures { λ r. ⌜ LineRows (now (lines .exit)) × (linesIn (now (lines .exit)) ≡ (λ x. getD ([] ∷ rowLines (now (states .entry)) at roles) x [])) ⌝ }
+    ensures { λ r. ⌜ LineRows (now (lines .exit)) × (linesIn (now (lines .exit)) ≡ (λ x. getD ([] ∷ rowLines
+        (now (states .entry)) at roles) x [])) ⌝ }
 {
     clear_lines(lines);
     let mut on = at;
@@ -82,8 +84,10 @@ pub fn load_row(
     lines: &mut [u16],
 )
     requires { ⌜ (at < 4294967296) × (roles ≤ 16) × RowFits roles (now states) at
-        × (length (now threads) ≡ threadTableWords) × (length (now beside) ≡ besideWords) × (length (now owners) ≡ 64) × (length (now lines) ≡ 528) ⌝ }
-    ensures { λ r. ⌜ Loaded roles (now (states .entry)) at (now (threads .exit)) (now (beside .exit)) (now (owners .exit)) (now (lines .exit)) ⌝ }
+        × (length (now threads) ≡ threadTableWords) × (length (now beside) ≡ besideWords) × (length
+        (now owners) ≡ 64) × (length (now lines) ≡ 528) ⌝ }
+    ensures { λ r. ⌜ Loaded roles (now (states .entry)) at (now (threads .exit)) (now (beside .exit))
+        (now (owners .exit)) (now (lines .exit)) ⌝ }
 {
     let n = wide(states[at]);
     let used = 2 + 2 * wide(states[at + 1]);

@@ -13,7 +13,8 @@ pub data CertificateCase : Type 0 where
 
 abbrev pub CertificateShown : CertificateCase → Type 0
 CertificateShown (accepts ws seats states places next) = closing (bytesOf ws) seats states places next ≡ closedFine
-CertificateShown (rejects ws seats states places next n k) = closing (bytesOf ws) seats states places next ≡ record { number = n; place = 0; row = k }
+CertificateShown (rejects ws seats states places next n k) =
+    closing (bytesOf ws) seats states places next ≡ record { number = n; place = 0; row = k }
 
 -- a user with role 1 and two sessions, each of which only ends
 abbrev pub enders : List ℕ
@@ -58,13 +59,17 @@ abbrev pub waits : ℕ → List ℕ
 waits session = 1 ∷ session ∷ []
 
 abbrev pub endings : List ℕ
-endings = two (without 1) (without 2) nobody ++ (one (without 2) 2 nobody ++ (one (without 1) 1 nobody ++ (0 ∷ 0 ∷ nobody)))
+endings =
+    two (without 1) (without 2) nobody ++ (one (without 2) 2 nobody ++ (one (without 1) 1 nobody ++ (0 ∷ 0 ∷ nobody)))
 
 abbrev pub sittings : List ℕ
 sittings =
-    two (without 1) (without 3) nobody ++ (two (sitting 2) (without 3) nobody ++ (two (without 1) (sitting 4) nobody ++ (one (without 3) 2 nobody
-    ++ (two (sitting 2) (without 3) (waits 2) ++ (two (without 1) (sitting 4) (waits 1) ++ (one (without 1) 1 nobody ++ (one (sitting 4) 2 nobody
-    ++ (one (without 3) 2 (waits 2) ++ (one (without 1) 1 (waits 1) ++ (one (sitting 2) 1 nobody ++ (0 ∷ 0 ∷ nobody)))))))))))
+    two (without 1) (without 3) nobody ++ (two (sitting 2) (without 3) nobody
+    ++ (two (without 1) (sitting 4) nobody ++ (one (without 3) 2 nobody
+    ++ (two (sitting 2) (without 3) (waits 2) ++ (two (without 1) (sitting 4) (waits 1)
+    ++ (one (without 1) 1 nobody ++ (one (sitting 4) 2 nobody
+    ++ (one (without 3) 2 (waits 2) ++ (one (without 1) 1 (waits 1)
+    ++ (one (sitting 2) 1 nobody ++ (0 ∷ 0 ∷ nobody)))))))))))
 
 abbrev pub sittingPlaces : List ℕ
 sittingPlaces = 0 ∷ 29 ∷ 58 ∷ 87 ∷ 103 ∷ 133 ∷ 163 ∷ 179 ∷ 195 ∷ 212 ∷ 229 ∷ 245 ∷ []
@@ -93,7 +98,8 @@ certificateCases =
     -- one seat: each waits for the other
     ∷ accepts sitters (1 ∷ []) sittings sittingPlaces sittingNext
     -- the state that waits is no state without a line
-    ∷ rejects sitters (1 ∷ []) sittings sittingPlaces (1 ∷ 2 ∷ 3 ∷ 1 ∷ 5 ∷ 6 ∷ 7 ∷ 8 ∷ 4 ∷ 5 ∷ 9 ∷ 10 ∷ 11 ∷ 7 ∷ 10 ∷ 11 ∷ []) 18 2
+    ∷ rejects sitters (1 ∷ []) sittings sittingPlaces
+    (1 ∷ 2 ∷ 3 ∷ 1 ∷ 5 ∷ 6 ∷ 7 ∷ 8 ∷ 4 ∷ 5 ∷ 9 ∷ 10 ∷ 11 ∷ 7 ∷ 10 ∷ 11 ∷ []) 18 2
     -- with two seats nobody waits
     ∷ rejects sitters (2 ∷ []) sittings sittingPlaces sittingNext 18 2
     ∷ []

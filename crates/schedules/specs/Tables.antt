@@ -45,7 +45,8 @@ module _ {S : Type 0} (choose : S → ℕ → ℕ → Taken S) where
     abbrev pub IsRow : S → Type 0
     IsRow s = (k : ℕ) × (k < n) × (s ≡ rows k)
 
-    -- no choice leads from row j out of the table; and none of those that name threads of row j, which are all that a check can try
+    -- no choice leads from row j out of the table; and none of those that name threads of row j, which are all that a
+    -- check can try
     abbrev pub ClosedAt : ℕ → Type 0
     ClosedAt j = (i p : ℕ) → LeadsTo IsRow (choose (rows j) i p)
 
