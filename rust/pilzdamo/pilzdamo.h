@@ -316,23 +316,25 @@ pilzdamo_role_seats pilzdamo_seats(const uint8_t *file, size_t file_len,
 
 /*
  * Judges a certificate for all lists of choices with a table of seats; a table of zeros
- * is for runs without seats. Where it holds, every list leads to a state that is a row of
- * it, and every row is a state that some list leads to.
+ * stands for runs without seats. If it holds, every list leads to a state that is a row,
+ * and every row is a state that some list leads to.
  *
- * Row k, from 0 on, begins at word places[k] of states. Its words are what
- * pilzdamo_run_seated writes from its third word on; the session of each thread; and for
- * each word of seats how many sessions wait for that role, and these, the first in front.
- * next has the number of the row that follows, from 0 on, for each choice that is done,
- * also one that waits for a seat: rows in order, in each the threads from 1 on, with each
- * of these the partners from 0 up to the number of threads. Row 0 is the file's start, and
- * the others are numbered as this order first comes to them, as a breadth-first search
- * does. Numbers past the last that is asked for aren't looked at.
+ * Row k, counted from 0, begins at word places[k] of states. Its words are: what
+ * pilzdamo_run_seated writes from its third word on; the session of each thread; for each
+ * word of seats how many sessions wait for that role, and these sessions in order.
  *
- * Refusals 17 without a row or for 2^32 - 1 rows or more; 1 to 10; 17 and 26 for the seats
- * as in pilzdamo_run_seated; then 18 at place 0 with a row, from 1 on: the first, where it
- * isn't the start; else the lowest with a choice whose number isn't there, is no row's, is
- * that of a row that hasn't had its turn to be found, or is that of a row with other words
- * than the state that follows; else the first that nothing leads to.
+ * next has the number of a row, counted from 0, for each choice that is done, a choice
+ * that waits for a seat included: rows in order, in each row the threads from 1 on, with
+ * each thread the partners from 0 to the number of threads. Row 0 is the file's start. The
+ * others are numbered in the order in which next first names them, as a breadth-first
+ * search numbers them. Numbers past the last choice that is done are not read.
+ *
+ * Refusals, in this order: 17 for no row, or for 2^32 - 1 rows or more; 1 to 10; 17 and 26
+ * for the seats as in pilzdamo_run_seated; 18 at place 0, with the row at fault, counted
+ * from 1. The row at fault is row 1 if it isn't the file's start; else the lowest row with
+ * a choice whose number in next is missing, names no row, names a new row that is not the
+ * next new one, or names a row with other words than the state that follows; else the first
+ * row that no choice leads to.
  */
 pilzdamo_closing pilzdamo_closed(const uint8_t *file, size_t file_len,
                                  const uint16_t *seats, size_t seats_len,

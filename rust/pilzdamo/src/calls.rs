@@ -547,32 +547,32 @@ pub fn seats(file: &[u8], choices: &[u16], seats: &[u16]) -> Seats {
     raw::seats(file, choices, seats)
 }
 
-/// Judges a certificate for all lists of choices with a table of seats, as [`run_seated`]
-/// has it; without limits, with a table of zeros, for all of [`run`].
+/// Judges a certificate for all lists of choices with a table of seats, as in
+/// [`run_seated`]. A table of zeros stands for runs without seats, as in [`run`].
 ///
 /// A certificate is what a search found: the states, and for each choice that is done the
-/// state that follows. Where it holds, every list of choices leads to a state that is a row
-/// of it, and every row is a state that some list leads to. What is seen in no row can't
-/// happen, whatever is chosen.
+/// state that follows. If it holds, every list of choices leads to a state that is a row,
+/// and every row is a state that some list leads to. What no row has can't happen, whatever
+/// is chosen.
 ///
-/// Row k, from 0 on, begins at word `places[k]` of `states`, and has these words: the run's
-/// output from its third word on (threads, made channels; owner and kind of each of these;
-/// for each thread its user, node, mask, the number of roles in it and its eight
-/// variables), the session of each thread, and for each word of `seats` how many sessions
-/// wait for that role, and these, the first in front. `next` has the number of a row, from 0
-/// on, for each choice that is done, also one that waits for a seat: rows in order, in each
-/// the threads from 1 on, with each of these the partners from 0 up to the number of
-/// threads. Row 0 is the file's start, and the others are numbered as this order first comes
-/// to them, as a breadth-first search does. What stands past the last number that is asked
-/// for is not looked at.
+/// Row k, counted from 0, begins at word `places[k]` of `states`. Its words are: the run's
+/// output from its third word on (the numbers of threads and of made channels; owner and
+/// kind of each made channel; for each thread its user, node, mask, the number of roles in
+/// the mask and its eight variables); the session of each thread; for each word of `seats`
+/// how many sessions wait for that role, and these sessions in order.
 ///
-/// Any bytes, words and numbers will do, of any length. Refusals 17 without a row, or for
-/// 2^32 − 1 or more; 1 to 10; 17 and 26 for the seats as in [`run_seated`]; then 18 at place
-/// 0 with a row, from 1 on. It is row 1 where that isn't the file's start. Else it is the
-/// lowest row with a choice whose number isn't there, is no row's, is that of a row that
-/// hasn't had its turn to be found, or is that of a row with other words than the state that
-/// follows. Else it is the first row that nothing leads to. Nothing is written and nothing is
-/// kept.
+/// `next` has the number of a row, counted from 0, for each choice that is done, a choice
+/// that waits for a seat included: rows in order, in each row the threads from 1 on, with
+/// each thread the partners from 0 to the number of threads. Row 0 is the file's start. The
+/// others are numbered in the order in which `next` first names them, as a breadth-first
+/// search numbers them. Numbers past the last choice that is done are not read.
+///
+/// Accepts any input; never panics. Refusals, in this order: 17 for no row, or for 2^32 − 1
+/// rows or more; 1 to 10; 17 and 26 for the seats as in [`run_seated`]; 18 at place 0, with
+/// the row at fault, counted from 1. The row at fault is row 1 if it isn't the file's start;
+/// else the lowest row with a choice whose number in `next` is missing, names no row, names
+/// a new row that is not the next new one, or names a row with other words than the state
+/// that follows; else the first row that no choice leads to.
 ///
 /// ```
 /// # let words = [

@@ -47,8 +47,8 @@
 //!
 //! # Place its roles
 //!
-//! Placing adds the on and off nodes that a file needs to pass the check, with the
-//! fewest possible on nodes.
+//! Placing adds the on and off nodes that a file needs to pass the check: one role at a
+//! time, with the fewest on nodes that this allows.
 //!
 //! ```
 //! let file = std::fs::read("../../examples/booking.clinic")?;
