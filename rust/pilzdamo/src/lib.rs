@@ -21,6 +21,7 @@
 //! | let a dispatcher choose, round by round | [`round`] |
 //! | count the threads that wait on each kind | [`totals`]; [`Desk::total`], and [`total`] for a list of your own |
 //! | limit the seats of a role, and queue who waits | [`run_seated`], [`round_seated`], [`seats`] |
+//! | judge a certificate for all lists of choices | [`closed`] |
 //! | turn a refusal into a sentence, and back | [`reason`], [`Reason::sentence`], [`read_reason`]; [`phrase`], [`meaning`] for a number alone |
 //! | run choice by choice, and list what can be done next | [`Desk`]; [`start`] and [`choose`] for a list of your own |
 //! | merge two files | [`merge`], [`merged`] |
