@@ -5,21 +5,6 @@ use Rattle.checking.proofs.CheckLaws.{check-early, check-late}
 use borrow.Author.Needs.{needs}
 use Rattle.checking.proofs.check.Statement.{statement}
 use Rattle.checking.proofs.check.Tie as tie
-use Rattle.checking.proofs.check.Reads as reads
-use Rattle.checking.proofs.check.Lts as lts
-use Rattle.checking.proofs.examine.Reads as examine-reads
-
-slice-aggregate-examine : tie.Need-slice-aggregate-examine
-slice-aggregate-examine c = search needs
-
-examine-requires : tie.Need-examine-requires
-examine-requires c κs = search needs
-
-enum-known-names : tie.Need-enum-known-names
-enum-known-names c = search needs
-
-enum-told : tie.Need-enum-told
-enum-told c = search needs
 
 returns : tie.Need-returns
 returns c = check-early (now (c .before .before .before .before .before .before .before .args .file)) _ (sym (ap (λ (x : Examined). x .names) (c .before .before .before .before .examine .ensures .0)) ∙ c .before .names .given .1)
@@ -33,10 +18,4 @@ returns-2 c =
 pub check-spec : {M : Type 1} → statement M
 check-spec =
     tie.close
-    (tie.spec
-    slice-aggregate-examine
-    examine-requires
-    enum-known-names
-    enum-told
-    returns
-    returns-2)
+    (tie.spec (λ c. search needs) (λ c κs. search needs) (λ c. search needs) (λ c. search needs) returns returns-2)

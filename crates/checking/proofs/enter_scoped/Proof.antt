@@ -7,41 +7,21 @@ use Rattle.checking.proofs.CheckLaws.{entered-early, scoped-early, ente
 use borrow.Author.Needs.{needs}
 use Rattle.checking.proofs.enter_scoped.Statement.{statement}
 use Rattle.checking.proofs.enter_scoped.Tie as tie
-use Rattle.checking.proofs.enter_scoped.Reads as reads
-use Rattle.checking.proofs.enter_scoped.Lts as lts
-use Rattle.reading.proofs.open.Reads as open-reads
-use Rattle.reading.proofs.with_head.Reads as with-head-reads
-use Rattle.naming.proofs.pass.judge_names.Reads as judge-names-reads
 
 -- the head that was read
 told : (c : tie.After-known-told2) → opened (now (c .before .before .before .before .before .before .args .file)) ≡ Fine (c .before .answer2 .given .0 .0)
 told c = sym (c .before .before .before .«open» .ensures) ∙ c .before .answer2 .given .1
-
-open-requires : tie.Need-open-requires
-open-requires c κs = search needs
-
-enum-known-answer : tie.Need-enum-known-answer
-enum-known-answer c = search needs
-
-enum-known-answer-2 : tie.Need-enum-known-answer-2
-enum-known-answer-2 c = search needs
 
 judge-names-requires : tie.Need-judge-names-requires
 judge-names-requires c κs =
     let f = now (c .before .before .before .before .before .before .before .args .file) in
     (opened-fine f _ (told (c .before)) .0, owned f _ (told (c .before)))
 
-with-head-requires : tie.Need-with-head-requires
-with-head-requires c κs = search needs
-
 returns : tie.Need-returns
 returns c =
     let a = c .before .before .before .before .before .before .args in
     let refused = sym (c .before .before .before .«open» .ensures) ∙ c .before .answer .given .1 in
     (entered-early (now (a .file)) _ refused, scoped-early (now (a .file)) _ refused (a .scopes .now))
-
-same-length : tie.Need-same-length
-same-length c = search needs
 
 returns-2 : tie.Need-returns-2
 returns-2 c =
@@ -56,12 +36,5 @@ returns-2 c =
 pub enter-scoped-spec : {M : Type 1} → statement M
 enter-scoped-spec =
     tie.close
-    (tie.spec
-    open-requires
-    enum-known-answer
-    enum-known-answer-2
-    judge-names-requires
-    with-head-requires
-    returns
-    same-length
-    returns-2)
+    (tie.spec (λ c κs. search needs) (λ c. search needs) (λ c. search needs) judge-names-requires (λ c κs. search needs)
+    returns (λ c. search needs) returns-2)

@@ -4,19 +4,9 @@ use Rattle.checking.proofs.CheckLaws.{admitted, examined-from, surveyed
 use borrow.Author.Needs.{needs}
 use Rattle.checking.proofs.examine.Statement.{statement}
 use Rattle.checking.proofs.examine.Tie as tie
-use Rattle.checking.proofs.examine.Reads as reads
-use Rattle.checking.proofs.examine.Lts as lts
-use Rattle.checking.proofs.examine_opened.Reads as examine-opened-reads
-use Rattle.reading.proofs.open.Reads as open-reads
-
-open-requires : tie.Need-open-requires
-open-requires c κs = search needs
 
 examine-opened-requires : tie.Need-examine-opened-requires
 examine-opened-requires c κs = (admitted (now (c .before .before .before .before .args .file)) _ (sym (c .before .«open» .ensures)), c .before .before .before .before .pre)
-
-same-length : tie.Need-same-length
-same-length c = search needs
 
 returns : tie.Need-returns
 returns c =
@@ -26,4 +16,4 @@ returns c =
     (e .0 ∙ examined-from (now (a .file)) _ is, e .1 ∙ surveyed-from (now (a .file)) _ is (a .roles .now))
 
 pub examine-spec : {M : Type 1} → statement M
-examine-spec = tie.close (tie.spec open-requires examine-opened-requires same-length returns)
+examine-spec = tie.close (tie.spec (λ c κs. search needs) examine-opened-requires (λ c. search needs) returns)

@@ -10,16 +10,6 @@ use Rattle.checking.proofs.CheckLaws.{owned}
 use borrow.Author.Needs.{needs}
 use Rattle.checking.proofs.examine_opened.Statement.{statement}
 use Rattle.checking.proofs.examine_opened.Tie as tie
-use Rattle.checking.proofs.examine_opened.Reads as reads
-use Rattle.checking.proofs.examine_opened.Lts as lts
-use Rattle.reading.proofs.with_head.Reads as with-head-reads
-use Rattle.rules.proofs.judge.judge.Reads as judge-reads
-
-enum-known-answer : tie.Need-enum-known-answer
-enum-known-answer c = search needs
-
-enum-known-answer-2 : tie.Need-enum-known-answer-2
-enum-known-answer-2 c = search needs
 
 judge-requires : tie.Need-judge-requires
 judge-requires c κs =
@@ -27,17 +17,11 @@ judge-requires c κs =
     let told : opened f ≡ Fine (c .before .before .answer2 .given .0 .0) = subst (Admitted f) (c .before .before .answer2 .given .1) (c .before .before .before .before .before .before .pre .0) in
     (opened-fine f _ told .0, owned f _ told, c .before .before .before .before .before .before .pre .1)
 
-with-head-requires : tie.Need-with-head-requires
-with-head-requires c κs = search needs
-
 returns : tie.Need-returns
 returns c =
     let a = c .before .before .before .before .before .args in
     let is = sym (c .before .answer .given .1) in
     (ap (examinedFrom (now (a .file))) is, ap (λ (o : Opened). surveyedFrom (now (a .file)) o (a .roles .now)) is)
-
-same-length : tie.Need-same-length
-same-length c = search needs
 
 returns-2 : tie.Need-returns-2
 returns-2 c =
@@ -54,11 +38,5 @@ returns-2 c =
 pub examine-opened-spec : {M : Type 1} → statement M
 examine-opened-spec =
     tie.close
-    (tie.spec
-    enum-known-answer
-    enum-known-answer-2
-    judge-requires
-    with-head-requires
-    returns
-    same-length
+    (tie.spec (λ c. search needs) (λ c. search needs) judge-requires (λ c κs. search needs) returns (λ c. search needs)
     returns-2)

@@ -11,14 +11,6 @@ use Rattle.checking_at.proofs.CheckAtLaws.{admitted-at, entered-at, ent
 use borrow.Author.Needs.{needs}
 use Rattle.checking_at.proofs.check_at.Statement.{statement}
 use Rattle.checking_at.proofs.check_at.Tie as tie
-use Rattle.checking_at.proofs.check_at.Reads as reads
-use Rattle.checking_at.proofs.check_at.Lts as lts
-use Rattle.checking.proofs.examine_opened.Reads as examine-opened-reads
-use Rattle.checking_at.proofs.open_at.Reads as open-at-reads
-use Rattle.checking_at.proofs.shut_on.shut_on.Reads as shut-on-reads
-use Rattle.checking_at.proofs.sooner.Reads as sooner-reads
-use Rattle.hours.proofs.shut.Reads as shut-reads
-use Rattle.hours.proofs.table_answer.Reads as table-answer-reads
 
 -- 22 refuses nothing
 quiet : (c : tie.Else1) → NoRefusal (tableAnswer (now (c .before .before .before .before .before .args .hours)) (c .before .before .before .before .before .args .minute))
@@ -27,9 +19,6 @@ quiet c = sym (ap (λ (v : Verdict). v .number) (c .before .before .table-answer
 -- the way in, as it was found
 way : (c : tie.After-examine-opened) → c .examine-opened .result .names ≡ enteredAt (now (c .before .before .before .before .before .before .before .before .args .file)) (now (c .before .before .before .before .before .before .before .before .args .hours))
 way c = ap (λ (x : Examined). x .names) (c .examine-opened .ensures .0) ∙ entered-at (now (c .before .before .before .before .before .before .before .before .args .file)) (now (c .before .before .before .before .before .before .before .before .args .hours)) _ (sym (c .before .before .open-at .ensures))
-
-table-answer-requires : tie.Need-table-answer-requires
-table-answer-requires c κs = search needs
 
 returns : tie.Need-returns
 returns c =
@@ -40,26 +29,14 @@ returns c =
 open-at-requires : tie.Need-open-at-requires
 open-at-requires c κs = table-exact (now (c .before .before .before .before .before .args .hours)) (c .before .before .before .before .before .args .minute) .0 (quiet c) .1
 
-slice-aggregate-examine-opened : tie.Need-slice-aggregate-examine-opened
-slice-aggregate-examine-opened c = search needs
-
 examine-opened-requires : tie.Need-examine-opened-requires
 examine-opened-requires c κs = (admitted-at (now (c .before .before .before .before .before .before .before .args .file)) (now (c .before .before .before .before .before .before .before .args .hours)) _ (sym (c .before .open-at .ensures)), search needs)
-
-enum-known-names : tie.Need-enum-known-names
-enum-known-names c = search needs
-
-enum-known-names-2 : tie.Need-enum-known-names-2
-enum-known-names-2 c = search needs
 
 shut-requires : tie.Need-shut-requires
 shut-requires c κs = table-exact (now (c .before .before .before .before .before .before .before .before .before .before .before .before .args .hours)) (c .before .before .before .before .before .before .before .before .before .before .before .before .args .minute) .0 (quiet (c .before .before .before .before .before .before .before)) .1
 
 shut-on-requires : tie.Need-shut-on-requires
 shut-on-requires c κs = head-laid (now (c .before .before .before .before .before .before .before .before .before .before .before .before .before .args .file)) (now (c .before .before .before .before .before .before .before .before .before .before .before .before .before .args .hours)) _ (sym (way (c .before .before .before .before .before)) ∙ c .before .before .names2 .given .1)
-
-sooner-requires : tie.Need-sooner-requires
-sooner-requires c κs = search needs
 
 returns-2 : tie.Need-returns-2
 returns-2 c =
@@ -80,16 +57,5 @@ returns-3 c =
 pub check-at-spec : {M : Type 1} → statement M
 check-at-spec =
     tie.close
-    (tie.spec
-    table-answer-requires
-    returns
-    open-at-requires
-    slice-aggregate-examine-opened
-    examine-opened-requires
-    enum-known-names
-    enum-known-names-2
-    shut-requires
-    shut-on-requires
-    sooner-requires
-    returns-2
-    returns-3)
+    (tie.spec (λ c κs. search needs) returns open-at-requires (λ c. search needs) examine-opened-requires
+    (λ c. search needs) (λ c. search needs) shut-requires shut-on-requires (λ c κs. search needs) returns-2 returns-3)

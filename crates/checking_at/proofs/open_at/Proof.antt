@@ -5,26 +5,6 @@ use Rattle.checking_at.proofs.CheckAtLaws.{opened-at-early, opened-at-l
 use borrow.Author.Needs.{needs}
 use Rattle.checking_at.proofs.open_at.Statement.{statement}
 use Rattle.checking_at.proofs.open_at.Tie as tie
-use Rattle.checking_at.proofs.open_at.Reads as reads
-use Rattle.checking_at.proofs.open_at.Lts as lts
-use Rattle.hours.proofs.rows_answer.Reads as rows-answer-reads
-use Rattle.reading.proofs.open.Reads as open-reads
-use Rattle.reading.proofs.with_head.Reads as with-head-reads
-
-open-requires : tie.Need-open-requires
-open-requires c κs = search needs
-
-enum-known-answer : tie.Need-enum-known-answer
-enum-known-answer c = search needs
-
-enum-known-answer-2 : tie.Need-enum-known-answer-2
-enum-known-answer-2 c = search needs
-
-rows-answer-requires : tie.Need-rows-answer-requires
-rows-answer-requires c κs = search needs
-
-with-head-requires : tie.Need-with-head-requires
-with-head-requires c κs = search needs
 
 returns : tie.Need-returns
 returns c =
@@ -41,11 +21,5 @@ returns-2 c =
 pub open-at-spec : {M : Type 1} → statement M
 open-at-spec =
     tie.close
-    (tie.spec
-    open-requires
-    enum-known-answer
-    enum-known-answer-2
-    rows-answer-requires
-    with-head-requires
-    returns
-    returns-2)
+    (tie.spec (λ c κs. search needs) (λ c. search needs) (λ c. search needs) (λ c κs. search needs)
+    (λ c κs. search needs) returns returns-2)

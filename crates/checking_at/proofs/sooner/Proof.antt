@@ -1,8 +1,6 @@
 use borrow.Author.Tests.{eq-eqb, ne-eqb, lt-ltb, le-ltb}
 use Rattle.checking_at.proofs.sooner.Statement.{statement}
 use Rattle.checking_at.proofs.sooner.Tie as tie
-use Rattle.checking_at.proofs.sooner.Reads as reads
-use Rattle.checking_at.proofs.sooner.Lts as lts
 
 returns : tie.Need-returns
 returns c = rw (eq-eqb (c .before .before .args .first .number) 0 (c .if1 .taken))

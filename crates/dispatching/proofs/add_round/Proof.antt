@@ -4,26 +4,11 @@ use Rattle.dispatching.proofs.EntryLaws.{none-added, round-added}
 use borrow.Author.Needs.{needs}
 use Rattle.dispatching.proofs.add_round.Statement.{statement}
 use Rattle.dispatching.proofs.add_round.Tie as tie
-use Rattle.dispatching.proofs.add_round.Reads as reads
-use Rattle.dispatching.proofs.add_round.Lts as lts
-use Rattle.dispatching.proofs.visits.go_round.Reads as go-round-reads
 
 returns : tie.Need-returns
 returns c =
     let a = c .before .before .before .before .before .before .before .before .args in
     none-added (clinicOf (contentsAt (a .file .now) (a .head))) (a .refusal) (a .threads .now) (a .beside .now) (a .words .now) (c .if1 .taken) (c .before .before .before .before .before .before .before .before .pre .3) (c .before .before .before .before .before .before .before .before .pre .4)
-
-go-round-requires : tie.Need-go-round-requires
-go-round-requires c κs = search needs
-
-same-length : tie.Need-same-length
-same-length c = search needs
-
-same-length-2 : tie.Need-same-length-2
-same-length-2 c = search needs
-
-same-length-3 : tie.Need-same-length-3
-same-length-3 c = search needs
 
 returns-2 : tie.Need-returns-2
 returns-2 c =
@@ -33,4 +18,4 @@ returns-2 c =
 pub add-round-spec : {M : Type 1} → statement M
 add-round-spec =
     tie.close
-    (tie.spec returns go-round-requires same-length same-length-2 same-length-3 returns-2)
+    (tie.spec returns (λ c κs. search needs) (λ c. search needs) (λ c. search needs) (λ c. search needs) returns-2)

@@ -11,25 +11,6 @@ use Rattle.groups.proofs.WriteLaws.{turns-counted, file-put}
 use borrow.Author.Needs.{needs}
 use Rattle.groups.proofs.put_file.Statement.{statement}
 use Rattle.groups.proofs.put_file.Tie as tie
-use Rattle.groups.proofs.put_file.Reads as reads
-use Rattle.groups.proofs.put_file.Lts as lts
-use Rattle.format.proofs.writing.put_head.Reads as put-head-reads
-use Rattle.format.proofs.writing.put_tables.Reads as put-tables-reads
-use Rattle.groups.proofs.put_groups.Reads as put-groups-reads
-use Rattle.groups.proofs.put_sessions.Reads as put-sessions-reads
-use Rattle.groups.proofs.with_nodes.Reads as with-nodes-reads
-
-with-nodes-requires : tie.Need-with-nodes-requires
-with-nodes-requires c κs = search needs
-
-put-head-requires : tie.Need-put-head-requires
-put-head-requires c κs = search needs
-
-put-tables-requires : tie.Need-put-tables-requires
-put-tables-requires c κs = search needs
-
-put-sessions-requires : tie.Need-put-sessions-requires
-put-sessions-requires c κs = search needs
 
 put-groups-requires : tie.Need-put-groups-requires
 put-groups-requires c κs =
@@ -38,9 +19,6 @@ put-groups-requires c κs =
     let count = ap (λ (h : Head). h .count .nodes) is in
     let place = ap (λ (h : Head). h .at .nodes) is in
     (p .0, p .1, count ∙ p .3, omega (arith, count), omega (arith, count, place))
-
-same-length : tie.Need-same-length
-same-length c = search needs
 
 returns : tie.Need-returns
 returns c =
@@ -60,11 +38,5 @@ returns c =
 pub put-file-spec : {M : Type 1} → statement M
 put-file-spec =
     tie.close
-    (tie.spec
-    with-nodes-requires
-    put-head-requires
-    put-tables-requires
-    put-sessions-requires
-    put-groups-requires
-    same-length
-    returns)
+    (tie.spec (λ c κs. search needs) (λ c κs. search needs) (λ c κs. search needs) (λ c κs. search needs)
+    put-groups-requires (λ c. search needs) returns)

@@ -8,11 +8,6 @@ use Rattle.groups.proofs.WriteLaws.{size-switches, group-put}
 use borrow.Author.Needs.{needs}
 use Rattle.groups.proofs.put_group.Statement.{statement}
 use Rattle.groups.proofs.put_group.Tie as tie
-use Rattle.groups.proofs.put_group.Reads as reads
-use Rattle.groups.proofs.put_group.Lts as lts
-use Rattle.format.proofs.writing.put_node.Reads as put-node-reads
-use Rattle.groups.proofs.put_switch.Reads as put-switch-reads
-use Rattle.groups.proofs.renamed.Reads as renamed-reads
 
 put-switch-requires : tie.Need-put-switch-requires
 put-switch-requires c κs = omega (arith, size-switches (unpacked (c .before .before .before .args .turn)))
@@ -20,17 +15,11 @@ put-switch-requires c κs = omega (arith, size-switches (unpacked (c .before .be
 put-switch-requires-2 : tie.Need-put-switch-requires-2
 put-switch-requires-2 c κs = omega (arith, c .before .before .before .put-switch .ensures .0, size-switches (unpacked (c .before .before .before .before .before .before .before .args .turn)))
 
-renamed-requires : tie.Need-renamed-requires
-renamed-requires c κs = search needs
-
 put-node-requires : tie.Need-put-node-requires
 put-node-requires c κs = omega (arith, c .before .before .before .before .before .before .before .before .before .put-switch .ensures .0, c .before .before .before .before .before .put-switch2 .ensures .0, size-switches (unpacked (c .before .before .before .before .before .before .before .before .before .before .before .before .before .args .turn)))
 
 add-result : tie.Need-add-result
 add-result c = record { fits = omega (arith, c .before .before .before .before .before .before .before .before .before .before .before .before .put-switch .ensures .0, c .before .before .before .before .before .before .before .before .put-switch2 .ensures .0, size-switches (unpacked (c .before .before .before .before .before .before .before .before .before .before .before .before .before .before .before .before .args .turn))) }
-
-same-length : tie.Need-same-length
-same-length c = search needs
 
 returns : tie.Need-returns
 returns c =
@@ -48,11 +37,5 @@ returns c =
 pub put-group-spec : {M : Type 1} → statement M
 put-group-spec =
     tie.close
-    (tie.spec
-    put-switch-requires
-    put-switch-requires-2
-    renamed-requires
-    put-node-requires
-    add-result
-    same-length
-    returns)
+    (tie.spec put-switch-requires put-switch-requires-2 (λ c κs. search needs) put-node-requires add-result
+    (λ c. search needs) returns)

@@ -12,11 +12,6 @@ use Rattle.groups.proofs.WriteLaws.{turnsAfter, turns-all, sizes-more, 
 use borrow.Author.Needs.{needs}
 use Rattle.groups.proofs.put_groups.Statement.{statement}
 use Rattle.groups.proofs.put_groups.Tie as tie
-use Rattle.groups.proofs.put_groups.Reads as reads
-use Rattle.groups.proofs.put_groups.Lts as lts
-use Rattle.format.proofs.sections.node.Reads as node-reads
-use Rattle.format.proofs.words.wide.Reads as wide-reads
-use Rattle.groups.proofs.put_group.Reads as put-group-reads
 
 abbrev Inv-loop : tie.InvT-loop
 Inv-loop file head whole turns starts out₀ nodes at₀ n₀ out at n =
@@ -39,18 +34,6 @@ loop-holds c =
       ap (λ ns. nodesPut (a .whole) 1 ns (a .out .now)) (groups-all (contentsAt (a .file .now) (a .head) .nodes) n (a .turns .now) (a .starts .now)),
     )
 
-add-n : tie.Need-add-n Inv-loop μ-loop
-add-n c = omega arith
-
-wide-requires : tie.Need-wide-requires Inv-loop μ-loop
-wide-requires c κs = omega arith
-
-mul-put-group : tie.Need-mul-put-group Inv-loop μ-loop
-mul-put-group c = omega arith
-
-shared-slice-read-put-group : tie.Need-shared-slice-read-put-group Inv-loop μ-loop
-shared-slice-read-put-group c = omega arith
-
 node-requires : tie.Need-node-requires Inv-loop μ-loop
 node-requires c κs = c .before .before .before .before .before .before .before .before .before .pre .0
 
@@ -61,9 +44,6 @@ put-group-requires c κs =
     let more = sizes-more (a .turns .now) (l .n) (a .head .count .nodes) (omega arith) (omega arith) in
     let same = ap (λ k. sizeOf (unpacked (getD (a .turns .now) k 0))) (c .before .before .wide .ensures .0) in
     (omega arith, omega (arith, more, same, l .inv .3), omega arith, omega arith)
-
-loop-less : tie.Need-loop-less Inv-loop μ-loop
-loop-less c = omega arith
 
 loop-again : tie.Need-loop-again Inv-loop μ-loop
 loop-again c =
@@ -83,9 +63,6 @@ loop-again c =
       groups-turn (a .whole) ns (a .turns .now) (a .starts .now) (l .out) (g .last .0) _ n (l .n) (l .at) (g .result) (omega arith) (sym (nodes-held (a .file .now) (a .head))) (omega arith) step put (l .inv .4),
     )
 
-same-length : tie.Need-same-length Inv-loop μ-loop
-same-length c = search needs
-
 returns : tie.Need-returns Inv-loop μ-loop
 returns c =
     let a = c .before .before .before .before .before .before .args in
@@ -96,17 +73,5 @@ returns c =
 pub put-groups-spec : {M : Type 1} → statement M
 put-groups-spec =
     tie.close
-    (tie.spec
-    Inv-loop
-    μ-loop
-    loop-holds
-    add-n
-    wide-requires
-    mul-put-group
-    shared-slice-read-put-group
-    node-requires
-    put-group-requires
-    loop-less
-    loop-again
-    same-length
-    returns)
+    (tie.spec Inv-loop μ-loop loop-holds (λ c. omega arith) (λ c κs. omega arith) (λ c. omega arith) (λ c. omega arith)
+    node-requires put-group-requires (λ c. omega arith) loop-again (λ c. search needs) returns)

@@ -14,11 +14,6 @@ use Rattle.groups.proofs.WriteLaws.{sessions-none, sessions-turn}
 use borrow.Author.Needs.{needs}
 use Rattle.groups.proofs.put_sessions.Statement.{statement}
 use Rattle.groups.proofs.put_sessions.Tie as tie
-use Rattle.groups.proofs.put_sessions.Reads as reads
-use Rattle.groups.proofs.put_sessions.Lts as lts
-use Rattle.format.proofs.sections.session.Reads as session-reads
-use Rattle.format.proofs.writing.put_session.Reads as put-session-reads
-use Rattle.groups.proofs.renamed.Reads as renamed-reads
 
 abbrev Inv-loop : tie.InvT-loop
 Inv-loop file head starts out₀ sessions n₀ out n =
@@ -35,20 +30,8 @@ loop-holds c =
     let here : a .head .at .sessions + 3 * 0 ≡ a .head .at .sessions = omega arith in
     (omega arith, refl, ap (λ p. sets (a .out .now) (2 * p) (bytesOf (sessionWords (sessionsFrom (a .starts .now) (contentsAt (a .file .now) (a .head) .sessions))))) here)
 
-add-n : tie.Need-add-n Inv-loop μ-loop
-add-n c = omega arith
-
 session-requires : tie.Need-session-requires Inv-loop μ-loop
 session-requires c κs = c .before .before .before .before .before .pre .0
-
-renamed-requires : tie.Need-renamed-requires Inv-loop μ-loop
-renamed-requires c κs = omega arith
-
-put-session-requires : tie.Need-put-session-requires Inv-loop μ-loop
-put-session-requires c κs = omega arith
-
-loop-less : tie.Need-loop-less Inv-loop μ-loop
-loop-less c = omega arith
 
 loop-again : tie.Need-loop-again Inv-loop μ-loop
 loop-again c =
@@ -65,9 +48,6 @@ loop-again c =
           (omega (arith, sessions-held (a .file .now) (a .head))) put (l .inv .2),
     )
 
-same-length : tie.Need-same-length Inv-loop μ-loop
-same-length c = search needs
-
 returns : tie.Need-returns Inv-loop μ-loop
 returns c =
     let a = c .before .before .before .before .before .args in
@@ -79,15 +59,5 @@ returns c =
 pub put-sessions-spec : {M : Type 1} → statement M
 put-sessions-spec =
     tie.close
-    (tie.spec
-    Inv-loop
-    μ-loop
-    loop-holds
-    add-n
-    session-requires
-    renamed-requires
-    put-session-requires
-    loop-less
-    loop-again
-    same-length
-    returns)
+    (tie.spec Inv-loop μ-loop loop-holds (λ c. omega arith) session-requires (λ c κs. omega arith) (λ c κs. omega arith)
+    (λ c. omega arith) loop-again (λ c. search needs) returns)

@@ -5,9 +5,6 @@ use Rattle.format.specs.Writing.{nodesPut}
 use borrow.Author.Needs.{needs}
 use Rattle.groups.proofs.put_switch.Statement.{statement}
 use Rattle.groups.proofs.put_switch.Tie as tie
-use Rattle.groups.proofs.put_switch.Reads as reads
-use Rattle.groups.proofs.put_switch.Lts as lts
-use Rattle.format.proofs.writing.put_node.Reads as put-node-reads
 
 returns : tie.Need-returns
 unfolding nodesPut
@@ -22,16 +19,10 @@ put-node-requires c κs =
     let p = rw (ne-eqb _ _ (c .before .before .before .if1 .left), ne-eqb _ _ (c .before .if2 .left)) at (c .before .before .before .before .before .pre) in
     omega arith
 
-add-result : tie.Need-add-result
-add-result c = search needs
-
-same-length : tie.Need-same-length
-same-length c = search needs
-
 returns-3 : tie.Need-returns-3
 unfolding nodesPut
 returns-3 c = rw (ne-eqb _ _ (c .before .before .before .before .before .before .if1 .left), ne-eqb _ _ (c .before .before .before .before .if2 .left)) (omega arith, c .before .before .put-node .ensures)
 
 pub put-switch-spec : {M : Type 1} → statement M
 put-switch-spec =
-    tie.close (tie.spec returns returns-2 put-node-requires add-result same-length returns-3)
+    tie.close (tie.spec returns returns-2 put-node-requires (λ c. search needs) (λ c. search needs) returns-3)

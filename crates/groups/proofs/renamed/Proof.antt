@@ -5,21 +5,9 @@ use mathlib.Core.Path.{sym, ap}
 use borrow.Author.Needs.{needs}
 use Rattle.groups.proofs.renamed.Statement.{statement}
 use Rattle.groups.proofs.renamed.Tie as tie
-use Rattle.groups.proofs.renamed.Reads as reads
-use Rattle.groups.proofs.renamed.Lts as lts
-use Rattle.format.proofs.words.wide.Reads as wide-reads
 
 returns : tie.Need-returns
 returns c = let a = c .before .before .args in stays (a .names) _ (a .n) (c .if1 .taken)
-
-wide-requires : tie.Need-wide-requires
-wide-requires c κs = search needs
-
-mul-result : tie.Need-mul-result
-mul-result c = search needs
-
-shared-slice-read-result : tie.Need-shared-slice-read-result
-shared-slice-read-result c = search needs
 
 returns-2 : tie.Need-returns-2
 returns-2 c =
@@ -34,4 +22,4 @@ returns-3 c =
 pub renamed-spec : {M : Type 1} → statement M
 renamed-spec =
     tie.close
-    (tie.spec returns wide-requires mul-result shared-slice-read-result returns-2 returns-3)
+    (tie.spec returns (λ c κs. search needs) (λ c. search needs) (λ c. search needs) returns-2 returns-3)

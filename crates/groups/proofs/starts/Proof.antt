@@ -13,9 +13,6 @@ use Rattle.groups.proofs.WriteLaws.{off, on, size-switches, switch-coun
 use borrow.Author.Needs.{needs}
 use Rattle.groups.proofs.starts.Statement.{statement}
 use Rattle.groups.proofs.starts.Tie as tie
-use Rattle.groups.proofs.starts.Reads as reads
-use Rattle.groups.proofs.starts.Lts as lts
-use Rattle.format.proofs.words.wide.Reads as wide-reads
 
 abbrev Inv-loop : tie.InvT-loop
 Inv-loop turns nodes starts₀ n at₀ ons₀ i₀ starts at ons i =
@@ -39,34 +36,10 @@ few-off c = one-at-most (not (eqb (turn c .from) (turn c .to)) && not (eqb (turn
 few-on : (c : tie.After-shared-slice-known2 Inv-loop μ-loop) → count (turn c) (turn c .to) ≤ 1
 few-on c = one-at-most (not (eqb (turn c .from) (turn c .to)) && not (eqb (turn c .to) 0))
 
-wide-requires : tie.Need-wide-requires Inv-loop μ-loop
-wide-requires c κs = search needs
-
 loop-holds : tie.Need-loop-holds Inv-loop μ-loop
 loop-holds c =
     let a = c .before .before .before .args in
     rw (turns-all (a .turns .now) (a .nodes)) (omega arith, omega arith, omega arith, omega arith, omega arith, refl, omega arith, refl)
-
-add-i : tie.Need-add-i Inv-loop μ-loop
-add-i c = search needs
-
-mul-turn : tie.Need-mul-turn Inv-loop μ-loop
-mul-turn c = search needs
-
-shared-slice-read-turn : tie.Need-shared-slice-read-turn Inv-loop μ-loop
-shared-slice-read-turn c = search needs
-
-cast-on : tie.Need-cast-on Inv-loop μ-loop
-cast-on c = search needs
-
-mul-starts : tie.Need-mul-starts Inv-loop μ-loop
-mul-starts c = search needs
-
-slice-write-starts : tie.Need-slice-write-starts Inv-loop μ-loop
-slice-write-starts c = search needs
-
-cast-at : tie.Need-cast-at Inv-loop μ-loop
-cast-at c = search needs
 
 add-at : tie.Need-add-at Inv-loop μ-loop
 add-at c = record { fits = omega (arith, few-off c, few-on c) }
@@ -79,9 +52,6 @@ add-at-3 c = record { fits = omega (arith, few-off c, few-on c) }
 
 add-ons : tie.Need-add-ons Inv-loop μ-loop
 add-ons c = record { fits = omega (arith, few-on c) }
-
-loop-less : tie.Need-loop-less Inv-loop μ-loop
-loop-less c = search needs
 
 loop-again : tie.Need-loop-again Inv-loop μ-loop
 loop-again c =
@@ -107,12 +77,6 @@ loop-again c =
       starts-turn (a .turns .now) (l .starts) _ (l .i) (a .nodes) (l .at) (1 + x + y) h (omega arith) size (l .inv .7),
     )
 
-sub-t21 : tie.Need-sub-t21 Inv-loop μ-loop
-sub-t21 c = search needs
-
-same-length : tie.Need-same-length Inv-loop μ-loop
-same-length c = search needs
-
 returns : tie.Need-returns Inv-loop μ-loop
 returns c =
     let a = c .before .before .before .before .before .args in
@@ -126,24 +90,6 @@ returns c =
 pub starts-spec : {M : Type 1} → statement M
 starts-spec =
     tie.close
-    (tie.spec
-    Inv-loop
-    μ-loop
-    wide-requires
-    loop-holds
-    add-i
-    mul-turn
-    shared-slice-read-turn
-    cast-on
-    mul-starts
-    slice-write-starts
-    cast-at
-    add-at
-    add-at-2
-    add-at-3
-    add-ons
-    loop-less
-    loop-again
-    sub-t21
-    same-length
-    returns)
+    (tie.spec Inv-loop μ-loop (λ c κs. search needs) loop-holds (λ c. search needs) (λ c. search needs)
+    (λ c. search needs) (λ c. search needs) (λ c. search needs) (λ c. search needs) (λ c. search needs) add-at add-at-2
+    add-at-3 add-ons (λ c. search needs) loop-again (λ c. search needs) (λ c. search needs) returns)

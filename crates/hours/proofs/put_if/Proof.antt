@@ -5,9 +5,6 @@ use borrow.Author.Tests.{leb-true}
 use Rattle.hours.proofs.StepLaws.{put-in, put-not}
 use Rattle.hours.proofs.put_if.Statement.{statement}
 use Rattle.hours.proofs.put_if.Tie as tie
-use Rattle.hours.proofs.put_if.Reads as reads
-use Rattle.hours.proofs.put_if.Lts as lts
-use Rattle.masks.proofs.with_role.Reads as with-role-reads
 
 with-role-requires : tie.Need-with-role-requires
 with-role-requires c κs = let a = c .before .args in leb-true (a .role) 16 (and-eq-true-iff (a .yes) (leb (a .role) 16) .0 (c .if1 .taken) .1)

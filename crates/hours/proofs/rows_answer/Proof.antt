@@ -9,11 +9,6 @@ use Rattle.format.proofs.AnswerLaws.{first-stops, first-goes-on, first-ends}
 use Rattle.hours.specs.Hours.{rows, rowAt, rowFits, rowsAnswer}
 use Rattle.hours.proofs.rows_answer.Statement.{statement}
 use Rattle.hours.proofs.rows_answer.Tie as tie
-use Rattle.hours.proofs.rows_answer.Reads as reads
-use Rattle.hours.proofs.rows_answer.Lts as lts
-use Rattle.format.proofs.words.narrow.Reads as narrow-reads
-use Rattle.hours.proofs.row_at.Reads as row-at-reads
-use Rattle.hours.proofs.row_fits.Reads as row-fits-reads
 
 abbrev Inv-loop : tie.InvT-loop
 Inv-loop hours roles count n₀ n =
@@ -29,18 +24,6 @@ loop-holds c =
     let all : rows (a .hours .now) + 1 - 1 ≡ rows (a .hours .now) = omega arith in
     (omega arith, refl, omega arith, ap (firstOf (λ n. rowFits (a .roles) (rowAt (a .hours .now) (n - 1))) (λ n. refused 23 n) 1) all)
 
-sub-row-at : tie.Need-sub-row-at Inv-loop μ-loop
-sub-row-at c = search needs
-
-row-at-requires : tie.Need-row-at-requires Inv-loop μ-loop
-row-at-requires c κs = search needs
-
-row-fits-requires : tie.Need-row-fits-requires Inv-loop μ-loop
-row-fits-requires c κs = search needs
-
-narrow-requires : tie.Need-narrow-requires Inv-loop μ-loop
-narrow-requires c κs = search needs
-
 returns : tie.Need-returns Inv-loop μ-loop
 returns c =
     let a = c .before .before .before .before .before .before .before .args in
@@ -50,12 +33,6 @@ returns c =
     ap (refused 23) (c .narrow .ensures)
     ∙ sym (first-stops (λ n. rowFits (a .roles) (rowAt (a .hours .now) (n - 1))) (λ n. refused 23 n) (l .n) (rows (a .hours .now)) (omega arith) wrong)
     ∙ l .inv .3
-
-add-n : tie.Need-add-n Inv-loop μ-loop
-add-n c = search needs
-
-loop-less : tie.Need-loop-less Inv-loop μ-loop
-loop-less c = search needs
 
 loop-again : tie.Need-loop-again Inv-loop μ-loop
 loop-again c =
@@ -78,16 +55,5 @@ returns-2 c =
 pub rows-answer-spec : {M : Type 1} → statement M
 rows-answer-spec =
     tie.close
-    (tie.spec
-    Inv-loop
-    μ-loop
-    loop-holds
-    sub-row-at
-    row-at-requires
-    row-fits-requires
-    narrow-requires
-    returns
-    add-n
-    loop-less
-    loop-again
-    returns-2)
+    (tie.spec Inv-loop μ-loop loop-holds (λ c. search needs) (λ c κs. search needs) (λ c κs. search needs)
+    (λ c κs. search needs) returns (λ c. search needs) (λ c. search needs) loop-again returns-2)

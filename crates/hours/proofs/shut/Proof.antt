@@ -1,19 +1,13 @@
 use borrow.Author.Needs.{needs}
 use mathlib.Core.Path.{_≡_, refl, ap, ap₂, _∙_}
 use mathlib.Core.Bool.{true}
-use Prim.Native.Nat.{_+_, _-_, _≤_}
+use Prim.Native.Nat.{_-_, _≤_}
 use native.Mathlib.Omega.{arith}
 use Rattle.masks.specs.Mask.{minus}
 use Rattle.hours.specs.Hours.{rows, contains, rolesOf, anyRow, shut}
 use Rattle.hours.proofs.StepLaws.{roles-more}
 use Rattle.hours.proofs.shut.Statement.{statement}
 use Rattle.hours.proofs.shut.Tie as tie
-use Rattle.hours.proofs.shut.Reads as reads
-use Rattle.hours.proofs.shut.Lts as lts
-use Rattle.hours.proofs.contains.Reads as contains-reads
-use Rattle.hours.proofs.put_if.Reads as put-if-reads
-use Rattle.hours.proofs.row_at.Reads as row-at-reads
-use Rattle.masks.proofs.roles_minus.Reads as roles-minus-reads
 
 abbrev Inv-loop : tie.InvT-loop
 Inv-loop hours minute count named₀ inside₀ i₀ named inside i =
@@ -26,24 +20,6 @@ loop-holds : tie.Need-loop-holds Inv-loop μ-loop
 unfolding rolesOf
 loop-holds c = (refl, omega arith, refl, refl)
 
-row-at-requires : tie.Need-row-at-requires Inv-loop μ-loop
-row-at-requires c κs = search needs
-
-put-if-requires : tie.Need-put-if-requires Inv-loop μ-loop
-put-if-requires c κs = search needs
-
-contains-requires : tie.Need-contains-requires Inv-loop μ-loop
-contains-requires c κs = search needs
-
-put-if-requires-2 : tie.Need-put-if-requires-2 Inv-loop μ-loop
-put-if-requires-2 c κs = search needs
-
-add-i : tie.Need-add-i Inv-loop μ-loop
-add-i c = search needs
-
-loop-less : tie.Need-loop-less Inv-loop μ-loop
-loop-less c = search needs
-
 loop-again : tie.Need-loop-again Inv-loop μ-loop
 loop-again c =
     let a = c .before .before .before .before .before .before .before .args in
@@ -54,9 +30,6 @@ loop-again c =
       roles-more (a .hours .now) anyRow (l .i) (it .result) (l .named) (c .before .before .put-if .result) true (it .ensures) (l .inv .2) refl (c .before .before .put-if .ensures),
       roles-more (a .hours .now) (contains (a .minute)) (l .i) (it .result) (l .inside) (c .put-if2 .result) (c .before .contains .result) (it .ensures) (l .inv .3) (c .before .contains .ensures) (c .put-if2 .ensures),
     )
-
-roles-minus-requires : tie.Need-roles-minus-requires Inv-loop μ-loop
-roles-minus-requires c κs = search needs
 
 returns : tie.Need-returns Inv-loop μ-loop
 unfolding shut
@@ -69,16 +42,5 @@ returns c =
 pub shut-spec : {M : Type 1} → statement M
 shut-spec =
     tie.close
-    (tie.spec
-    Inv-loop
-    μ-loop
-    loop-holds
-    row-at-requires
-    put-if-requires
-    contains-requires
-    put-if-requires-2
-    add-i
-    loop-less
-    loop-again
-    roles-minus-requires
-    returns)
+    (tie.spec Inv-loop μ-loop loop-holds (λ c κs. search needs) (λ c κs. search needs) (λ c κs. search needs)
+    (λ c κs. search needs) (λ c. search needs) (λ c. search needs) loop-again (λ c κs. search needs) returns)

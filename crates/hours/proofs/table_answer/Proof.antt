@@ -1,9 +1,6 @@
-use mathlib.Core.Path.{_≡_, refl, sym, ap, _∙_}
 use Rattle.hours.specs.Hours.{tableAnswer}
 use Rattle.hours.proofs.table_answer.Statement.{statement}
 use Rattle.hours.proofs.table_answer.Tie as tie
-use Rattle.hours.proofs.table_answer.Reads as reads
-use Rattle.hours.proofs.table_answer.Lts as lts
 
 returns : tie.Need-returns
 unfolding tableAnswer

@@ -6,22 +6,12 @@ use Rattle.format.proofs.ContentsLaws.{in-count}
 use borrow.Author.Needs.{needs}
 use Rattle.lending.proofs.index_of.Statement.{statement}
 use Rattle.lending.proofs.index_of.Tie as tie
-use Rattle.lending.proofs.index_of.Reads as reads
-use Rattle.lending.proofs.index_of.Lts as lts
-use Rattle.format.proofs.sections.in_count.Reads as in-count-reads
-use Rattle.format.proofs.words.wide.Reads as wide-reads
 
 inside : (c : tie.Then1) → inCount (c .before .before .args .count) (c .before .before .args .i) ≡ true
 inside c = sym (c .before .in-count .ensures) ∙ c .if1 .taken
 
-in-count-requires : tie.Need-in-count-requires
-in-count-requires c κs = search needs
-
 sub-wide : tie.Need-sub-wide
 sub-wide c = let some = in-count (c .before .before .args .count) (c .before .before .args .i) (inside c) in omega (arith, some .0)
-
-wide-requires : tie.Need-wide-requires
-wide-requires c κs = search needs
 
 returns : tie.Need-returns
 returns c = rw (inside (c .before)) (c .wide .ensures .0)
@@ -30,4 +20,4 @@ returns-2 : tie.Need-returns-2
 returns-2 c = rw (sym (c .before .in-count .ensures) ∙ c .if1 .left) refl
 
 pub index-of-spec : {M : Type 1} → statement M
-index-of-spec = tie.close (tie.spec in-count-requires sub-wide wide-requires returns returns-2)
+index-of-spec = tie.close (tie.spec (λ c κs. search needs) sub-wide (λ c κs. search needs) returns returns-2)

@@ -6,16 +6,6 @@ use lib.ListN.{length}
 use borrow.Author.Needs.{needs}
 use Rattle.lending.proofs.sizes_fit.Statement.{statement}
 use Rattle.lending.proofs.sizes_fit.Tie as tie
-use Rattle.lending.proofs.sizes_fit.Reads as reads
-use Rattle.lending.proofs.sizes_fit.Lts as lts
-use Rattle.steps.proofs.beside.made_count.Reads as made-count-reads
-use Rattle.steps.proofs.beside.thread_count.Reads as thread-count-reads
-
-thread-count-requires : tie.Need-thread-count-requires
-thread-count-requires c κs = search needs
-
-made-count-requires : tie.Need-made-count-requires
-made-count-requires c κs = search needs
 
 returns : tie.Need-returns
 returns c =
@@ -23,4 +13,4 @@ returns c =
     ap₂ (λ (t m : ℕ). eqb (length (a .beside .now)) 162 && ((eqb (a .records) 64 && leb t 64) && leb m 64)) (c .before .thread-count .ensures) (c .made-count .ensures)
 
 pub sizes-fit-spec : {M : Type 1} → statement M
-sizes-fit-spec = tie.close (tie.spec thread-count-requires made-count-requires returns)
+sizes-fit-spec = tie.close (tie.spec (λ c κs. search needs) (λ c κs. search needs) returns)

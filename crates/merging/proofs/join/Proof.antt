@@ -10,18 +10,6 @@ use Rattle.merging.proofs.MergeLaws.{first-laid, second-laid, counted, 
 use borrow.Author.Needs.{needs}
 use Rattle.merging.proofs.join.Statement.{statement}
 use Rattle.merging.proofs.join.Tie as tie
-use Rattle.merging.proofs.join.Reads as reads
-use Rattle.merging.proofs.join.Lts as lts
-use Rattle.format.proofs.answers.or_else.Reads as or-else-reads
-use Rattle.format.proofs.header.length_for.Reads as length-for-reads
-use Rattle.format.proofs.words.narrow.Reads as narrow-reads
-use Rattle.merging.proofs.counts.add_counts.Reads as add-counts-reads
-use Rattle.merging.proofs.counts.head_for.Reads as head-for-reads
-use Rattle.merging.proofs.counts.sums_fit.Reads as sums-fit-reads
-use Rattle.merging.proofs.file.put_file.Reads as put-file-reads
-use Rattle.format.proofs.answers.not_written.Reads as not-written-reads
-use Rattle.merging.proofs.same.same_tables.Reads as same-tables-reads
-use Rattle.merging.proofs.unless.Reads as unless-reads
 
 -- 25, then 3; and where neither refuses, the tables are the same and the sums fit
 turn : (c : tie.After-or-else) → c .or-else .result ≡ orElse (cond (sameTables (contentsAt (c .before .before .before .before .before .before .before .before .before .args .first .now) (c .before .before .before .before .before .before .before .before .before .args .one)) (contentsAt (c .before .before .before .before .before .before .before .before .before .args .second .now) (c .before .before .before .before .before .before .before .before .before .args .two))) fine (refused 25 0)) (cond (sumsWithin (countsOfBoth (c .before .before .before .before .before .before .before .before .before .args .one .count) (c .before .before .before .before .before .before .before .before .before .args .two .count))) fine (refused 3 0))
@@ -44,26 +32,11 @@ same-tables-requires c κs =
     let two = second-laid (a .first .now) (a .second .now) (a .out .now) (a .one) (a .two) (p .0) (p .1) (p .2) in
     (one .0, two .0, one .1, two .1)
 
-unless-requires : tie.Need-unless-requires
-unless-requires c κs = search needs
-
 add-counts-requires : tie.Need-add-counts-requires
 add-counts-requires c κs =
     let a = c .before .before .before .before .before .args in
     let p = c .before .before .before .before .before .pre in
     counted (a .first .now) (a .second .now) (a .out .now) (a .one) (a .two) (p .0) (p .1) (p .2)
-
-sums-fit-requires : tie.Need-sums-fit-requires
-sums-fit-requires c κs = search needs
-
-unless-requires-2 : tie.Need-unless-requires-2
-unless-requires-2 c κs = search needs
-
-or-else-requires : tie.Need-or-else-requires
-or-else-requires c κs = search needs
-
-not-written-requires : tie.Need-not-written-requires
-not-written-requires c κs = search needs
 
 returns : tie.Need-returns
 returns c =
@@ -85,9 +58,6 @@ put-file-requires c κs =
     let (same, fit) = clean (c .before .before) in
     (joining (a .first .now) (a .second .now) (a .out .now) (a .one) (a .two) (p .0) (p .1) (p .2) same fit, c .before .head-for .ensures ∙ ap firstHead (c .before .before .before .before .before .before .before .add-counts .ensures), p .2)
 
-length-for-requires : tie.Need-length-for-requires
-length-for-requires c κs = search needs
-
 narrow-requires : tie.Need-narrow-requires
 narrow-requires c κs =
     let a = c .before .before .before .before .before .before .before .before .before .before .before .before .before .before .before .before .before .args in
@@ -95,9 +65,6 @@ narrow-requires c κs =
     let (same, fit) = clean (c .before .before .before .before .before .before) in
     subst (λ n. n < 65536) (sym (c .length-for .ensures .0))
     (few-bytes (a .first .now) (a .second .now) (a .out .now) (a .one) (a .two) (p .0) (p .1) (p .2) same fit (c .before .before .before .before .before .head-for .result) (c .before .before .before .before .before .head-for .ensures ∙ ap firstHead (c .before .before .before .before .before .before .before .before .before .before .before .add-counts .ensures)))
-
-same-length : tie.Need-same-length
-same-length c = search needs
 
 returns-2 : tie.Need-returns-2
 returns-2 c =
@@ -111,18 +78,6 @@ returns-2 c =
 pub join-spec : {M : Type 1} → statement M
 join-spec =
     tie.close
-    (tie.spec
-    same-tables-requires
-    unless-requires
-    add-counts-requires
-    sums-fit-requires
-    unless-requires-2
-    or-else-requires
-    not-written-requires
-    returns
-    head-for-requires
-    put-file-requires
-    length-for-requires
-    narrow-requires
-    same-length
-    returns-2)
+    (tie.spec same-tables-requires (λ c κs. search needs) add-counts-requires (λ c κs. search needs)
+    (λ c κs. search needs) (λ c κs. search needs) (λ c κs. search needs) returns head-for-requires put-file-requires
+    (λ c κs. search needs) narrow-requires (λ c. search needs) returns-2)

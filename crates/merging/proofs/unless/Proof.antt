@@ -1,7 +1,5 @@
 use Rattle.merging.proofs.unless.Statement.{statement}
 use Rattle.merging.proofs.unless.Tie as tie
-use Rattle.merging.proofs.unless.Reads as reads
-use Rattle.merging.proofs.unless.Lts as lts
 
 returns : tie.Need-returns
 returns c = rw (c .if1 .taken)

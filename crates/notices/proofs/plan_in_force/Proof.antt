@@ -9,50 +9,16 @@ use Rattle.notices.proofs.NoticeLaws.{first-wrong, second-wrong, second
 use borrow.Author.Needs.{needs}
 use Rattle.notices.proofs.plan_in_force.Statement.{statement}
 use Rattle.notices.proofs.plan_in_force.Tie as tie
-use Rattle.notices.proofs.plan_in_force.Reads as reads
-use Rattle.notices.proofs.plan_in_force.Lts as lts
-use Rattle.format.proofs.words.word.Reads as word-reads
-use Rattle.notices.proofs.hold.Reads as hold-reads
-use Rattle.notices.proofs.is_sound.Reads as is-sound-reads
-use Rattle.notices.proofs.refuse.Reads as refuse-reads
-use Rattle.notices.proofs.second_holds.Reads as second-holds-reads
-
-is-sound-requires : tie.Need-is-sound-requires
-is-sound-requires c κs = search needs
-
-refuse-requires : tie.Need-refuse-requires
-refuse-requires c κs = search needs
 
 returns : tie.Need-returns
 returns c =
     let a = c .before .before .before .before .before .args in
     c .refuse .ensures ∙ first-wrong (a .first .now) (a .second .now) (a .day) (sym (c .before .before .is-sound .ensures) ∙ not-true (c .before .before .is-sound .result) (c .before .if1 .taken))
 
-is-sound-requires-2 : tie.Need-is-sound-requires-2
-is-sound-requires-2 c κs = search needs
-
-refuse-requires-2 : tie.Need-refuse-requires-2
-refuse-requires-2 c κs = search needs
-
 returns-2 : tie.Need-returns-2
 returns-2 c =
     let a = c .before .before .before .before .before .before .before .args in
     c .refuse2 .ensures ∙ second-wrong (a .first .now) (a .second .now) (a .day) (sym (c .before .before .before .before .is-sound .ensures) ∙ not-false (c .before .before .before .before .is-sound .result) (c .before .before .before .if1 .left)) (sym (c .before .before .is-sound2 .ensures) ∙ not-true (c .before .before .is-sound2 .result) (c .before .if2 .taken))
-
-word-requires : tie.Need-word-requires
-word-requires c κs = search needs
-
-word-requires-2 : tie.Need-word-requires-2
-word-requires-2 c κs = search needs
-
-second-holds-requires : tie.Need-second-holds-requires
-second-holds-requires c κs = search needs
-
-word-requires-3 : tie.Need-word-requires-3
-word-requires-3 c κs = search needs
-
-hold-requires : tie.Need-hold-requires
-hold-requires c κs = search needs
 
 returns-3 : tie.Need-returns-3
 returns-3 c =
@@ -62,12 +28,6 @@ returns-3 c =
     let later : secondHolds (wordAt (a .first .now) 0) (wordAt (a .second .now) 0) (a .day) ≡ true = ap₂ (λ (d e : ℕ). secondHolds d e (a .day)) (sym (c .before .before .before .before .before .word .ensures)) (sym (c .before .before .before .before .word2 .ensures)) ∙ sym (c .before .before .before .second-holds .ensures) ∙ c .before .before .if3 .taken in
     c .hold .ensures ∙ ap (held 2) (c .before .word3 .ensures) ∙ second-later (a .first .now) (a .second .now) (a .day) one two later
 
-word-requires-4 : tie.Need-word-requires-4
-word-requires-4 c κs = search needs
-
-hold-requires-2 : tie.Need-hold-requires-2
-hold-requires-2 c κs = search needs
-
 returns-4 : tie.Need-returns-4
 returns-4 c =
     let a = c .before .before .before .before .before .before .before .before .before .before .before .before .before .args in
@@ -75,9 +35,6 @@ returns-4 c =
     let two : isSound (a .second .now) ≡ true = sym (c .before .before .before .before .before .before .before .before .is-sound2 .ensures) ∙ not-false (c .before .before .before .before .before .before .before .before .is-sound2 .result) (c .before .before .before .before .before .before .before .if2 .left) in
     let later : secondHolds (wordAt (a .first .now) 0) (wordAt (a .second .now) 0) (a .day) ≡ false = ap₂ (λ (d e : ℕ). secondHolds d e (a .day)) (sym (c .before .before .before .before .before .before .word .ensures)) (sym (c .before .before .before .before .before .word2 .ensures)) ∙ sym (c .before .before .before .before .second-holds .ensures) ∙ c .before .before .before .if3 .left in
     c .hold2 .ensures ∙ ap (held 1) (c .before .word4 .ensures) ∙ first-later (a .first .now) (a .second .now) (a .day) one two later (omega (arith, c .before .before .before .before .before .before .word .ensures, c .before .before .if4 .taken))
-
-refuse-requires-3 : tie.Need-refuse-requires-3
-refuse-requires-3 c κs = search needs
 
 returns-5 : tie.Need-returns-5
 returns-5 c =
@@ -90,21 +47,7 @@ returns-5 c =
 pub plan-in-force-spec : {M : Type 1} → statement M
 plan-in-force-spec =
     tie.close
-    (tie.spec
-    is-sound-requires
-    refuse-requires
-    returns
-    is-sound-requires-2
-    refuse-requires-2
-    returns-2
-    word-requires
-    word-requires-2
-    second-holds-requires
-    word-requires-3
-    hold-requires
-    returns-3
-    word-requires-4
-    hold-requires-2
-    returns-4
-    refuse-requires-3
+    (tie.spec (λ c κs. search needs) (λ c κs. search needs) returns (λ c κs. search needs) (λ c κs. search needs)
+    returns-2 (λ c κs. search needs) (λ c κs. search needs) (λ c κs. search needs) (λ c κs. search needs)
+    (λ c κs. search needs) returns-3 (λ c κs. search needs) (λ c κs. search needs) returns-4 (λ c κs. search needs)
     returns-5)

@@ -9,10 +9,6 @@ use Rattle.phrases.specs.Phrases.{phrases, phrase, prefix, leading}
 use Rattle.phrases.proofs.PhraseLaws.{span, text-length, stands-here, stands-later, stands-nowhere, hit}
 use Rattle.phrases.proofs.phrase_at.Statement.{statement}
 use Rattle.phrases.proofs.phrase_at.Tie as tie
-use Rattle.phrases.proofs.phrase_at.Reads as reads
-use Rattle.phrases.proofs.phrase_at.Lts as lts
-use Rattle.phrases.proofs.stands.Reads as stands-reads
-use Rattle.phrases.proofs.start_of.Reads as start-of-reads
 
 abbrev Inv-loop : tie.InvT-loop
 Inv-loop text starts s at i₀ i = (i ≤ rowCount) × (i + leading (drop i phrases) (drop at s) ≡ leading phrases (drop at s))
@@ -25,9 +21,6 @@ loop-holds c = (search needs, let e : 0 + leading phrases (drop (c .before .befo
 
 start-of-requires : tie.Need-start-of-requires Inv-loop μ-loop
 start-of-requires c κs = (search needs, omega arith)
-
-add-start-of : tie.Need-add-start-of Inv-loop μ-loop
-add-start-of c = omega arith
 
 start-of-requires-2 : tie.Need-start-of-requires-2 Inv-loop μ-loop
 start-of-requires-2 c κs = (search needs, omega arith)
@@ -54,12 +47,6 @@ returns c =
     ∙ sym (d .stands .ensures) ∙ c .if1 .taken in
     sym (stands-here (b .loop .i) s (search needs) h) ∙ b .loop .inv .1
 
-add-i : tie.Need-add-i Inv-loop μ-loop
-add-i c = omega arith
-
-loop-less : tie.Need-loop-less Inv-loop μ-loop
-loop-less c = omega arith
-
 loop-again : tie.Need-loop-again Inv-loop μ-loop
 loop-again c =
     let d = c .before in
@@ -81,16 +68,5 @@ returns-2 c =
 pub phrase-at-spec : {M : Type 1} → statement M
 phrase-at-spec =
     tie.close
-    (tie.spec
-    Inv-loop
-    μ-loop
-    loop-holds
-    start-of-requires
-    add-start-of
-    start-of-requires-2
-    stands-requires
-    returns
-    add-i
-    loop-less
-    loop-again
-    returns-2)
+    (tie.spec Inv-loop μ-loop loop-holds start-of-requires (λ c. omega arith) start-of-requires-2 stands-requires
+    returns (λ c. omega arith) (λ c. omega arith) loop-again returns-2)

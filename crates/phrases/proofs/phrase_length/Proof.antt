@@ -3,18 +3,6 @@ use borrow.Author.Needs.{needs}
 use Rattle.phrases.proofs.PhraseLaws.{span, past-table}
 use Rattle.phrases.proofs.phrase_length.Statement.{statement}
 use Rattle.phrases.proofs.phrase_length.Tie as tie
-use Rattle.phrases.proofs.phrase_length.Reads as reads
-use Rattle.phrases.proofs.phrase_length.Lts as lts
-use Rattle.phrases.proofs.start_of.Reads as start-of-reads
-
-add-start-of : tie.Need-add-start-of
-add-start-of c = search needs
-
-start-of-requires : tie.Need-start-of-requires
-start-of-requires c κs = search needs
-
-start-of-requires-2 : tie.Need-start-of-requires-2
-start-of-requires-2 c κs = search needs
 
 sub-result : tie.Need-sub-result
 sub-result c =
@@ -32,4 +20,4 @@ returns-2 c = past-table (c .before .before .args .i) (c .if1 .left)
 pub phrase-length-spec : {M : Type 1} → statement M
 phrase-length-spec =
     tie.close
-    (tie.spec add-start-of start-of-requires start-of-requires-2 sub-result returns returns-2)
+    (tie.spec (λ c. search needs) (λ c κs. search needs) (λ c κs. search needs) sub-result returns returns-2)

@@ -7,17 +7,6 @@ use Rattle.phrases.specs.Table.{byteCount}
 use Rattle.phrases.proofs.PhraseLaws.{span, text-length, pasted}
 use Rattle.phrases.proofs.put_phrase.Statement.{statement}
 use Rattle.phrases.proofs.put_phrase.Tie as tie
-use Rattle.phrases.proofs.put_phrase.Reads as reads
-use Rattle.phrases.proofs.put_phrase.Lts as lts
-use Rattle.phrases.proofs.copy_part.Reads as copy-part-reads
-use Rattle.phrases.proofs.phrase_length.Reads as phrase-length-reads
-use Rattle.phrases.proofs.start_of.Reads as start-of-reads
-
-phrase-length-requires : tie.Need-phrase-length-requires
-phrase-length-requires c κs = search needs
-
-start-of-requires : tie.Need-start-of-requires
-start-of-requires c κs = search needs
 
 copy-part-requires : tie.Need-copy-part-requires
 copy-part-requires c κs =
@@ -28,12 +17,6 @@ copy-part-requires c κs =
       omega (arith, c .before .start-of .ensures, c .before .before .phrase-length .ensures, w .long, w .from-to, w .in-text, e),
       omega (arith, c .before .before .phrase-length .ensures, s .pre .3),
     )
-
-add-result : tie.Need-add-result
-add-result c = search needs
-
-same-length : tie.Need-same-length
-same-length c = search needs
 
 returns : tie.Need-returns
 returns c =
@@ -49,10 +32,5 @@ returns c =
 pub put-phrase-spec : {M : Type 1} → statement M
 put-phrase-spec =
     tie.close
-    (tie.spec
-    phrase-length-requires
-    start-of-requires
-    copy-part-requires
-    add-result
-    same-length
+    (tie.spec (λ c κs. search needs) (λ c κs. search needs) copy-part-requires (λ c. search needs) (λ c. search needs)
     returns)

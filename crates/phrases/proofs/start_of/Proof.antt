@@ -8,11 +8,6 @@ use Rattle.phrases.specs.Table.{rowCount}
 use Rattle.phrases.proofs.PhraseLaws.{starts-length}
 use Rattle.phrases.proofs.start_of.Statement.{statement}
 use Rattle.phrases.proofs.start_of.Tie as tie
-use Rattle.phrases.proofs.start_of.Reads as reads
-use Rattle.phrases.proofs.start_of.Lts as lts
-
-mul-result : tie.Need-mul-result
-mul-result c = search needs
 
 shared-slice-read-result : tie.Need-shared-slice-read-result
 shared-slice-read-result c =
@@ -26,4 +21,4 @@ returns : tie.Need-returns
 returns c = ap (λ (l : List ℕ). getD l (c .before .args .i) 0) (c .before .pre .0)
 
 pub start-of-spec : {M : Type 1} → statement M
-start-of-spec = tie.close (tie.spec mul-result shared-slice-read-result cast-result returns)
+start-of-spec = tie.close (tie.spec (λ c. search needs) shared-slice-read-result cast-result returns)

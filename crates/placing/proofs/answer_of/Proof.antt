@@ -6,32 +6,13 @@ use Rattle.placing.specs.declared.Placed.{Placed}
 use borrow.Author.Needs.{needs}
 use Rattle.placing.proofs.answer_of.Statement.{statement}
 use Rattle.placing.proofs.answer_of.Tie as tie
-use Rattle.placing.proofs.answer_of.Reads as reads
-use Rattle.placing.proofs.answer_of.Lts as lts
-use Rattle.format.proofs.header.length_for.Reads as length-for-reads
-use Rattle.format.proofs.words.narrow.Reads as narrow-reads
-use Rattle.placing.proofs.no_place.Reads as no-place-reads
 
 abbrev answer : ℕ → ℕ → Placed
 answer l o = record { number = 0; place = 0; length = l; «on_steps» = o }
 
--- src/lib.rt:81:9
-no-place-requires : tie.Need-no-place-requires
-no-place-requires c κs = search needs
-
--- src/lib.rt:81:9
 returns : tie.Need-returns
 returns c = c .no-place .ensures ∙ rw (ne-eqb (c .before .before .before .before .args .decision .verdict .number) 0 (c .before .if1 .taken))
 
--- src/lib.rt:87:24
-length-for-requires : tie.Need-length-for-requires
-length-for-requires c κs = search needs
-
--- src/lib.rt:87:17
-narrow-requires : tie.Need-narrow-requires
-narrow-requires c κs = search needs
-
--- src/lib.rt:75:1
 returns-2 : tie.Need-returns-2
 returns-2 c =
     let a = c .before .before .before .before .before .args in
@@ -40,4 +21,4 @@ returns-2 c =
 
 pub answer-of-spec : {M : Type 1} → statement M
 answer-of-spec =
-    tie.close (tie.spec no-place-requires returns length-for-requires narrow-requires returns-2)
+    tie.close (tie.spec (λ c κs. search needs) returns (λ c κs. search needs) (λ c κs. search needs) returns-2)

@@ -13,35 +13,6 @@ use Rattle.placing.proofs.PlaceLaws.{names-loud, measuring-refused, sur
 use borrow.Author.Needs.{needs}
 use Rattle.placing.proofs.measure.Statement.{statement}
 use Rattle.placing.proofs.measure.Tie as tie
-use Rattle.placing.proofs.measure.Reads as reads
-use Rattle.placing.proofs.measure.Lts as lts
-use Rattle.checking.proofs.examine.Reads as examine-reads
-use Rattle.placing.proofs.measure_body.Reads as measure-body-reads
-use Rattle.placing.proofs.no_place.Reads as no-place-reads
-
--- src/lib.rt:108:31
-slice-aggregate-examine : tie.Need-slice-aggregate-examine
-slice-aggregate-examine c = search needs
-
--- src/lib.rt:108:9
-examine-requires : tie.Need-examine-requires
-examine-requires c κs = search needs
-
--- src/lib.rt:111:25
-enum-known-names : tie.Need-enum-known-names
-enum-known-names c = search needs
-
--- src/lib.rt:111:35
-no-place-requires : tie.Need-no-place-requires
-no-place-requires c κs = search needs
-
--- src/lib.rt:112:22
-enum-known-names-2 : tie.Need-enum-known-names-2
-enum-known-names-2 c = search needs
-
--- src/lib.rt:112:56
-slice-aggregate-measure-body : tie.Need-slice-aggregate-measure-body
-slice-aggregate-measure-body c = search needs
 
 -- the head that was read, and each node's candidates in the table
 told : (c : tie.After-known-told2) → entered (c .before .before .before .before .before .before .before .args .file .now) ≡ Fine (c .before .names2 .given .0 .0)
@@ -53,11 +24,9 @@ labels c =
     let h = c .before .names2 .given .0 .0 in
     surveyed-labels f h (told c) (replicate 1025 0) _ (c .before .before .before .before .examine .ensures .1) (omega (arith, nodes-held f h, entered-fine f h (told c) .0 .nodes))
 
--- src/lib.rt:112:31
 measure-body-requires : tie.Need-measure-body-requires
 measure-body-requires c κs = (told (c .before), labels (c .before) .1)
 
--- src/lib.rt:104:1
 returns : tie.Need-returns
 returns c =
     let a = c .before .before .before .before .before .before .before .before .args in
@@ -65,7 +34,6 @@ returns c =
     let (e, loud) = names-loud (a .file .now) w (sym (ap (λ (x : Examined). x .names) (c .before .before .before .before .before .examine .ensures .0)) ∙ c .before .before .names .given .1) in
     c .no-place .ensures ∙ sym (measuring-refused (a .file .now) w e loud)
 
--- src/lib.rt:104:1
 returns-2 : tie.Need-returns-2
 returns-2 c =
     let a = c .before .before .before .before .before .before .before .before .before .args in
@@ -75,13 +43,5 @@ returns-2 c =
 pub measure-spec : {M : Type 1} → statement M
 measure-spec =
     tie.close
-    (tie.spec
-    slice-aggregate-examine
-    examine-requires
-    enum-known-names
-    no-place-requires
-    enum-known-names-2
-    slice-aggregate-measure-body
-    measure-body-requires
-    returns
-    returns-2)
+    (tie.spec (λ c. search needs) (λ c κs. search needs) (λ c. search needs) (λ c κs. search needs) (λ c. search needs)
+    (λ c. search needs) measure-body-requires returns returns-2)

@@ -15,42 +15,12 @@ use Rattle.placing.proofs.PlaceLaws.{too-small, over-kept, placing-refu
 use borrow.Author.Needs.{needs}
 use Rattle.placing.proofs.place.Statement.{statement}
 use Rattle.placing.proofs.place.Tie as tie
-use Rattle.placing.proofs.place.Reads as reads
-use Rattle.placing.proofs.place.Lts as lts
-use Rattle.checking.proofs.examine.Reads as examine-reads
-use Rattle.format.proofs.header.room_for.Reads as room-for-reads
-use Rattle.placing.proofs.no_place.Reads as no-place-reads
-use Rattle.placing.proofs.place_body.Reads as place-body-reads
-
-room-for-requires : tie.Need-room-for-requires
-room-for-requires c κs = search needs
-
-no-place-requires : tie.Need-no-place-requires
-no-place-requires c κs = search needs
 
 returns : tie.Need-returns
 returns c =
     let a = c .before .before .before .before .before .args in
     let e = too-small (a .file .now) (length (a .out .now)) (omega (arith, c .before .if1 .taken, c .before .before .room-for .ensures)) in
     (c .no-place .ensures ∙ sym e, sym (over-kept (a .file .now) (a .out .now) 17 0 (λ z. let no-way : ⊥ = omega (arith, z) in no-way) e))
-
-slice-aggregate-examine : tie.Need-slice-aggregate-examine
-slice-aggregate-examine c = search needs
-
-examine-requires : tie.Need-examine-requires
-examine-requires c κs = search needs
-
-enum-known-names : tie.Need-enum-known-names
-enum-known-names c = search needs
-
-no-place-requires-2 : tie.Need-no-place-requires-2
-no-place-requires-2 c κs = search needs
-
-enum-known-names-2 : tie.Need-enum-known-names-2
-enum-known-names-2 c = search needs
-
-slice-aggregate-place-body : tie.Need-slice-aggregate-place-body
-slice-aggregate-place-body c = search needs
 
 -- the head that was read, and each node's candidates in the table
 told : (c : tie.After-known-told2) → entered (c .before .before .before .before .before .before .before .before .before .before .args .file .now) ≡ Fine (c .before .names2 .given .0 .0)
@@ -76,9 +46,6 @@ returns-2 c =
     let p = placing-refused (a .file .now) (length (a .out .now)) w (omega (arith, c .before .before .before .before .before .before .before .if1 .left, c .before .before .before .before .before .before .before .before .room-for .ensures)) e loud in
     (c .no-place2 .ensures ∙ sym p, sym (over-kept (a .file .now) (a .out .now) (w .number) (w .place) loud p))
 
-same-length : tie.Need-same-length
-same-length c = search needs
-
 returns-3 : tie.Need-returns-3
 returns-3 c =
     let a = c .before .before .before .before .before .before .before .before .before .before .before .before .before .before .before .args in
@@ -93,17 +60,6 @@ returns-3 c =
 pub place-spec : {M : Type 1} → statement M
 place-spec =
     tie.close
-    (tie.spec
-    room-for-requires
-    no-place-requires
-    returns
-    slice-aggregate-examine
-    examine-requires
-    enum-known-names
-    no-place-requires-2
-    enum-known-names-2
-    slice-aggregate-place-body
-    place-body-requires
-    returns-2
-    same-length
-    returns-3)
+    (tie.spec (λ c κs. search needs) (λ c κs. search needs) returns (λ c. search needs) (λ c κs. search needs)
+    (λ c. search needs) (λ c κs. search needs) (λ c. search needs) (λ c. search needs) place-body-requires returns-2
+    (λ c. search needs) returns-3)

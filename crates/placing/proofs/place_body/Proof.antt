@@ -22,13 +22,6 @@ use Rattle.placing.proofs.PlaceLaws.{enough-room, room-least, answer-lo
 use borrow.Author.Needs.{needs}
 use Rattle.placing.proofs.place_body.Statement.{statement}
 use Rattle.placing.proofs.place_body.Tie as tie
-use Rattle.placing.proofs.place_body.Reads as reads
-use Rattle.placing.proofs.place_body.Lts as lts
-use Rattle.format.proofs.header.length_for.Reads as length-for-reads
-use Rattle.format.proofs.words.narrow.Reads as narrow-reads
-use Rattle.groups.proofs.put_file.Reads as put-file-reads
-use Rattle.placing.proofs.decide.decide.Reads as decide-reads
-use Rattle.placing.proofs.no_place.Reads as no-place-reads
 
 abbrev answer : ℕ → ℕ → Placed
 answer l o = record { number = 0; place = 0; length = l; «on_steps» = o }
@@ -70,17 +63,8 @@ turns-at c =
     ap (turnsIn t) (sym (nodes-held (a .file .now) (a .head)))
     ∙ turns-written (held c .nodes) (a .roles .now) (replicate 1025 0) t (omega (arith, few-at c, c .before .before .before .before .before .before .before .before .before .before .before .pre .1)) (omega (arith, few-at c)) (tables-at c .0)
 
-slice-aggregate-decide : tie.Need-slice-aggregate-decide
-slice-aggregate-decide c = search needs
-
-slice-aggregate-decide-2 : tie.Need-slice-aggregate-decide-2
-slice-aggregate-decide-2 c = search needs
-
 decide-requires : tie.Need-decide-requires
 decide-requires c κs = let a = c .before .before .before .before .before .args in (entered-fine (a .file .now) (a .head) (c .before .before .before .before .before .pre .0) .0, c .before .before .before .before .before .pre .1, refl, refl)
-
-no-place-requires : tie.Need-no-place-requires
-no-place-requires c κs = search needs
 
 returns : tie.Need-returns
 returns c =
@@ -92,12 +76,6 @@ returns c =
       c .no-place .ensures ∙ ap (λ (x : Verdict). noPlace (x .number) (x .place)) e ∙ sym (answer-loud (a .head .version) C (turnsOf ls) (placeableBy C ls) loud),
       sym (over-loud (a .head .version) C (turnsOf ls) (placeableBy C ls) (a .out .now) loud),
     )
-
-slice-aggregate-put-file : tie.Need-slice-aggregate-put-file
-slice-aggregate-put-file c = search needs
-
-slice-aggregate-put-file-2 : tie.Need-slice-aggregate-put-file-2
-slice-aggregate-put-file-2 c = search needs
 
 put-file-requires : tie.Need-put-file-requires
 put-file-requires c κs =
@@ -114,9 +92,6 @@ put-file-requires c κs =
       omega (arith, room-least (a .file .now), c .before .before .before .before .before .before .before .before .before .before .before .before .before .before .pre .2),
     )
 
-length-for-requires : tie.Need-length-for-requires
-length-for-requires c κs = search needs
-
 narrow-requires : tie.Need-narrow-requires
 narrow-requires c κs =
     let a = c .before .before .before .before .before .before .before .before .before .before .before .before .before .before .before .before .before .before .args in
@@ -124,9 +99,6 @@ narrow-requires c κs =
     let laid = entered-fine (a .file .now) (a .head) (c .before .before .before .before .before .before .before .before .before .before .before .before .before .before .before .before .before .before .pre .0) .0 in
     let begins : a .head .at .nodes ≤ 2000 = omega (arith, laid) in
     omega (arith, ap (λ (x : Sums). x .nodes) (sums-at at), few-nodes (held at) (seen at) (quiet-at at), c .length-for .ensures, begins)
-
-same-length : tie.Need-same-length
-same-length c = search needs
 
 returns-2 : tie.Need-returns-2
 returns-2 c =
@@ -145,16 +117,5 @@ returns-2 c =
 pub place-body-spec : {M : Type 1} → statement M
 place-body-spec =
     tie.close
-    (tie.spec
-    slice-aggregate-decide
-    slice-aggregate-decide-2
-    decide-requires
-    no-place-requires
-    returns
-    slice-aggregate-put-file
-    slice-aggregate-put-file-2
-    put-file-requires
-    length-for-requires
-    narrow-requires
-    same-length
-    returns-2)
+    (tie.spec (λ c. search needs) (λ c. search needs) decide-requires (λ c κs. search needs) returns (λ c. search needs)
+    (λ c. search needs) put-file-requires (λ c κs. search needs) narrow-requires (λ c. search needs) returns-2)

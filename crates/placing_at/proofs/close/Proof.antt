@@ -7,9 +7,6 @@ use Rattle.placing_at.proofs.CloseLaws.{mapTo, none-mapped, all-mapped,
 use borrow.Author.Needs.{needs}
 use Rattle.placing_at.proofs.close.Statement.{statement}
 use Rattle.placing_at.proofs.close.Tie as tie
-use Rattle.placing_at.proofs.close.Reads as reads
-use Rattle.placing_at.proofs.close.Lts as lts
-use Rattle.masks.proofs.roles_minus.Reads as roles-minus-reads
 
 abbrev Inv-loop : tie.InvT-loop
 Inv-loop roles₀ shut count i₀ roles i = (count ≡ length roles₀) × (length roles ≡ length roles₀) × (i ≤ length roles₀) × (roles ≡ mapTo (λ m. minus m shut) roles₀ i)
@@ -20,36 +17,12 @@ abbrev μ-loop : tie.MeasureT-loop
 loop-holds : tie.Need-loop-holds Inv-loop μ-loop
 loop-holds c = let a = c .before .args in (refl, refl, omega arith, sym (none-mapped (λ m. minus m (a .shut)) (a .roles .now)))
 
-mul-roles-minus : tie.Need-mul-roles-minus Inv-loop μ-loop
-mul-roles-minus c = search needs
-
-slice-read-roles-minus : tie.Need-slice-read-roles-minus Inv-loop μ-loop
-slice-read-roles-minus c = search needs
-
-roles-minus-requires : tie.Need-roles-minus-requires Inv-loop μ-loop
-roles-minus-requires c κs = search needs
-
-mul-roles : tie.Need-mul-roles Inv-loop μ-loop
-mul-roles c = search needs
-
-slice-write-roles : tie.Need-slice-write-roles Inv-loop μ-loop
-slice-write-roles c = search needs
-
-add-i : tie.Need-add-i Inv-loop μ-loop
-add-i c = search needs
-
-loop-less : tie.Need-loop-less Inv-loop μ-loop
-loop-less c = search needs
-
 loop-again : tie.Need-loop-again Inv-loop μ-loop
 loop-again c =
     let a = c .before .before .before .before .before .args in
     let l = c .before .before .before .loop in
     let more = mapped-more (λ m. minus m (a .shut)) (a .roles .now) (l .roles) (l .i) (c .roles-minus .result) (omega arith) (l .inv .3) (c .roles-minus .ensures) in
     (l .inv .0, ap length more ∙ mapped-length (λ m. minus m (a .shut)) (a .roles .now) (l .i + 1), omega arith, more)
-
-same-length : tie.Need-same-length Inv-loop μ-loop
-same-length c = search needs
 
 returns : tie.Need-returns Inv-loop μ-loop
 returns c =
@@ -61,17 +34,6 @@ returns c =
 pub close-spec : {M : Type 1} → statement M
 close-spec =
     tie.close
-    (tie.spec
-    Inv-loop
-    μ-loop
-    loop-holds
-    mul-roles-minus
-    slice-read-roles-minus
-    roles-minus-requires
-    mul-roles
-    slice-write-roles
-    add-i
-    loop-less
-    loop-again
-    same-length
+    (tie.spec Inv-loop μ-loop loop-holds (λ c. search needs) (λ c. search needs) (λ c κs. search needs)
+    (λ c. search needs) (λ c. search needs) (λ c. search needs) (λ c. search needs) loop-again (λ c. search needs)
     returns)

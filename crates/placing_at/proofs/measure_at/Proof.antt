@@ -20,15 +20,6 @@ use Rattle.placing_at.proofs.PlaceAtLaws.{measuring-refused-at, table-l
 use borrow.Author.Needs.{needs}
 use Rattle.placing_at.proofs.measure_at.Statement.{statement}
 use Rattle.placing_at.proofs.measure_at.Tie as tie
-use Rattle.placing_at.proofs.measure_at.Reads as reads
-use Rattle.placing_at.proofs.measure_at.Lts as lts
-use Rattle.checking.proofs.examine_opened.Reads as examine-opened-reads
-use Rattle.checking_at.proofs.open_at.Reads as open-at-reads
-use Rattle.hours.proofs.shut.Reads as shut-reads
-use Rattle.hours.proofs.table_answer.Reads as table-answer-reads
-use Rattle.placing.proofs.measure_body.Reads as measure-body-reads
-use Rattle.placing.proofs.no_place.Reads as no-place-reads
-use Rattle.placing_at.proofs.close.Reads as close-reads
 
 -- 22 refuses nothing
 quiet : (c : tie.Else1) → NoRefusal (tableAnswer (c .before .before .before .before .before .args .hours .now) (c .before .before .before .before .before .args .minute))
@@ -57,15 +48,6 @@ labels c =
     subst (λ (l : List ℕ). (labelsFrom (contentsAt f h) l ≡ labelsIn (openContents (shut t (a .minute)) (contentsAt f h))) × (length l ≡ 1025)) (sym closed)
     (surveyed-open f t (a .minute) (quiet (c .before .before .before .before .before .before .before .before .before .before)) h way-in (replicate 1025 0) roles filled (omega (arith, nodes-held f h, head-laid f t h way-in .nodes)))
 
--- src/lib.rt:35:9
-table-answer-requires : tie.Need-table-answer-requires
-table-answer-requires c κs = search needs
-
--- src/lib.rt:37:9
-no-place-requires : tie.Need-no-place-requires
-no-place-requires c κs = search needs
-
--- src/lib.rt:37:9
 returns : tie.Need-returns
 returns c =
     let a = c .before .before .before .before .before .before .args in
@@ -74,53 +56,20 @@ returns c =
     let loud : NoRefusal v → ⊥ = λ q. c .before .if1 .taken (ap (λ (v : Verdict). v .number) e ∙ q) in
     c .no-place .ensures ∙ ap (λ (v : Verdict). noPlace (v .number) (v .place)) e ∙ sym (measuring-refused-at (a .file .now) (a .hours .now) (a .minute) v (table-loud (a .file .now) (a .hours .now) (a .minute) loud) loud)
 
--- src/lib.rt:40:38
 open-at-requires : tie.Need-open-at-requires
 open-at-requires c κs = table-exact (c .before .before .before .before .before .args .hours .now) (c .before .before .before .before .before .args .minute) .0 (quiet c) .1
 
--- src/lib.rt:40:60
-slice-aggregate-examine-opened : tie.Need-slice-aggregate-examine-opened
-slice-aggregate-examine-opened c = search needs
-
--- src/lib.rt:40:9
 examine-opened-requires : tie.Need-examine-opened-requires
 examine-opened-requires c κs = (admitted-at (c .before .before .before .before .before .before .before .args .file .now) (c .before .before .before .before .before .before .before .args .hours .now) _ (sym (c .before .open-at .ensures)), search needs)
 
--- src/lib.rt:43:25
-enum-known-names : tie.Need-enum-known-names
-enum-known-names c = search needs
-
--- src/lib.rt:43:35
-no-place-requires-2 : tie.Need-no-place-requires-2
-no-place-requires-2 c κs = search needs
-
--- src/lib.rt:44:22
-enum-known-names-2 : tie.Need-enum-known-names-2
-enum-known-names-2 c = search needs
-
--- src/lib.rt:45:19
-slice-aggregate-close : tie.Need-slice-aggregate-close
-slice-aggregate-close c = search needs
-
--- src/lib.rt:45:31
 shut-requires : tie.Need-shut-requires
 shut-requires c κs = table-exact (c .before .before .before .before .before .before .before .before .before .before .before .before .before .args .hours .now) (c .before .before .before .before .before .before .before .before .before .before .before .before .before .args .minute) .0 (quiet (c .before .before .before .before .before .before .before .before)) .1
 
--- src/lib.rt:45:13
-close-requires : tie.Need-close-requires
-close-requires c κs = search needs
-
--- src/lib.rt:46:38
-slice-aggregate-measure-body : tie.Need-slice-aggregate-measure-body
-slice-aggregate-measure-body c = search needs
-
--- src/lib.rt:46:13
 measure-body-requires : tie.Need-measure-body-requires
 measure-body-requires c κs =
     let a = c .before .before .before .before .before .before .before .before .before .before .before .before .before .before .before .before .before .args in
     (entered-plain (a .file .now) (a .hours .now) (a .minute) _ (told (c .before .before .before .before .before)), labels (c .before .before) .1)
 
--- src/lib.rt:32:1
 returns-2 : tie.Need-returns-2
 returns-2 c =
     let a = c .before .before .before .before .before .before .before .before .before .before .before .before .before .args in
@@ -128,7 +77,6 @@ returns-2 c =
     let (e, loud) = names-loud-at (a .file .now) (a .hours .now) (a .minute) (quiet (c .before .before .before .before .before .before .before .before)) w (sym (way (c .before .before .before .before .before)) ∙ c .before .before .names .given .1) in
     c .no-place2 .ensures ∙ sym (measuring-refused-at (a .file .now) (a .hours .now) (a .minute) w e loud)
 
--- src/lib.rt:32:1
 returns-3 : tie.Need-returns-3
 returns-3 c =
     let a = c .before .before .before .before .before .before .before .before .before .before .before .before .before .before .before .before .before .before .args in
@@ -140,20 +88,6 @@ returns-3 c =
 pub measure-at-spec : {M : Type 1} → statement M
 measure-at-spec =
     tie.close
-    (tie.spec
-    table-answer-requires
-    no-place-requires
-    returns
-    open-at-requires
-    slice-aggregate-examine-opened
-    examine-opened-requires
-    enum-known-names
-    no-place-requires-2
-    enum-known-names-2
-    slice-aggregate-close
-    shut-requires
-    close-requires
-    slice-aggregate-measure-body
-    measure-body-requires
-    returns-2
-    returns-3)
+    (tie.spec (λ c κs. search needs) (λ c κs. search needs) returns open-at-requires (λ c. search needs)
+    examine-opened-requires (λ c. search needs) (λ c κs. search needs) (λ c. search needs) (λ c. search needs)
+    shut-requires (λ c κs. search needs) (λ c. search needs) measure-body-requires returns-2 returns-3)

@@ -21,16 +21,6 @@ use Rattle.placing_at.proofs.PlaceAtLaws.{too-small-at, refused-at, ove
 use borrow.Author.Needs.{needs}
 use Rattle.placing_at.proofs.place_at.Statement.{statement}
 use Rattle.placing_at.proofs.place_at.Tie as tie
-use Rattle.placing_at.proofs.place_at.Reads as reads
-use Rattle.placing_at.proofs.place_at.Lts as lts
-use Rattle.checking.proofs.examine_opened.Reads as examine-opened-reads
-use Rattle.checking_at.proofs.open_at.Reads as open-at-reads
-use Rattle.format.proofs.header.room_for.Reads as room-for-reads
-use Rattle.hours.proofs.shut.Reads as shut-reads
-use Rattle.hours.proofs.table_answer.Reads as table-answer-reads
-use Rattle.placing.proofs.no_place.Reads as no-place-reads
-use Rattle.placing.proofs.place_body.Reads as place-body-reads
-use Rattle.placing_at.proofs.close.Reads as close-reads
 
 -- the output has room, and 22 refuses nothing
 wide : (c : tie.Else1) → roomFor (c .before .before .before .before .before .args .file .now) ≤ length (c .before .before .before .before .before .args .out .now)
@@ -62,23 +52,11 @@ labels c =
     subst (λ (l : List ℕ). (labelsFrom (contentsAt f h) l ≡ labelsIn (openContents (shut t (a .minute)) (contentsAt f h))) × (length l ≡ 1025)) (sym closed)
     (surveyed-open f t (a .minute) (quiet (c .before .before .before .before .before .before .before .before .before .before)) h way-in (replicate 1025 0) roles filled (omega (arith, nodes-held f h, head-laid f t h way-in .nodes)))
 
-room-for-requires : tie.Need-room-for-requires
-room-for-requires c κs = search needs
-
-no-place-requires : tie.Need-no-place-requires
-no-place-requires c κs = search needs
-
 returns : tie.Need-returns
 returns c =
     let a = c .before .before .before .before .before .before .args in
     let e = too-small-at (a .file .now) (a .hours .now) (a .minute) (length (a .out .now)) (omega (arith, c .before .if1 .taken, c .before .before .room-for .ensures)) in
     (c .no-place .ensures ∙ sym e, sym (over-kept-at (a .file .now) (a .hours .now) (a .minute) (a .out .now) 17 0 (λ z. let no-way : ⊥ = omega (arith, z) in no-way) e))
-
-table-answer-requires : tie.Need-table-answer-requires
-table-answer-requires c κs = search needs
-
-no-place-requires-2 : tie.Need-no-place-requires-2
-no-place-requires-2 c κs = search needs
 
 returns-2 : tie.Need-returns-2
 returns-2 c =
@@ -92,32 +70,11 @@ returns-2 c =
 open-at-requires : tie.Need-open-at-requires
 open-at-requires c κs = table-exact (c .before .before .before .before .before .before .before .before .args .hours .now) (c .before .before .before .before .before .before .before .before .args .minute) .0 (quiet c) .1
 
-slice-aggregate-examine-opened : tie.Need-slice-aggregate-examine-opened
-slice-aggregate-examine-opened c = search needs
-
 examine-opened-requires : tie.Need-examine-opened-requires
 examine-opened-requires c κs = (admitted-at (c .before .before .before .before .before .before .before .before .before .before .args .file .now) (c .before .before .before .before .before .before .before .before .before .before .args .hours .now) _ (sym (c .before .open-at .ensures)), search needs)
 
-enum-known-names : tie.Need-enum-known-names
-enum-known-names c = search needs
-
-no-place-requires-3 : tie.Need-no-place-requires-3
-no-place-requires-3 c κs = search needs
-
-enum-known-names-2 : tie.Need-enum-known-names-2
-enum-known-names-2 c = search needs
-
-slice-aggregate-close : tie.Need-slice-aggregate-close
-slice-aggregate-close c = search needs
-
 shut-requires : tie.Need-shut-requires
 shut-requires c κs = table-exact (c .before .before .before .before .before .before .before .before .before .before .before .before .before .before .before .before .args .hours .now) (c .before .before .before .before .before .before .before .before .before .before .before .before .before .before .before .before .args .minute) .0 (quiet (c .before .before .before .before .before .before .before .before)) .1
-
-close-requires : tie.Need-close-requires
-close-requires c κs = search needs
-
-slice-aggregate-place-body : tie.Need-slice-aggregate-place-body
-slice-aggregate-place-body c = search needs
 
 place-body-requires : tie.Need-place-body-requires
 place-body-requires c κs =
@@ -131,9 +88,6 @@ returns-3 c =
     let (e, loud) = names-loud-at (a .file .now) (a .hours .now) (a .minute) (quiet (c .before .before .before .before .before .before .before .before)) w (sym (way (c .before .before .before .before .before)) ∙ c .before .before .names .given .1) in
     let p = refused-at (a .file .now) (a .hours .now) (a .minute) (length (a .out .now)) w (wide (c .before .before .before .before .before .before .before .before .before .before .before)) e loud in
     (c .no-place3 .ensures ∙ sym p, sym (over-kept-at (a .file .now) (a .hours .now) (a .minute) (a .out .now) (w .number) (w .place) loud p))
-
-same-length : tie.Need-same-length
-same-length c = search needs
 
 returns-4 : tie.Need-returns-4
 returns-4 c =
@@ -150,24 +104,7 @@ returns-4 c =
 pub place-at-spec : {M : Type 1} → statement M
 place-at-spec =
     tie.close
-    (tie.spec
-    room-for-requires
-    no-place-requires
-    returns
-    table-answer-requires
-    no-place-requires-2
-    returns-2
-    open-at-requires
-    slice-aggregate-examine-opened
-    examine-opened-requires
-    enum-known-names
-    no-place-requires-3
-    enum-known-names-2
-    slice-aggregate-close
-    shut-requires
-    close-requires
-    slice-aggregate-place-body
-    place-body-requires
-    returns-3
-    same-length
-    returns-4)
+    (tie.spec (λ c κs. search needs) (λ c κs. search needs) returns (λ c κs. search needs) (λ c κs. search needs)
+    returns-2 open-at-requires (λ c. search needs) examine-opened-requires (λ c. search needs) (λ c κs. search needs)
+    (λ c. search needs) (λ c. search needs) shut-requires (λ c κs. search needs) (λ c. search needs) place-body-requires
+    returns-3 (λ c. search needs) returns-4)

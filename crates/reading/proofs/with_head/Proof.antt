@@ -1,8 +1,6 @@
 use borrow.Author.Tests.{eq-eqb, ne-eqb}
 use Rattle.reading.proofs.with_head.Statement.{statement}
 use Rattle.reading.proofs.with_head.Tie as tie
-use Rattle.reading.proofs.with_head.Reads as reads
-use Rattle.reading.proofs.with_head.Lts as lts
 
 returns : tie.Need-returns
 returns c = rw (eq-eqb (c .before .before .args .first .number) 0 (c .if1 .taken))

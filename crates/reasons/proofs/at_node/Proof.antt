@@ -2,8 +2,6 @@ use mathlib.Core.Path.{refl}
 use Rattle.reasons.specs.Reasons.{atNode}
 use Rattle.reasons.proofs.at_node.Statement.{statement}
 use Rattle.reasons.proofs.at_node.Tie as tie
-use Rattle.reasons.proofs.at_node.Reads as reads
-use Rattle.reasons.proofs.at_node.Lts as lts
 
 returns : tie.Need-returns
 unfolding atNode

@@ -2,8 +2,6 @@ use mathlib.Core.Path.{refl}
 use Rattle.reasons.specs.Reasons.{byChoice}
 use Rattle.reasons.proofs.by_choice.Statement.{statement}
 use Rattle.reasons.proofs.by_choice.Tie as tie
-use Rattle.reasons.proofs.by_choice.Reads as reads
-use Rattle.reasons.proofs.by_choice.Lts as lts
 
 returns : tie.Need-returns
 unfolding byChoice

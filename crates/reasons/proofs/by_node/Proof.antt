@@ -2,8 +2,6 @@ use mathlib.Core.Path.{refl}
 use Rattle.reasons.specs.Reasons.{byNode}
 use Rattle.reasons.proofs.by_node.Statement.{statement}
 use Rattle.reasons.proofs.by_node.Tie as tie
-use Rattle.reasons.proofs.by_node.Reads as reads
-use Rattle.reasons.proofs.by_node.Lts as lts
 
 returns : tie.Need-returns
 unfolding byNode

@@ -2,8 +2,6 @@ use mathlib.Core.Path.{refl}
 use Rattle.reasons.specs.Reasons.{byNone}
 use Rattle.reasons.proofs.by_none.Statement.{statement}
 use Rattle.reasons.proofs.by_none.Tie as tie
-use Rattle.reasons.proofs.by_none.Reads as reads
-use Rattle.reasons.proofs.by_none.Lts as lts
 
 returns : tie.Need-returns
 unfolding byNone

@@ -4,22 +4,12 @@ use borrow.Author.Needs.{needs}
 use Rattle.reasons.specs.Reasons.{reasonOf, noReason}
 use Rattle.reasons.proofs.confirmed.Statement.{statement}
 use Rattle.reasons.proofs.confirmed.Tie as tie
-use Rattle.reasons.proofs.confirmed.Reads as reads
-use Rattle.reasons.proofs.confirmed.Lts as lts
-use Rattle.reasons.proofs.is_sentence.Reads as is-sentence-reads
-use Rattle.reasons.proofs.no_reason.Reads as no-reason-reads
-
-is-sentence-requires : tie.Need-is-sentence-requires
-is-sentence-requires c κs = search needs
 
 returns : tie.Need-returns
 returns c =
     let a = c .before .before .before .before .before .args in
     let r = reasonOf (a .n) (a .c) (a .p) (a .t) in
     sym (ap (λ (b : Bool). cond b r noReason) (sym (c .before .is-sentence .ensures) ∙ c .if1 .taken))
-
-no-reason-requires : tie.Need-no-reason-requires
-no-reason-requires c κs = search needs
 
 returns-2 : tie.Need-returns-2
 returns-2 c =
@@ -28,4 +18,4 @@ returns-2 c =
     c .no-reason .ensures ∙ sym (ap (λ (b : Bool). cond b r noReason) (sym (c .before .before .is-sentence .ensures) ∙ c .before .if1 .left))
 
 pub confirmed-spec : {M : Type 1} → statement M
-confirmed-spec = tie.close (tie.spec is-sentence-requires returns no-reason-requires returns-2)
+confirmed-spec = tie.close (tie.spec (λ c κs. search needs) returns (λ c κs. search needs) returns-2)

@@ -12,23 +12,12 @@ use Rattle.reasons.proofs.TableBounds.{sentence-length}
 use Rattle.reasons.proofs.SentenceCompared.{no-sentence, other-length, compared}
 use Rattle.reasons.proofs.is_sentence.Statement.{statement}
 use Rattle.reasons.proofs.is_sentence.Tie as tie
-use Rattle.reasons.proofs.is_sentence.Reads as reads
-use Rattle.reasons.proofs.is_sentence.Lts as lts
-use Rattle.phrases.proofs.stands.Reads as stands-reads
-use Rattle.reasons.proofs.is_reason.Reads as is-reason-reads
-use Rattle.reasons.proofs.put_sentence.Reads as put-sentence-reads
-
-is-reason-requires : tie.Need-is-reason-requires
-is-reason-requires c κs = search needs
 
 returns : tie.Need-returns
 returns c =
     let a = c .before .before .before .before .before .args in
     let r = reasonOf (a .n) (a .c) (a .p) (a .t) in
     no-sentence r (a .s .now) (sym (c .before .is-reason .ensures) ∙ not-true (c .before .is-reason .result) (c .if1 .taken))
-
-slice-aggregate-put-sentence : tie.Need-slice-aggregate-put-sentence
-slice-aggregate-put-sentence c = search needs
 
 put-sentence-requires : tie.Need-put-sentence-requires
 put-sentence-requires c κs =
@@ -43,9 +32,6 @@ returns-2 c =
     let r = reasonOf (a .n) (a .c) (a .p) (a .t) in
     let v : isReason r ≡ true = sym (c .before .before .before .before .before .is-reason .ensures) ∙ not-false (c .before .before .before .before .before .is-reason .result) (c .before .before .before .before .if1 .left) in
     other-length r (a .s .now) (c .before .before .put-sentence .result) v (c .before .before .put-sentence .ensures .0) (c .if2 .taken)
-
-slice-aggregate-stands : tie.Need-slice-aggregate-stands
-slice-aggregate-stands c = search needs
 
 stands-requires : tie.Need-stands-requires
 stands-requires c κs =
@@ -65,12 +51,5 @@ returns-3 c =
 pub is-sentence-spec : {M : Type 1} → statement M
 is-sentence-spec =
     tie.close
-    (tie.spec
-    is-reason-requires
-    returns
-    slice-aggregate-put-sentence
-    put-sentence-requires
-    returns-2
-    slice-aggregate-stands
-    stands-requires
-    returns-3)
+    (tie.spec (λ c κs. search needs) returns (λ c. search needs) put-sentence-requires returns-2 (λ c. search needs)
+    stands-requires returns-3)

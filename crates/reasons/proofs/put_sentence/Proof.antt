@@ -9,13 +9,6 @@ use Rattle.phrases.specs.Table.{endingRow, countRow, meaningRow}
 use Rattle.phrases.specs.Phrases.{phrase}
 use Rattle.reasons.proofs.put_sentence.Statement.{statement}
 use Rattle.reasons.proofs.put_sentence.Tie as tie
-use Rattle.reasons.proofs.put_sentence.Reads as reads
-use Rattle.reasons.proofs.put_sentence.Lts as lts
-use Rattle.phrases.proofs.put_phrase.Reads as put-phrase-reads
-use Rattle.reasons.proofs.digits.put_digits.Reads as put-digits-reads
-
-add-put-phrase : tie.Need-add-put-phrase
-add-put-phrase c = omega arith
 
 put-phrase-requires : tie.Need-put-phrase-requires
 put-phrase-requires c κs =
@@ -25,9 +18,6 @@ put-phrase-requires c κs =
     let w : InTable r = parts r (reason-exactly r .0 (s .pre .2)) in
     let ld = digits-length 5 (a .p) in
     (s .pre .0, s .pre .1, w .number-row, omega (arith, w .room, s .pre .3))
-
-add-put-phrase-2 : tie.Need-add-put-phrase-2
-add-put-phrase-2 c = omega arith
 
 put-phrase-requires-2 : tie.Need-put-phrase-requires-2
 put-phrase-requires-2 c κs =
@@ -56,9 +46,6 @@ put-phrase-requires-3 c κs =
     let ld = digits-length 5 (a .p) in
     (s .pre .0, s .pre .1, w .tag-row, omega (arith, w .room, ld, s .pre .3, c .before .before .before .put-digits .ensures .0, c .before .before .before .before .before .before .before .put-phrase2 .ensures .0, c .before .before .before .before .before .before .before .before .before .before .before .put-phrase .ensures .0))
 
-same-length : tie.Need-same-length
-same-length c = search needs
-
 returns : tie.Need-returns
 unfolding sentence
 returns c =
@@ -76,12 +63,5 @@ returns c =
 pub put-sentence-spec : {M : Type 1} → statement M
 put-sentence-spec =
     tie.close
-    (tie.spec
-    add-put-phrase
-    put-phrase-requires
-    add-put-phrase-2
-    put-phrase-requires-2
-    put-digits-requires
-    put-phrase-requires-3
-    same-length
-    returns)
+    (tie.spec (λ c. omega arith) put-phrase-requires (λ c. omega arith) put-phrase-requires-2 put-digits-requires
+    put-phrase-requires-3 (λ c. search needs) returns)

@@ -9,42 +9,9 @@ use Rattle.reasons.specs.Reasons.{reasonOf, guess}
 use Rattle.reasons.proofs.GuessLaws.{guess-is, guess-kept, guess-dropped}
 use Rattle.reasons.proofs.read_by.Statement.{statement}
 use Rattle.reasons.proofs.read_by.Tie as tie
-use Rattle.reasons.proofs.read_by.Reads as reads
-use Rattle.reasons.proofs.read_by.Lts as lts
-use Rattle.phrases.proofs.phrase_at.Reads as phrase-at-reads
-use Rattle.phrases.proofs.phrase_length.Reads as phrase-length-reads
-use Rattle.reasons.proofs.confirmed.Reads as confirmed-reads
-use Rattle.reasons.proofs.digits.digits_end.Reads as digits-end-reads
-use Rattle.reasons.proofs.digits.numeral_at.Reads as numeral-at-reads
-use Rattle.reasons.proofs.less.Reads as less-reads
-use Rattle.reasons.proofs.no_reason.Reads as no-reason-reads
-
-phrase-at-requires : tie.Need-phrase-at-requires
-phrase-at-requires c κs = search needs
-
-phrase-length-requires : tie.Need-phrase-length-requires
-phrase-length-requires c κs = search needs
-
-phrase-at-requires-2 : tie.Need-phrase-at-requires-2
-phrase-at-requires-2 c κs = search needs
-
-phrase-length-requires-2 : tie.Need-phrase-length-requires-2
-phrase-length-requires-2 c κs = search needs
 
 add-b : tie.Need-add-b
 add-b c = omega (arith, c .before .before .phrase-length .ensures, c .phrase-length2 .ensures, phrase-most (c .before .before .before .phrase-at .result), phrase-most (c .before .phrase-at2 .result))
-
-numeral-at-requires : tie.Need-numeral-at-requires
-numeral-at-requires c κs = search needs
-
-digits-end-requires : tie.Need-digits-end-requires
-digits-end-requires c κs = search needs
-
-phrase-at-requires-3 : tie.Need-phrase-at-requires-3
-phrase-at-requires-3 c κs = search needs
-
-no-reason-requires : tie.Need-no-reason-requires
-no-reason-requires c κs = search needs
 
 returns : tie.Need-returns
 returns c =
@@ -55,26 +22,14 @@ returns c =
     (c .before .before .before .before .before .before .before .before .phrase-at .ensures) (c .before .before .before .before .before .before .before .phrase-length .ensures) (c .before .before .before .before .before .before .phrase-at2 .ensures) (c .before .before .before .before .before .phrase-length2 .ensures) (c .before .before .before .before .numeral-at .ensures .0) (c .before .before .before .digits-end .ensures) (c .before .before .phrase-at3 .ensures) refl refl in
     c .no-reason .ensures ∙ guess-dropped s r e (c .before .if1 .taken)
 
-less-requires : tie.Need-less-requires
-less-requires c κs = search needs
-
 cast-confirmed : tie.Need-cast-confirmed
 cast-confirmed c = omega (arith, c .less .ensures, c .before .before .before .before .before .before .before .before .phrase-at .ensures, leading-most (c .before .before .before .before .before .before .before .before .before .before .before .before .args .s .now))
-
-less-requires-2 : tie.Need-less-requires-2
-less-requires-2 c κs = search needs
 
 cast-confirmed-2 : tie.Need-cast-confirmed-2
 cast-confirmed-2 c = omega (arith, c .less2 .ensures, c .before .before .before .before .before .before .before .phrase-at2 .ensures, leading-most (drop (c .before .before .before .before .before .before .before .before .phrase-length .result) (c .before .before .before .before .before .before .before .before .before .before .before .before .before .args .s .now)))
 
-cast-confirmed-3 : tie.Need-cast-confirmed-3
-cast-confirmed-3 c = search needs
-
 cast-confirmed-4 : tie.Need-cast-confirmed-4
 cast-confirmed-4 c = omega (arith, c .before .before .before .phrase-at3 .ensures, leading-most (drop (c .before .before .before .before .digits-end .result) (c .before .before .before .before .before .before .before .before .before .before .before .before .before .args .s .now)))
-
-confirmed-requires : tie.Need-confirmed-requires
-confirmed-requires c κs = search needs
 
 returns-2 : tie.Need-returns-2
 returns-2 c =
@@ -88,22 +43,7 @@ returns-2 c =
 pub read-by-spec : {M : Type 1} → statement M
 read-by-spec =
     tie.close
-    (tie.spec
-    phrase-at-requires
-    phrase-length-requires
-    phrase-at-requires-2
-    phrase-length-requires-2
-    add-b
-    numeral-at-requires
-    digits-end-requires
-    phrase-at-requires-3
-    no-reason-requires
-    returns
-    less-requires
-    cast-confirmed
-    less-requires-2
-    cast-confirmed-2
-    cast-confirmed-3
-    cast-confirmed-4
-    confirmed-requires
-    returns-2)
+    (tie.spec (λ c κs. search needs) (λ c κs. search needs) (λ c κs. search needs) (λ c κs. search needs) add-b
+    (λ c κs. search needs) (λ c κs. search needs) (λ c κs. search needs) (λ c κs. search needs) returns
+    (λ c κs. search needs) cast-confirmed (λ c κs. search needs) cast-confirmed-2 (λ c. search needs) cast-confirmed-4
+    (λ c κs. search needs) returns-2)

@@ -8,36 +8,12 @@ use Rattle.reasons.proofs.TableBounds.{meaning-room}
 use Rattle.reasons.proofs.ReasonAnswers.{meant-short, meant-not, meant-yes, meaning-in}
 use Rattle.reasons.proofs.write_meaning.Statement.{statement}
 use Rattle.reasons.proofs.write_meaning.Tie as tie
-use Rattle.reasons.proofs.write_meaning.Reads as reads
-use Rattle.reasons.proofs.write_meaning.Lts as lts
-use Rattle.phrases.proofs.phrase_starts.Reads as phrase-starts-reads
-use Rattle.phrases.proofs.phrase_text.Reads as phrase-text-reads
-use Rattle.phrases.proofs.put_phrase.Reads as put-phrase-reads
-use Rattle.reasons.proofs.has_meaning.Reads as has-meaning-reads
 
 returns : tie.Need-returns
 returns c = meant-short (c .before .before .args .number) (c .before .before .args .out .now) (c .if1 .taken)
 
-has-meaning-requires : tie.Need-has-meaning-requires
-has-meaning-requires c κs = search needs
-
 returns-2 : tie.Need-returns-2
 returns-2 c = meant-not (c .before .before .before .before .args .number) (c .before .before .before .before .args .out .now) (c .before .before .if1 .left) (sym (c .before .has-meaning .ensures) ∙ not-true (c .before .has-meaning .result) (c .if2 .taken))
-
-phrase-text-requires : tie.Need-phrase-text-requires
-phrase-text-requires c κs = search needs
-
-phrase-starts-requires : tie.Need-phrase-starts-requires
-phrase-starts-requires c κs = search needs
-
-slice-aggregate-put-phrase : tie.Need-slice-aggregate-put-phrase
-slice-aggregate-put-phrase c = search needs
-
-slice-aggregate-put-phrase-2 : tie.Need-slice-aggregate-put-phrase-2
-slice-aggregate-put-phrase-2 c = search needs
-
-add-put-phrase : tie.Need-add-put-phrase
-add-put-phrase c = search needs
 
 put-phrase-requires : tie.Need-put-phrase-requires
 put-phrase-requires c κs =
@@ -55,9 +31,6 @@ cast-result c =
     let room = meaning-room (a .number) (w .0) (w .1) in
     omega (arith, c .before .before .put-phrase .ensures .0, room .1)
 
-same-length : tie.Need-same-length
-same-length c = search needs
-
 returns-3 : tie.Need-returns-3
 returns-3 c =
     let a = c .before .before .before .before .before .before .before .before .before .before .before .before .args in
@@ -69,16 +42,5 @@ returns-3 c =
 pub write-meaning-spec : {M : Type 1} → statement M
 write-meaning-spec =
     tie.close
-    (tie.spec
-    returns
-    has-meaning-requires
-    returns-2
-    phrase-text-requires
-    phrase-starts-requires
-    slice-aggregate-put-phrase
-    slice-aggregate-put-phrase-2
-    add-put-phrase
-    put-phrase-requires
-    cast-result
-    same-length
-    returns-3)
+    (tie.spec returns (λ c κs. search needs) returns-2 (λ c κs. search needs) (λ c κs. search needs) (λ c. search needs)
+    (λ c. search needs) (λ c. search needs) put-phrase-requires cast-result (λ c. search needs) returns-3)

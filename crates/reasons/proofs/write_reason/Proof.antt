@@ -9,12 +9,6 @@ use Rattle.reasons.proofs.ReasonTests.{reason-exactly}
 use borrow.Author.Tests.{not-true, not-false}
 use Rattle.reasons.proofs.write_reason.Statement.{statement}
 use Rattle.reasons.proofs.write_reason.Tie as tie
-use Rattle.reasons.proofs.write_reason.Reads as reads
-use Rattle.reasons.proofs.write_reason.Lts as lts
-use Rattle.phrases.proofs.phrase_starts.Reads as phrase-starts-reads
-use Rattle.phrases.proofs.phrase_text.Reads as phrase-text-reads
-use Rattle.reasons.proofs.is_reason.Reads as is-reason-reads
-use Rattle.reasons.proofs.put_sentence.Reads as put-sentence-reads
 
 returns : tie.Need-returns
 returns c =
@@ -23,27 +17,12 @@ returns c =
     let r = reasonOf (a .number) (a .counts) (a .place) (a .tag) in
     said-short r (a .out .now) (c .if1 .taken)
 
-is-reason-requires : tie.Need-is-reason-requires
-is-reason-requires c κs = search needs
-
 returns-2 : tie.Need-returns-2
 returns-2 c =
     let s = c .before .before .before .before in
     let a = s .args in
     let r = reasonOf (a .number) (a .counts) (a .place) (a .tag) in
     said-not r (a .out .now) (c .before .before .if1 .left) (sym (c .before .is-reason .ensures) ∙ not-true (c .before .is-reason .result) (c .if2 .taken))
-
-phrase-text-requires : tie.Need-phrase-text-requires
-phrase-text-requires c κs = search needs
-
-phrase-starts-requires : tie.Need-phrase-starts-requires
-phrase-starts-requires c κs = search needs
-
-slice-aggregate-put-sentence : tie.Need-slice-aggregate-put-sentence
-slice-aggregate-put-sentence c = search needs
-
-slice-aggregate-put-sentence-2 : tie.Need-slice-aggregate-put-sentence-2
-slice-aggregate-put-sentence-2 c = search needs
 
 put-sentence-requires : tie.Need-put-sentence-requires
 put-sentence-requires c κs =
@@ -61,9 +40,6 @@ cast-result c =
     let v : isReason r ≡ true = sym (c .before .before .before .before .before .before .before .before .before .is-reason .ensures) ∙ not-false (c .before .before .before .before .before .before .before .before .before .is-reason .result) (c .before .before .before .before .before .before .before .before .if2 .left) in
     omega (arith, c .before .before .put-sentence .ensures .0, sentence-length r (reason-exactly r .0 v) .1)
 
-same-length : tie.Need-same-length
-same-length c = search needs
-
 returns-3 : tie.Need-returns-3
 returns-3 c =
     let s = c .before .before .before .before .before .before .before .before .before .before .before .before in
@@ -75,15 +51,5 @@ returns-3 c =
 pub write-reason-spec : {M : Type 1} → statement M
 write-reason-spec =
     tie.close
-    (tie.spec
-    returns
-    is-reason-requires
-    returns-2
-    phrase-text-requires
-    phrase-starts-requires
-    slice-aggregate-put-sentence
-    slice-aggregate-put-sentence-2
-    put-sentence-requires
-    cast-result
-    same-length
-    returns-3)
+    (tie.spec returns (λ c κs. search needs) returns-2 (λ c κs. search needs) (λ c κs. search needs) (λ c. search needs)
+    (λ c. search needs) put-sentence-requires cast-result (λ c. search needs) returns-3)

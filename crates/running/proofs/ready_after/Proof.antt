@@ -10,12 +10,6 @@ use Rattle.running.proofs.EntryLaws.{listed-word, ready-unfit, ready-re
 use borrow.Author.Needs.{needs}
 use Rattle.running.proofs.ready_after.Statement.{statement}
 use Rattle.running.proofs.ready_after.Tie as tie
-use Rattle.running.proofs.ready_after.Reads as reads
-use Rattle.running.proofs.ready_after.Lts as lts
-use Rattle.checking.proofs.enter.Reads as enter-reads
-use Rattle.running.proofs.is_listed.Reads as is-listed-reads
-use Rattle.running.proofs.no_pair.Reads as no-pair-reads
-use Rattle.running.proofs.ready_in.Reads as ready-in-reads
 
 -- the list fits
 fits : (c : tie.Else1) → listed (length (c .before .before .before .before .args .choices .now)) ≡ true
@@ -25,28 +19,10 @@ fits c = sym (c .before .is-listed .ensures) ∙ not-false _ (c .if1 .left)
 told : (c : tie.After-known-told2) → entered (c .before .before .before .before .before .before .before .before .args .file .now) ≡ Fine (c .before .answer2 .given .0 .0)
 told c = sym (c .before .before .before .enter .ensures) ∙ c .before .answer2 .given .1
 
-is-listed-requires : tie.Need-is-listed-requires
-is-listed-requires c κs = search needs
-
-no-pair-requires : tie.Need-no-pair-requires
-no-pair-requires c κs = search needs
-
 returns : tie.Need-returns
 returns c =
     let a = c .before .before .before .before .before .args in
     ready-unfit (a .file .now) (a .choices .now) (c .no-pair .result) (sym (c .before .before .is-listed .ensures) ∙ not-true _ (c .before .if1 .taken)) (c .no-pair .ensures)
-
-enter-requires : tie.Need-enter-requires
-enter-requires c κs = search needs
-
-enum-known-answer : tie.Need-enum-known-answer
-enum-known-answer c = search needs
-
-no-pair-requires-2 : tie.Need-no-pair-requires-2
-no-pair-requires-2 c κs = search needs
-
-enum-known-answer-2 : tie.Need-enum-known-answer-2
-enum-known-answer-2 c = search needs
 
 ready-in-requires : tie.Need-ready-in-requires
 ready-in-requires c κs =
@@ -66,14 +42,5 @@ returns-3 c =
 pub ready-after-spec : {M : Type 1} → statement M
 ready-after-spec =
     tie.close
-    (tie.spec
-    is-listed-requires
-    no-pair-requires
-    returns
-    enter-requires
-    enum-known-answer
-    no-pair-requires-2
-    enum-known-answer-2
-    ready-in-requires
-    returns-2
-    returns-3)
+    (tie.spec (λ c κs. search needs) (λ c κs. search needs) returns (λ c κs. search needs) (λ c. search needs)
+    (λ c κs. search needs) (λ c. search needs) ready-in-requires returns-2 returns-3)

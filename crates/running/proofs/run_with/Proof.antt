@@ -10,11 +10,6 @@ use Rattle.running.proofs.EntryLaws.{fits-listed, test-fails, test-hold
 use borrow.Author.Needs.{needs}
 use Rattle.running.proofs.run_with.Statement.{statement}
 use Rattle.running.proofs.run_with.Tie as tie
-use Rattle.running.proofs.run_with.Reads as reads
-use Rattle.running.proofs.run_with.Lts as lts
-use Rattle.checking.proofs.enter_scoped.Reads as enter-scoped-reads
-use Rattle.running.proofs.is_listed.Reads as is-listed-reads
-use Rattle.running.proofs.run_into.Reads as run-into-reads
 
 -- the list and the room fit
 fits : (c : tie.Else1) → listed (length (c .before .before .before .before .before .before .args .choices .now)) && leb 1800 (length (c .before .before .before .before .before .before .args .out .now)) ≡ true
@@ -24,22 +19,10 @@ fits c = test-holds _ _ _ (c .before .is-listed .ensures) (c .if1 .left)
 told : (c : tie.After-known-told2) → entered (c .before .before .before .before .before .before .before .before .before .before .before .before .before .args .file .now) ≡ Fine (c .before .answer2 .given .0 .0)
 told c = sym (c .before .before .before .before .before .enter-scoped .ensures .0) ∙ c .before .answer2 .given .1
 
-is-listed-requires : tie.Need-is-listed-requires
-is-listed-requires c κs = search needs
-
 returns : tie.Need-returns
 returns c =
     let a = c .before .before .before .before .before .before .args in
     run-unfit (a .file .now) (a .choices .now) (a .out .now) (test-fails _ _ _ (c .before .is-listed .ensures) (c .if1 .taken))
-
-enter-scoped-requires : tie.Need-enter-scoped-requires
-enter-scoped-requires c κs = search needs
-
-enum-known-answer : tie.Need-enum-known-answer
-enum-known-answer c = search needs
-
-enum-known-answer-2 : tie.Need-enum-known-answer-2
-enum-known-answer-2 c = search needs
 
 run-into-requires : tie.Need-run-into-requires
 run-into-requires c κs =
@@ -52,33 +35,14 @@ returns-2 c =
     let a = c .before .before .before .before .before .before .before .before .before .before .before .before .before .args in
     run-refused (a .file .now) (a .choices .now) (a .out .now) (fits (c .before .before .before .before .before .before .before)) _ (sym (c .before .before .before .before .before .enter-scoped .ensures .0) ∙ c .before .answer .given .1)
 
-same-length : tie.Need-same-length
-same-length c = search needs
-
 returns-3 : tie.Need-returns-3
 returns-3 c =
     let a = c .before .before .before .before .before .before .before .before .before .before .before .before .before .before .before .before .before .before .args in
     let g = c .before .before .run-into in
     run-done (a .file .now) (a .choices .now) (a .out .now) (fits (c .before .before .before .before .before .before .before .before .before .before .before .before)) _ (g .result) (g .last .1 .1 .1 .1 .0) (told (c .before .before .before .before .before)) (g .ensures .0) (g .ensures .1)
 
-same-length-2 : tie.Need-same-length-2
-same-length-2 c = search needs
-
-same-length-3 : tie.Need-same-length-3
-same-length-3 c = search needs
-
 pub run-with-spec : {M : Type 1} → statement M
 run-with-spec =
     tie.close
-    (tie.spec
-    is-listed-requires
-    returns
-    enter-scoped-requires
-    enum-known-answer
-    enum-known-answer-2
-    run-into-requires
-    same-length
-    returns-2
-    same-length-2
-    same-length-3
-    returns-3)
+    (tie.spec (λ c κs. search needs) returns (λ c κs. search needs) (λ c. search needs) (λ c. search needs)
+    run-into-requires (λ c. search needs) returns-2 (λ c. search needs) (λ c. search needs) returns-3)

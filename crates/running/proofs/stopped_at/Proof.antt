@@ -2,8 +2,6 @@ use native.Mathlib.Omega.{arith}
 use borrow.Author.Tests.{eq-eqb, ne-eqb}
 use Rattle.running.proofs.stopped_at.Statement.{statement}
 use Rattle.running.proofs.stopped_at.Tie as tie
-use Rattle.running.proofs.stopped_at.Reads as reads
-use Rattle.running.proofs.stopped_at.Lts as lts
 
 returns : tie.Need-returns
 returns c = rw (eq-eqb _ 0 (c .if1 .taken))

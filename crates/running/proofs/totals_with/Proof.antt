@@ -10,12 +10,6 @@ use Rattle.running.proofs.EntryLaws.{listed-word, totals-unfit, totals-
 use borrow.Author.Needs.{needs}
 use Rattle.running.proofs.totals_with.Statement.{statement}
 use Rattle.running.proofs.totals_with.Tie as tie
-use Rattle.running.proofs.totals_with.Reads as reads
-use Rattle.running.proofs.totals_with.Lts as lts
-use Rattle.checking.proofs.enter_scoped.Reads as enter-scoped-reads
-use Rattle.running.proofs.is_listed.Reads as is-listed-reads
-use Rattle.running.proofs.no_totals.Reads as no-totals-reads
-use Rattle.running.proofs.totals_in.Reads as totals-in-reads
 
 -- the list fits
 fits : (c : tie.Else1) → listed (length (c .before .before .before .before .before .args .choices .now)) ≡ true
@@ -25,44 +19,20 @@ fits c = sym (c .before .is-listed .ensures) ∙ not-false _ (c .if1 .left)
 told : (c : tie.After-known-told2) → entered (c .before .before .before .before .before .before .before .before .before .before .before .before .args .file .now) ≡ Fine (c .before .answer2 .given .0 .0)
 told c = sym (c .before .before .before .before .before .enter-scoped .ensures .0) ∙ c .before .answer2 .given .1
 
-is-listed-requires : tie.Need-is-listed-requires
-is-listed-requires c κs = search needs
-
-no-totals-requires : tie.Need-no-totals-requires
-no-totals-requires c κs = search needs
-
 returns : tie.Need-returns
 returns c =
     let a = c .before .before .before .before .before .before .args in
     totals-unfit (a .file .now) (a .choices .now) (c .no-totals .result) (sym (c .before .before .is-listed .ensures) ∙ not-true _ (c .before .if1 .taken)) (c .no-totals .ensures)
-
-enter-scoped-requires : tie.Need-enter-scoped-requires
-enter-scoped-requires c κs = search needs
-
-enum-known-answer : tie.Need-enum-known-answer
-enum-known-answer c = search needs
-
-no-totals-requires-2 : tie.Need-no-totals-requires-2
-no-totals-requires-2 c κs = search needs
-
-enum-known-answer-2 : tie.Need-enum-known-answer-2
-enum-known-answer-2 c = search needs
 
 totals-in-requires : tie.Need-totals-in-requires
 totals-in-requires c κs =
     let a = c .before .before .before .before .before .before .before .before .before .before .before .before .before .args in
     (entered-fine (a .file .now) _ (told (c .before)) .0, listed-word (length (a .choices .now)) (fits (c .before .before .before .before .before .before .before .before)))
 
-same-length : tie.Need-same-length
-same-length c = search needs
-
 returns-2 : tie.Need-returns-2
 returns-2 c =
     let a = c .before .before .before .before .before .before .before .before .before .before .before .before .before .args in
     totals-refused (a .file .now) (a .choices .now) (fits (c .before .before .before .before .before .before .before .before)) _ (c .no-totals2 .result) (sym (c .before .before .before .before .before .before .enter-scoped .ensures .0) ∙ c .before .before .answer .given .1) (c .no-totals2 .ensures)
-
-same-length-2 : tie.Need-same-length-2
-same-length-2 c = search needs
 
 returns-3 : tie.Need-returns-3
 returns-3 c =
@@ -73,16 +43,6 @@ returns-3 c =
 pub totals-with-spec : {M : Type 1} → statement M
 totals-with-spec =
     tie.close
-    (tie.spec
-    is-listed-requires
-    no-totals-requires
-    returns
-    enter-scoped-requires
-    enum-known-answer
-    no-totals-requires-2
-    enum-known-answer-2
-    totals-in-requires
-    same-length
-    returns-2
-    same-length-2
+    (tie.spec (λ c κs. search needs) (λ c κs. search needs) returns (λ c κs. search needs) (λ c. search needs)
+    (λ c κs. search needs) (λ c. search needs) totals-in-requires (λ c. search needs) returns-2 (λ c. search needs)
     returns-3)

@@ -1,6 +1,5 @@
-use Prim.Native.Nat.{ℕ}
 use mathlib.Core.List.{[]}
-use mathlib.Core.Path.{_≡_, refl, sym, ap, _∙_}
+use mathlib.Core.Path.{refl, sym, ap, _∙_}
 use native.Mathlib.Omega.{arith}
 use Rattle.format.specs.Contents.{contentsAt}
 use Rattle.format.specs.declared.Verdict.{Verdict}
@@ -11,45 +10,11 @@ use Rattle.seated.proofs.SeatsLaws.{read-barred, read-done}
 use borrow.Author.Needs.{needs}
 use Rattle.seated.proofs.seats_in.Statement.{statement}
 use Rattle.seated.proofs.seats_in.Tie as tie
-use Rattle.seated.proofs.seats_in.Reads as reads
-use Rattle.seated.proofs.seats_in.Lts as lts
-use Rattle.running.proofs.stopped_at.Reads as stopped-at-reads
-use Rattle.seated.proofs.no_seats.Reads as no-seats-reads
-use Rattle.seated.proofs.read.line_words.Reads as line-words-reads
-use Rattle.seated.proofs.read.taken_words.Reads as taken-words-reads
-use Rattle.seated.proofs.read.waiting_words.Reads as waiting-words-reads
-use Rattle.seated.proofs.runs.run_seated_by.Reads as run-seated-by-reads
-use Rattle.seated.proofs.table.seats_bar.Reads as seats-bar-reads
-use Rattle.steps.proofs.beside.totals_of.Reads as totals-of-reads
-
-seats-bar-requires : tie.Need-seats-bar-requires
-seats-bar-requires c κs = search needs
-
-no-seats-requires : tie.Need-no-seats-requires
-no-seats-requires c κs = search needs
 
 returns : tie.Need-returns
 returns c =
     let a = c .before .before .before .before .before .before .before .before .args in
     read-barred (awaitedBy (a .table .now)) (contentsAt (a .file .now) (a .head)) (a .seats .now) (a .choices .now) (c .before .before .before .seats-bar .result) (c .before .before .before .seats-bar .ensures) (c .no-seats .result) (c .before .if1 .taken) (c .no-seats .ensures)
-
-slice-aggregate-run-seated-by : tie.Need-slice-aggregate-run-seated-by
-slice-aggregate-run-seated-by c = search needs
-
-slice-aggregate-run-seated-by-2 : tie.Need-slice-aggregate-run-seated-by-2
-slice-aggregate-run-seated-by-2 c = search needs
-
-slice-aggregate-run-seated-by-3 : tie.Need-slice-aggregate-run-seated-by-3
-slice-aggregate-run-seated-by-3 c = search needs
-
-slice-aggregate-run-seated-by-4 : tie.Need-slice-aggregate-run-seated-by-4
-slice-aggregate-run-seated-by-4 c = search needs
-
-slice-aggregate-run-seated-by-5 : tie.Need-slice-aggregate-run-seated-by-5
-slice-aggregate-run-seated-by-5 c = search needs
-
-slice-aggregate-run-seated-by-6 : tie.Need-slice-aggregate-run-seated-by-6
-slice-aggregate-run-seated-by-6 c = search needs
 
 run-seated-by-requires : tie.Need-run-seated-by-requires
 run-seated-by-requires c κs =
@@ -64,32 +29,14 @@ stopped-at-requires c κs =
     let a = c .before .before .before .before .before .before .before .before .before .before .before .before .before .before .before .before .before .before .before .before .args in
     went-word (contentsAt (a .file .now) (a .head)) (a .seats .now) (a .choices .now) [] (c .before .before .before .before .before .before .before .before .before .before .before .before .before .before .before .seats-bar .result) (c .before .before .before .before .before .before .before .before .before .before .before .before .before .before .before .seats-bar .ensures) _ _ (c .before .before .before .before .before .before .run-seated-by .result) _ _ _ _ (c .before .before .before .before .before .before .run-seated-by .ensures .0) (c .before .before .before .before .before .before .before .before .before .before .before .before .before .before .before .before .before .before .before .before .pre .1)
 
-slice-aggregate-taken-words : tie.Need-slice-aggregate-taken-words
-slice-aggregate-taken-words c = search needs
-
-slice-aggregate-taken-words-2 : tie.Need-slice-aggregate-taken-words-2
-slice-aggregate-taken-words-2 c = search needs
-
-slice-aggregate-taken-words-3 : tie.Need-slice-aggregate-taken-words-3
-slice-aggregate-taken-words-3 c = search needs
-
 taken-words-requires : tie.Need-taken-words-requires
 taken-words-requires c κs = (c .before .before .before .before .before .before .before .before .before .before .run-seated-by .ensures .0 .kept .sized, c .before .before .before .before .before .before .before .before .before .before .run-seated-by .ensures .0 .kept .owners)
-
-slice-aggregate-waiting-words : tie.Need-slice-aggregate-waiting-words
-slice-aggregate-waiting-words c = search needs
 
 waiting-words-requires : tie.Need-waiting-words-requires
 waiting-words-requires c κs = c .before .before .before .before .before .before .before .before .before .before .before .before .run-seated-by .ensures .0 .kept .rows
 
-slice-aggregate-line-words : tie.Need-slice-aggregate-line-words
-slice-aggregate-line-words c = search needs
-
 line-words-requires : tie.Need-line-words-requires
 line-words-requires c κs = c .before .before .before .before .before .before .before .before .before .before .before .before .before .before .run-seated-by .ensures .0 .kept .rows
-
-slice-aggregate-totals-of : tie.Need-slice-aggregate-totals-of
-slice-aggregate-totals-of c = search needs
 
 totals-of-requires : tie.Need-totals-of-requires
 totals-of-requires c κs = c .before .before .before .before .before .before .before .before .before .before .before .before .before .before .before .before .run-seated-by .ensures .0 .kept .sized .beside
@@ -102,26 +49,8 @@ returns-2 c =
 pub seats-in-spec : {M : Type 1} → statement M
 seats-in-spec =
     tie.close
-    (tie.spec
-    seats-bar-requires
-    no-seats-requires
-    returns
-    slice-aggregate-run-seated-by
-    slice-aggregate-run-seated-by-2
-    slice-aggregate-run-seated-by-3
-    slice-aggregate-run-seated-by-4
-    slice-aggregate-run-seated-by-5
-    slice-aggregate-run-seated-by-6
-    run-seated-by-requires
-    stopped-at-requires
-    slice-aggregate-taken-words
-    slice-aggregate-taken-words-2
-    slice-aggregate-taken-words-3
-    taken-words-requires
-    slice-aggregate-waiting-words
-    waiting-words-requires
-    slice-aggregate-line-words
-    line-words-requires
-    slice-aggregate-totals-of
-    totals-of-requires
-    returns-2)
+    (tie.spec (λ c κs. search needs) (λ c κs. search needs) returns (λ c. search needs) (λ c. search needs)
+    (λ c. search needs) (λ c. search needs) (λ c. search needs) (λ c. search needs) run-seated-by-requires
+    stopped-at-requires (λ c. search needs) (λ c. search needs) (λ c. search needs) taken-words-requires
+    (λ c. search needs) waiting-words-requires (λ c. search needs) line-words-requires (λ c. search needs)
+    totals-of-requires returns-2)

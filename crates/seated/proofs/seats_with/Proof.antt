@@ -1,4 +1,4 @@
-use mathlib.Core.Path.{_≡_, sym, _∙_}
+use mathlib.Core.Path.{sym, _∙_}
 use lib.ListN.{length}
 use borrow.Author.Tests.{not-true, not-false}
 use Rattle.checking.proofs.CheckLaws.{entered-fine}
@@ -7,51 +7,21 @@ use Rattle.seated.proofs.SeatsLaws.{seats-unfit, seats-refused, seats-d
 use borrow.Author.Needs.{needs}
 use Rattle.seated.proofs.seats_with.Statement.{statement}
 use Rattle.seated.proofs.seats_with.Tie as tie
-use Rattle.seated.proofs.seats_with.Reads as reads
-use Rattle.seated.proofs.seats_with.Lts as lts
-use Rattle.checking.proofs.enter_scoped.Reads as enter-scoped-reads
-use Rattle.running.proofs.is_listed.Reads as is-listed-reads
-use Rattle.seated.proofs.no_seats.Reads as no-seats-reads
-use Rattle.seated.proofs.seats_in.Reads as seats-in-reads
-
-is-listed-requires : tie.Need-is-listed-requires
-is-listed-requires c κs = search needs
-
-no-seats-requires : tie.Need-no-seats-requires
-no-seats-requires c κs = search needs
 
 returns : tie.Need-returns
 returns c =
     let a = c .before .before .before .before .before .before .before .args in
     seats-unfit (a .file .now) (a .choices .now) (a .seats .now) (c .no-seats .result) (sym (c .before .before .is-listed .ensures) ∙ not-true _ (c .before .if1 .taken)) (c .no-seats .ensures)
 
-enter-scoped-requires : tie.Need-enter-scoped-requires
-enter-scoped-requires c κs = search needs
-
-enum-known-answer : tie.Need-enum-known-answer
-enum-known-answer c = search needs
-
-no-seats-requires-2 : tie.Need-no-seats-requires-2
-no-seats-requires-2 c κs = search needs
-
-enum-known-answer-2 : tie.Need-enum-known-answer-2
-enum-known-answer-2 c = search needs
-
 seats-in-requires : tie.Need-seats-in-requires
 seats-in-requires c κs =
     let a = c .before .before .before .before .before .before .before .before .before .before .before .before .before .before .args in
     (entered-fine (a .file .now) _ (sym (c .before .before .before .before .before .before .enter-scoped .ensures .0) ∙ c .before .before .answer2 .given .1) .0, listed-word (length (a .choices .now)) (sym (c .before .before .before .before .before .before .before .before .before .is-listed .ensures) ∙ not-false _ (c .before .before .before .before .before .before .before .before .if1 .left)))
 
-same-length : tie.Need-same-length
-same-length c = search needs
-
 returns-2 : tie.Need-returns-2
 returns-2 c =
     let a = c .before .before .before .before .before .before .before .before .before .before .before .before .before .before .args in
     seats-refused (a .file .now) (a .choices .now) (a .seats .now) (sym (c .before .before .before .before .before .before .before .before .before .is-listed .ensures) ∙ not-false _ (c .before .before .before .before .before .before .before .before .if1 .left)) _ (c .no-seats2 .result) (sym (c .before .before .before .before .before .before .enter-scoped .ensures .0) ∙ c .before .before .answer .given .1) (c .no-seats2 .ensures)
-
-same-length-2 : tie.Need-same-length-2
-same-length-2 c = search needs
 
 returns-3 : tie.Need-returns-3
 returns-3 c =
@@ -62,16 +32,6 @@ returns-3 c =
 pub seats-with-spec : {M : Type 1} → statement M
 seats-with-spec =
     tie.close
-    (tie.spec
-    is-listed-requires
-    no-seats-requires
-    returns
-    enter-scoped-requires
-    enum-known-answer
-    no-seats-requires-2
-    enum-known-answer-2
-    seats-in-requires
-    same-length
-    returns-2
-    same-length-2
+    (tie.spec (λ c κs. search needs) (λ c κs. search needs) returns (λ c κs. search needs) (λ c. search needs)
+    (λ c κs. search needs) (λ c. search needs) seats-in-requires (λ c. search needs) returns-2 (λ c. search needs)
     returns-3)

@@ -12,12 +12,6 @@ use Rattle.seated_rounds.proofs.EntryLaws.{round-unfit, round-refused, 
 use borrow.Author.Needs.{needs}
 use Rattle.seated_rounds.proofs.round_seated.Statement.{statement}
 use Rattle.seated_rounds.proofs.round_seated.Tie as tie
-use Rattle.seated_rounds.proofs.round_seated.Reads as reads
-use Rattle.seated_rounds.proofs.round_seated.Lts as lts
-use Rattle.checking.proofs.enter.Reads as enter-reads
-use Rattle.dispatching.proofs.is_listed_for_round.Reads as is-listed-for-round-reads
-use Rattle.dispatching.proofs.no_round.Reads as no-round-reads
-use Rattle.seated_rounds.proofs.round_into.Reads as round-into-reads
 
 -- the list and the room fit
 fits : (c : tie.Else1) → roundListed (length (c .before .before .before .before .before .before .args .choices .now)) && leb 1800 (length (c .before .before .before .before .before .before .args .out .now)) ≡ true
@@ -27,28 +21,10 @@ fits c = test-holds _ _ _ (c .before .is-listed-for-round .ensures) (c .if1 .lef
 told : (c : tie.After-known-told2) → entered (c .before .before .before .before .before .before .before .before .before .before .args .file .now) ≡ Fine (c .before .answer2 .given .0 .0)
 told c = sym (c .before .before .before .enter .ensures) ∙ c .before .answer2 .given .1
 
-is-listed-for-round-requires : tie.Need-is-listed-for-round-requires
-is-listed-for-round-requires c κs = search needs
-
-no-round-requires : tie.Need-no-round-requires
-no-round-requires c κs = search needs
-
 returns : tie.Need-returns
 returns c =
     let a = c .before .before .before .before .before .before .before .args in
     round-unfit (a .file .now) (a .choices .now) (a .seats .now) (a .out .now) (c .no-round .result) (test-fails _ _ _ (c .before .before .is-listed-for-round .ensures) (c .before .if1 .taken)) (c .no-round .ensures)
-
-enter-requires : tie.Need-enter-requires
-enter-requires c κs = search needs
-
-enum-known-answer : tie.Need-enum-known-answer
-enum-known-answer c = search needs
-
-no-round-requires-2 : tie.Need-no-round-requires-2
-no-round-requires-2 c κs = search needs
-
-enum-known-answer-2 : tie.Need-enum-known-answer-2
-enum-known-answer-2 c = search needs
 
 round-into-requires : tie.Need-round-into-requires
 round-into-requires c κs =
@@ -61,9 +37,6 @@ returns-2 c =
     let a = c .before .before .before .before .before .before .before .before .before .before .before .args in
     round-refused (a .file .now) (a .choices .now) (a .seats .now) (a .out .now) (fits (c .before .before .before .before .before)) _ (c .no-round2 .result) (sym (c .before .before .before .before .enter .ensures) ∙ c .before .before .answer .given .1) (c .no-round2 .ensures)
 
-same-length : tie.Need-same-length
-same-length c = search needs
-
 returns-3 : tie.Need-returns-3
 returns-3 c =
     let a = c .before .before .before .before .before .before .before .before .before .before .before .before .before .before .args in
@@ -73,15 +46,5 @@ returns-3 c =
 pub round-seated-spec : {M : Type 1} → statement M
 round-seated-spec =
     tie.close
-    (tie.spec
-    is-listed-for-round-requires
-    no-round-requires
-    returns
-    enter-requires
-    enum-known-answer
-    no-round-requires-2
-    enum-known-answer-2
-    round-into-requires
-    returns-2
-    same-length
-    returns-3)
+    (tie.spec (λ c κs. search needs) (λ c κs. search needs) returns (λ c κs. search needs) (λ c. search needs)
+    (λ c κs. search needs) (λ c. search needs) round-into-requires returns-2 (λ c. search needs) returns-3)

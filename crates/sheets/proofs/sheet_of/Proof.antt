@@ -1,30 +1,20 @@
 use mathlib.Core.Path.{_≡_, refl, sym, ap, _∙_, subst}
-use Prim.Native.Nat.{ℕ, _+_, _-_, _≤_, _<_}
+use Prim.Native.Nat.{_+_, _-_, _≤_}
 use native.Mathlib.Omega.{arith}
 use borrow.Author.Needs.{needs}
 use lib.ListN.{length, take, drop}
 use Rattle.sheets.specs.declared.Sheet.{Sheet}
-use Rattle.sheets.specs.Sheets.{added, blank, Small}
+use Rattle.sheets.specs.Sheets.{added, Small}
 use Rattle.sheets.proofs.Loop.{Going, size-fits, small-blank, small-added, stopped, filled, goes-on}
 use Rattle.sheets.specs.Entries.{entryOf}
 use Rattle.sheets.proofs.sheet_of.Statement.{statement}
 use Rattle.sheets.proofs.sheet_of.Tie as tie
-use Rattle.sheets.proofs.sheet_of.Reads as reads
-use Rattle.sheets.proofs.sheet_of.Lts as lts
-use Rattle.sheets.proofs.add.Reads as add-reads
-use Rattle.sheets.proofs.begin.Reads as begin-reads
-use Rattle.sheets.proofs.close.Reads as close-reads
-use Rattle.sheets.proofs.size_at.Reads as size-at-reads
-use Rattle.sheets.proofs.entries.entry_of.Reads as entry-of-reads
 
 abbrev Inv-loop : tie.InvT-loop
 Inv-loop input roles₀ turns₀ starts₀ s₀ at₀ roles turns starts s at = (at ≤ length input) × Small s × Going entryOf input s at × (length roles ≡ 1025) × (length turns ≡ 1025) × (length starts ≡ 1025)
 
 abbrev μ-loop : tie.MeasureT-loop
 μ-loop input roles₀ turns₀ starts₀ s₀ at₀ roles turns starts s at = 1000 - s .files
-
-begin-requires : tie.Need-begin-requires Inv-loop μ-loop
-begin-requires c κs = search needs
 
 loop-holds : tie.Need-loop-holds Inv-loop μ-loop
 loop-holds c =
@@ -73,15 +63,6 @@ part-file-end c =
     let (a, b) = size-fits (c .before .before .before .before .before .before .before .args .input .now) (v .at) (c .before .size-at .result) (v .inv .0) (c .before .size-at .ensures) (c .if2 .left) in
     omega arith
 
-slice-aggregate-entry-of : tie.Need-slice-aggregate-entry-of Inv-loop μ-loop
-slice-aggregate-entry-of c = search needs
-
-slice-aggregate-entry-of-2 : tie.Need-slice-aggregate-entry-of-2 Inv-loop μ-loop
-slice-aggregate-entry-of-2 c = search needs
-
-slice-aggregate-entry-of-3 : tie.Need-slice-aggregate-entry-of-3 Inv-loop μ-loop
-slice-aggregate-entry-of-3 c = search needs
-
 entry-of-requires : tie.Need-entry-of-requires Inv-loop μ-loop
 entry-of-requires c κs = let v = c .before .before .before .before .before .before .before .before .loop in (v .inv .3, v .inv .4, v .inv .5)
 
@@ -129,26 +110,6 @@ returns-2 c =
 pub sheet-of-spec : {M : Type 1} → statement M
 sheet-of-spec =
     tie.close
-    (tie.spec
-    Inv-loop
-    μ-loop
-    begin-requires
-    loop-holds
-    size-at-requires
-    close-requires
-    returns
-    add-file
-    add-file-2
-    sub-file
-    part-file-start
-    part-file-end
-    slice-aggregate-entry-of
-    slice-aggregate-entry-of-2
-    slice-aggregate-entry-of-3
-    entry-of-requires
-    add-requires
-    add-at
-    loop-less
-    loop-again
-    close-requires-2
-    returns-2)
+    (tie.spec Inv-loop μ-loop (λ c κs. search needs) loop-holds size-at-requires close-requires returns add-file
+    add-file-2 sub-file part-file-start part-file-end (λ c. search needs) (λ c. search needs) (λ c. search needs)
+    entry-of-requires add-requires add-at loop-less loop-again close-requires-2 returns-2)

@@ -8,35 +8,12 @@ use Rattle.states.proofs.PassLaws.{labels-roled}
 use Rattle.states.proofs.TurnLaws.{finish}
 use Rattle.states.proofs.many.Statement.{statement}
 use Rattle.states.proofs.many.Tie as tie
-use Rattle.states.proofs.many.Reads as reads
-use Rattle.states.proofs.many.Lts as lts
-use Rattle.states.proofs.costs.lane_bits.Reads as lane-bits-reads
-use Rattle.states.proofs.pass.decide.Reads as decide-reads
-use Rattle.states.proofs.pass.follow.Reads as follow-reads
-
-lane-bits-requires : tie.Need-lane-bits-requires
-lane-bits-requires c κs = omega arith
-
-slice-aggregate-decide : tie.Need-slice-aggregate-decide
-slice-aggregate-decide c = omega arith
-
-slice-aggregate-decide-2 : tie.Need-slice-aggregate-decide-2
-slice-aggregate-decide-2 c = omega arith
 
 decide-requires : tie.Need-decide-requires
 decide-requires c κs = let p = c .before .before .before .before .before .before .before .pre in (p .0, omega arith, c .before .before .before .lane-bits .ensures, omega (arith, p .0 .nodes), omega (arith, p .0 .nodes), refl)
 
-slice-aggregate-follow : tie.Need-slice-aggregate-follow
-slice-aggregate-follow c = omega arith
-
-slice-aggregate-follow-2 : tie.Need-slice-aggregate-follow-2
-slice-aggregate-follow-2 c = omega arith
-
 follow-requires : tie.Need-follow-requires
 follow-requires c κs = let p = c .before .before .before .before .before .before .before .before .before .before .before .before .before .pre in (p .0, omega (arith, p .0 .nodes), omega (arith, p .0 .nodes), omega arith, refl)
-
-same-length : tie.Need-same-length
-same-length c = omega arith
 
 returns : tie.Need-returns
 returns c =
@@ -51,13 +28,5 @@ returns c =
 pub many-spec : {M : Type 1} → statement M
 many-spec =
     tie.close
-    (tie.spec
-    lane-bits-requires
-    slice-aggregate-decide
-    slice-aggregate-decide-2
-    decide-requires
-    slice-aggregate-follow
-    slice-aggregate-follow-2
-    follow-requires
-    same-length
-    returns)
+    (tie.spec (λ c κs. omega arith) (λ c. omega arith) (λ c. omega arith) decide-requires (λ c. omega arith)
+    (λ c. omega arith) follow-requires (λ c. omega arith) returns)

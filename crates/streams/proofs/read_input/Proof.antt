@@ -17,15 +17,6 @@ Inv-loop descriptor₀ buffer₀ kept₀ turns₀ buffer kept turns = (kept ≤ 
 abbrev μ-loop : tie.MeasureT-loop
 μ-loop descriptor₀ buffer₀ kept₀ turns₀ buffer kept turns = turns
 
-loop-holds : tie.Need-loop-holds Inv-loop μ-loop
-loop-holds c = omega arith
-
-read-behind-requires : tie.Need-read-behind-requires Inv-loop μ-loop
-read-behind-requires c κs = omega arith
-
-same-length : tie.Need-same-length Inv-loop μ-loop
-same-length c = omega arith
-
 returns : tie.Need-returns Inv-loop μ-loop
 returns c = (omega arith, sym (length-take-le _ _ (omega arith)))
 
@@ -40,35 +31,11 @@ keep-requires c κs =
     let same : toZ w64 (ofZ w64 (r .result)) ≡ r .result = search needs in
     omega (arith, moved-count (r .result) (toZ w64 (ofZ w64 (r .result))) (length (l .buffer) - l .kept) (length (r .last .1 .0)) (n .result) same (r .ensures .0) (n .ensures .1))
 
-sub-turns : tie.Need-sub-turns Inv-loop μ-loop
-sub-turns c = omega arith
-
-loop-less : tie.Need-loop-less Inv-loop μ-loop
-loop-less c = omega arith
-
-loop-again : tie.Need-loop-again Inv-loop μ-loop
-loop-again c = omega arith
-
-same-length-2 : tie.Need-same-length-2 Inv-loop μ-loop
-same-length-2 c = omega arith
-
 returns-2 : tie.Need-returns-2 Inv-loop μ-loop
 returns-2 c = (omega arith, sym (length-take-le _ _ (omega arith)))
 
 pub read-input-spec : {M : Type 1} → statement M
 read-input-spec =
     tie.close
-    (tie.spec
-    Inv-loop
-    μ-loop
-    loop-holds
-    read-behind-requires
-    same-length
-    returns
-    count-requires
-    keep-requires
-    sub-turns
-    loop-less
-    loop-again
-    same-length-2
-    returns-2)
+    (tie.spec Inv-loop μ-loop (λ c. omega arith) (λ c κs. omega arith) (λ c. omega arith) returns count-requires
+    keep-requires (λ c. omega arith) (λ c. omega arith) (λ c. omega arith) (λ c. omega arith) returns-2)

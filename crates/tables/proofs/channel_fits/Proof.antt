@@ -7,19 +7,6 @@ use Rattle.tables.specs.Records.{recordFits}
 use borrow.Author.Needs.{needs}
 use Rattle.tables.proofs.channel_fits.Statement.{statement}
 use Rattle.tables.proofs.channel_fits.Tie as tie
-use Rattle.tables.proofs.channel_fits.Reads as reads
-use Rattle.tables.proofs.channel_fits.Lts as lts
-use Rattle.format.proofs.sections.in_count.Reads as in-count-reads
-use Rattle.format.proofs.sections.channel.Reads as channel-reads
-
-channel-requires : tie.Need-channel-requires
-channel-requires c κs = search needs
-
-in-count-requires : tie.Need-in-count-requires
-in-count-requires c κs = search needs
-
-in-count-requires-2 : tie.Need-in-count-requires-2
-in-count-requires-2 c κs = search needs
 
 returns : tie.Need-returns
 unfolding recordFits
@@ -31,4 +18,4 @@ returns c =
 
 pub channel-fits-spec : {M : Type 1} → statement M
 channel-fits-spec =
-    tie.close (tie.spec channel-requires in-count-requires in-count-requires-2 returns)
+    tie.close (tie.spec (λ c κs. search needs) (λ c κs. search needs) (λ c κs. search needs) returns)

@@ -4,43 +4,6 @@ use mathlib.Core.Path.{ap₂, _∙_}
 use borrow.Author.Needs.{needs}
 use Rattle.tables.proofs.records.Statement.{statement}
 use Rattle.tables.proofs.records.Tie as tie
-use Rattle.tables.proofs.records.Reads as reads
-use Rattle.tables.proofs.records.Lts as lts
-use Rattle.format.proofs.answers.or_else.Reads as or-else-reads
-use Rattle.tables.proofs.section_answer.Reads as section-answer-reads
-
-section-answer-requires : tie.Need-section-answer-requires
-section-answer-requires c κs = search needs
-
-section-answer-requires-2 : tie.Need-section-answer-requires-2
-section-answer-requires-2 c κs = search needs
-
-section-answer-requires-3 : tie.Need-section-answer-requires-3
-section-answer-requires-3 c κs = search needs
-
-section-answer-requires-4 : tie.Need-section-answer-requires-4
-section-answer-requires-4 c κs = search needs
-
-section-answer-requires-5 : tie.Need-section-answer-requires-5
-section-answer-requires-5 c κs = search needs
-
-section-answer-requires-6 : tie.Need-section-answer-requires-6
-section-answer-requires-6 c κs = search needs
-
-or-else-requires : tie.Need-or-else-requires
-or-else-requires c κs = search needs
-
-or-else-requires-2 : tie.Need-or-else-requires-2
-or-else-requires-2 c κs = search needs
-
-or-else-requires-3 : tie.Need-or-else-requires-3
-or-else-requires-3 c κs = search needs
-
-or-else-requires-4 : tie.Need-or-else-requires-4
-or-else-requires-4 c κs = search needs
-
-or-else-requires-5 : tie.Need-or-else-requires-5
-or-else-requires-5 c κs = search needs
 
 returns : tie.Need-returns
 unfolding recordsAnswer
@@ -59,16 +22,6 @@ returns c =
 pub records-spec : {M : Type 1} → statement M
 records-spec =
     tie.close
-    (tie.spec
-    section-answer-requires
-    section-answer-requires-2
-    section-answer-requires-3
-    section-answer-requires-4
-    section-answer-requires-5
-    section-answer-requires-6
-    or-else-requires
-    or-else-requires-2
-    or-else-requires-3
-    or-else-requires-4
-    or-else-requires-5
-    returns)
+    (tie.spec (λ c κs. search needs) (λ c κs. search needs) (λ c κs. search needs) (λ c κs. search needs)
+    (λ c κs. search needs) (λ c κs. search needs) (λ c κs. search needs) (λ c κs. search needs) (λ c κs. search needs)
+    (λ c κs. search needs) (λ c κs. search needs) returns)

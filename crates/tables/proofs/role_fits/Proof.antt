@@ -7,19 +7,6 @@ use Rattle.tables.specs.Records.{recordFits}
 use borrow.Author.Needs.{needs}
 use Rattle.tables.proofs.role_fits.Statement.{statement}
 use Rattle.tables.proofs.role_fits.Tie as tie
-use Rattle.tables.proofs.role_fits.Reads as reads
-use Rattle.tables.proofs.role_fits.Lts as lts
-use Rattle.format.proofs.sections.role.Reads as role-reads
-use Rattle.masks.proofs.names_only.Reads as names-only-reads
-
-role-requires : tie.Need-role-requires
-role-requires c κs = search needs
-
-names-only-requires : tie.Need-names-only-requires
-names-only-requires c κs = search needs
-
-names-only-requires-2 : tie.Need-names-only-requires-2
-names-only-requires-2 c κs = search needs
 
 returns : tie.Need-returns
 unfolding recordFits
@@ -32,4 +19,4 @@ returns c =
 
 pub role-fits-spec : {M : Type 1} → statement M
 role-fits-spec =
-    tie.close (tie.spec role-requires names-only-requires names-only-requires-2 returns)
+    tie.close (tie.spec (λ c κs. search needs) (λ c κs. search needs) (λ c κs. search needs) returns)

@@ -13,11 +13,6 @@ use mathlib.Core.Path.{_≡_, sym, ap, _∙_}
 use borrow.Author.Needs.{needs}
 use Rattle.tables.proofs.section_answer.Statement.{statement}
 use Rattle.tables.proofs.section_answer.Tie as tie
-use Rattle.tables.proofs.section_answer.Reads as reads
-use Rattle.tables.proofs.section_answer.Lts as lts
-use Rattle.tables.proofs.record_fits.Reads as record-fits-reads
-use Rattle.tables.proofs.refusal_of.Reads as refusal-of-reads
-use Rattle.format.proofs.sections.part_of.Reads as part-of-reads
 
 abbrev Inv-loop : tie.InvT-loop
 Inv-loop file head section count n₀ n =
@@ -26,9 +21,6 @@ Inv-loop file head section count n₀ n =
 abbrev μ-loop : tie.MeasureT-loop
 μ-loop file head section count n₀ n = count + 1 - n
 
-part-of-requires : tie.Need-part-of-requires Inv-loop μ-loop
-part-of-requires c κs = search needs
-
 loop-holds : tie.Need-loop-holds Inv-loop μ-loop
 unfolding sectionAnswer
 loop-holds c =
@@ -36,9 +28,6 @@ loop-holds c =
     let all : c .part-of .result + 1 - 1 ≡ countIn (a .section) (contentsAt (a .file .now) (a .head)) =
     omega (arith, c .part-of .ensures, counted (a .file .now) (a .head) (a .section)) in
     (omega arith, c .part-of .ensures, omega arith, ap (firstOf (recordFits (contentsAt (a .file .now) (a .head)) (a .section)) (refusalOf (a .head) (a .section)) 1) all)
-
-record-fits-requires : tie.Need-record-fits-requires Inv-loop μ-loop
-record-fits-requires c κs = search needs
 
 refusal-of-requires : tie.Need-refusal-of-requires Inv-loop μ-loop
 refusal-of-requires c κs =
@@ -63,9 +52,6 @@ add-n c =
     omega (arith, few (a .file .now) (a .head) (c .before .before .before .before .before .before .pre) (a .section)) in
     omega arith
 
-loop-less : tie.Need-loop-less Inv-loop μ-loop
-loop-less c = search needs
-
 loop-again : tie.Need-loop-again Inv-loop μ-loop
 loop-again c =
     let a = c .before .before .before .before .before .before .args in
@@ -88,15 +74,5 @@ returns-2 c =
 pub section-answer-spec : {M : Type 1} → statement M
 section-answer-spec =
     tie.close
-    (tie.spec
-    Inv-loop
-    μ-loop
-    part-of-requires
-    loop-holds
-    record-fits-requires
-    refusal-of-requires
-    returns
-    add-n
-    loop-less
-    loop-again
-    returns-2)
+    (tie.spec Inv-loop μ-loop (λ c κs. search needs) loop-holds (λ c κs. search needs) refusal-of-requires returns add-n
+    (λ c. search needs) loop-again returns-2)

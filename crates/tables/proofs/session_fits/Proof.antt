@@ -10,33 +10,15 @@ use mathlib.Core.Path.{_≡_, sym, ap, _∙_}
 use borrow.Author.Needs.{needs}
 use Rattle.tables.proofs.session_fits.Statement.{statement}
 use Rattle.tables.proofs.session_fits.Tie as tie
-use Rattle.tables.proofs.session_fits.Reads as reads
-use Rattle.tables.proofs.session_fits.Lts as lts
-use Rattle.format.proofs.sections.in_count.Reads as in-count-reads
-use Rattle.format.proofs.sections.session.Reads as session-reads
-use Rattle.format.proofs.sections.user_roles.Reads as user-roles-reads
-use Rattle.masks.proofs.roles_within.Reads as roles-within-reads
 
 -- what was found of the session's user
 seated : (c : tie.After-in-count) {b : Bool} → c .in-count .result ≡ b
     → inCount (c .before .before .before .args .head .count .users) (item noSession (contentsAt (now (c .before .before .before .args .file)) (c .before .before .before .args .head) .sessions) (c .before .before .before .args .n) .user) ≡ b
 seated c h = sym (ap (λ (x : Session). inCount (c .before .before .before .args .head .count .users) (x .user)) (c .before .session .ensures)) ∙ sym (c .in-count .ensures) ∙ h
 
-session-requires : tie.Need-session-requires
-session-requires c κs = search needs
-
-in-count-requires : tie.Need-in-count-requires
-in-count-requires c κs = search needs
-
 returns : tie.Need-returns
 unfolding recordFits
 returns c = rw (users-held (c .before .before .before .before .args .file .now) (c .before .before .before .before .args .head), seated (c .before) (not-true _ (c .if1 .taken)))
-
-user-roles-requires : tie.Need-user-roles-requires
-user-roles-requires c κs = search needs
-
-roles-within-requires : tie.Need-roles-within-requires
-roles-within-requires c κs = search needs
 
 returns-2 : tie.Need-returns-2
 unfolding recordFits
@@ -50,10 +32,5 @@ returns-2 c =
 pub session-fits-spec : {M : Type 1} → statement M
 session-fits-spec =
     tie.close
-    (tie.spec
-    session-requires
-    in-count-requires
-    returns
-    user-roles-requires
-    roles-within-requires
+    (tie.spec (λ c κs. search needs) (λ c κs. search needs) returns (λ c κs. search needs) (λ c κs. search needs)
     returns-2)

@@ -1,7 +1,5 @@
 use Rattle.turning.proofs.own_refusal.Statement.{statement}
 use Rattle.turning.proofs.own_refusal.Tie as tie
-use Rattle.turning.proofs.own_refusal.Reads as reads
-use Rattle.turning.proofs.own_refusal.Lts as lts
 
 returns : tie.Need-returns
 returns c = rw (c .if1 .taken)

@@ -9,10 +9,6 @@ use Rattle.format.proofs.ContentsLaws.{nodes-held}
 use Rattle.turning.proofs.TurnLaws.{nodes-turn, nodes-end}
 use Rattle.turning.proofs.put_nodes.Statement.{statement}
 use Rattle.turning.proofs.put_nodes.Tie as tie
-use Rattle.turning.proofs.put_nodes.Reads as reads
-use Rattle.turning.proofs.put_nodes.Lts as lts
-use Rattle.format.proofs.sections.node.Reads as node-reads
-use Rattle.format.proofs.writing.put_node.Reads as put-node-reads
 
 abbrev Inv-loop : tie.InvT-loop
 Inv-loop file head whole out₀ nodes n₀ out n =
@@ -25,17 +21,11 @@ abbrev μ-loop : tie.MeasureT-loop
 loop-holds : tie.Need-loop-holds Inv-loop μ-loop
 loop-holds c = (omega arith, refl, refl)
 
-add-n : tie.Need-add-n Inv-loop μ-loop
-add-n c = omega arith
-
 node-requires : tie.Need-node-requires Inv-loop μ-loop
 node-requires c κs = c .before .before .before .before .before .pre .0
 
 put-node-requires : tie.Need-put-node-requires Inv-loop μ-loop
 put-node-requires c κs = (omega arith, omega arith, omega arith)
-
-loop-less : tie.Need-loop-less Inv-loop μ-loop
-loop-less c = omega arith
 
 loop-again : tie.Need-loop-again Inv-loop μ-loop
 loop-again c =
@@ -47,9 +37,6 @@ loop-again c =
       nodes-turn (a .whole) (contentsAt (a .file .now) (a .head) .nodes) (l .out) (g .last .0) _ (l .n) (c .before .before .before .node .result) (omega (arith, nodes-held (a .file .now) (a .head))) (c .before .before .before .node .ensures) (g .ensures) (l .inv .2),
     )
 
-same-length : tie.Need-same-length Inv-loop μ-loop
-same-length c = search needs
-
 returns : tie.Need-returns Inv-loop μ-loop
 returns c =
     let a = c .before .before .before .before .args in
@@ -59,14 +46,5 @@ returns c =
 pub put-nodes-spec : {M : Type 1} → statement M
 put-nodes-spec =
     tie.close
-    (tie.spec
-    Inv-loop
-    μ-loop
-    loop-holds
-    add-n
-    node-requires
-    put-node-requires
-    loop-less
-    loop-again
-    same-length
-    returns)
+    (tie.spec Inv-loop μ-loop loop-holds (λ c. omega arith) node-requires put-node-requires (λ c. omega arith)
+    loop-again (λ c. search needs) returns)

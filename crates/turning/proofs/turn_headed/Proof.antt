@@ -6,14 +6,6 @@ use Rattle.turning.proofs.TurnLaws.{other-version, few-bytes, turned}
 use borrow.Author.Needs.{needs}
 use Rattle.turning.proofs.turn_headed.Statement.{statement}
 use Rattle.turning.proofs.turn_headed.Tie as tie
-use Rattle.turning.proofs.turn_headed.Reads as reads
-use Rattle.turning.proofs.turn_headed.Lts as lts
-use Rattle.format.proofs.answers.not_written.Reads as not-written-reads
-use Rattle.format.proofs.words.narrow.Reads as narrow-reads
-use Rattle.turning.proofs.put_turned.Reads as put-turned-reads
-
-not-written-requires : tie.Need-not-written-requires
-not-written-requires c κs = search needs
 
 returns : tie.Need-returns
 returns c =
@@ -33,9 +25,6 @@ narrow-requires c κs =
     let p = c .before .before .before .before .before .before .before .before .pre in
     omega (arith, few-bytes (a .from) (a .to) (a .file .now) (a .out .now) (p .3) (a .head) (p .0))
 
-same-length : tie.Need-same-length
-same-length c = search needs
-
 returns-2 : tie.Need-returns-2
 returns-2 c =
     let a = c .before .before .before .before .before .before .before .before .before .args in
@@ -46,10 +35,4 @@ returns-2 c =
 pub turn-headed-spec : {M : Type 1} → statement M
 turn-headed-spec =
     tie.close
-    (tie.spec
-    not-written-requires
-    returns
-    put-turned-requires
-    narrow-requires
-    same-length
-    returns-2)
+    (tie.spec (λ c κs. search needs) returns put-turned-requires narrow-requires (λ c. search needs) returns-2)

@@ -10,10 +10,6 @@ use Rattle.format.proofs.ContentsLaws.{nodes-held}
 use Rattle.checking_at.specs.CheckAt.{opensShut, shutAnswer}
 use Rattle.checking_at.proofs.shut_on.shut_on.Statement.{statement}
 use Rattle.checking_at.proofs.shut_on.shut_on.Tie as tie
-use Rattle.checking_at.proofs.shut_on.shut_on.Reads as reads
-use Rattle.checking_at.proofs.shut_on.shut_on.Lts as lts
-use Rattle.checking_at.proofs.shut_on.opens_shut.Reads as opens-shut-reads
-use Rattle.format.proofs.sections.node.Reads as node-reads
 
 abbrev Inv-loop : tie.InvT-loop
 Inv-loop file head shut count n₀ n =
@@ -30,12 +26,6 @@ loop-holds c =
     let all : a .head .count .nodes + 1 - 1 ≡ a .head .count .nodes = omega arith in
     (omega arith, refl, omega arith, ap (firstOf (λ k. not (opensShut (a .shut) (item noNode (contentsAt (a .file .now) (a .head) .nodes) k))) (λ k. refused 24 k) 1) (all ∙ sym (nodes-held (a .file .now) (a .head))))
 
-node-requires : tie.Need-node-requires Inv-loop μ-loop
-node-requires c κs = search needs
-
-opens-shut-requires : tie.Need-opens-shut-requires Inv-loop μ-loop
-opens-shut-requires c κs = search needs
-
 returns : tie.Need-returns Inv-loop μ-loop
 returns c =
     let a = c .before .before .before .before .before .before .args in
@@ -46,9 +36,6 @@ returns c =
 
 add-n : tie.Need-add-n Inv-loop μ-loop
 add-n c = omega (arith, c .before .before .before .before .before .before .pre .nodes)
-
-loop-less : tie.Need-loop-less Inv-loop μ-loop
-loop-less c = search needs
 
 loop-again : tie.Need-loop-again Inv-loop μ-loop
 loop-again c =
@@ -67,14 +54,5 @@ returns-2 c =
 pub shut-on-spec : {M : Type 1} → statement M
 shut-on-spec =
     tie.close
-    (tie.spec
-    Inv-loop
-    μ-loop
-    loop-holds
-    node-requires
-    opens-shut-requires
-    returns
-    add-n
-    loop-less
-    loop-again
-    returns-2)
+    (tie.spec Inv-loop μ-loop loop-holds (λ c κs. search needs) (λ c κs. search needs) returns add-n (λ c. search needs)
+    loop-again returns-2)

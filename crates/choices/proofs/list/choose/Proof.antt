@@ -21,16 +21,6 @@ use Rattle.steps.proofs.TableLaws.{threads-length}
 use borrow.Author.Needs.{needs}
 use Rattle.choices.proofs.list.choose.Statement.{statement}
 use Rattle.choices.proofs.list.choose.Tie as tie
-use Rattle.choices.proofs.list.choose.Reads as reads
-use Rattle.choices.proofs.list.choose.Lts as lts
-use Rattle.format.proofs.sections.in_count.Reads as in-count-reads
-use Rattle.format.proofs.words.wide.Reads as wide-reads
-use Rattle.steps.proofs.act.act.Reads as act-reads
-use Rattle.choices.proofs.list.looked_at.Reads as looked-at-reads
-use Rattle.choices.proofs.list.store.Reads as store-reads
-use Rattle.steps.proofs.beside.recount.Reads as recount-reads
-use Rattle.steps.proofs.beside.thread_count.Reads as thread-count-reads
-use Rattle.steps.proofs.records.thread_at.Reads as thread-at-reads
 
 -- whether the thread is in count
 counted : (c : tie.After-in-count) {x : Bool} → c .in-count .result ≡ x → inCount (getD (c .before .before .before .before .before .before .before .before .before .args .beside .now) 0 0) (c .before .before .before .before .before .before .before .before .before .args .i) ≡ x
@@ -42,15 +32,6 @@ inside c = counted (c .before) (not-false _ (c .if1 .left))
 -- the thread to look at for the partner
 seen : (c : tie.After-looked-at) → let a = c .before .before .before .before .before .before .before .before .before .before .before .before .before .before .args in c .looked-at .result ≡ cond (inCount (getD (a .beside .now) 0 0) (a .p)) (a .p) (a .i)
 seen c = let a = c .before .before .before .before .before .before .before .before .before .before .before .before .before .before .args in c .looked-at .ensures ∙ ap (λ (n : ℕ). cond (inCount n (a .p)) (a .p) (a .i)) (c .before .before .before .before .before .before .thread-count .ensures)
-
-thread-count-requires : tie.Need-thread-count-requires
-thread-count-requires c κs = search needs
-
-in-count-requires : tie.Need-in-count-requires
-in-count-requires c κs = search needs
-
-same-length : tie.Need-same-length
-same-length c = search needs
 
 returns : tie.Need-returns
 unfolding done
@@ -67,17 +48,11 @@ sub-wide c =
     let some = in-count (getD (a .beside .now) 0 0) (a .i) (inside (c .before)) in
     omega (arith, some .0)
 
-wide-requires : tie.Need-wide-requires
-wide-requires c κs = search needs
-
 thread-at-requires : tie.Need-thread-at-requires
 thread-at-requires c κs =
     let s = c .before .before .before .before .before .before .before .before .before .before .before .before in
     let some = in-count (getD (s .args .beside .now) 0 0) (s .args .i) (inside (c .before .before)) in
     omega (arith, some .0, some .1, c .wide .ensures .0, s .pre .3 .words, s .pre .3 .threads)
-
-looked-at-requires : tie.Need-looked-at-requires
-looked-at-requires c κs = search needs
 
 sub-wide-2 : tie.Need-sub-wide-2
 sub-wide-2 c =
@@ -85,18 +60,12 @@ sub-wide-2 c =
     let some = looked (getD (a .beside .now) 0 0) (a .i) (a .p) (c .before .looked-at .result) (inside (c .before .before .before .before .before)) (seen (c .before)) in
     omega (arith, some .0)
 
-wide-requires-2 : tie.Need-wide-requires-2
-wide-requires-2 c κs = search needs
-
 thread-at-requires-2 : tie.Need-thread-at-requires-2
 thread-at-requires-2 c κs =
     let s = c .before .before .before .before .before .before .before .before .before .before .before .before .before .before .before .before in
     let a = s .args in
     let some = looked (getD (a .beside .now) 0 0) (a .i) (a .p) (c .before .before .looked-at .result) (inside (c .before .before .before .before .before .before)) (seen (c .before .before)) in
     omega (arith, some .0, some .1, c .wide2 .ensures .0, s .pre .3 .words, s .pre .3 .threads)
-
-act-requires : tie.Need-act-requires
-act-requires c κs = search needs
 
 store-requires : tie.Need-store-requires
 store-requires c κs =
@@ -109,12 +78,6 @@ store-requires c κs =
       some .1,
       acted-placed C (a .beside .now) (a .p) (c .before .before .before .before .before .before .before .before .thread-at .result) (c .before .before .before .before .thread-at2 .result) (c .before .before .act .result) (c .before .before .act .ensures),
     )
-
-same-length-2 : tie.Need-same-length-2
-same-length-2 c = search needs
-
-same-length-3 : tie.Need-same-length-3
-same-length-3 c = search needs
 
 recount-requires : tie.Need-recount-requires
 recount-requires c κs = c .before .before .before .before .before .store .ensures .3 .beside
@@ -146,21 +109,6 @@ returns-2 c =
 pub choose-spec : {M : Type 1} → statement M
 choose-spec =
     tie.close
-    (tie.spec
-    thread-count-requires
-    in-count-requires
-    same-length
-    returns
-    sub-wide
-    wide-requires
-    thread-at-requires
-    looked-at-requires
-    sub-wide-2
-    wide-requires-2
-    thread-at-requires-2
-    act-requires
-    store-requires
-    recount-requires
-    same-length-2
-    same-length-3
-    returns-2)
+    (tie.spec (λ c κs. search needs) (λ c κs. search needs) (λ c. search needs) returns sub-wide (λ c κs. search needs)
+    thread-at-requires (λ c κs. search needs) sub-wide-2 (λ c κs. search needs) thread-at-requires-2
+    (λ c κs. search needs) store-requires recount-requires (λ c. search needs) (λ c. search needs) returns-2)

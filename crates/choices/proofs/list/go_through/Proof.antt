@@ -20,10 +20,6 @@ use Rattle.choices.proofs.RunLaws.{Refuses, Left, left-begin, left-halt
 use Rattle.choices.proofs.TriedLaws.{LeftTried, tried-halts, tried-goes, tried-ends, through}
 use Rattle.choices.proofs.list.go_through.Statement.{statement}
 use Rattle.choices.proofs.list.go_through.Tie as tie
-use Rattle.choices.proofs.list.go_through.Reads as reads
-use Rattle.choices.proofs.list.go_through.Lts as lts
-use Rattle.format.proofs.words.narrow.Reads as narrow-reads
-use Rattle.choices.proofs.list.choose.Reads as choose-reads
 
 -- the other arm of the match has no refusal
 going : (x : Answer) → OneOf (1 ∷ 2 ∷ 3 ∷ 4 ∷ 5 ∷ []) (tagOf the-type x) → Refuses x → ⊥
@@ -48,43 +44,10 @@ loop-holds c =
     let p = c .before .before .before .before .before .before .before .pre in
     (omega arith, p .3, p .4, left-begin (clinicOf (contentsAt (a .file .now) (a .head))) (stateIn (a .threads .now) (a .beside .now)) (a .choices .now), refl)
 
-mul-i : tie.Need-mul-i Inv-loop μ-loop
-mul-i c = omega arith
-
-mul-i-2 : tie.Need-mul-i-2 Inv-loop μ-loop
-mul-i-2 c = omega arith
-
-shared-slice-read-i : tie.Need-shared-slice-read-i Inv-loop μ-loop
-shared-slice-read-i c = omega arith
-
-mul-p : tie.Need-mul-p Inv-loop μ-loop
-mul-p c = omega arith
-
-add-p : tie.Need-add-p Inv-loop μ-loop
-add-p c = omega arith
-
-mul-p-2 : tie.Need-mul-p-2 Inv-loop μ-loop
-mul-p-2 c = omega arith
-
-shared-slice-read-p : tie.Need-shared-slice-read-p Inv-loop μ-loop
-shared-slice-read-p c = omega arith
-
 choose-requires : tie.Need-choose-requires Inv-loop μ-loop
 choose-requires c κs =
     let p = c .before .before .before .before .before .before .before .before .before .before .before .before .before .pre in
     (p .0, p .1, p .2, c .before .before .before .before .before .loop .inv .2)
-
-enum-known-answer : tie.Need-enum-known-answer Inv-loop μ-loop
-enum-known-answer c = search needs
-
-narrow-requires : tie.Need-narrow-requires Inv-loop μ-loop
-narrow-requires c κs = omega arith
-
-same-length : tie.Need-same-length Inv-loop μ-loop
-same-length c = search needs
-
-same-length-2 : tie.Need-same-length-2 Inv-loop μ-loop
-same-length-2 c = search needs
 
 returns : tie.Need-returns Inv-loop μ-loop
 returns c =
@@ -101,12 +64,6 @@ returns c =
     (omega arith) (l .inv .4) _ refl (chosen .ensures .1) (ap₂ (λ (b : List ℕ) (x : Answer). record { beside = b; last = x }) (chosen .ensures .2) refused) (told .0 .0) refused in
     through (run C s (a .choices .now)) (tried (awaitedBy (a .table .now)) C s (untried (a .beside .now)) (a .choices .now)) (l .k) _ _ (c .narrow .result) (told .0 .0) (answers.Refused (told .0 .0)) all also (c .narrow .ensures) (chosen .ensures .3)
 
-add-k : tie.Need-add-k Inv-loop μ-loop
-add-k c = omega arith
-
-loop-less : tie.Need-loop-less Inv-loop μ-loop
-loop-less c = omega arith
-
 loop-again : tie.Need-loop-again Inv-loop μ-loop
 loop-again c =
     let a = c .before .before .before .before .before .before .before .before .before .before .before .before .before .before .before .before .before .before .before .args in
@@ -121,15 +78,6 @@ loop-again c =
     (λ r. going (chosen .result) (c .match .keys2) (subst Refuses (sym (chosen .ensures .0)) r)) in
     (omega arith, l .inv .1, chosen .ensures .3, left, also)
 
-narrow-requires-2 : tie.Need-narrow-requires-2 Inv-loop μ-loop
-narrow-requires-2 c κs = omega arith
-
-same-length-3 : tie.Need-same-length-3 Inv-loop μ-loop
-same-length-3 c = search needs
-
-same-length-4 : tie.Need-same-length-4 Inv-loop μ-loop
-same-length-4 c = search needs
-
 returns-2 : tie.Need-returns-2 Inv-loop μ-loop
 returns-2 c =
     let a = c .before .before .before .before .before .before .before .before .before .before .args in
@@ -143,27 +91,7 @@ returns-2 c =
 pub go-through-spec : {M : Type 1} → statement M
 go-through-spec =
     tie.close
-    (tie.spec
-    Inv-loop
-    μ-loop
-    loop-holds
-    mul-i
-    mul-i-2
-    shared-slice-read-i
-    mul-p
-    add-p
-    mul-p-2
-    shared-slice-read-p
-    choose-requires
-    enum-known-answer
-    narrow-requires
-    same-length
-    same-length-2
-    returns
-    add-k
-    loop-less
-    loop-again
-    narrow-requires-2
-    same-length-3
-    same-length-4
-    returns-2)
+    (tie.spec Inv-loop μ-loop loop-holds (λ c. omega arith) (λ c. omega arith) (λ c. omega arith) (λ c. omega arith)
+    (λ c. omega arith) (λ c. omega arith) (λ c. omega arith) choose-requires (λ c. search needs) (λ c κs. omega arith)
+    (λ c. search needs) (λ c. search needs) returns (λ c. omega arith) (λ c. omega arith) loop-again
+    (λ c κs. omega arith) (λ c. search needs) (λ c. search needs) returns-2)

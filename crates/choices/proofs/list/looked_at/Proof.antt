@@ -4,12 +4,6 @@ use borrow.Author.Needs.{needs}
 use Rattle.format.specs.Contents.{inCount}
 use Rattle.choices.proofs.list.looked_at.Statement.{statement}
 use Rattle.choices.proofs.list.looked_at.Tie as tie
-use Rattle.choices.proofs.list.looked_at.Reads as reads
-use Rattle.choices.proofs.list.looked_at.Lts as lts
-use Rattle.format.proofs.sections.in_count.Reads as in-count-reads
-
-in-count-requires : tie.Need-in-count-requires
-in-count-requires c κs = search needs
 
 returns : tie.Need-returns
 returns c =
@@ -24,4 +18,4 @@ returns-2 c =
     sym (rw outside)
 
 pub looked-at-spec : {M : Type 1} → statement M
-looked-at-spec = tie.close (tie.spec in-count-requires returns returns-2)
+looked-at-spec = tie.close (tie.spec (λ c κs. search needs) returns returns-2)

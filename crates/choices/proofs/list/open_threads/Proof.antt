@@ -16,13 +16,6 @@ use Rattle.steps.proofs.TableLaws.{stored-length}
 use Rattle.choices.proofs.RunLaws.{Opened, open-more, opened-item, open-state}
 use Rattle.choices.proofs.list.open_threads.Statement.{statement}
 use Rattle.choices.proofs.list.open_threads.Tie as tie
-use Rattle.choices.proofs.list.open_threads.Reads as reads
-use Rattle.choices.proofs.list.open_threads.Lts as lts
-use Rattle.format.proofs.words.narrow.Reads as narrow-reads
-use Rattle.format.proofs.words.wide.Reads as wide-reads
-use Rattle.choices.proofs.list.opening.Reads as opening-reads
-use Rattle.choices.proofs.list.start_beside.Reads as start-beside-reads
-use Rattle.steps.proofs.records.put_thread.Reads as put-thread-reads
 
 abbrev Inv-loop : tie.InvT-loop
 Inv-loop file head table threads₀ beside n i₀ threads i =
@@ -30,9 +23,6 @@ Inv-loop file head table threads₀ beside n i₀ threads i =
 
 abbrev μ-loop : tie.MeasureT-loop
 μ-loop file head table threads₀ beside n i₀ threads i = n - i
-
-wide-requires : tie.Need-wide-requires Inv-loop μ-loop
-wide-requires c κs = search needs
 
 loop-holds : tie.Need-loop-holds Inv-loop μ-loop
 unfolding threadsIn threadsFrom
@@ -44,17 +34,11 @@ add-narrow c = omega (arith, c .before .before .before .before .before .before .
 narrow-requires : tie.Need-narrow-requires Inv-loop μ-loop
 narrow-requires c κs = omega (arith, c .before .before .before .before .before .before .before .before .pre .0 .sessions, c .before .before .before .wide .ensures .0)
 
-opening-requires : tie.Need-opening-requires Inv-loop μ-loop
-opening-requires c κs = search needs
-
 put-thread-requires : tie.Need-put-thread-requires Inv-loop μ-loop
 put-thread-requires c κs = omega (arith, c .before .before .before .before .before .before .before .before .before .before .pre .0 .sessions, c .before .before .before .before .before .wide .ensures .0, c .before .before .before .before .loop .inv .1)
 
 add-i : tie.Need-add-i Inv-loop μ-loop
 add-i c = omega (arith, c .before .before .before .before .before .before .before .before .before .before .before .before .before .pre .0 .sessions, c .before .before .before .before .before .before .before .before .wide .ensures .0)
-
-loop-less : tie.Need-loop-less Inv-loop μ-loop
-loop-less c = search needs
 
 loop-again : tie.Need-loop-again Inv-loop μ-loop
 loop-again c =
@@ -75,12 +59,6 @@ loop-again c =
 start-beside-requires : tie.Need-start-beside-requires Inv-loop μ-loop
 start-beside-requires c κs = let p = c .before .before .before .before .before .before .before .before .pre in (p .0, p .2)
 
-same-length : tie.Need-same-length Inv-loop μ-loop
-same-length c = search needs
-
-same-length-2 : tie.Need-same-length-2 Inv-loop μ-loop
-same-length-2 c = search needs
-
 returns : tie.Need-returns Inv-loop μ-loop
 returns c =
     let a = c .before .before .before .before .before .before .before .before .before .before .before .args in
@@ -96,19 +74,6 @@ returns c =
 pub open-threads-spec : {M : Type 1} → statement M
 open-threads-spec =
     tie.close
-    (tie.spec
-    Inv-loop
-    μ-loop
-    wide-requires
-    loop-holds
-    add-narrow
-    narrow-requires
-    opening-requires
-    put-thread-requires
-    add-i
-    loop-less
-    loop-again
-    start-beside-requires
-    same-length
-    same-length-2
-    returns)
+    (tie.spec Inv-loop μ-loop (λ c κs. search needs) loop-holds add-narrow narrow-requires (λ c κs. search needs)
+    put-thread-requires add-i (λ c. search needs) loop-again start-beside-requires (λ c. search needs)
+    (λ c. search needs) returns)

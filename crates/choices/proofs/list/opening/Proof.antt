@@ -6,12 +6,6 @@ use Rattle.choices.proofs.RunLaws.{opened-item}
 use borrow.Author.Needs.{needs}
 use Rattle.choices.proofs.list.opening.Statement.{statement}
 use Rattle.choices.proofs.list.opening.Tie as tie
-use Rattle.choices.proofs.list.opening.Reads as reads
-use Rattle.choices.proofs.list.opening.Lts as lts
-use Rattle.format.proofs.sections.session.Reads as session-reads
-
-session-requires : tie.Need-session-requires
-session-requires c κs = search needs
 
 returns : tie.Need-returns
 returns c =
@@ -20,4 +14,4 @@ returns c =
     ∙ opened-item (contentsAt (a .file .now) (a .head) .sessions) (a .k)
 
 pub opening-spec : {M : Type 1} → statement M
-opening-spec = tie.close (tie.spec session-requires returns)
+opening-spec = tie.close (tie.spec (λ c κs. search needs) returns)

@@ -6,28 +6,6 @@ use Rattle.choices.proofs.TriedLaws.{gone-from}
 use borrow.Author.Needs.{needs}
 use Rattle.choices.proofs.list.run_by.Statement.{statement}
 use Rattle.choices.proofs.list.run_by.Tie as tie
-use Rattle.choices.proofs.list.run_by.Reads as reads
-use Rattle.choices.proofs.list.run_by.Lts as lts
-use Rattle.choices.proofs.list.go_through.Reads as go-through-reads
-use Rattle.choices.proofs.list.open_run.Reads as open-run-reads
-
-open-run-requires : tie.Need-open-run-requires
-open-run-requires c κs = search needs
-
-go-through-requires : tie.Need-go-through-requires
-go-through-requires c κs = search needs
-
-same-length : tie.Need-same-length
-same-length c = search needs
-
-same-length-2 : tie.Need-same-length-2
-same-length-2 c = search needs
-
-same-length-3 : tie.Need-same-length-3
-same-length-3 c = search needs
-
-same-length-4 : tie.Need-same-length-4
-same-length-4 c = search needs
 
 returns : tie.Need-returns
 returns c =
@@ -40,11 +18,5 @@ returns c =
 pub run-by-spec : {M : Type 1} → statement M
 run-by-spec =
     tie.close
-    (tie.spec
-    open-run-requires
-    go-through-requires
-    same-length
-    same-length-2
-    same-length-3
-    same-length-4
-    returns)
+    (tie.spec (λ c κs. search needs) (λ c κs. search needs) (λ c. search needs) (λ c. search needs) (λ c. search needs)
+    (λ c. search needs) returns)

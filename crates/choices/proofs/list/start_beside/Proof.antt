@@ -13,11 +13,6 @@ use Rattle.steps.proofs.TotalLaws.{cleared-length, more-length}
 use Rattle.choices.proofs.RunLaws.{Counting, counting-on, counting-ends, none-counted}
 use Rattle.choices.proofs.list.start_beside.Statement.{statement}
 use Rattle.choices.proofs.list.start_beside.Tie as tie
-use Rattle.choices.proofs.list.start_beside.Reads as reads
-use Rattle.choices.proofs.list.start_beside.Lts as lts
-use Rattle.format.proofs.sections.session.Reads as session-reads
-use Rattle.steps.proofs.beside.reach.Reads as reach-reads
-use Rattle.steps.proofs.beside.start_words.Reads as start-words-reads
 
 started-length : (b : List ℕ) (n : ℕ) → length (startWords b n) ≡ length b
 started-length b n = cleared-length (set (set b 0 n) 1 0) ∙ length-set (set b 0 n) 1 0 ∙ length-set b 0 n
@@ -28,9 +23,6 @@ Inv-loop file head table beside₀ sessions k₀ beside k =
 
 abbrev μ-loop : tie.MeasureT-loop
 μ-loop file head table beside₀ sessions k₀ beside k = sessions - k
-
-start-words-requires : tie.Need-start-words-requires Inv-loop μ-loop
-start-words-requires c κs = search needs
 
 same-length : tie.Need-same-length Inv-loop μ-loop
 same-length c = ap length (c .before .before .before .start-words .ensures) ∙ started-length (c .before .before .before .before .before .before .before .before .args .beside .now) (c .before .before .before .before .before .before .before .before .args .head .count .sessions)
@@ -46,14 +38,8 @@ loop-holds c = let a = c .before .before .before .before .before .before .before
 add-k : tie.Need-add-k Inv-loop μ-loop
 add-k c = omega (arith, c .before .before .before .before .before .before .before .before .before .before .pre .0 .sessions)
 
-session-requires : tie.Need-session-requires Inv-loop μ-loop
-session-requires c κs = search needs
-
 reach-requires : tie.Need-reach-requires Inv-loop μ-loop
 reach-requires c κs = c .before .before .before .loop .inv .1
-
-loop-less : tie.Need-loop-less Inv-loop μ-loop
-loop-less c = search needs
 
 loop-again : tie.Need-loop-again Inv-loop μ-loop
 loop-again c =
@@ -78,17 +64,5 @@ returns-2 c =
 pub start-beside-spec : {M : Type 1} → statement M
 start-beside-spec =
     tie.close
-    (tie.spec
-    Inv-loop
-    μ-loop
-    start-words-requires
-    same-length
-    returns
-    loop-holds
-    add-k
-    session-requires
-    reach-requires
-    loop-less
-    loop-again
-    same-length-2
-    returns-2)
+    (tie.spec Inv-loop μ-loop (λ c κs. search needs) same-length returns loop-holds add-k (λ c κs. search needs)
+    reach-requires (λ c. search needs) loop-again same-length-2 returns-2)

@@ -9,22 +9,6 @@ use Rattle.choices.proofs.StoreLaws.{then-added, then-minted, refused-s
 use borrow.Author.Needs.{needs}
 use Rattle.choices.proofs.list.store.Statement.{statement}
 use Rattle.choices.proofs.list.store.Tie as tie
-use Rattle.choices.proofs.list.store.Reads as reads
-use Rattle.choices.proofs.list.store.Lts as lts
-use Rattle.format.proofs.words.wide.Reads as wide-reads
-use Rattle.choices.proofs.state.add_thread.Reads as add-thread-reads
-use Rattle.steps.proofs.beside.add_made.Reads as add-made-reads
-use Rattle.steps.proofs.records.put_thread.Reads as put-thread-reads
-use Rattle.choices.proofs.state.remove_thread.Reads as remove-thread-reads
-
-sub-wide : tie.Need-sub-wide
-sub-wide c = search needs
-
-wide-requires : tie.Need-wide-requires
-wide-requires c κs = search needs
-
-enum-known-answer : tie.Need-enum-known-answer
-enum-known-answer c = search needs
 
 returns : tie.Need-returns
 returns c =
@@ -33,15 +17,6 @@ returns c =
     let w = a .threads .now in
     let b = a .beside .now in
     refused-stored w b (a .i) (a .p) (a .it) (c .before .answer .given .0 .0) (c .before .answer .given .1) (p .0)
-
-enum-told : tie.Need-enum-told
-enum-told c = search needs
-
-put-thread-requires : tie.Need-put-thread-requires
-put-thread-requires c κs = search needs
-
-same-length : tie.Need-same-length
-same-length c = search needs
 
 returns-2 : tie.Need-returns-2
 returns-2 c =
@@ -52,12 +27,6 @@ returns-2 c =
     let put = put-state w _ b (a .i) (c .before .before .before .before .before .before .before .before .wide .result) (a .it .first) (p .0) (p .1) (p .2) (c .before .before .before .before .before .before .before .before .wide .ensures .0) (c .before .before .put-thread .ensures) in
     moves-stored w b (a .i) (a .p) (a .it) _ (c .before .before .before .before .enum-told .given .1) (put .0) (put .1)
 
-enum-told-2 : tie.Need-enum-told-2
-enum-told-2 c = search needs
-
-put-thread-requires-2 : tie.Need-put-thread-requires-2
-put-thread-requires-2 c κs = search needs
-
 add-thread-requires : tie.Need-add-thread-requires
 add-thread-requires c κs =
     let a = c .before .before .before .before .before .before .before .before .before .before .before .before .before .args in
@@ -66,12 +35,6 @@ add-thread-requires c κs =
     let b = a .beside .now in
     let put = put-state w _ b (a .i) (c .before .before .before .before .before .before .before .before .before .before .wide .result) (a .it .first) (p .0) (p .1) (p .2) (c .before .before .before .before .before .before .before .before .before .before .wide .ensures .0) (c .before .before .before .before .put-thread2 .ensures) in
     (put .1, subst (HasRoom (getD b 0 0) (getD b 1 0) (a .p)) (c .before .before .before .before .before .before .enum-told2 .given .1) (p .3))
-
-same-length-2 : tie.Need-same-length-2
-same-length-2 c = search needs
-
-same-length-3 : tie.Need-same-length-3
-same-length-3 c = search needs
 
 returns-3 : tie.Need-returns-3
 returns-3 c =
@@ -83,12 +46,6 @@ returns-3 c =
     let add = c .before .before .before .before .add-thread .ensures in
     adds-stored w b (a .i) (a .p) (a .it) _ _ (c .before .before .before .before .before .before .before .before .before .before .before .enum-told2 .given .1) (then-added (stateIn w b) _ _ (a .i) (a .it .first) (a .it .second) (put .0) (add .0)) (add .1) (add .2)
 
-enum-known-answer-2 : tie.Need-enum-known-answer-2
-enum-known-answer-2 c = search needs
-
-put-thread-requires-3 : tie.Need-put-thread-requires-3
-put-thread-requires-3 c κs = search needs
-
 add-made-requires : tie.Need-add-made-requires
 add-made-requires c κs =
     let a = c .before .before .before .before .before .before .before .before .before .before .before .before .before .args in
@@ -96,12 +53,6 @@ add-made-requires c κs =
     let w = a .threads .now in
     let b = a .beside .now in
     (p .0 .beside, subst (HasRoom (getD b 0 0) (getD b 1 0) (a .p)) (c .before .before .before .before .before .before .answer2 .given .1) (p .3))
-
-same-length-4 : tie.Need-same-length-4
-same-length-4 c = search needs
-
-same-length-5 : tie.Need-same-length-5
-same-length-5 c = search needs
 
 returns-4 : tie.Need-returns-4
 returns-4 c =
@@ -114,18 +65,6 @@ returns-4 c =
     let made = mint-state _ b _ m (put .1) (subst (HasRoom (getD b 0 0) (getD b 1 0) (a .p)) (c .before .before .before .before .before .before .before .before .before .answer2 .given .1) (p .3)) (c .before .before .add-made .ensures) in
     makes-stored w b (a .i) (a .p) (a .it) _ _ m (c .before .before .before .before .before .before .before .before .before .answer2 .given .1) (then-minted (stateIn w b) _ _ (a .i) (a .it .first) m (put .0) (made .0)) (c .before .before .add-made .ensures) (made .1)
 
-enum-told-3 : tie.Need-enum-told-3
-enum-told-3 c = search needs
-
-remove-thread-requires : tie.Need-remove-thread-requires
-remove-thread-requires c κs = search needs
-
-same-length-6 : tie.Need-same-length-6
-same-length-6 c = search needs
-
-same-length-7 : tie.Need-same-length-7
-same-length-7 c = search needs
-
 returns-5 : tie.Need-returns-5
 returns-5 c =
     let a = c .before .before .before .before .before .before .before .before .before .before .before .before .before .before .args in
@@ -134,12 +73,6 @@ returns-5 c =
     let b = a .beside .now in
     let gone = c .before .before .before .before .remove-thread .ensures in
     ends-stored w b (a .i) (a .p) (a .it) _ _ (c .before .before .before .before .before .before .before .enum-told3 .given .1) (gone .0) (gone .1) (gone .2)
-
-enum-told-4 : tie.Need-enum-told-4
-enum-told-4 c = search needs
-
-put-thread-requires-4 : tie.Need-put-thread-requires-4
-put-thread-requires-4 c κs = search needs
 
 sub-wide-2 : tie.Need-sub-wide-2
 sub-wide-2 c =
@@ -150,9 +83,6 @@ sub-wide-2 c =
     let both = (subst (HasRoom (getD b 0 0) (getD b 1 0) (a .p)) (c .before .before .before .before .before .enum-told4 .given .1) (p .3)) in
     omega (arith, both .0)
 
-wide-requires-2 : tie.Need-wide-requires-2
-wide-requires-2 c κs = search needs
-
 put-thread-requires-5 : tie.Need-put-thread-requires-5
 put-thread-requires-5 c κs =
     let a = c .before .before .before .before .before .before .before .before .before .before .before .before .before .args in
@@ -162,9 +92,6 @@ put-thread-requires-5 c κs =
     let put = put-state w _ b (a .i) (c .before .before .before .before .before .before .before .before .before .before .wide .result) (a .it .first) (p .0) (p .1) (p .2) (c .before .before .before .before .before .before .before .before .before .before .wide .ensures .0) (c .before .before .before .before .put-thread4 .ensures) in
     let both = (subst (HasRoom (getD b 0 0) (getD b 1 0) (a .p)) (c .before .before .before .before .before .before .enum-told4 .given .1) (p .3)) in
     omega (arith, both .0, both .1, put .1 .words, p .0 .threads, c .wide2 .ensures .0)
-
-same-length-8 : tie.Need-same-length-8
-same-length-8 c = search needs
 
 returns-6 : tie.Need-returns-6
 returns-6 c =
@@ -180,36 +107,9 @@ returns-6 c =
 pub store-spec : {M : Type 1} → statement M
 store-spec =
     tie.close
-    (tie.spec
-    sub-wide
-    wide-requires
-    enum-known-answer
-    returns
-    enum-told
-    put-thread-requires
-    same-length
-    returns-2
-    enum-told-2
-    put-thread-requires-2
-    add-thread-requires
-    same-length-2
-    same-length-3
-    returns-3
-    enum-known-answer-2
-    put-thread-requires-3
-    add-made-requires
-    same-length-4
-    same-length-5
-    returns-4
-    enum-told-3
-    remove-thread-requires
-    same-length-6
-    same-length-7
-    returns-5
-    enum-told-4
-    put-thread-requires-4
-    sub-wide-2
-    wide-requires-2
-    put-thread-requires-5
-    same-length-8
-    returns-6)
+    (tie.spec (λ c. search needs) (λ c κs. search needs) (λ c. search needs) returns (λ c. search needs)
+    (λ c κs. search needs) (λ c. search needs) returns-2 (λ c. search needs) (λ c κs. search needs) add-thread-requires
+    (λ c. search needs) (λ c. search needs) returns-3 (λ c. search needs) (λ c κs. search needs) add-made-requires
+    (λ c. search needs) (λ c. search needs) returns-4 (λ c. search needs) (λ c κs. search needs) (λ c. search needs)
+    (λ c. search needs) returns-5 (λ c. search needs) (λ c κs. search needs) sub-wide-2 (λ c κs. search needs)
+    put-thread-requires-5 (λ c. search needs) returns-6)

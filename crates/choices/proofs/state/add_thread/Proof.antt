@@ -6,33 +6,6 @@ use Rattle.choices.proofs.StateLaws.{add-state}
 use borrow.Author.Needs.{needs}
 use Rattle.choices.proofs.state.add_thread.Statement.{statement}
 use Rattle.choices.proofs.state.add_thread.Tie as tie
-use Rattle.choices.proofs.state.add_thread.Reads as reads
-use Rattle.choices.proofs.state.add_thread.Lts as lts
-use Rattle.format.proofs.words.wide.Reads as wide-reads
-use Rattle.steps.proofs.beside.set_threads.Reads as set-threads-reads
-use Rattle.steps.proofs.beside.thread_count.Reads as thread-count-reads
-use Rattle.steps.proofs.records.put_thread.Reads as put-thread-reads
-
-thread-count-requires : tie.Need-thread-count-requires
-thread-count-requires c κs = search needs
-
-wide-requires : tie.Need-wide-requires
-wide-requires c κs = search needs
-
-put-thread-requires : tie.Need-put-thread-requires
-put-thread-requires c κs = search needs
-
-add-set-threads : tie.Need-add-set-threads
-add-set-threads c = search needs
-
-set-threads-requires : tie.Need-set-threads-requires
-set-threads-requires c κs = search needs
-
-same-length : tie.Need-same-length
-same-length c = search needs
-
-same-length-2 : tie.Need-same-length-2
-same-length-2 c = search needs
 
 returns : tie.Need-returns
 returns c =
@@ -48,12 +21,5 @@ returns c =
 pub add-thread-spec : {M : Type 1} → statement M
 add-thread-spec =
     tie.close
-    (tie.spec
-    thread-count-requires
-    wide-requires
-    put-thread-requires
-    add-set-threads
-    set-threads-requires
-    same-length
-    same-length-2
-    returns)
+    (tie.spec (λ c κs. search needs) (λ c κs. search needs) (λ c κs. search needs) (λ c. search needs)
+    (λ c κs. search needs) (λ c. search needs) (λ c. search needs) returns)

@@ -6,39 +6,6 @@ use Rattle.choices.proofs.StateLaws.{remove-state}
 use borrow.Author.Needs.{needs}
 use Rattle.choices.proofs.state.remove_thread.Statement.{statement}
 use Rattle.choices.proofs.state.remove_thread.Tie as tie
-use Rattle.choices.proofs.state.remove_thread.Reads as reads
-use Rattle.choices.proofs.state.remove_thread.Lts as lts
-use Rattle.format.proofs.words.wide.Reads as wide-reads
-use Rattle.steps.proofs.beside.set_threads.Reads as set-threads-reads
-use Rattle.steps.proofs.beside.thread_count.Reads as thread-count-reads
-use Rattle.steps.proofs.records.close_gap.Reads as close-gap-reads
-
-thread-count-requires : tie.Need-thread-count-requires
-thread-count-requires c κs = search needs
-
-wide-requires : tie.Need-wide-requires
-wide-requires c κs = search needs
-
-sub-wide : tie.Need-sub-wide
-sub-wide c = search needs
-
-wide-requires-2 : tie.Need-wide-requires-2
-wide-requires-2 c κs = search needs
-
-close-gap-requires : tie.Need-close-gap-requires
-close-gap-requires c κs = search needs
-
-sub-set-threads : tie.Need-sub-set-threads
-sub-set-threads c = search needs
-
-set-threads-requires : tie.Need-set-threads-requires
-set-threads-requires c κs = search needs
-
-same-length : tie.Need-same-length
-same-length c = search needs
-
-same-length-2 : tie.Need-same-length-2
-same-length-2 c = search needs
 
 returns : tie.Need-returns
 returns c =
@@ -54,14 +21,5 @@ returns c =
 pub remove-thread-spec : {M : Type 1} → statement M
 remove-thread-spec =
     tie.close
-    (tie.spec
-    thread-count-requires
-    wide-requires
-    sub-wide
-    wide-requires-2
-    close-gap-requires
-    sub-set-threads
-    set-threads-requires
-    same-length
-    same-length-2
-    returns)
+    (tie.spec (λ c κs. search needs) (λ c κs. search needs) (λ c. search needs) (λ c κs. search needs)
+    (λ c κs. search needs) (λ c. search needs) (λ c κs. search needs) (λ c. search needs) (λ c. search needs) returns)

@@ -10,12 +10,6 @@ use Rattle.dispatching.specs.Dispatch.{roundOf}
 use Rattle.dispatching.proofs.RoundLaws.{Left, left-begin, length-left, room-for, left-more, left-less, left-ends}
 use Rattle.dispatching.proofs.visits.go_round.Statement.{statement}
 use Rattle.dispatching.proofs.visits.go_round.Tie as tie
-use Rattle.dispatching.proofs.visits.go_round.Reads as reads
-use Rattle.dispatching.proofs.visits.go_round.Lts as lts
-use Rattle.dispatching.proofs.visits.put_choice.Reads as put-choice-reads
-use Rattle.dispatching.proofs.visits.visit.Reads as visit-reads
-use Rattle.format.proofs.words.narrow.Reads as narrow-reads
-use Rattle.steps.proofs.beside.thread_count.Reads as thread-count-reads
 
 abbrev Inv-loop : tie.InvT-loop
 Inv-loop file head sends receives table threads₀ beside₀ words₀ i₀ there₀ moved₀ n₀ threads beside words i there moved n =
@@ -23,9 +17,6 @@ Inv-loop file head sends receives table threads₀ beside₀ words₀ i₀ there
 
 abbrev μ-loop : tie.MeasureT-loop
 μ-loop file head sends receives table threads₀ beside₀ words₀ i₀ there₀ moved₀ n₀ threads beside words i there moved n = suc there - i
-
-thread-count-requires : tie.Need-thread-count-requires Inv-loop μ-loop
-thread-count-requires c κs = search needs
 
 loop-holds : tie.Need-loop-holds Inv-loop μ-loop
 loop-holds c =
@@ -60,12 +51,6 @@ loop-again c =
 narrow-requires : tie.Need-narrow-requires Inv-loop μ-loop
 narrow-requires c κs = let l = c .before .loop in omega (arith, l .inv .room)
 
-same-length : tie.Need-same-length Inv-loop μ-loop
-same-length c = search needs
-
-same-length-2 : tie.Need-same-length-2 Inv-loop μ-loop
-same-length-2 c = search needs
-
 same-length-3 : tie.Need-same-length-3 Inv-loop μ-loop
 same-length-3 c = length-left _ _ _ _ _ _ _ _ _ (c .before .before .loop .inv) ∙ sym (ap length (c .before .before .before .before .before .before .before .before .before .before .before .before .pre .4))
 
@@ -77,17 +62,5 @@ returns c =
 pub go-round-spec : {M : Type 1} → statement M
 go-round-spec =
     tie.close
-    (tie.spec
-    Inv-loop
-    μ-loop
-    thread-count-requires
-    loop-holds
-    visit-requires
-    put-choice-requires
-    loop-less
-    loop-again
-    narrow-requires
-    same-length
-    same-length-2
-    same-length-3
-    returns)
+    (tie.spec Inv-loop μ-loop (λ c κs. search needs) loop-holds visit-requires put-choice-requires loop-less loop-again
+    narrow-requires (λ c. search needs) (λ c. search needs) same-length-3 returns)

@@ -7,30 +7,9 @@ use Rattle.dispatching.proofs.ReceiverLaws.{moved-is, free-is}
 use borrow.Author.Needs.{needs}
 use Rattle.dispatching.proofs.visits.is_free.Statement.{statement}
 use Rattle.dispatching.proofs.visits.is_free.Tie as tie
-use Rattle.dispatching.proofs.visits.is_free.Reads as reads
-use Rattle.dispatching.proofs.visits.is_free.Lts as lts
-use Rattle.dispatching.proofs.marks.has_moved.Reads as has-moved-reads
-use Rattle.format.proofs.words.wide.Reads as wide-reads
-use Rattle.running.proofs.pairs.receives_over.Reads as receives-over-reads
-use Rattle.steps.proofs.records.thread_at.Reads as thread-at-reads
-
-has-moved-requires : tie.Need-has-moved-requires
-has-moved-requires c κs = search needs
 
 returns : tie.Need-returns
 returns c = moved-is _ _ (sym (c .before .has-moved .ensures) ∙ c .if1 .taken)
-
-sub-wide : tie.Need-sub-wide
-sub-wide c = search needs
-
-wide-requires : tie.Need-wide-requires
-wide-requires c κs = search needs
-
-thread-at-requires : tie.Need-thread-at-requires
-thread-at-requires c κs = search needs
-
-receives-over-requires : tie.Need-receives-over-requires
-receives-over-requires c κs = search needs
 
 returns-2 : tie.Need-returns-2
 returns-2 c =
@@ -41,11 +20,5 @@ returns-2 c =
 pub is-free-spec : {M : Type 1} → statement M
 is-free-spec =
     tie.close
-    (tie.spec
-    has-moved-requires
-    returns
-    sub-wide
-    wide-requires
-    thread-at-requires
-    receives-over-requires
-    returns-2)
+    (tie.spec (λ c κs. search needs) returns (λ c. search needs) (λ c κs. search needs) (λ c κs. search needs)
+    (λ c κs. search needs) returns-2)

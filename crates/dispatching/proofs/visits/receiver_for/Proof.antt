@@ -11,12 +11,6 @@ use Rattle.dispatching.proofs.ReceiverLaws.{silent, begin, found, passe
 use borrow.Author.Needs.{needs}
 use Rattle.dispatching.proofs.visits.receiver_for.Statement.{statement}
 use Rattle.dispatching.proofs.visits.receiver_for.Tie as tie
-use Rattle.dispatching.proofs.visits.receiver_for.Reads as reads
-use Rattle.dispatching.proofs.visits.receiver_for.Lts as lts
-use Rattle.dispatching.proofs.visits.is_free.Reads as is-free-reads
-use Rattle.format.proofs.words.wide.Reads as wide-reads
-use Rattle.running.proofs.pairs.sends_on.Reads as sends-on-reads
-use Rattle.steps.proofs.records.thread_at.Reads as thread-at-reads
 
 abbrev Inv-loop : tie.InvT-loop
 Inv-loop file head sends receives threads beside i there moved over p₀ p =
@@ -27,17 +21,8 @@ Inv-loop file head sends receives threads beside i there moved over p₀ p =
 abbrev μ-loop : tie.MeasureT-loop
 μ-loop file head sends receives threads beside i there moved over p₀ p = there - p
 
-sub-wide : tie.Need-sub-wide Inv-loop μ-loop
-sub-wide c = search needs
-
-wide-requires : tie.Need-wide-requires Inv-loop μ-loop
-wide-requires c κs = search needs
-
 thread-at-requires : tie.Need-thread-at-requires Inv-loop μ-loop
 thread-at-requires c κs = let q = c .before .before .before .before .before .before .pre in omega (arith, q .3 .words, q .3 .threads, q .4, q .5, c .wide .ensures .0)
-
-sends-on-requires : tie.Need-sends-on-requires Inv-loop μ-loop
-sends-on-requires c κs = search needs
 
 returns : tie.Need-returns Inv-loop μ-loop
 returns c =
@@ -52,9 +37,6 @@ loop-holds c =
     let q = c .before .before .before .before .before .before .before .before .before .pre in
     (omega arith, begin (clinicOf (contentsAt (a .file .now) (a .head))) (a .threads .now) (a .beside .now) (a .i) (q .4) (q .5) (a .moved) (a .there) (q .6))
 
-add-p : tie.Need-add-p Inv-loop μ-loop
-add-p c = search needs
-
 is-free-requires : tie.Need-is-free-requires Inv-loop μ-loop
 is-free-requires c κs =
     let q = c .before .before .before .before .before .before .before .before .before .before .before .pre in
@@ -67,9 +49,6 @@ returns-2 c =
     found (clinicOf (contentsAt (a .file .now) (a .head))) (a .threads .now) (a .beside .now) (a .i) (q .4) (q .5) (a .moved) (a .there) (q .6)
     (c .before .before .before .before .before .before .thread-at .result) (c .before .before .before .before .before .before .before .wide .result) (c .before .before .before .before .before .sends-on .result) (c .before .before .before .before .before .before .before .wide .ensures .0) (c .before .before .before .before .before .before .thread-at .ensures) (c .before .before .before .before .before .sends-on .ensures) (c .before .before .before .before .if1 .left)
     (c .before .before .before .loop .p) (c .before .is-free .result) _ (omega (arith, c .before .before .loop-test .taken)) (c .before .is-free .ensures) (c .if2 .taken) (c .before .before .before .loop .inv .1)
-
-loop-less : tie.Need-loop-less Inv-loop μ-loop
-loop-less c = search needs
 
 loop-again : tie.Need-loop-again Inv-loop μ-loop
 loop-again c =
@@ -90,18 +69,5 @@ returns-3 c =
 pub receiver-for-spec : {M : Type 1} → statement M
 receiver-for-spec =
     tie.close
-    (tie.spec
-    Inv-loop
-    μ-loop
-    sub-wide
-    wide-requires
-    thread-at-requires
-    sends-on-requires
-    returns
-    loop-holds
-    add-p
-    is-free-requires
-    returns-2
-    loop-less
-    loop-again
-    returns-3)
+    (tie.spec Inv-loop μ-loop (λ c. search needs) (λ c κs. search needs) thread-at-requires (λ c κs. search needs)
+    returns loop-holds (λ c. search needs) is-free-requires returns-2 (λ c. search needs) loop-again returns-3)

@@ -3,15 +3,9 @@ use lib.Dec.{eqb}
 use borrow.Author.Needs.{needs}
 use Rattle.format.proofs.header.length_fits.Statement.{statement}
 use Rattle.format.proofs.header.length_fits.Tie as tie
-use Rattle.format.proofs.header.length_fits.Reads as reads
-use Rattle.format.proofs.header.length_fits.Lts as lts
-use Rattle.format.proofs.header.length_for.Reads as length-for-reads
-
-length-for-requires : tie.Need-length-for-requires
-length-for-requires c κs = search needs
 
 returns : tie.Need-returns
 returns c = ap (eqb (c .before .args .len)) (c .length-for .ensures .0)
 
 pub length-fits-spec : {M : Type 1} → statement M
-length-fits-spec = tie.close (tie.spec length-for-requires returns)
+length-fits-spec = tie.close (tie.spec (λ c κs. search needs) returns)

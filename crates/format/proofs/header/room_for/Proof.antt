@@ -7,19 +7,9 @@ use Rattle.format.specs.Header.{hasJuniors}
 use borrow.Author.Needs.{needs}
 use Rattle.format.proofs.header.room_for.Statement.{statement}
 use Rattle.format.proofs.header.room_for.Tie as tie
-use Rattle.format.proofs.header.room_for.Reads as reads
-use Rattle.format.proofs.header.room_for.Lts as lts
-use Rattle.format.proofs.header.has_juniors.Reads as has-juniors-reads
-use Rattle.format.proofs.words.word.Reads as word-reads
 
 returns : tie.Need-returns
 returns c = rw (le-ltb 1 (length (now (c .before .before .args .file))) (omega (arith, c .if1 .taken)))
-
-word-requires : tie.Need-word-requires
-word-requires c κs = search needs
-
-has-juniors-requires : tie.Need-has-juniors-requires
-has-juniors-requires c κs = search needs
 
 returns-2 : tie.Need-returns-2
 returns-2 c = rw (lt-ltb 1 (length (now (c .before .before .before .before .before .args .file))) (omega (arith, c .before .before .before .if1 .left)), sym (ap hasJuniors (c .before .before .word .ensures)) ∙ sym (c .before .has-juniors .ensures) ∙ c .if2 .taken)
@@ -28,4 +18,4 @@ returns-3 : tie.Need-returns-3
 returns-3 c = rw (lt-ltb 1 (length (now (c .before .before .before .before .before .args .file))) (omega (arith, c .before .before .before .if1 .left)), sym (ap hasJuniors (c .before .before .word .ensures)) ∙ sym (c .before .has-juniors .ensures) ∙ c .if2 .left)
 
 pub room-for-spec : {M : Type 1} → statement M
-room-for-spec = tie.close (tie.spec returns word-requires has-juniors-requires returns-2 returns-3)
+room-for-spec = tie.close (tie.spec returns (λ c κs. search needs) (λ c κs. search needs) returns-2 returns-3)

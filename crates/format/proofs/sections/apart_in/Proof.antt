@@ -2,8 +2,6 @@ use native.Mathlib.Omega.{arith}
 use borrow.Author.Tests.{eq-eqb, ne-eqb}
 use Rattle.format.proofs.sections.apart_in.Statement.{statement}
 use Rattle.format.proofs.sections.apart_in.Tie as tie
-use Rattle.format.proofs.sections.apart_in.Reads as reads
-use Rattle.format.proofs.sections.apart_in.Lts as lts
 
 returns : tie.Need-returns
 returns c = (rw (eq-eqb _ _ (c .if1 .taken)), omega arith)

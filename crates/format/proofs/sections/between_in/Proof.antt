@@ -3,12 +3,6 @@ use borrow.Author.Tests.{eq-eqb, ne-eqb}
 use borrow.Author.Needs.{needs}
 use Rattle.format.proofs.sections.between_in.Statement.{statement}
 use Rattle.format.proofs.sections.between_in.Tie as tie
-use Rattle.format.proofs.sections.between_in.Reads as reads
-use Rattle.format.proofs.sections.between_in.Lts as lts
-use Rattle.format.proofs.words.wide.Reads as wide-reads
-
-wide-requires : tie.Need-wide-requires
-wide-requires c κs = search needs
 
 returns : tie.Need-returns
 returns c = (rw (eq-eqb _ _ (c .before .if1 .taken)) (c .wide .ensures .0), c .wide .ensures .1)
@@ -17,4 +11,4 @@ returns-2 : tie.Need-returns-2
 returns-2 c = (rw (ne-eqb _ _ (c .if1 .left)), omega arith)
 
 pub between-in-spec : {M : Type 1} → statement M
-between-in-spec = tie.close (tie.spec wide-requires returns returns-2)
+between-in-spec = tie.close (tie.spec (λ c κs. search needs) returns returns-2)

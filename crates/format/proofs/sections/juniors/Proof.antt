@@ -9,15 +9,6 @@ use Rattle.format.proofs.ContentsLaws.{in-count, item-there, item-none}
 use borrow.Author.Needs.{needs}
 use Rattle.format.proofs.sections.juniors.Statement.{statement}
 use Rattle.format.proofs.sections.juniors.Tie as tie
-use Rattle.format.proofs.sections.juniors.Reads as reads
-use Rattle.format.proofs.sections.juniors.Lts as lts
-use Rattle.format.proofs.header.has_juniors.Reads as has-juniors-reads
-use Rattle.format.proofs.sections.in_count.Reads as in-count-reads
-use Rattle.format.proofs.sections.place_of.Reads as place-of-reads
-use Rattle.format.proofs.words.inner_word.Reads as inner-word-reads
-
-in-count-requires : tie.Need-in-count-requires
-in-count-requires c κs = search needs
 
 returns : tie.Need-returns
 unfolding contentsAt
@@ -25,9 +16,6 @@ returns c =
     let a = c .before .before .before .args in
     let no : inCount (a .head .count .roles) (a .n) ≡ false = sym (c .before .in-count .ensures) ∙ not-true (c .before .in-count .result) (c .if1 .taken) in
     sym (item-none 0 (juniorsOf (a .file .now) (a .head)) (a .head .count .roles) (a .n) no)
-
-has-juniors-requires : tie.Need-has-juniors-requires
-has-juniors-requires c κs = search needs
 
 returns-2 : tie.Need-returns-2
 unfolding contentsAt
@@ -59,4 +47,4 @@ returns-3 c =
 pub juniors-spec : {M : Type 1} → statement M
 juniors-spec =
     tie.close
-    (tie.spec in-count-requires returns has-juniors-requires returns-2 place-of-requires inner-word-requires returns-3)
+    (tie.spec (λ c κs. search needs) returns (λ c κs. search needs) returns-2 place-of-requires inner-word-requires returns-3)

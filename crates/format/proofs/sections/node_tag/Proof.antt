@@ -11,14 +11,6 @@ use Rattle.format.proofs.SpotLaws.{node-there}
 use borrow.Author.Needs.{needs}
 use Rattle.format.proofs.sections.node_tag.Statement.{statement}
 use Rattle.format.proofs.sections.node_tag.Tie as tie
-use Rattle.format.proofs.sections.node_tag.Reads as reads
-use Rattle.format.proofs.sections.node_tag.Lts as lts
-use Rattle.format.proofs.sections.in_count.Reads as in-count-reads
-use Rattle.format.proofs.sections.node_spot.Reads as node-spot-reads
-use Rattle.format.proofs.words.inner_word.Reads as inner-word-reads
-
-in-count-requires : tie.Need-in-count-requires
-in-count-requires c κs = search needs
 
 returns : tie.Need-returns
 unfolding contentsAt
@@ -48,4 +40,4 @@ returns-2 c =
 
 pub node-tag-spec : {M : Type 1} → statement M
 node-tag-spec =
-    tie.close (tie.spec in-count-requires returns node-spot-requires inner-word-requires returns-2)
+    tie.close (tie.spec (λ c κs. search needs) returns node-spot-requires inner-word-requires returns-2)

@@ -1,8 +1,6 @@
-use Prim.Native.Nat.{ℕ, _≤_}
 use mathlib.Core.Path.{_≡_, sym, _∙_}
 use mathlib.Core.Logic.{_≢_}
 use mathlib.Core.Bool.{true, false}
-use native.Mathlib.Omega.{arith}
 use borrow.Author.Tests.{not-true, not-false}
 use Rattle.format.specs.Sections.{nodeOf}
 use Rattle.format.specs.Contents.{inCount, noNode, contentsAt}
@@ -11,14 +9,6 @@ use Rattle.format.proofs.SpotLaws.{row-node, row-there, column-node, co
 use borrow.Author.Needs.{needs}
 use Rattle.format.proofs.sections.single_node.Statement.{statement}
 use Rattle.format.proofs.sections.single_node.Tie as tie
-use Rattle.format.proofs.sections.single_node.Reads as reads
-use Rattle.format.proofs.sections.single_node.Lts as lts
-use Rattle.format.proofs.sections.column_node.Reads as column-node-reads
-use Rattle.format.proofs.sections.in_count.Reads as in-count-reads
-use Rattle.format.proofs.sections.row_node.Reads as row-node-reads
-
-in-count-requires : tie.Need-in-count-requires
-in-count-requires c κs = search needs
 
 returns : tie.Need-returns
 unfolding contentsAt
@@ -61,4 +51,4 @@ returns-3 c =
 pub single-node-spec : {M : Type 1} → statement M
 single-node-spec =
     tie.close
-    (tie.spec in-count-requires returns column-node-requires returns-2 row-node-requires returns-3)
+    (tie.spec (λ c κs. search needs) returns column-node-requires returns-2 row-node-requires returns-3)

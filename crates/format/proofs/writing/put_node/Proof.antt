@@ -5,13 +5,6 @@ use Rattle.format.proofs.SpotLaws.{spot-within}
 use borrow.Author.Needs.{needs}
 use Rattle.format.proofs.writing.put_node.Statement.{statement}
 use Rattle.format.proofs.writing.put_node.Tie as tie
-use Rattle.format.proofs.writing.put_node.Reads as reads
-use Rattle.format.proofs.writing.put_node.Lts as lts
-use Rattle.format.proofs.sections.node_spot.Reads as node-spot-reads
-use Rattle.format.proofs.words.put_word.Reads as put-word-reads
-
-node-spot-requires : tie.Need-node-spot-requires
-node-spot-requires c κs = search needs
 
 put-word-requires : tie.Need-put-word-requires
 put-word-requires c κs =
@@ -19,26 +12,17 @@ put-word-requires c κs =
     let p = c .before .before .before .pre in
     omega (arith, p, c .node-spot .ensures .0, spot-within (a .head .version) (a .head .count .nodes) (a .n) 0 (p .0) (p .1) (omega arith))
 
-node-spot-requires-2 : tie.Need-node-spot-requires-2
-node-spot-requires-2 c κs = search needs
-
 put-word-requires-2 : tie.Need-put-word-requires-2
 put-word-requires-2 c κs =
     let a = c .before .before .before .before .before .before .before .before .args in
     let p = c .before .before .before .before .before .before .before .before .pre in
     omega (arith, p, c .node-spot2 .ensures .0, spot-within (a .head .version) (a .head .count .nodes) (a .n) 1 (p .0) (p .1) (omega arith))
 
-node-spot-requires-3 : tie.Need-node-spot-requires-3
-node-spot-requires-3 c κs = search needs
-
 put-word-requires-3 : tie.Need-put-word-requires-3
 put-word-requires-3 c κs =
     let a = c .before .before .before .before .before .before .before .before .before .before .before .before .before .args in
     let p = c .before .before .before .before .before .before .before .before .before .before .before .before .before .pre in
     omega (arith, p, c .node-spot3 .ensures .0, spot-within (a .head .version) (a .head .count .nodes) (a .n) 2 (p .0) (p .1) (omega arith))
-
-same-length : tie.Need-same-length
-same-length c = search needs
 
 returns : tie.Need-returns
 returns c =
@@ -50,12 +34,5 @@ returns c =
 pub put-node-spec : {M : Type 1} → statement M
 put-node-spec =
     tie.close
-    (tie.spec
-    node-spot-requires
-    put-word-requires
-    node-spot-requires-2
-    put-word-requires-2
-    node-spot-requires-3
-    put-word-requires-3
-    same-length
-    returns)
+    (tie.spec (λ c κs. search needs) put-word-requires (λ c κs. search needs) put-word-requires-2 (λ c κs. search needs)
+    put-word-requires-3 (λ c. search needs) returns)

@@ -7,19 +7,6 @@ use Rattle.format.specs.Writing.{sessionWords}
 use borrow.Author.Needs.{needs}
 use Rattle.format.proofs.writing.put_session.Statement.{statement}
 use Rattle.format.proofs.writing.put_session.Tie as tie
-use Rattle.format.proofs.writing.put_session.Reads as reads
-use Rattle.format.proofs.writing.put_session.Lts as lts
-use Rattle.format.proofs.sections.place_of.Reads as place-of-reads
-use Rattle.format.proofs.writing.put_three.Reads as put-three-reads
-
-place-of-requires : tie.Need-place-of-requires
-place-of-requires c κs = search needs
-
-put-three-requires : tie.Need-put-three-requires
-put-three-requires c κs = search needs
-
-same-length : tie.Need-same-length
-same-length c = search needs
 
 returns : tie.Need-returns
 unfolding sessionWords
@@ -28,4 +15,4 @@ returns c =
     c .before .before .put-three .ensures ∙ ap (λ p. sets (a .out .now) (2 * p) (bytesOf (sessionWords (a .it ∷ [])))) (c .before .before .before .place-of .ensures .0)
 
 pub put-session-spec : {M : Type 1} → statement M
-put-session-spec = tie.close (tie.spec place-of-requires put-three-requires same-length returns)
+put-session-spec = tie.close (tie.spec (λ c κs. search needs) (λ c κs. search needs) (λ c. search needs) returns)

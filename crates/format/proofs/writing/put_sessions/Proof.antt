@@ -9,24 +9,11 @@ use Rattle.format.proofs.WriteLaws.{sessions-words}
 use borrow.Author.Needs.{needs}
 use Rattle.format.proofs.writing.put_sessions.Statement.{statement}
 use Rattle.format.proofs.writing.put_sessions.Tie as tie
-use Rattle.format.proofs.writing.put_sessions.Reads as reads
-use Rattle.format.proofs.writing.put_sessions.Lts as lts
-use Rattle.format.proofs.words.wide.Reads as wide-reads
-use Rattle.format.proofs.writing.put_words.Reads as put-words-reads
-
-wide-requires : tie.Need-wide-requires
-wide-requires c κs = search needs
-
-wide-requires-2 : tie.Need-wide-requires-2
-wide-requires-2 c κs = search needs
 
 put-words-requires : tie.Need-put-words-requires
 put-words-requires c κs =
     let a = c .before .before .before .before .before .args in
     (omega arith, λ some. omega (arith, some, some-there (a .file .now) (a .head) (c .before .before .before .before .before .pre .0) (omega (arith, some))), omega arith)
-
-same-length : tie.Need-same-length
-same-length c = search needs
 
 returns : tie.Need-returns
 returns c =
@@ -39,4 +26,4 @@ returns c =
 
 pub put-sessions-spec : {M : Type 1} → statement M
 put-sessions-spec =
-    tie.close (tie.spec wide-requires wide-requires-2 put-words-requires same-length returns)
+    tie.close (tie.spec (λ c κs. search needs) (λ c κs. search needs) put-words-requires (λ c. search needs) returns)

@@ -5,27 +5,6 @@ use Rattle.format.proofs.PutRuns.{puts-then}
 use borrow.Author.Needs.{needs}
 use Rattle.format.proofs.writing.put_three.Statement.{statement}
 use Rattle.format.proofs.writing.put_three.Tie as tie
-use Rattle.format.proofs.writing.put_three.Reads as reads
-use Rattle.format.proofs.writing.put_three.Lts as lts
-use Rattle.format.proofs.words.put_word.Reads as put-word-reads
-
-put-word-requires : tie.Need-put-word-requires
-put-word-requires c κs = search needs
-
-add-put-word : tie.Need-add-put-word
-add-put-word c = search needs
-
-put-word-requires-2 : tie.Need-put-word-requires-2
-put-word-requires-2 c κs = search needs
-
-add-put-word-2 : tie.Need-add-put-word-2
-add-put-word-2 c = search needs
-
-put-word-requires-3 : tie.Need-put-word-requires-3
-put-word-requires-3 c κs = search needs
-
-same-length : tie.Need-same-length
-same-length c = search needs
 
 returns : tie.Need-returns
 returns c =
@@ -40,11 +19,5 @@ returns c =
 pub put-three-spec : {M : Type 1} → statement M
 put-three-spec =
     tie.close
-    (tie.spec
-    put-word-requires
-    add-put-word
-    put-word-requires-2
-    add-put-word-2
-    put-word-requires-3
-    same-length
-    returns)
+    (tie.spec (λ c κs. search needs) (λ c. search needs) (λ c κs. search needs) (λ c. search needs)
+    (λ c κs. search needs) (λ c. search needs) returns)

@@ -6,8 +6,6 @@ use lib.Seq.{sets}
 use Rattle.format.proofs.WriteLaws.{Bytes, bytes-more, bytes-all}
 use Rattle.format.proofs.writing.put_words.Statement.{statement}
 use Rattle.format.proofs.writing.put_words.Tie as tie
-use Rattle.format.proofs.writing.put_words.Reads as reads
-use Rattle.format.proofs.writing.put_words.Lts as lts
 
 abbrev Inv-loop : tie.InvT-loop
 Inv-loop file from to out₀ end i₀ out i =
@@ -17,26 +15,11 @@ Inv-loop file from to out₀ end i₀ out i =
 abbrev μ-loop : tie.MeasureT-loop
 μ-loop file from to out₀ end i₀ out i = 2 * to - i
 
-mul-end : tie.Need-mul-end Inv-loop μ-loop
-mul-end c = omega arith
-
-mul-i : tie.Need-mul-i Inv-loop μ-loop
-mul-i c = omega arith
-
 loop-holds : tie.Need-loop-holds Inv-loop μ-loop
 loop-holds c = (omega arith, omega arith, refl, λ h. absurd (omega (arith, h)), refl)
 
 shared-slice-read-out : tie.Need-shared-slice-read-out Inv-loop μ-loop
 shared-slice-read-out c = omega (arith, c .before .before .before .pre .1 (omega arith))
-
-slice-write-out : tie.Need-slice-write-out Inv-loop μ-loop
-slice-write-out c = omega arith
-
-add-i : tie.Need-add-i Inv-loop μ-loop
-add-i c = omega arith
-
-loop-less : tie.Need-loop-less Inv-loop μ-loop
-loop-less c = omega arith
 
 loop-again : tie.Need-loop-again Inv-loop μ-loop
 loop-again c =
@@ -49,9 +32,6 @@ loop-again c =
       bytes-more (l .out) (set (l .out) (l .i) (getD (a .file .now) (l .i) 0)) (a .file .now) _ (l .i) (2 * a .to) (omega arith) (omega (arith, c .before .before .before .pre .1 (omega arith))) refl (l .inv .4),
     )
 
-same-length : tie.Need-same-length Inv-loop μ-loop
-same-length c = omega arith
-
 returns : tie.Need-returns Inv-loop μ-loop
 returns c =
     let l = c .before .loop in
@@ -61,16 +41,5 @@ returns c =
 pub put-words-spec : {M : Type 1} → statement M
 put-words-spec =
     tie.close
-    (tie.spec
-    Inv-loop
-    μ-loop
-    mul-end
-    mul-i
-    loop-holds
-    shared-slice-read-out
-    slice-write-out
-    add-i
-    loop-less
-    loop-again
-    same-length
-    returns)
+    (tie.spec Inv-loop μ-loop (λ c. omega arith) (λ c. omega arith) loop-holds shared-slice-read-out (λ c. omega arith)
+    (λ c. omega arith) (λ c. omega arith) loop-again (λ c. omega arith) returns)

@@ -6,12 +6,6 @@ use Rattle.rules.specs.Schema.{schemaOf}
 use Rattle.lending.proofs.JudgeLaws.{value-user, value-low, value-channel, value-made}
 use Rattle.lending.proofs.judging.is_value.Statement.{statement}
 use Rattle.lending.proofs.judging.is_value.Tie as tie
-use Rattle.lending.proofs.judging.is_value.Reads as reads
-use Rattle.lending.proofs.judging.is_value.Lts as lts
-use Rattle.format.proofs.sections.in_count.Reads as in-count-reads
-
-in-count-requires : tie.Need-in-count-requires
-in-count-requires c κs = search needs
 
 returns : tie.Need-returns
 returns c =
@@ -23,16 +17,10 @@ returns-2 c =
     let a = c .before .before .before .args in
     λ bytes them m. value-low (schemaOf (contentsAt bytes (a .head))) them (a .v) (a .head .count .users) (a .head .count .channels) (users-held bytes (a .head)) (channels-held bytes (a .head)) (sym (c .before .before .in-count .ensures) ∙ c .before .if1 .left) (c .if2 .taken)
 
-add-if3 : tie.Need-add-if3
-add-if3 c = search needs
-
 returns-3 : tie.Need-returns-3
 returns-3 c =
     let a = c .before .before .before .before .before .args in
     λ bytes them m. value-channel (schemaOf (contentsAt bytes (a .head))) them (a .v) (a .head .count .users) (a .head .count .channels) (users-held bytes (a .head)) (channels-held bytes (a .head)) (sym (c .before .before .before .before .in-count .ensures) ∙ c .before .before .before .if1 .left) (c .before .before .if2 .left) (c .if3 .taken)
-
-add-result : tie.Need-add-result
-add-result c = search needs
 
 returns-4 : tie.Need-returns-4
 returns-4 c =
@@ -42,4 +30,4 @@ returns-4 c =
 pub is-value-spec : {M : Type 1} → statement M
 is-value-spec =
     tie.close
-    (tie.spec in-count-requires returns returns-2 add-if3 returns-3 add-result returns-4)
+    (tie.spec (λ c κs. search needs) returns returns-2 (λ c. search needs) returns-3 (λ c. search needs) returns-4)

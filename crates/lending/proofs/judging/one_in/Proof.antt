@@ -1,5 +1,5 @@
 -- The invariant: the kinds gone through so far have their one more.
-use Prim.Native.Nat.{ℕ, _+_, _-_, _%_, _≤_}
+use Prim.Native.Nat.{_+_, _-_, _%_, _≤_}
 use mathlib.Core.Path.{_≡_, ap, _∙_}
 use native.Mathlib.Omega.{arith}
 use lib.ListN.{length, length-set}
@@ -8,9 +8,6 @@ use Rattle.lending.specs.Walk.{oneIn}
 use Rattle.lending.proofs.TotalsLaws.{oneUpto, one-none, one-on}
 use Rattle.lending.proofs.judging.one_in.Statement.{statement}
 use Rattle.lending.proofs.judging.one_in.Tie as tie
-use Rattle.lending.proofs.judging.one_in.Reads as reads
-use Rattle.lending.proofs.judging.one_in.Lts as lts
-use Rattle.format.proofs.words.wide.Reads as wide-reads
 
 abbrev Inv-loop : tie.InvT-loop
 Inv-loop kind all₀ k₀ all k = (k ≤ 32) × (length all ≡ 32) × (all ≡ oneUpto all₀ (kind .0) k)
@@ -21,41 +18,17 @@ abbrev μ-loop : tie.MeasureT-loop
 loop-holds : tie.Need-loop-holds Inv-loop μ-loop
 loop-holds c = (omega arith, c .pre, one-none (c .args .totals) (c .args .kind .0))
 
-wide-requires : tie.Need-wide-requires Inv-loop μ-loop
-wide-requires c κs = search needs
-
 add-k : tie.Need-add-k Inv-loop μ-loop
 add-k c = omega (arith, c .before .loop-test .taken)
-
-cast-one : tie.Need-cast-one Inv-loop μ-loop
-cast-one c = search needs
-
-mul-wide : tie.Need-mul-wide Inv-loop μ-loop
-mul-wide c = search needs
 
 array-read-wide : tie.Need-array-read-wide Inv-loop μ-loop
 array-read-wide c = omega (arith, c .before .wide .ensures .0, c .before .before .loop-test .taken, c .before .before .before .loop .inv .1)
 
-wide-requires-2 : tie.Need-wide-requires-2 Inv-loop μ-loop
-wide-requires-2 c κs = search needs
-
-wide-requires-3 : tie.Need-wide-requires-3 Inv-loop μ-loop
-wide-requires-3 c κs = search needs
-
 add-all : tie.Need-add-all Inv-loop μ-loop
 add-all c = omega (arith, c .before .wide2 .ensures .1, c .wide3 .ensures .1)
 
-cast-all : tie.Need-cast-all Inv-loop μ-loop
-cast-all c = search needs
-
-mul-all : tie.Need-mul-all Inv-loop μ-loop
-mul-all c = search needs
-
 array-write-all : tie.Need-array-write-all Inv-loop μ-loop
 array-write-all c = omega (arith, c .before .before .before .wide .ensures .0, c .before .before .before .before .loop-test .taken, c .before .before .before .before .before .loop .inv .1)
-
-loop-less : tie.Need-loop-less Inv-loop μ-loop
-loop-less c = search needs
 
 loop-again : tie.Need-loop-again Inv-loop μ-loop
 loop-again c =
@@ -72,21 +45,6 @@ returns c = let l = c .before .loop in let over : l .k ≡ 32 = omega (arith, l 
 pub one-in-spec : {M : Type 1} → statement M
 one-in-spec =
     tie.close
-    (tie.spec
-    Inv-loop
-    μ-loop
-    loop-holds
-    wide-requires
-    add-k
-    cast-one
-    mul-wide
-    array-read-wide
-    wide-requires-2
-    wide-requires-3
-    add-all
-    cast-all
-    mul-all
-    array-write-all
-    loop-less
-    loop-again
-    returns)
+    (tie.spec Inv-loop μ-loop loop-holds (λ c κs. search needs) add-k (λ c. search needs) (λ c. search needs)
+    array-read-wide (λ c κs. search needs) (λ c κs. search needs) add-all (λ c. search needs) (λ c. search needs)
+    array-write-all (λ c. search needs) loop-again returns)

@@ -1,19 +1,16 @@
 -- The invariant: what is found so far and what is left from here decide.
-use Prim.Native.Nat.{ℕ, _+_, _-_, _≤_}
+use Prim.Native.Nat.{ℕ, _-_, _≤_}
 use mathlib.Core.Path.{_≡_, refl, sym, ap, _∙_}
-use mathlib.Core.Bool.{Bool, _&&_}
+use mathlib.Core.Bool.{_&&_}
 use mathlib.Core.List.{List}
 use native.Mathlib.Omega.{arith}
-use lib.ListN.{length, take, drop, length-drop}
+use lib.ListN.{length, drop, length-drop}
 use lib.Seq.{length-take-le}
 use borrow.Author.Needs.{needs}
 use Rattle.lending.specs.Lent.{same}
 use Rattle.lending.proofs.TotalsLaws.{same-step, same-end}
 use Rattle.lending.proofs.judging.tally_fits.Statement.{statement}
 use Rattle.lending.proofs.judging.tally_fits.Tie as tie
-use Rattle.lending.proofs.judging.tally_fits.Reads as reads
-use Rattle.lending.proofs.judging.tally_fits.Lts as lts
-use Rattle.steps.proofs.beside.totals_of.Reads as totals-of-reads
 
 abbrev Inv-loop : tie.InvT-loop
 Inv-loop beside theirs lent k₀ alike₀ k alike =
@@ -22,32 +19,11 @@ Inv-loop beside theirs lent k₀ alike₀ k alike =
 abbrev μ-loop : tie.MeasureT-loop
 μ-loop beside theirs lent k₀ alike₀ k alike = 32 - k
 
-totals-of-requires : tie.Need-totals-of-requires Inv-loop μ-loop
-totals-of-requires c κs = search needs
-
 loop-holds : tie.Need-loop-holds Inv-loop μ-loop
 loop-holds c =
     let b = c .before .before .before .args .beside .now in
     let long : length (c .totals-of .result) ≡ 32 = ap length (c .totals-of .ensures) ∙ length-take-le 32 (drop 130 b) (omega (arith, length-drop 130 b, c .before .before .before .pre .0)) in
     (omega arith, long, c .before .before .before .pre .1, refl)
-
-mul-alike : tie.Need-mul-alike Inv-loop μ-loop
-mul-alike c = search needs
-
-array-read-alike : tie.Need-array-read-alike Inv-loop μ-loop
-array-read-alike c = search needs
-
-mul-alike-2 : tie.Need-mul-alike-2 Inv-loop μ-loop
-mul-alike-2 c = search needs
-
-array-read-alike-2 : tie.Need-array-read-alike-2 Inv-loop μ-loop
-array-read-alike-2 c = search needs
-
-add-k : tie.Need-add-k Inv-loop μ-loop
-add-k c = search needs
-
-loop-less : tie.Need-loop-less Inv-loop μ-loop
-loop-less c = search needs
 
 loop-again : tie.Need-loop-again Inv-loop μ-loop
 loop-again c =
@@ -64,16 +40,5 @@ returns c =
 pub tally-fits-spec : {M : Type 1} → statement M
 tally-fits-spec =
     tie.close
-    (tie.spec
-    Inv-loop
-    μ-loop
-    totals-of-requires
-    loop-holds
-    mul-alike
-    array-read-alike
-    mul-alike-2
-    array-read-alike-2
-    add-k
-    loop-less
-    loop-again
-    returns)
+    (tie.spec Inv-loop μ-loop (λ c κs. search needs) loop-holds (λ c. search needs) (λ c. search needs)
+    (λ c. search needs) (λ c. search needs) (λ c. search needs) (λ c. search needs) loop-again returns)

@@ -11,32 +11,15 @@ use Rattle.steps.specs.Beside.{madeIn}
 use Rattle.lending.proofs.JudgeLaws.{thread-nowhere, thread-user, thread-mask, thread-vars}
 use Rattle.lending.proofs.judging.thread_fits.Statement.{statement}
 use Rattle.lending.proofs.judging.thread_fits.Tie as tie
-use Rattle.lending.proofs.judging.thread_fits.Reads as reads
-use Rattle.lending.proofs.judging.thread_fits.Lts as lts
-use Rattle.naming.proofs.scopes.scope_in.Reads as scope-in-reads
-use Rattle.format.proofs.sections.in_count.Reads as in-count-reads
-use Rattle.format.proofs.sections.user_roles.Reads as user-roles-reads
-use Rattle.format.proofs.words.wide.Reads as wide-reads
-use Rattle.lending.proofs.judging.vars_fit.Reads as vars-fit-reads
-use Rattle.masks.proofs.roles_within.Reads as roles-within-reads
 
 -- the thread's node is in count, or not
 counted : (c : tie.After-in-count) {b : Bool} → c .in-count .result ≡ b → let a = c .before .before .before .before .args in inCount (length (contentsAt (a .file .now) (a .head) .nodes)) (a .t .node) ≡ b
 counted c h = let a = c .before .before .before .before .args in sym (nodes-counted (a .file .now) (a .head) (a .t .node)) ∙ sym (c .in-count .ensures) ∙ h
 
-in-count-requires : tie.Need-in-count-requires
-in-count-requires c κs = search needs
-
 returns : tie.Need-returns
 returns c =
     let a = c .before .before .before .before .before .args in
     thread-nowhere (contentsAt (a .file .now) (a .head)) (madeIn (a .beside .now) 2 (getD (a .beside .now) 1 0)) (a .t) (counted (c .before) (not-true _ (c .if1 .taken)))
-
-wide-requires : tie.Need-wide-requires
-wide-requires c κs = search needs
-
-mul-scope-in : tie.Need-mul-scope-in
-mul-scope-in c = search needs
 
 shared-slice-read-scope-in : tie.Need-shared-slice-read-scope-in
 shared-slice-read-scope-in c =
@@ -44,23 +27,11 @@ shared-slice-read-scope-in c =
     let few = in-count (length (contentsAt (a .file .now) (a .head) .nodes)) (a .t .node) (counted (c .before .before .before) (not-false _ (c .before .before .if1 .left))) in
     omega (arith, few, nodes-held (a .file .now) (a .head), c .before .before .before .before .before .before .before .pre .0 .nodes, c .before .wide .ensures)
 
-scope-in-requires : tie.Need-scope-in-requires
-scope-in-requires c κs = search needs
-
-cast-if2 : tie.Need-cast-if2
-cast-if2 c = search needs
-
 returns-2 : tie.Need-returns-2
 returns-2 c =
     let a = c .before .before .before .before .before .before .before .before .before .before .args in
     let node = counted (c .before .before .before .before .before .before) (not-false _ (c .before .before .before .before .before .if1 .left)) in
     thread-user (contentsAt (a .file .now) (a .head)) (madeIn (a .beside .now) 2 (getD (a .beside .now) 1 0)) (a .t) (a .table .now) (c .before .before .before .before .wide .result) (c .before .before .before .before .before .before .before .before .before .before .pre .2) (c .before .before .before .before .wide .ensures .0) node (c .before .before .scope-in .result) (c .before .before .scope-in .ensures) (c .if2 .taken)
-
-user-roles-requires : tie.Need-user-roles-requires
-user-roles-requires c κs = search needs
-
-roles-within-requires : tie.Need-roles-within-requires
-roles-within-requires c κs = search needs
 
 returns-3 : tie.Need-returns-3
 returns-3 c =
@@ -68,9 +39,6 @@ returns-3 c =
     let node = counted (c .before .before .before .before .before .before .before .before .before) (not-false _ (c .before .before .before .before .before .before .before .before .if1 .left)) in
     let mask = ap (within (a .t .mask)) (sym (c .before .before .user-roles .ensures)) ∙ sym (c .before .roles-within .ensures) ∙ not-true _ (c .if3 .taken) in
     thread-mask (contentsAt (a .file .now) (a .head)) (madeIn (a .beside .now) 2 (getD (a .beside .now) 1 0)) (a .t) (a .table .now) (c .before .before .before .before .before .before .before .wide .result) (c .before .before .before .before .before .before .before .before .before .before .before .before .before .pre .2) (c .before .before .before .before .before .before .before .wide .ensures .0) node (c .before .before .before .before .before .scope-in .result) (c .before .before .before .before .before .scope-in .ensures) (c .before .before .before .if2 .left) mask
-
-vars-fit-requires : tie.Need-vars-fit-requires
-vars-fit-requires c κs = search needs
 
 returns-4 : tie.Need-returns-4
 returns-4 c =
@@ -82,17 +50,6 @@ returns-4 c =
 pub thread-fits-spec : {M : Type 1} → statement M
 thread-fits-spec =
     tie.close
-    (tie.spec
-    in-count-requires
-    returns
-    wide-requires
-    mul-scope-in
-    shared-slice-read-scope-in
-    scope-in-requires
-    cast-if2
-    returns-2
-    user-roles-requires
-    roles-within-requires
-    returns-3
-    vars-fit-requires
-    returns-4)
+    (tie.spec (λ c κs. search needs) returns (λ c κs. search needs) (λ c. search needs) shared-slice-read-scope-in
+    (λ c κs. search needs) (λ c. search needs) returns-2 (λ c κs. search needs) (λ c κs. search needs) returns-3
+    (λ c κs. search needs) returns-4)

@@ -6,17 +6,6 @@ use Rattle.steps.specs.Beside.{madeIn}
 use Rattle.steps.proofs.ActLaws.{length-made}
 use Rattle.lending.proofs.judging.value_fits.Statement.{statement}
 use Rattle.lending.proofs.judging.value_fits.Tie as tie
-use Rattle.lending.proofs.judging.value_fits.Reads as reads
-use Rattle.lending.proofs.judging.value_fits.Lts as lts
-use Rattle.lending.proofs.judging.is_value.Reads as is-value-reads
-use Rattle.steps.proofs.act.kind_held.Reads as kind-held-reads
-use Rattle.steps.proofs.beside.made_count.Reads as made-count-reads
-
-made-count-requires : tie.Need-made-count-requires
-made-count-requires c κs = search needs
-
-is-value-requires : tie.Need-is-value-requires
-is-value-requires c κs = search needs
 
 returns : tie.Need-returns
 returns c =
@@ -24,9 +13,6 @@ returns c =
     let n = getD (a .beside .now) 1 0 in
     let e = sym (c .before .is-value .ensures (a .file .now) (madeIn (a .beside .now) 2 n) (length-made (a .beside .now) 2 n ∙ sym (c .before .before .made-count .ensures))) ∙ not-true _ (c .if1 .taken) in
     rw e
-
-kind-held-requires : tie.Need-kind-held-requires
-kind-held-requires c κs = search needs
 
 returns-2 : tie.Need-returns-2
 returns-2 c =
@@ -37,4 +23,4 @@ returns-2 c =
 
 pub value-fits-spec : {M : Type 1} → statement M
 value-fits-spec =
-    tie.close (tie.spec made-count-requires is-value-requires returns kind-held-requires returns-2)
+    tie.close (tie.spec (λ c κs. search needs) (λ c κs. search needs) returns (λ c κs. search needs) returns-2)

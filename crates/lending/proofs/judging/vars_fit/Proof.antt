@@ -16,11 +16,6 @@ use Rattle.lending.specs.Lent.{varsFit}
 use Rattle.lending.proofs.JudgeLaws.{vars-bound, vars-free, vars-done}
 use Rattle.lending.proofs.judging.vars_fit.Statement.{statement}
 use Rattle.lending.proofs.judging.vars_fit.Tie as tie
-use Rattle.lending.proofs.judging.vars_fit.Reads as reads
-use Rattle.lending.proofs.judging.vars_fit.Lts as lts
-use Rattle.lending.proofs.judging.value_fits.Reads as value-fits-reads
-use Rattle.naming.proofs.scopes.bound_in.Reads as bound-in-reads
-use Rattle.naming.proofs.scopes.kind_at.Reads as kind-at-reads
 
 abbrev Inv-loop : tie.InvT-loop
 Inv-loop file head beside w vars bound k₀ k =
@@ -30,23 +25,8 @@ Inv-loop file head beside w vars bound k₀ k =
 abbrev μ-loop : tie.MeasureT-loop
 μ-loop file head beside w vars bound k₀ k = 8 - k
 
-bound-in-requires : tie.Need-bound-in-requires Inv-loop μ-loop
-bound-in-requires c κs = search needs
-
 loop-holds : tie.Need-loop-holds Inv-loop μ-loop
 loop-holds c = (omega arith, λ x e narrow. refl)
-
-mul-v : tie.Need-mul-v Inv-loop μ-loop
-mul-v c = search needs
-
-array-read-v : tie.Need-array-read-v Inv-loop μ-loop
-array-read-v c = search needs
-
-kind-at-requires : tie.Need-kind-at-requires Inv-loop μ-loop
-kind-at-requires c κs = search needs
-
-value-fits-requires : tie.Need-value-fits-requires Inv-loop μ-loop
-value-fits-requires c κs = search needs
 
 returns : tie.Need-returns Inv-loop μ-loop
 returns c =
@@ -61,12 +41,6 @@ returns-2 c =
     let l = c .before .before .before .loop in
     let long : length (a .t5) ≡ 8 = search needs in
     λ x e narrow. sym (vars-free (schemaOf (contentsAt (a .file .now) (a .head))) (madeIn (a .beside .now) 2 (getD (a .beside .now) 1 0)) (a .t5) x (a .w) e narrow (l .k) false (omega arith) (omega arith) (ne-eqb _ 0 (c .if3 .taken))) ∙ l .inv .1 x e narrow
-
-add-k : tie.Need-add-k Inv-loop μ-loop
-add-k c = search needs
-
-loop-less : tie.Need-loop-less Inv-loop μ-loop
-loop-less c = search needs
 
 loop-again : tie.Need-loop-again Inv-loop μ-loop
 loop-again c =
@@ -90,18 +64,6 @@ returns-3 c =
 pub vars-fit-spec : {M : Type 1} → statement M
 vars-fit-spec =
     tie.close
-    (tie.spec
-    Inv-loop
-    μ-loop
-    bound-in-requires
-    loop-holds
-    mul-v
-    array-read-v
-    kind-at-requires
-    value-fits-requires
-    returns
-    returns-2
-    add-k
-    loop-less
-    loop-again
+    (tie.spec Inv-loop μ-loop (λ c κs. search needs) loop-holds (λ c. search needs) (λ c. search needs)
+    (λ c κs. search needs) (λ c κs. search needs) returns returns-2 (λ c. search needs) (λ c. search needs) loop-again
     returns-3)

@@ -7,19 +7,6 @@ use Rattle.lending.proofs.StepLaws.{read-as}
 use borrow.Author.Needs.{needs}
 use Rattle.lending.proofs.stepping.read_back.Statement.{statement}
 use Rattle.lending.proofs.stepping.read_back.Tie as tie
-use Rattle.lending.proofs.stepping.read_back.Reads as reads
-use Rattle.lending.proofs.stepping.read_back.Lts as lts
-use Rattle.steps.proofs.threads.no_thread.Reads as no-thread-reads
-use Rattle.steps.proofs.records.thread_at.Reads as thread-at-reads
-
-no-thread-requires : tie.Need-no-thread-requires
-no-thread-requires c κs = search needs
-
-thread-at-requires : tie.Need-thread-at-requires
-thread-at-requires c κs = search needs
-
-enum-told : tie.Need-enum-told
-enum-told c = search needs
 
 returns : tie.Need-returns
 returns c =
@@ -28,9 +15,6 @@ returns c =
     let none = c .before .before .before .no-thread .ensures in
     read-as (a .words .now) (a .count) (a .at) (a .to) (a .answer) _ _ is (λ j. record { answer = is j; first = none j; second = none j })
 
-enum-told-2 : tie.Need-enum-told-2
-enum-told-2 c = search needs
-
 returns-2 : tie.Need-returns-2
 returns-2 c =
     let a = c .before .before .before .before .before .args in
@@ -38,9 +22,6 @@ returns-2 c =
     let none = c .before .before .before .no-thread .ensures in
     let own = c .before .before .thread-at .ensures in
     read-as (a .words .now) (a .count) (a .at) (a .to) (a .answer) _ _ is (λ j. record { answer = is j; first = own j; second = none j })
-
-enum-told-3 : tie.Need-enum-told-3
-enum-told-3 c = search needs
 
 thread-at-requires-2 : tie.Need-thread-at-requires-2
 thread-at-requires-2 c κs =
@@ -56,9 +37,6 @@ returns-3 c =
     let last = c .thread-at2 .ensures in
     read-as (a .words .now) (a .count) (a .at) (a .to) (a .answer) _ _ is (λ j. record { answer = is j; first = own j; second = last j })
 
-enum-told-4 : tie.Need-enum-told-4
-enum-told-4 c = search needs
-
 returns-4 : tie.Need-returns-4
 returns-4 c =
     let a = c .before .before .before .before .before .args in
@@ -67,18 +45,12 @@ returns-4 c =
     let own = c .before .before .thread-at .ensures in
     read-as (a .words .now) (a .count) (a .at) (a .to) (a .answer) _ _ is (λ j. record { answer = is j; first = own j; second = none j })
 
-enum-told-5 : tie.Need-enum-told-5
-enum-told-5 c = search needs
-
 returns-5 : tie.Need-returns-5
 returns-5 c =
     let a = c .before .before .before .before .before .args in
     let is = c .enum-told5 .given .1 in
     let none = c .before .before .before .no-thread .ensures in
     read-as (a .words .now) (a .count) (a .at) (a .to) (a .answer) _ _ is (λ j. record { answer = is j; first = none j; second = none j })
-
-enum-told-6 : tie.Need-enum-told-6
-enum-told-6 c = search needs
 
 thread-at-requires-3 : tie.Need-thread-at-requires-3
 thread-at-requires-3 c κs =
@@ -97,20 +69,6 @@ returns-6 c =
 pub read-back-spec : {M : Type 1} → statement M
 read-back-spec =
     tie.close
-    (tie.spec
-    no-thread-requires
-    thread-at-requires
-    enum-told
-    returns
-    enum-told-2
-    returns-2
-    enum-told-3
-    thread-at-requires-2
-    returns-3
-    enum-told-4
-    returns-4
-    enum-told-5
-    returns-5
-    enum-told-6
-    thread-at-requires-3
-    returns-6)
+    (tie.spec (λ c κs. search needs) (λ c κs. search needs) (λ c. search needs) returns (λ c. search needs) returns-2
+    (λ c. search needs) thread-at-requires-2 returns-3 (λ c. search needs) returns-4 (λ c. search needs) returns-5
+    (λ c. search needs) thread-at-requires-3 returns-6)

@@ -15,16 +15,6 @@ use Rattle.lending.proofs.StepLaws.{laid-long, laid-sized, step-second,
 use borrow.Author.Needs.{needs}
 use Rattle.lending.proofs.stepping.step_in.Statement.{statement}
 use Rattle.lending.proofs.stepping.step_in.Tie as tie
-use Rattle.lending.proofs.stepping.step_in.Reads as reads
-use Rattle.lending.proofs.stepping.step_in.Lts as lts
-use Rattle.choices.proofs.list.go_through.Reads as go-through-reads
-use Rattle.choices.proofs.list.looked_at.Reads as looked-at-reads
-use Rattle.format.proofs.sections.in_count.Reads as in-count-reads
-use Rattle.format.proofs.words.wide.Reads as wide-reads
-use Rattle.steps.proofs.threads.no_thread.Reads as no-thread-reads
-use Rattle.lending.proofs.stepping.read_back.Reads as read-back-reads
-use Rattle.steps.proofs.beside.thread_count.Reads as thread-count-reads
-use Rattle.steps.proofs.records.put_thread.Reads as put-thread-reads
 
 -- the thread is in count
 inside : (c : tie.Else1) → inCount (threadCount (c .before .before .before .before .before .before .before .before .before .before .args .beside .now)) (c .before .before .before .before .before .before .before .before .before .before .args .i) ≡ true
@@ -33,18 +23,6 @@ inside c = ap (λ (n : ℕ). inCount n (c .before .before .before .before .befor
 -- and which one is looked at for the partner
 seen : (c : tie.After-looked-at) → c .looked-at .result ≡ cond (inCount (threadCount (c .before .before .before .before .before .before .before .before .before .before .before .before .args .beside .now)) (c .before .before .before .before .before .before .before .before .before .before .before .before .args .p)) (c .before .before .before .before .before .before .before .before .before .before .before .before .args .p) (c .before .before .before .before .before .before .before .before .before .before .before .before .args .i)
 seen c = c .looked-at .ensures ∙ ap (λ (n : ℕ). cond (inCount n (c .before .before .before .before .before .before .before .before .before .before .before .before .args .p)) (c .before .before .before .before .before .before .before .before .before .before .before .before .args .p) (c .before .before .before .before .before .before .before .before .before .before .before .before .args .i)) (c .before .before .before .before .thread-count .ensures)
-
-thread-count-requires : tie.Need-thread-count-requires
-thread-count-requires c κs = search needs
-
-in-count-requires : tie.Need-in-count-requires
-in-count-requires c κs = search needs
-
-no-thread-requires : tie.Need-no-thread-requires
-no-thread-requires c κs = search needs
-
-same-length : tie.Need-same-length
-same-length c = search needs
 
 returns : tie.Need-returns
 returns c =
@@ -56,20 +34,11 @@ returns c =
 sub-wide : tie.Need-sub-wide
 sub-wide c = let some = in-count (threadCount (c .before .before .before .before .before .before .before .before .before .before .args .beside .now)) (c .before .before .before .before .before .before .before .before .before .before .args .i) (inside c) in omega (arith, some .0)
 
-wide-requires : tie.Need-wide-requires
-wide-requires c κs = search needs
-
-looked-at-requires : tie.Need-looked-at-requires
-looked-at-requires c κs = search needs
-
 sub-wide-2 : tie.Need-sub-wide-2
 sub-wide-2 c =
     let a = c .before .before .before .before .before .before .before .before .before .before .before .before .args in
     let some = looked (threadCount (a .beside .now)) (a .i) (a .p) (c .looked-at .result) (inside (c .before .before)) (seen c) in
     omega (arith, some .0)
-
-wide-requires-2 : tie.Need-wide-requires-2
-wide-requires-2 c κs = search needs
 
 put-thread-requires : tie.Need-put-thread-requires
 put-thread-requires c κs =
@@ -85,9 +54,6 @@ put-thread-requires-2 c κs =
     let some = in-count (threadCount (a .beside .now)) (a .i) (inside (c .before .before .before .before .before .before .before .before)) in
     omega (arith, some .0, some .1, c .before .before .before .before .before .before .before .wide .ensures .0, q .3 .words, q .3 .threads, laid-long (a .words .now) _ _ (a .other) (c .before .before .before .put-thread .ensures))
 
-slice-aggregate-go-through : tie.Need-slice-aggregate-go-through
-slice-aggregate-go-through c = search needs
-
 go-through-requires : tie.Need-go-through-requires
 go-through-requires c κs =
     let a = c .before .before .before .before .before .before .before .before .before .before .before .before .before .before .before .before .before .before .before .before .before .before .before .before .args in
@@ -97,9 +63,6 @@ go-through-requires c κs =
     let look = c .before .before .before .before .before .before .before .before .before .before .before .before .looked-at in
     let to = c .before .before .before .before .before .before .before .before .before .before .before .wide2 in
     (q .0, q .1, q .2, omega arith, laid-sized C (a .words .now) _ _ (a .beside .now) (q .3) (a .i) (a .p) (look .result) (at .result) (to .result) (a .own) (a .other) (inside (c .before .before .before .before .before .before .before .before .before .before .before .before .before .before)) (seen (c .before .before .before .before .before .before .before .before .before .before .before .before)) (at .ensures .0) (to .ensures .0) (q .4) (c .before .before .before .before .before .before .before .before .before .put-thread .ensures) (c .before .before .before .before .before .put-thread2 .ensures))
-
-wide-requires-3 : tie.Need-wide-requires-3
-wide-requires-3 c κs = search needs
 
 read-back-requires : tie.Need-read-back-requires
 read-back-requires c κs =
@@ -119,9 +82,6 @@ read-back-requires c κs =
 same-length-2 : tie.Need-same-length-2
 same-length-2 c = c .before .before .before .before .before .before .before .go-through .ensures .3 .words ∙ sym (c .before .before .before .before .before .before .before .before .before .before .before .before .before .before .before .before .before .before .before .before .before .before .before .before .before .before .before .before .before .before .before .before .pre .3 .words)
 
-same-length-3 : tie.Need-same-length-3
-same-length-3 c = search needs
-
 returns-2 : tie.Need-returns-2
 returns-2 c =
     let a = c .before .before .before .before .before .before .before .before .before .before .before .before .before .before .before .before .before .before .before .before .before .before .before .before .before .before .before .before .before .before .before .before .args in
@@ -136,23 +96,7 @@ returns-2 c =
 pub step-in-spec : {M : Type 1} → statement M
 step-in-spec =
     tie.close
-    (tie.spec
-    thread-count-requires
-    in-count-requires
-    no-thread-requires
-    same-length
-    returns
-    sub-wide
-    wide-requires
-    looked-at-requires
-    sub-wide-2
-    wide-requires-2
-    put-thread-requires
-    put-thread-requires-2
-    slice-aggregate-go-through
-    go-through-requires
-    wide-requires-3
-    read-back-requires
-    same-length-2
-    same-length-3
-    returns-2)
+    (tie.spec (λ c κs. search needs) (λ c κs. search needs) (λ c κs. search needs) (λ c. search needs) returns sub-wide
+    (λ c κs. search needs) (λ c κs. search needs) sub-wide-2 (λ c κs. search needs) put-thread-requires
+    put-thread-requires-2 (λ c. search needs) go-through-requires (λ c κs. search needs) read-back-requires
+    same-length-2 (λ c. search needs) returns-2)

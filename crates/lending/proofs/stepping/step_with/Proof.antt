@@ -5,13 +5,6 @@ use Rattle.rules.proofs.GrantLaws.{granting}
 use borrow.Author.Needs.{needs}
 use Rattle.lending.proofs.stepping.step_with.Statement.{statement}
 use Rattle.lending.proofs.stepping.step_with.Tie as tie
-use Rattle.lending.proofs.stepping.step_with.Reads as reads
-use Rattle.lending.proofs.stepping.step_with.Lts as lts
-use Rattle.lending.proofs.stepping.step_in.Reads as step-in-reads
-use Rattle.rules.proofs.grants.fill_grants.Reads as fill-grants-reads
-
-fill-grants-requires : tie.Need-fill-grants-requires
-fill-grants-requires c κs = search needs
 
 step-in-requires : tie.Need-step-in-requires
 step-in-requires c κs =
@@ -26,29 +19,8 @@ step-in-requires c κs =
       q .9,
     )
 
-same-length : tie.Need-same-length
-same-length c = search needs
-
-same-length-2 : tie.Need-same-length-2
-same-length-2 c = search needs
-
-same-length-3 : tie.Need-same-length-3
-same-length-3 c = search needs
-
-same-length-4 : tie.Need-same-length-4
-same-length-4 c = search needs
-
-returns : tie.Need-returns
-returns c = search needs
-
 pub step-with-spec : {M : Type 1} → statement M
 step-with-spec =
     tie.close
-    (tie.spec
-    fill-grants-requires
-    step-in-requires
-    same-length
-    same-length-2
-    same-length-3
-    same-length-4
-    returns)
+    (tie.spec (λ c κs. search needs) step-in-requires (λ c. search needs) (λ c. search needs) (λ c. search needs)
+    (λ c. search needs) (λ c. search needs))

@@ -2,23 +2,6 @@ use Rattle.merging.proofs.JoinLaws.{file-put}
 use borrow.Author.Needs.{needs}
 use Rattle.merging.proofs.file.put_file.Statement.{statement}
 use Rattle.merging.proofs.file.put_file.Tie as tie
-use Rattle.merging.proofs.file.put_file.Reads as reads
-use Rattle.merging.proofs.file.put_file.Lts as lts
-use Rattle.format.proofs.writing.put_head.Reads as put-head-reads
-use Rattle.merging.proofs.file.put_tables.Reads as put-tables-reads
-use Rattle.merging.proofs.file.put_trees.Reads as put-trees-reads
-
-put-head-requires : tie.Need-put-head-requires
-put-head-requires c κs = search needs
-
-put-tables-requires : tie.Need-put-tables-requires
-put-tables-requires c κs = search needs
-
-put-trees-requires : tie.Need-put-trees-requires
-put-trees-requires c κs = search needs
-
-same-length : tie.Need-same-length
-same-length c = search needs
 
 returns : tie.Need-returns
 returns c =
@@ -31,4 +14,4 @@ returns c =
 pub put-file-spec : {M : Type 1} → statement M
 put-file-spec =
     tie.close
-    (tie.spec put-head-requires put-tables-requires put-trees-requires same-length returns)
+    (tie.spec (λ c κs. search needs) (λ c κs. search needs) (λ c κs. search needs) (λ c. search needs) returns)

@@ -5,28 +5,6 @@ use Rattle.merging.proofs.JoinLaws.{sessions-fit, second-sessions, node
 use borrow.Author.Needs.{needs}
 use Rattle.merging.proofs.file.put_trees.Statement.{statement}
 use Rattle.merging.proofs.file.put_trees.Tie as tie
-use Rattle.merging.proofs.file.put_trees.Reads as reads
-use Rattle.merging.proofs.file.put_trees.Lts as lts
-use Rattle.format.proofs.words.wide.Reads as wide-reads
-use Rattle.merging.proofs.counts.shift_after.Reads as shift-after-reads
-use Rattle.merging.proofs.writers.move_words.Reads as move-words-reads
-use Rattle.merging.proofs.writers.put_nodes.Reads as put-nodes-reads
-use Rattle.merging.proofs.writers.put_sessions.Reads as put-sessions-reads
-
-shift-after-requires : tie.Need-shift-after-requires
-shift-after-requires c κs = search needs
-
-wide-requires : tie.Need-wide-requires
-wide-requires c κs = search needs
-
-mul-sessions : tie.Need-mul-sessions
-mul-sessions c = search needs
-
-wide-requires-2 : tie.Need-wide-requires-2
-wide-requires-2 c κs = search needs
-
-wide-requires-3 : tie.Need-wide-requires-3
-wide-requires-3 c κs = search needs
 
 move-words-requires : tie.Need-move-words-requires
 move-words-requires c κs =
@@ -40,18 +18,6 @@ put-sessions-requires c κs =
     let p = c .before .before .before .before .before .before .before .before .before .before .before .before .pre in
     second-sessions (a .first .now) (a .second .now) (a .one) (a .two) (p .0) (a .whole) (p .1) _ (omega (arith, p .2)) _ (c .before .before .before .before .before .before .before .before .shift-after .ensures)
 
-wide-requires-4 : tie.Need-wide-requires-4
-wide-requires-4 c κs = search needs
-
-mul-nodes : tie.Need-mul-nodes
-mul-nodes c = search needs
-
-wide-requires-5 : tie.Need-wide-requires-5
-wide-requires-5 c κs = search needs
-
-wide-requires-6 : tie.Need-wide-requires-6
-wide-requires-6 c κs = search needs
-
 move-words-requires-2 : tie.Need-move-words-requires-2
 move-words-requires-2 c κs =
     let a = c .before .before .before .before .before .before .before .before .before .before .before .before .before .before .before .before .before .before .before .args in
@@ -63,9 +29,6 @@ put-nodes-requires c κs =
     let a = c .before .before .before .before .before .before .before .before .before .before .before .before .before .before .before .before .before .before .before .before .before .before .before .args in
     let p = c .before .before .before .before .before .before .before .before .before .before .before .before .before .before .before .before .before .before .before .before .before .before .before .pre in
     second-nodes (a .first .now) (a .second .now) (a .one) (a .two) (p .0) (a .whole) (p .1) _ (omega (arith, p .2)) _ (c .before .before .before .before .before .before .before .before .before .before .before .before .before .before .before .before .before .before .before .shift-after .ensures)
-
-same-length : tie.Need-same-length
-same-length c = search needs
 
 returns : tie.Need-returns
 returns c =
@@ -82,19 +45,6 @@ returns c =
 pub put-trees-spec : {M : Type 1} → statement M
 put-trees-spec =
     tie.close
-    (tie.spec
-    shift-after-requires
-    wide-requires
-    mul-sessions
-    wide-requires-2
-    wide-requires-3
-    move-words-requires
-    put-sessions-requires
-    wide-requires-4
-    mul-nodes
-    wide-requires-5
-    wide-requires-6
-    move-words-requires-2
-    put-nodes-requires
-    same-length
-    returns)
+    (tie.spec (λ c κs. search needs) (λ c κs. search needs) (λ c. search needs) (λ c κs. search needs)
+    (λ c κs. search needs) move-words-requires put-sessions-requires (λ c κs. search needs) (λ c. search needs)
+    (λ c κs. search needs) (λ c κs. search needs) move-words-requires-2 put-nodes-requires (λ c. search needs) returns)

@@ -4,38 +4,16 @@ use Rattle.format.proofs.HeadLaws.{some-there}
 use borrow.Author.Needs.{needs}
 use Rattle.merging.proofs.file.put_users.Statement.{statement}
 use Rattle.merging.proofs.file.put_users.Tie as tie
-use Rattle.merging.proofs.file.put_users.Reads as reads
-use Rattle.merging.proofs.file.put_users.Lts as lts
-use Rattle.format.proofs.words.wide.Reads as wide-reads
-use Rattle.merging.proofs.writers.move_words.Reads as move-words-reads
-
-wide-requires : tie.Need-wide-requires
-wide-requires c κs = search needs
-
-wide-requires-2 : tie.Need-wide-requires-2
-wide-requires-2 c κs = search needs
 
 move-words-requires : tie.Need-move-words-requires
 move-words-requires c κs =
     let a = c .before .before .before .before .before .before .args in
     (λ some. omega (arith, some, c .before .before .before .before .before .before .pre .0 .first, some-there (a .first .now) (a .one) (c .before .before .before .before .before .before .pre .0 .first) (omega (arith, some, c .before .before .before .before .before .before .pre .0 .first))), omega (arith, c .before .before .before .before .before .before .pre .0 .first))
 
-wide-requires-3 : tie.Need-wide-requires-3
-wide-requires-3 c κs = search needs
-
-wide-requires-4 : tie.Need-wide-requires-4
-wide-requires-4 c κs = search needs
-
-add-move-words : tie.Need-add-move-words
-add-move-words c = search needs
-
 move-words-requires-2 : tie.Need-move-words-requires-2
 move-words-requires-2 c κs =
     let a = c .before .before .before .before .before .before .before .before .before .before .before .before .args in
     (λ some. omega (arith, some, c .before .before .before .before .before .before .before .before .before .before .before .before .pre .0 .second, some-there (a .second .now) (a .two) (c .before .before .before .before .before .before .before .before .before .before .before .before .pre .0 .second) (omega (arith, some, c .before .before .before .before .before .before .before .before .before .before .before .before .pre .0 .second))), omega (arith, c .before .before .before .before .before .before .before .before .before .before .before .before .pre .0 .first, c .before .before .before .before .before .before .before .before .before .before .before .before .pre .0 .second))
-
-same-length : tie.Need-same-length
-same-length c = search needs
 
 returns : tie.Need-returns
 returns c =
@@ -49,13 +27,5 @@ returns c =
 pub put-users-spec : {M : Type 1} → statement M
 put-users-spec =
     tie.close
-    (tie.spec
-    wide-requires
-    wide-requires-2
-    move-words-requires
-    wide-requires-3
-    wide-requires-4
-    add-move-words
-    move-words-requires-2
-    same-length
-    returns)
+    (tie.spec (λ c κs. search needs) (λ c κs. search needs) move-words-requires (λ c κs. search needs)
+    (λ c κs. search needs) (λ c. search needs) move-words-requires-2 (λ c. search needs) returns)

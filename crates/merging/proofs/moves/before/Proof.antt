@@ -5,12 +5,6 @@ use Rattle.merging.proofs.SectionLaws.{shifts-user, shifts-channel, shi
 use borrow.Author.Needs.{needs}
 use Rattle.merging.proofs.moves.before.Statement.{statement}
 use Rattle.merging.proofs.moves.before.Tie as tie
-use Rattle.merging.proofs.moves.before.Reads as reads
-use Rattle.merging.proofs.moves.before.Lts as lts
-use Rattle.format.proofs.sections.in_count.Reads as in-count-reads
-
-in-count-requires : tie.Need-in-count-requires
-in-count-requires c κs = search needs
 
 returns : tie.Need-returns
 returns c =
@@ -29,4 +23,4 @@ returns-3 c =
     (shifts-none (a .by .users) (a .by .channels) (a .x) (sym (c .before .before .in-count .ensures) ∙ c .before .if1 .left) (c .if2 .left), omega arith, omega arith)
 
 pub before-spec : {M : Type 1} → statement M
-before-spec = tie.close (tie.spec in-count-requires returns returns-2 returns-3)
+before-spec = tie.close (tie.spec (λ c κs. search needs) returns returns-2 returns-3)

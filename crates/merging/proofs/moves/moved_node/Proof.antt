@@ -9,25 +9,6 @@ use Rattle.merging.proofs.SectionLaws.{node-moves, node-fits, cond-most
 use borrow.Author.Needs.{needs}
 use Rattle.merging.proofs.moves.moved_node.Statement.{statement}
 use Rattle.merging.proofs.moves.moved_node.Tie as tie
-use Rattle.merging.proofs.moves.moved_node.Reads as reads
-use Rattle.merging.proofs.moves.moved_node.Lts as lts
-use Rattle.merging.proofs.moves.before.Reads as before-reads
-use Rattle.merging.proofs.moves.only_if.Reads as only-if-reads
-
-only-if-requires : tie.Need-only-if-requires
-only-if-requires c κs = search needs
-
-before-requires : tie.Need-before-requires
-before-requires c κs = search needs
-
-only-if-requires-2 : tie.Need-only-if-requires-2
-only-if-requires-2 c κs = search needs
-
-before-requires-2 : tie.Need-before-requires-2
-before-requires-2 c κs = search needs
-
-only-if-requires-3 : tie.Need-only-if-requires-3
-only-if-requires-3 c κs = search needs
 
 add-t10 : tie.Need-add-t10
 add-t10 c =
@@ -70,13 +51,5 @@ returns c =
 pub moved-node-spec : {M : Type 1} → statement M
 moved-node-spec =
     tie.close
-    (tie.spec
-    only-if-requires
-    before-requires
-    only-if-requires-2
-    before-requires-2
-    only-if-requires-3
-    add-t10
-    add-t11
-    add-t12
-    returns)
+    (tie.spec (λ c κs. search needs) (λ c κs. search needs) (λ c κs. search needs) (λ c κs. search needs)
+    (λ c κs. search needs) add-t10 add-t11 add-t12 returns)

@@ -7,30 +7,6 @@ use Rattle.merging.proofs.OwnLaws.{own-refused, own-headed}
 use borrow.Author.Needs.{needs}
 use Rattle.merging.proofs.own.own.Statement.{statement}
 use Rattle.merging.proofs.own.own.Tie as tie
-use Rattle.merging.proofs.own.own.Reads as reads
-use Rattle.merging.proofs.own.own.Lts as lts
-use Rattle.checking.proofs.enter.Reads as enter-reads
-use Rattle.format.proofs.words.word.Reads as word-reads
-use Rattle.merging.proofs.own.own_head.Reads as own-head-reads
-use Rattle.merging.proofs.own.own_refusal.Reads as own-refusal-reads
-
-enter-requires : tie.Need-enter-requires
-enter-requires c κs = search needs
-
-enum-known-answer : tie.Need-enum-known-answer
-enum-known-answer c = search needs
-
-word-requires : tie.Need-word-requires
-word-requires c κs = search needs
-
-own-refusal-requires : tie.Need-own-refusal-requires
-own-refusal-requires c κs = search needs
-
-enum-known-answer-2 : tie.Need-enum-known-answer-2
-enum-known-answer-2 c = search needs
-
-own-head-requires : tie.Need-own-head-requires
-own-head-requires c κs = search needs
 
 returns : tie.Need-returns
 returns c =
@@ -44,12 +20,5 @@ returns-2 c = c .own-head .ensures ∙ own-headed (c .before .before .before .be
 pub own-spec : {M : Type 1} → statement M
 own-spec =
     tie.close
-    (tie.spec
-    enter-requires
-    enum-known-answer
-    word-requires
-    own-refusal-requires
-    enum-known-answer-2
-    own-head-requires
-    returns
-    returns-2)
+    (tie.spec (λ c κs. search needs) (λ c. search needs) (λ c κs. search needs) (λ c κs. search needs)
+    (λ c. search needs) (λ c κs. search needs) returns returns-2)

@@ -1,8 +1,6 @@
 use borrow.Author.Tests.{eq-eqb, ne-eqb}
 use Rattle.merging.proofs.own.own_head.Statement.{statement}
 use Rattle.merging.proofs.own.own_head.Tie as tie
-use Rattle.merging.proofs.own.own_head.Reads as reads
-use Rattle.merging.proofs.own.own_head.Lts as lts
 
 returns : tie.Need-returns
 returns c = rw (eq-eqb _ _ (c .if1 .taken))

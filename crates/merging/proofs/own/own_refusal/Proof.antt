@@ -1,7 +1,5 @@
 use Rattle.merging.proofs.own.own_refusal.Statement.{statement}
 use Rattle.merging.proofs.own.own_refusal.Tie as tie
-use Rattle.merging.proofs.own.own_refusal.Reads as reads
-use Rattle.merging.proofs.own.own_refusal.Lts as lts
 
 returns : tie.Need-returns
 returns c = rw (c .if1 .taken)

@@ -8,10 +8,6 @@ use Rattle.merging.proofs.TableLaws.{roles-kinds-words, tables-inside, 
 use borrow.Author.Needs.{needs}
 use Rattle.merging.proofs.same.same_tables.Statement.{statement}
 use Rattle.merging.proofs.same.same_tables.Tie as tie
-use Rattle.merging.proofs.same.same_tables.Reads as reads
-use Rattle.merging.proofs.same.same_tables.Lts as lts
-use Rattle.format.proofs.words.wide.Reads as wide-reads
-use Rattle.merging.proofs.same.same_words.Reads as same-words-reads
 
 returns : tie.Need-returns
 returns c =
@@ -22,24 +18,6 @@ returns-2 : tie.Need-returns-2
 returns-2 c =
     let a = c .before .before .before .before .before .before .args in
     kinds-differ (contentsAt (a .first .now) (a .one)) (contentsAt (a .second .now) (a .two)) (λ e. c .if2 .taken (sym (kinds-held (a .first .now) (a .one)) ∙ e ∙ kinds-held (a .second .now) (a .two)))
-
-wide-requires : tie.Need-wide-requires
-wide-requires c κs = search needs
-
-wide-requires-2 : tie.Need-wide-requires-2
-wide-requires-2 c κs = search needs
-
-wide-requires-3 : tie.Need-wide-requires-3
-wide-requires-3 c κs = search needs
-
-mul-same-words : tie.Need-mul-same-words
-mul-same-words c = search needs
-
-wide-requires-4 : tie.Need-wide-requires-4
-wide-requires-4 c κs = search needs
-
-add-same-words : tie.Need-add-same-words
-add-same-words c = search needs
 
 same-words-requires : tie.Need-same-words-requires
 same-words-requires c κs =
@@ -67,14 +45,5 @@ returns-3 c =
 pub same-tables-spec : {M : Type 1} → statement M
 same-tables-spec =
     tie.close
-    (tie.spec
-    returns
-    returns-2
-    wide-requires
-    wide-requires-2
-    wide-requires-3
-    mul-same-words
-    wide-requires-4
-    add-same-words
-    same-words-requires
-    returns-3)
+    (tie.spec returns returns-2 (λ c κs. search needs) (λ c κs. search needs) (λ c κs. search needs) (λ c. search needs)
+    (λ c κs. search needs) (λ c. search needs) same-words-requires returns-3)

@@ -6,9 +6,6 @@ use Rattle.merging.specs.Merged.{sameWords}
 use Rattle.merging.proofs.WordLaws.{same-begins, same-turn, same-stops, same-ends}
 use Rattle.merging.proofs.same.same_words.Statement.{statement}
 use Rattle.merging.proofs.same.same_words.Tie as tie
-use Rattle.merging.proofs.same.same_words.Reads as reads
-use Rattle.merging.proofs.same.same_words.Lts as lts
-use Rattle.format.proofs.words.inner_word.Reads as inner-word-reads
 
 abbrev Inv-loop : tie.InvT-loop
 Inv-loop first from second other count i₀ i = (i ≤ count) × (sameWords (wordsFrom first (from + i) (count - i)) (wordsFrom second (other + i) (count - i)) ≡ sameWords (wordsFrom first from count) (wordsFrom second other count))
@@ -37,12 +34,6 @@ returns c =
     let l = c .before .before .before .before .loop in
     same-stops (a .first .now) (a .second .now) (a .from) (a .other) (a .count) (l .i) (omega arith) (λ e. c .if1 .taken (c .before .before .inner-word .ensures ∙ e ∙ sym (c .before .inner-word2 .ensures))) ∙ l .inv .1
 
-add-i : tie.Need-add-i Inv-loop μ-loop
-add-i c = omega arith
-
-loop-less : tie.Need-loop-less Inv-loop μ-loop
-loop-less c = omega arith
-
 loop-again : tie.Need-loop-again Inv-loop μ-loop
 loop-again c =
     let a = c .before .before .before .before .before .before .before .args in
@@ -58,16 +49,5 @@ returns-2 c =
 pub same-words-spec : {M : Type 1} → statement M
 same-words-spec =
     tie.close
-    (tie.spec
-    Inv-loop
-    μ-loop
-    loop-holds
-    add-inner-word
-    inner-word-requires
-    add-inner-word-2
-    inner-word-requires-2
-    returns
-    add-i
-    loop-less
-    loop-again
-    returns-2)
+    (tie.spec Inv-loop μ-loop loop-holds add-inner-word inner-word-requires add-inner-word-2 inner-word-requires-2
+    returns (λ c. omega arith) (λ c. omega arith) loop-again returns-2)

@@ -9,25 +9,6 @@ use Rattle.format.proofs.PutRuns.{puts-then}
 use borrow.Author.Needs.{needs}
 use Rattle.merging.proofs.writers.put_channel.Statement.{statement}
 use Rattle.merging.proofs.writers.put_channel.Tie as tie
-use Rattle.merging.proofs.writers.put_channel.Reads as reads
-use Rattle.merging.proofs.writers.put_channel.Lts as lts
-use Rattle.format.proofs.sections.place_of.Reads as place-of-reads
-use Rattle.format.proofs.words.put_word.Reads as put-word-reads
-
-place-of-requires : tie.Need-place-of-requires
-place-of-requires c κs = search needs
-
-put-word-requires : tie.Need-put-word-requires
-put-word-requires c κs = search needs
-
-add-put-word : tie.Need-add-put-word
-add-put-word c = search needs
-
-put-word-requires-2 : tie.Need-put-word-requires-2
-put-word-requires-2 c κs = search needs
-
-same-length : tie.Need-same-length
-same-length c = search needs
 
 returns : tie.Need-returns
 unfolding channelWords
@@ -42,10 +23,5 @@ returns c =
 pub put-channel-spec : {M : Type 1} → statement M
 put-channel-spec =
     tie.close
-    (tie.spec
-    place-of-requires
-    put-word-requires
-    add-put-word
-    put-word-requires-2
-    same-length
-    returns)
+    (tie.spec (λ c κs. search needs) (λ c κs. search needs) (λ c. search needs) (λ c κs. search needs)
+    (λ c. search needs) returns)

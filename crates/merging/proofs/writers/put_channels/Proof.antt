@@ -15,11 +15,6 @@ use Rattle.merging.specs.Writers.{shiftsBy}
 use Rattle.merging.proofs.SectionLaws.{channels-turn, channels-end}
 use Rattle.merging.proofs.writers.put_channels.Statement.{statement}
 use Rattle.merging.proofs.writers.put_channels.Tie as tie
-use Rattle.merging.proofs.writers.put_channels.Reads as reads
-use Rattle.merging.proofs.writers.put_channels.Lts as lts
-use Rattle.format.proofs.sections.channel.Reads as channel-reads
-use Rattle.merging.proofs.moves.moved_channel.Reads as moved-channel-reads
-use Rattle.merging.proofs.writers.put_channel.Reads as put-channel-reads
 
 abbrev Inv-loop : tie.InvT-loop
 Inv-loop file head by whole others out₀ count n₀ out n =
@@ -36,14 +31,8 @@ loop-holds c =
     let here : a .others + 0 ≡ a .others = omega arith in
     (omega arith, refl, ap (λ k. sets (a .out .now) (2 * (a .whole .at .channels + 2 * k)) (bytesOf (channelWords (map (movedChannel (shiftsBy (a .by))) (contentsAt (a .file .now) (a .head) .channels))))) here)
 
-add-n : tie.Need-add-n Inv-loop μ-loop
-add-n c = omega arith
-
 channel-requires : tie.Need-channel-requires Inv-loop μ-loop
 channel-requires c κs = c .before .before .before .before .pre .0
-
-add-put-channel : tie.Need-add-put-channel Inv-loop μ-loop
-add-put-channel c = omega arith
 
 moved-channel-requires : tie.Need-moved-channel-requires Inv-loop μ-loop
 moved-channel-requires c κs =
@@ -54,9 +43,6 @@ moved-channel-requires c κs =
 
 put-channel-requires : tie.Need-put-channel-requires Inv-loop μ-loop
 put-channel-requires c κs = (omega arith, omega arith)
-
-loop-less : tie.Need-loop-less Inv-loop μ-loop
-loop-less c = omega arith
 
 loop-again : tie.Need-loop-again Inv-loop μ-loop
 loop-again c =
@@ -70,9 +56,6 @@ loop-again c =
           (omega (arith, channels-held (a .file .now) (a .head))) (moved .ensures ∙ ap (movedChannel (shiftsBy (a .by))) (c .before .before .before .before .before .channel .ensures)) (g .ensures) (l .inv .2),
     )
 
-same-length : tie.Need-same-length Inv-loop μ-loop
-same-length c = search needs
-
 returns : tie.Need-returns Inv-loop μ-loop
 returns c =
     let a = c .before .before .before .before .args in
@@ -82,16 +65,5 @@ returns c =
 pub put-channels-spec : {M : Type 1} → statement M
 put-channels-spec =
     tie.close
-    (tie.spec
-    Inv-loop
-    μ-loop
-    loop-holds
-    add-n
-    channel-requires
-    add-put-channel
-    moved-channel-requires
-    put-channel-requires
-    loop-less
-    loop-again
-    same-length
-    returns)
+    (tie.spec Inv-loop μ-loop loop-holds (λ c. omega arith) channel-requires (λ c. omega arith) moved-channel-requires
+    put-channel-requires (λ c. omega arith) loop-again (λ c. search needs) returns)

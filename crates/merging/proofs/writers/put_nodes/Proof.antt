@@ -17,11 +17,6 @@ use Rattle.merging.specs.Writers.{shiftsBy}
 use Rattle.merging.proofs.SectionLaws.{nodes-turn, nodes-end}
 use Rattle.merging.proofs.writers.put_nodes.Statement.{statement}
 use Rattle.merging.proofs.writers.put_nodes.Tie as tie
-use Rattle.merging.proofs.writers.put_nodes.Reads as reads
-use Rattle.merging.proofs.writers.put_nodes.Lts as lts
-use Rattle.format.proofs.sections.node.Reads as node-reads
-use Rattle.format.proofs.writing.put_node.Reads as put-node-reads
-use Rattle.merging.proofs.moves.moved_node.Reads as moved-node-reads
 
 abbrev Inv-loop : tie.InvT-loop
 Inv-loop file head by whole others out₀ count n₀ out n =
@@ -38,14 +33,8 @@ loop-holds c =
     let here : a .others + 0 ≡ a .others = omega arith in
     (omega arith, refl, ap (λ k. sets (a .out .now) (2 * (a .whole .at .nodes + 3 * k)) (bytesOf (nodeRows (map (movedNode (shiftsBy (a .by))) (contentsAt (a .file .now) (a .head) .nodes))))) here)
 
-add-n : tie.Need-add-n Inv-loop μ-loop
-add-n c = omega arith
-
 node-requires : tie.Need-node-requires Inv-loop μ-loop
 node-requires c κs = c .before .before .before .before .pre .0
-
-add-put-node : tie.Need-add-put-node Inv-loop μ-loop
-add-put-node c = omega arith
 
 moved-node-requires : tie.Need-moved-node-requires Inv-loop μ-loop
 moved-node-requires c κs =
@@ -56,9 +45,6 @@ moved-node-requires c κs =
 
 put-node-requires : tie.Need-put-node-requires Inv-loop μ-loop
 put-node-requires c κs = (omega arith, omega arith, omega arith)
-
-loop-less : tie.Need-loop-less Inv-loop μ-loop
-loop-less c = omega arith
 
 loop-again : tie.Need-loop-again Inv-loop μ-loop
 loop-again c =
@@ -73,9 +59,6 @@ loop-again c =
           (g .ensures ∙ row-put (a .whole) (a .others + (l .n + 1)) (moved .result) (l .out) (ap byColumn (c .before .before .before .before .before .before .before .before .before .before .pre .4))) (l .inv .2),
     )
 
-same-length : tie.Need-same-length Inv-loop μ-loop
-same-length c = search needs
-
 returns : tie.Need-returns Inv-loop μ-loop
 returns c =
     let a = c .before .before .before .before .args in
@@ -85,16 +68,5 @@ returns c =
 pub put-nodes-spec : {M : Type 1} → statement M
 put-nodes-spec =
     tie.close
-    (tie.spec
-    Inv-loop
-    μ-loop
-    loop-holds
-    add-n
-    node-requires
-    add-put-node
-    moved-node-requires
-    put-node-requires
-    loop-less
-    loop-again
-    same-length
-    returns)
+    (tie.spec Inv-loop μ-loop loop-holds (λ c. omega arith) node-requires (λ c. omega arith) moved-node-requires
+    put-node-requires (λ c. omega arith) loop-again (λ c. search needs) returns)

@@ -15,11 +15,6 @@ use Rattle.merging.specs.Writers.{shiftsBy}
 use Rattle.merging.proofs.SectionLaws.{sessions-turn, sessions-end}
 use Rattle.merging.proofs.writers.put_sessions.Statement.{statement}
 use Rattle.merging.proofs.writers.put_sessions.Tie as tie
-use Rattle.merging.proofs.writers.put_sessions.Reads as reads
-use Rattle.merging.proofs.writers.put_sessions.Lts as lts
-use Rattle.format.proofs.sections.session.Reads as session-reads
-use Rattle.format.proofs.writing.put_session.Reads as put-session-reads
-use Rattle.merging.proofs.moves.moved_session.Reads as moved-session-reads
 
 abbrev Inv-loop : tie.InvT-loop
 Inv-loop file head by whole others out₀ count n₀ out n =
@@ -36,14 +31,8 @@ loop-holds c =
     let here : a .others + 0 ≡ a .others = omega arith in
     (omega arith, refl, ap (λ k. sets (a .out .now) (2 * (a .whole .at .sessions + 3 * k)) (bytesOf (sessionWords (map (movedSession (shiftsBy (a .by))) (contentsAt (a .file .now) (a .head) .sessions))))) here)
 
-add-n : tie.Need-add-n Inv-loop μ-loop
-add-n c = omega arith
-
 session-requires : tie.Need-session-requires Inv-loop μ-loop
 session-requires c κs = c .before .before .before .before .pre .0
-
-add-put-session : tie.Need-add-put-session Inv-loop μ-loop
-add-put-session c = omega arith
 
 moved-session-requires : tie.Need-moved-session-requires Inv-loop μ-loop
 moved-session-requires c κs =
@@ -54,9 +43,6 @@ moved-session-requires c κs =
 
 put-session-requires : tie.Need-put-session-requires Inv-loop μ-loop
 put-session-requires c κs = (omega arith, omega arith)
-
-loop-less : tie.Need-loop-less Inv-loop μ-loop
-loop-less c = omega arith
 
 loop-again : tie.Need-loop-again Inv-loop μ-loop
 loop-again c =
@@ -70,9 +56,6 @@ loop-again c =
           (omega (arith, sessions-held (a .file .now) (a .head))) (moved .ensures ∙ ap (movedSession (shiftsBy (a .by))) (c .before .before .before .before .before .session .ensures)) (g .ensures) (l .inv .2),
     )
 
-same-length : tie.Need-same-length Inv-loop μ-loop
-same-length c = search needs
-
 returns : tie.Need-returns Inv-loop μ-loop
 returns c =
     let a = c .before .before .before .before .args in
@@ -82,16 +65,5 @@ returns c =
 pub put-sessions-spec : {M : Type 1} → statement M
 put-sessions-spec =
     tie.close
-    (tie.spec
-    Inv-loop
-    μ-loop
-    loop-holds
-    add-n
-    session-requires
-    add-put-session
-    moved-session-requires
-    put-session-requires
-    loop-less
-    loop-again
-    same-length
-    returns)
+    (tie.spec Inv-loop μ-loop loop-holds (λ c. omega arith) session-requires (λ c. omega arith) moved-session-requires
+    put-session-requires (λ c. omega arith) loop-again (λ c. search needs) returns)

@@ -11,112 +11,6 @@ use Rattle.naming.proofs.NamingLaws.{no-receive, its-channels, naming-o
 use borrow.Author.Needs.{needs}
 use Rattle.naming.proofs.pass.naming_at.Statement.{statement}
 use Rattle.naming.proofs.pass.naming_at.Tie as tie
-use Rattle.naming.proofs.pass.naming_at.Reads as reads
-use Rattle.naming.proofs.pass.naming_at.Lts as lts
-use Rattle.format.proofs.sections.carries.Reads as carries-reads
-use Rattle.format.proofs.sections.in_count.Reads as in-count-reads
-use Rattle.naming.proofs.pass.binding.Reads as binding-reads
-use Rattle.rules.proofs.names.kind_of.Reads as kind-of-reads
-use Rattle.rules.proofs.names.look_up.Reads as look-up-reads
-use Rattle.rules.proofs.names.owner_of.Reads as owner-of-reads
-use Rattle.naming.proofs.pass.staying.Reads as staying-reads
-use Rattle.rules.proofs.names.graded.Reads as graded-reads
-
-staying-requires : tie.Need-staying-requires
-staying-requires c κs = search needs
-
-in-count-requires : tie.Need-in-count-requires
-in-count-requires c κs = search needs
-
-graded-requires : tie.Need-graded-requires
-graded-requires c κs = search needs
-
-add-binding : tie.Need-add-binding
-add-binding c = search needs
-
-binding-requires : tie.Need-binding-requires
-binding-requires c κs = search needs
-
-look-up-requires : tie.Need-look-up-requires
-look-up-requires c κs = search needs
-
-look-up-requires-2 : tie.Need-look-up-requires-2
-look-up-requires-2 c κs = search needs
-
-owner-of-requires : tie.Need-owner-of-requires
-owner-of-requires c κs = search needs
-
-owner-of-requires-2 : tie.Need-owner-of-requires-2
-owner-of-requires-2 c κs = search needs
-
-kind-of-requires : tie.Need-kind-of-requires
-kind-of-requires c κs = search needs
-
-kind-of-requires-2 : tie.Need-kind-of-requires-2
-kind-of-requires-2 c κs = search needs
-
-graded-requires-2 : tie.Need-graded-requires-2
-graded-requires-2 c κs = search needs
-
-staying-requires-2 : tie.Need-staying-requires-2
-staying-requires-2 c κs = search needs
-
-look-up-requires-3 : tie.Need-look-up-requires-3
-look-up-requires-3 c κs = search needs
-
-owner-of-requires-3 : tie.Need-owner-of-requires-3
-owner-of-requires-3 c κs = search needs
-
-add-graded : tie.Need-add-graded
-add-graded c = search needs
-
-graded-requires-3 : tie.Need-graded-requires-3
-graded-requires-3 c κs = search needs
-
-kind-of-requires-3 : tie.Need-kind-of-requires-3
-kind-of-requires-3 c κs = search needs
-
-carries-requires : tie.Need-carries-requires
-carries-requires c κs = search needs
-
-binding-requires-2 : tie.Need-binding-requires-2
-binding-requires-2 c κs = search needs
-
-look-up-requires-4 : tie.Need-look-up-requires-4
-look-up-requires-4 c κs = search needs
-
-look-up-requires-5 : tie.Need-look-up-requires-5
-look-up-requires-5 c κs = search needs
-
-kind-of-requires-4 : tie.Need-kind-of-requires-4
-kind-of-requires-4 c κs = search needs
-
-owner-of-requires-4 : tie.Need-owner-of-requires-4
-owner-of-requires-4 c κs = search needs
-
-owner-of-requires-5 : tie.Need-owner-of-requires-5
-owner-of-requires-5 c κs = search needs
-
-kind-of-requires-5 : tie.Need-kind-of-requires-5
-kind-of-requires-5 c κs = search needs
-
-carries-requires-2 : tie.Need-carries-requires-2
-carries-requires-2 c κs = search needs
-
-graded-requires-4 : tie.Need-graded-requires-4
-graded-requires-4 c κs = search needs
-
-staying-requires-3 : tie.Need-staying-requires-3
-staying-requires-3 c κs = search needs
-
-in-count-requires-2 : tie.Need-in-count-requires-2
-in-count-requires-2 c κs = search needs
-
-graded-requires-5 : tie.Need-graded-requires-5
-graded-requires-5 c κs = search needs
-
-staying-requires-4 : tie.Need-staying-requires-4
-staying-requires-4 c κs = search needs
 
 returns : tie.Need-returns
 returns c =
@@ -196,42 +90,11 @@ returns-6 c =
 pub naming-at-spec : {M : Type 1} → statement M
 naming-at-spec =
     tie.close
-    (tie.spec
-    staying-requires
-    in-count-requires
-    graded-requires
-    add-binding
-    binding-requires
-    look-up-requires
-    look-up-requires-2
-    owner-of-requires
-    owner-of-requires-2
-    kind-of-requires
-    kind-of-requires-2
-    graded-requires-2
-    staying-requires-2
-    look-up-requires-3
-    owner-of-requires-3
-    kind-of-requires-3
-    add-graded
-    graded-requires-3
-    carries-requires
-    binding-requires-2
-    look-up-requires-4
-    look-up-requires-5
-    kind-of-requires-4
-    owner-of-requires-4
-    owner-of-requires-5
-    kind-of-requires-5
-    carries-requires-2
-    graded-requires-4
-    staying-requires-3
-    in-count-requires-2
-    graded-requires-5
-    staying-requires-4
-    returns
-    returns-2
-    returns-3
-    returns-4
-    returns-5
+    (tie.spec (λ c κs. search needs) (λ c κs. search needs) (λ c κs. search needs) (λ c. search needs)
+    (λ c κs. search needs) (λ c κs. search needs) (λ c κs. search needs) (λ c κs. search needs) (λ c κs. search needs)
+    (λ c κs. search needs) (λ c κs. search needs) (λ c κs. search needs) (λ c κs. search needs) (λ c κs. search needs)
+    (λ c κs. search needs) (λ c κs. search needs) (λ c. search needs) (λ c κs. search needs) (λ c κs. search needs)
+    (λ c κs. search needs) (λ c κs. search needs) (λ c κs. search needs) (λ c κs. search needs) (λ c κs. search needs)
+    (λ c κs. search needs) (λ c κs. search needs) (λ c κs. search needs) (λ c κs. search needs) (λ c κs. search needs)
+    (λ c κs. search needs) (λ c κs. search needs) (λ c κs. search needs) returns returns-2 returns-3 returns-4 returns-5
     returns-6)

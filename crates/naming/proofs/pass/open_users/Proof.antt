@@ -18,12 +18,6 @@ use Rattle.rules.proofs.StackLaws.{contexts-push, waits-push, context-bare}
 use Rattle.naming.proofs.ScopeLaws.{scope-pushed}
 use Rattle.naming.proofs.pass.open_users.Statement.{statement}
 use Rattle.naming.proofs.pass.open_users.Tie as tie
-use Rattle.naming.proofs.pass.open_users.Reads as reads
-use Rattle.naming.proofs.pass.open_users.Lts as lts
-use Rattle.format.proofs.sections.session.Reads as session-reads
-use Rattle.format.proofs.words.narrow.Reads as narrow-reads
-use Rattle.format.proofs.words.paired.Reads as paired-reads
-use Rattle.format.proofs.words.wide.Reads as wide-reads
 
 abbrev Inv-loop : tie.InvT-loop
 Inv-loop file head stack₀ waits₀ sessions depth₀ stack waits depth =
@@ -34,9 +28,6 @@ Inv-loop file head stack₀ waits₀ sessions depth₀ stack waits depth =
 abbrev μ-loop : tie.MeasureT-loop
 μ-loop file head stack₀ waits₀ sessions depth₀ stack waits depth = sessions - depth
 
-wide-requires : tie.Need-wide-requires Inv-loop μ-loop
-wide-requires c κs = search needs
-
 loop-holds : tie.Need-loop-holds Inv-loop μ-loop
 unfolding stacked openingsFrom
 loop-holds c =
@@ -44,39 +35,6 @@ loop-holds c =
     let none : drop (c .wide .result - 0) (contentsAt (a .file .now) (a .head) .sessions) ≡ [] =
     none-past (contentsAt (a .file .now) (a .head) .sessions) (c .wide .result - 0) (omega (arith, sessions-held (a .file .now) (a .head), c .wide .ensures .0)) in
     (omega arith, refl, tt, rw none, refl, rw none)
-
-sub-narrow : tie.Need-sub-narrow Inv-loop μ-loop
-sub-narrow c = search needs
-
-narrow-requires : tie.Need-narrow-requires Inv-loop μ-loop
-narrow-requires c κs = search needs
-
-session-requires : tie.Need-session-requires Inv-loop μ-loop
-session-requires c κs = search needs
-
-paired-requires : tie.Need-paired-requires Inv-loop μ-loop
-paired-requires c κs = search needs
-
-mul-stack : tie.Need-mul-stack Inv-loop μ-loop
-mul-stack c = search needs
-
-slice-write-stack : tie.Need-slice-write-stack Inv-loop μ-loop
-slice-write-stack c = search needs
-
-cast-waits : tie.Need-cast-waits Inv-loop μ-loop
-cast-waits c = search needs
-
-mul-waits : tie.Need-mul-waits Inv-loop μ-loop
-mul-waits c = search needs
-
-slice-write-waits : tie.Need-slice-write-waits Inv-loop μ-loop
-slice-write-waits c = search needs
-
-add-depth : tie.Need-add-depth Inv-loop μ-loop
-add-depth c = search needs
-
-loop-less : tie.Need-loop-less Inv-loop μ-loop
-loop-less c = search needs
 
 loop-again : tie.Need-loop-again Inv-loop μ-loop
 unfolding openingsFrom scopeOf scopeFrom
@@ -103,12 +61,6 @@ loop-again c =
       rw (one, turn, ← its) (scope-pushed (l .waits) (l .depth) (it .result .user % 64) (record { user = it .result .user; mask = 0; vars = [] }) (map unmasked (openingsFrom (drop (s - l .depth) S))) (omega arith) refl (l .inv .5)),
     )
 
-same-length : tie.Need-same-length Inv-loop μ-loop
-same-length c = search needs
-
-same-length-2 : tie.Need-same-length-2 Inv-loop μ-loop
-same-length-2 c = search needs
-
 returns : tie.Need-returns Inv-loop μ-loop
 returns c =
     let a = c .before .before .before .before .before .before .args in
@@ -121,23 +73,7 @@ returns c =
 pub open-users-spec : {M : Type 1} → statement M
 open-users-spec =
     tie.close
-    (tie.spec
-    Inv-loop
-    μ-loop
-    wide-requires
-    loop-holds
-    sub-narrow
-    narrow-requires
-    session-requires
-    paired-requires
-    mul-stack
-    slice-write-stack
-    cast-waits
-    mul-waits
-    slice-write-waits
-    add-depth
-    loop-less
-    loop-again
-    same-length
-    same-length-2
-    returns)
+    (tie.spec Inv-loop μ-loop (λ c κs. search needs) loop-holds (λ c. search needs) (λ c κs. search needs)
+    (λ c κs. search needs) (λ c κs. search needs) (λ c. search needs) (λ c. search needs) (λ c. search needs)
+    (λ c. search needs) (λ c. search needs) (λ c. search needs) (λ c. search needs) loop-again (λ c. search needs)
+    (λ c. search needs) returns)

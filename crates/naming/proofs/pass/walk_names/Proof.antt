@@ -31,18 +31,6 @@ use Rattle.rules.proofs.PassLaws.{after-step}
 use Rattle.naming.proofs.ScopePass.{Scoping, scoping-begins, scoping-out, scoping-ends, scoping-refused, scoping-on, scoping-tree, scoping-fork}
 use Rattle.naming.proofs.pass.walk_names.Statement.{statement}
 use Rattle.naming.proofs.pass.walk_names.Tie as tie
-use Rattle.naming.proofs.pass.walk_names.Reads as reads
-use Rattle.naming.proofs.pass.walk_names.Lts as lts
-use Rattle.format.proofs.sections.node.Reads as node-reads
-use Rattle.format.proofs.words.paired.Reads as paired-reads
-use Rattle.format.proofs.words.wide.Reads as wide-reads
-use Rattle.naming.proofs.pass.user_in.Reads as user-in-reads
-use Rattle.rules.proofs.names.name_all.Reads as name-all-reads
-use Rattle.naming.proofs.pass.bound_with.Reads as bound-with-reads
-use Rattle.naming.proofs.pass.naming_at.Reads as naming-at-reads
-use Rattle.naming.proofs.pass.open_users.Reads as open-users-reads
-use Rattle.naming.proofs.scopes.keep.Reads as keep-reads
-use Rattle.naming.proofs.scopes.scope_after.Reads as scope-after-reads
 
 abbrev Inv-loop : tie.InvT-loop
 Inv-loop file head names₀ stack₀ waits₀ scopes₀ fine depth₀ top user₀ bound₀ here₀ nodes i₀ names stack waits scopes depth user bound here i =
@@ -87,21 +75,6 @@ kind-at c good =
     let long : 512 + l .bound < length (l .names) = omega (arith, l .inv .3, l .inv .5, c .before .before .before .before .loop-test .taken, c .before .before .before .before .before .before .before .before .before .before .before .before .before .before .before .before .before .before .before .before .name-all .ensures .0, pre .2) in
     ap (λ (s : NameStep). s .awaits) (c .naming-at .ensures .0) ∙ awaited-right D (l .names) (l .user) (l .bound) n (omega (arith, users, pre .0 .users)) (omega (arith, channels, pre .0 .channels)) named (omega (arith, long)) (l .inv .8) good
 
-name-all-requires : tie.Need-name-all-requires Inv-loop μ-loop
-name-all-requires c κs = search needs
-
-open-users-requires : tie.Need-open-users-requires Inv-loop μ-loop
-open-users-requires c κs = search needs
-
-same-length : tie.Need-same-length Inv-loop μ-loop
-same-length c = search needs
-
-same-length-2 : tie.Need-same-length-2 Inv-loop μ-loop
-same-length-2 c = search needs
-
-same-length-3 : tie.Need-same-length-3 Inv-loop μ-loop
-same-length-3 c = search needs
-
 returns : tie.Need-returns Inv-loop μ-loop
 returns c =
     let a = c .before .before .before .before .before .before .before .before .before .before .before .before .before .before .before .before .before .args in
@@ -110,27 +83,6 @@ returns c =
     let stack = os .last .1 .1 .0 in
     let none : [] ≡ map unmasked (openings C) = ap (map (contextOf [])) (sym (ap (queued (schemaOf C) stack) (c .if1 .taken) ∙ read-none 0 (unpaired (schemaOf C)) stack)) ∙ os .ensures .2 in
     scoping-out C (a .scopes .now) 1 (a .scopes .now) (scoping-begins C (a .scopes .now) [] none)
-
-sub-depth : tie.Need-sub-depth Inv-loop μ-loop
-sub-depth c = search needs
-
-mul-top : tie.Need-mul-top Inv-loop μ-loop
-mul-top c = search needs
-
-slice-read-top : tie.Need-slice-read-top Inv-loop μ-loop
-slice-read-top c = search needs
-
-user-in-requires : tie.Need-user-in-requires Inv-loop μ-loop
-user-in-requires c κs = search needs
-
-bound-with-requires : tie.Need-bound-with-requires Inv-loop μ-loop
-bound-with-requires c κs = search needs
-
-mul-here : tie.Need-mul-here Inv-loop μ-loop
-mul-here c = search needs
-
-slice-read-here : tie.Need-slice-read-here Inv-loop μ-loop
-slice-read-here c = search needs
 
 loop-holds : tie.Need-loop-holds Inv-loop μ-loop
 loop-holds c =
@@ -168,27 +120,6 @@ loop-holds c =
       refl,
     )
 
-node-requires : tie.Need-node-requires Inv-loop μ-loop
-node-requires c κs = search needs
-
-add-i : tie.Need-add-i Inv-loop μ-loop
-add-i c = search needs
-
-wide-requires : tie.Need-wide-requires Inv-loop μ-loop
-wide-requires c κs = search needs
-
-keep-requires : tie.Need-keep-requires Inv-loop μ-loop
-keep-requires c κs = search needs
-
-same-length-4 : tie.Need-same-length-4 Inv-loop μ-loop
-same-length-4 c = search needs
-
-same-length-5 : tie.Need-same-length-5 Inv-loop μ-loop
-same-length-5 c = search needs
-
-same-length-6 : tie.Need-same-length-6 Inv-loop μ-loop
-same-length-6 c = search needs
-
 same-length-7 : tie.Need-same-length-7 Inv-loop μ-loop
 same-length-7 c = let l = c .before .before .before .before .before .before .before .before .before .loop in let n = c .before .before .before .before .before .before .before .node in ap length (c .before .before .before .keep .ensures) ∙ length-set (l .scopes) (c .before .before .before .before .wide .result) (marked (l .here) 0) ∙ l .inv .14
 
@@ -204,29 +135,17 @@ returns-2 c =
     let done = scoping-out C (a .scopes .now) (l .i + 1 + 1) _ (subst (λ (x : List Context). Scoping C (a .scopes .now) (l .i + 1 + 1) x (set (l .scopes) (c .before .before .before .before .wide .result) (marked (l .here) 0))) st left) in
     (done .0, c .before .before .before .keep .ensures ∙ done .1)
 
-sub-depth-2 : tie.Need-sub-depth-2 Inv-loop μ-loop
-sub-depth-2 c = search needs
-
 mul-next : tie.Need-mul-next Inv-loop μ-loop
 mul-next c = let l = c .before .before .before .before .before .before .before .before .before .loop in omega (arith, l .inv .4, c .before .before .before .before .before .before .before .before .loop-test .taken, c .before .before .before .before .before .before .before .before .before .before .before .before .before .before .before .before .before .before .before .before .before .before .before .before .before .before .before .before .before .before .before .pre .0 .sessions, c .before .before .before .before .before .before .before .before .before .before .before .before .before .before .before .before .before .before .before .before .before .before .before .before .before .before .before .before .before .before .before .pre .0 .nodes)
 
 slice-read-next : tie.Need-slice-read-next Inv-loop μ-loop
 slice-read-next c = let l = c .before .before .before .before .before .before .before .before .before .before .loop in omega (arith, l .inv .4, l .inv .2, c .before .before .before .before .before .before .before .before .before .loop-test .taken, c .before .before .before .before .before .before .before .before .before .before .before .before .before .before .before .before .before .before .before .before .before .before .before .before .before .before .before .before .before .before .before .before .pre .4)
 
-user-in-requires-2 : tie.Need-user-in-requires-2 Inv-loop μ-loop
-user-in-requires-2 c κs = search needs
-
-bound-with-requires-2 : tie.Need-bound-with-requires-2 Inv-loop μ-loop
-bound-with-requires-2 c κs = search needs
-
 mul-here-2 : tie.Need-mul-here-2 Inv-loop μ-loop
 mul-here-2 c = let l = c .before .before .before .before .before .before .before .before .before .before .before .before .loop in omega (arith, l .inv .4, c .before .before .before .before .before .before .before .before .before .before .before .loop-test .taken, c .before .before .before .before .before .before .before .before .before .before .before .before .before .before .before .before .before .before .before .before .before .before .before .before .before .before .before .before .before .before .before .before .before .before .pre .0 .sessions, c .before .before .before .before .before .before .before .before .before .before .before .before .before .before .before .before .before .before .before .before .before .before .before .before .before .before .before .before .before .before .before .before .before .before .pre .0 .nodes)
 
 slice-read-here-2 : tie.Need-slice-read-here-2 Inv-loop μ-loop
 slice-read-here-2 c = let l = c .before .before .before .before .before .before .before .before .before .before .before .before .before .loop in omega (arith, l .inv .4, l .inv .11, c .before .before .before .before .before .before .before .before .before .before .before .before .loop-test .taken, c .before .before .before .before .before .before .before .before .before .before .before .before .before .before .before .before .before .before .before .before .before .before .before .before .before .before .before .before .before .before .before .before .before .before .before .pre .5)
-
-loop-less : tie.Need-loop-less Inv-loop μ-loop
-loop-less c = search needs
 
 loop-again : tie.Need-loop-again Inv-loop μ-loop
 loop-again c =
@@ -261,15 +180,6 @@ loop-again c =
       ap length (c .before .before .before .before .before .before .before .keep .ensures) ∙ long ∙ l .inv .14,
     )
 
-wide-requires-2 : tie.Need-wide-requires-2 Inv-loop μ-loop
-wide-requires-2 c κs = search needs
-
-keep-requires-2 : tie.Need-keep-requires-2 Inv-loop μ-loop
-keep-requires-2 c κs = search needs
-
-paired-requires : tie.Need-paired-requires Inv-loop μ-loop
-paired-requires c κs = search needs
-
 mul-stack : tie.Need-mul-stack Inv-loop μ-loop
 mul-stack c = let l = c .before .before .before .before .before .before .before .before .before .loop in omega (arith, l .inv .4, c .before .before .before .before .before .before .before .before .loop-test .taken, c .before .before .before .before .before .before .before .before .before .before .before .before .before .before .before .before .before .before .before .before .before .before .before .before .before .before .before .before .before .before .before .pre .0 .sessions, c .before .before .before .before .before .before .before .before .before .before .before .before .before .before .before .before .before .before .before .before .before .before .before .before .before .before .before .before .before .before .before .pre .0 .nodes)
 
@@ -284,9 +194,6 @@ slice-write-waits c = let l = c .before .before .before .before .before .before 
 
 add-depth : tie.Need-add-depth Inv-loop μ-loop
 add-depth c = let l = c .before .before .before .before .before .before .before .before .before .loop in omega (arith, l .inv .4, c .before .before .before .before .before .before .before .before .loop-test .taken, c .before .before .before .before .before .before .before .before .before .before .before .before .before .before .before .before .before .before .before .before .before .before .before .before .before .before .before .before .before .before .before .pre .0 .sessions, c .before .before .before .before .before .before .before .before .before .before .before .before .before .before .before .before .before .before .before .before .before .before .before .before .before .before .before .before .before .before .before .pre .0 .nodes)
-
-loop-less-2 : tie.Need-loop-less-2 Inv-loop μ-loop
-loop-less-2 c = search needs
 
 loop-again-2 : tie.Need-loop-again-2 Inv-loop μ-loop
 loop-again-2 c =
@@ -321,18 +228,6 @@ loop-again-2 c =
       ap length (c .before .before .before .keep2 .ensures) ∙ long ∙ l .inv .14,
     )
 
-naming-at-requires : tie.Need-naming-at-requires Inv-loop μ-loop
-naming-at-requires c κs = search needs
-
-same-length-8 : tie.Need-same-length-8 Inv-loop μ-loop
-same-length-8 c = search needs
-
-same-length-9 : tie.Need-same-length-9 Inv-loop μ-loop
-same-length-9 c = search needs
-
-same-length-10 : tie.Need-same-length-10 Inv-loop μ-loop
-same-length-10 c = search needs
-
 same-length-11 : tie.Need-same-length-11 Inv-loop μ-loop
 same-length-11 c = c .before .before .before .before .before .before .before .loop .inv .14
 
@@ -345,32 +240,8 @@ returns-3 c =
     scoping-refused C (a .scopes .now) (l .i + 1) (contextOf (l .names) (barePoint (schemaOf C) (l .user) (l .bound))) _ (l .scopes) (n .result) (l .inv .0) (omega (arith, nodes-held (a .file .now) (a .head), c .before .before .before .before .before .before .loop-test .taken)) (n .ensures) (l .inv .10) (c .before .before .naming-at .result .wrong)
     (told-at (c .before .before) .wrong) (c .if3 .taken)
 
-wide-requires-3 : tie.Need-wide-requires-3 Inv-loop μ-loop
-wide-requires-3 c κs = search needs
-
-keep-requires-3 : tie.Need-keep-requires-3 Inv-loop μ-loop
-keep-requires-3 c κs = search needs
-
-wide-requires-4 : tie.Need-wide-requires-4 Inv-loop μ-loop
-wide-requires-4 c κs = search needs
-
-add-names : tie.Need-add-names Inv-loop μ-loop
-add-names c = search needs
-
-mul-names : tie.Need-mul-names Inv-loop μ-loop
-mul-names c = search needs
-
 slice-write-names : tie.Need-slice-write-names Inv-loop μ-loop
 slice-write-names c = let l = c .before .before .before .before .before .before .before .before .before .before .before .before .before .loop in omega (arith, c .wide4 .ensures .0, l .inv .3, l .inv .5, c .before .before .before .before .before .before .before .before .before .before .before .before .loop-test .taken, c .before .before .before .before .before .before .before .before .before .before .before .before .before .before .before .before .before .before .before .before .before .before .before .before .before .before .before .before .name-all .ensures .0, c .before .before .before .before .before .before .before .before .before .before .before .before .before .before .before .before .before .before .before .before .before .before .before .before .before .before .before .before .before .before .before .before .before .before .before .pre .2)
-
-wide-requires-5 : tie.Need-wide-requires-5 Inv-loop μ-loop
-wide-requires-5 c κs = search needs
-
-scope-after-requires : tie.Need-scope-after-requires Inv-loop μ-loop
-scope-after-requires c κs = search needs
-
-loop-less-3 : tie.Need-loop-less-3 Inv-loop μ-loop
-loop-less-3 c = search needs
 
 loop-again-3 : tie.Need-loop-again-3 Inv-loop μ-loop
 loop-again-3 c =
@@ -417,15 +288,6 @@ loop-again-3 c =
       same-room ∙ l .inv .14,
     )
 
-same-length-12 : tie.Need-same-length-12 Inv-loop μ-loop
-same-length-12 c = search needs
-
-same-length-13 : tie.Need-same-length-13 Inv-loop μ-loop
-same-length-13 c = search needs
-
-same-length-14 : tie.Need-same-length-14 Inv-loop μ-loop
-same-length-14 c = search needs
-
 same-length-15 : tie.Need-same-length-15 Inv-loop μ-loop
 same-length-15 c = c .before .loop .inv .14
 
@@ -438,69 +300,14 @@ returns-4 c =
 pub walk-names-spec : {M : Type 1} → statement M
 walk-names-spec =
     tie.close
-    (tie.spec
-    Inv-loop
-    μ-loop
-    name-all-requires
-    open-users-requires
-    same-length
-    same-length-2
-    same-length-3
-    returns
-    sub-depth
-    mul-top
-    slice-read-top
-    user-in-requires
-    bound-with-requires
-    mul-here
-    slice-read-here
-    loop-holds
-    add-i
-    node-requires
-    wide-requires
-    keep-requires
-    same-length-4
-    same-length-5
-    same-length-6
-    same-length-7
-    returns-2
-    sub-depth-2
-    mul-next
-    slice-read-next
-    user-in-requires-2
-    bound-with-requires-2
-    mul-here-2
-    slice-read-here-2
-    loop-less
-    loop-again
-    wide-requires-2
-    keep-requires-2
-    paired-requires
-    mul-stack
-    slice-write-stack
-    mul-waits
-    slice-write-waits
-    add-depth
-    loop-less-2
-    loop-again-2
-    naming-at-requires
-    same-length-8
-    same-length-9
-    same-length-10
-    same-length-11
-    returns-3
-    wide-requires-3
-    keep-requires-3
-    wide-requires-4
-    add-names
-    mul-names
-    slice-write-names
-    wide-requires-5
-    scope-after-requires
-    loop-less-3
-    loop-again-3
-    same-length-12
-    same-length-13
-    same-length-14
-    same-length-15
-    returns-4)
+    (tie.spec Inv-loop μ-loop (λ c κs. search needs) (λ c κs. search needs) (λ c. search needs) (λ c. search needs)
+    (λ c. search needs) returns (λ c. search needs) (λ c. search needs) (λ c. search needs) (λ c κs. search needs)
+    (λ c κs. search needs) (λ c. search needs) (λ c. search needs) loop-holds (λ c. search needs) (λ c κs. search needs)
+    (λ c κs. search needs) (λ c κs. search needs) (λ c. search needs) (λ c. search needs) (λ c. search needs)
+    same-length-7 returns-2 (λ c. search needs) mul-next slice-read-next (λ c κs. search needs) (λ c κs. search needs)
+    mul-here-2 slice-read-here-2 (λ c. search needs) loop-again (λ c κs. search needs) (λ c κs. search needs)
+    (λ c κs. search needs) mul-stack slice-write-stack mul-waits slice-write-waits add-depth (λ c. search needs)
+    loop-again-2 (λ c κs. search needs) (λ c. search needs) (λ c. search needs) (λ c. search needs) same-length-11
+    returns-3 (λ c κs. search needs) (λ c κs. search needs) (λ c κs. search needs) (λ c. search needs)
+    (λ c. search needs) slice-write-names (λ c κs. search needs) (λ c κs. search needs) (λ c. search needs) loop-again-3
+    (λ c. search needs) (λ c. search needs) (λ c. search needs) same-length-15 returns-4)

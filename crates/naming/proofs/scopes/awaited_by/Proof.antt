@@ -1,25 +1,10 @@
-use mathlib.Core.Path.{ap, sym, _∙_}
+use mathlib.Core.Path.{ap, sym}
 use native.Mathlib.Omega.{arith}
 use lib.ListN.{List·getD-eq-default}
 use borrow.Author.Needs.{needs}
 use Rattle.naming.specs.Scopes.{awaitedIn, awaitedBy}
 use Rattle.naming.proofs.scopes.awaited_by.Statement.{statement}
 use Rattle.naming.proofs.scopes.awaited_by.Tie as tie
-use Rattle.naming.proofs.scopes.awaited_by.Reads as reads
-use Rattle.naming.proofs.scopes.awaited_by.Lts as lts
-use Rattle.format.proofs.words.wide.Reads as wide-reads
-
-wide-requires : tie.Need-wide-requires
-wide-requires c κs = search needs
-
-mul-t6 : tie.Need-mul-t6
-mul-t6 c = search needs
-
-shared-slice-read-t8 : tie.Need-shared-slice-read-t8
-shared-slice-read-t8 c = search needs
-
-cast-t11 : tie.Need-cast-t11
-cast-t11 c = search needs
 
 returns : tie.Need-returns
 returns c = ap (awaitedBy (c .before .before .before .before .args .table .now)) (c .before .before .wide .ensures .0)
@@ -29,4 +14,4 @@ returns-2 c = let t = c .before .before .before .args .table .now in sym (ap awa
 
 pub awaited-by-spec : {M : Type 1} → statement M
 awaited-by-spec =
-    tie.close (tie.spec wide-requires mul-t6 shared-slice-read-t8 cast-t11 returns returns-2)
+    tie.close (tie.spec (λ c κs. search needs) (λ c. search needs) (λ c. search needs) (λ c. search needs) returns returns-2)

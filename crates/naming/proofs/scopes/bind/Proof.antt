@@ -4,27 +4,6 @@ use borrow.Author.Needs.{needs}
 use Rattle.naming.proofs.ScopeLaws.{digit-low, digit-kept, binds, binds-none}
 use Rattle.naming.proofs.scopes.bind.Statement.{statement}
 use Rattle.naming.proofs.scopes.bind.Tie as tie
-use Rattle.naming.proofs.scopes.bind.Reads as reads
-use Rattle.naming.proofs.scopes.bind.Lts as lts
-use Rattle.naming.proofs.scopes.bound_in.Reads as bound-in-reads
-
-bound-in-requires : tie.Need-bound-in-requires
-bound-in-requires c κs = search needs
-
-add-result : tie.Need-add-result
-add-result c = search needs
-
-cast-result : tie.Need-cast-result
-cast-result c = search needs
-
-mul-result : tie.Need-mul-result
-mul-result c = search needs
-
-add-result-2 : tie.Need-add-result-2
-add-result-2 c = search needs
-
-shl-result : tie.Need-shl-result
-shl-result c = search needs
 
 add-result-3 : tie.Need-add-result-3
 add-result-3 c =
@@ -46,13 +25,5 @@ returns-2 c =
 pub bind-spec : {M : Type 1} → statement M
 bind-spec =
     tie.close
-    (tie.spec
-    bound-in-requires
-    add-result
-    cast-result
-    mul-result
-    add-result-2
-    shl-result
-    add-result-3
-    returns
-    returns-2)
+    (tie.spec (λ c κs. search needs) (λ c. search needs) (λ c. search needs) (λ c. search needs) (λ c. search needs)
+    (λ c. search needs) add-result-3 returns returns-2)

@@ -13,9 +13,6 @@ use Rattle.format.proofs.ContentsLaws.{sessions-held}
 use Rattle.placing.specs.Placing.{masksAnswer}
 use Rattle.placing.proofs.bare.masks.Statement.{statement}
 use Rattle.placing.proofs.bare.masks.Tie as tie
-use Rattle.placing.proofs.bare.masks.Reads as reads
-use Rattle.placing.proofs.bare.masks.Lts as lts
-use Rattle.format.proofs.sections.session.Reads as session-reads
 
 abbrev Inv-loop : tie.InvT-loop
 Inv-loop file head count n₀ n =
@@ -32,9 +29,6 @@ loop-holds c =
     let all : a .head .count .sessions + 1 - 1 ≡ a .head .count .sessions = omega arith in
     (omega arith, refl, omega arith, ap (firstOf (λ k. eqb (item noSession (C .sessions) k .mask) 0) (λ k. refused 14 0) 1) (all ∙ sym (sessions-held (a .file .now) (a .head))))
 
-session-requires : tie.Need-session-requires Inv-loop μ-loop
-session-requires c κs = search needs
-
 returns : tie.Need-returns Inv-loop μ-loop
 returns c =
     let a = c .before .before .before .before .before .before .args in
@@ -45,9 +39,6 @@ returns c =
 add-n : tie.Need-add-n Inv-loop μ-loop
 add-n c =
     omega (arith, c .before .before .before .before .before .before .pre)
-
-loop-less : tie.Need-loop-less Inv-loop μ-loop
-loop-less c = search needs
 
 loop-again : tie.Need-loop-again Inv-loop μ-loop
 loop-again c =
@@ -65,13 +56,4 @@ returns-2 c =
 pub masks-spec : {M : Type 1} → statement M
 masks-spec =
     tie.close
-    (tie.spec
-    Inv-loop
-    μ-loop
-    loop-holds
-    session-requires
-    returns
-    add-n
-    loop-less
-    loop-again
-    returns-2)
+    (tie.spec Inv-loop μ-loop loop-holds (λ c κs. search needs) returns add-n (λ c. search needs) loop-again returns-2)

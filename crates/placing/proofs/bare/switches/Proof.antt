@@ -12,9 +12,6 @@ use Rattle.format.proofs.ContentsLaws.{nodes-held}
 use Rattle.placing.specs.Placing.{switchesAnswer}
 use Rattle.placing.proofs.bare.switches.Statement.{statement}
 use Rattle.placing.proofs.bare.switches.Tie as tie
-use Rattle.placing.proofs.bare.switches.Reads as reads
-use Rattle.placing.proofs.bare.switches.Lts as lts
-use Rattle.format.proofs.sections.node_tag.Reads as node-tag-reads
 
 abbrev Inv-loop : tie.InvT-loop
 Inv-loop file head count n₀ n =
@@ -31,9 +28,6 @@ loop-holds c =
     let all : a .head .count .nodes + 1 - 1 ≡ a .head .count .nodes = omega arith in
     (omega arith, refl, omega arith, ap (firstOf (λ k. ltb (item noNode (contentsAt (a .file .now) (a .head) .nodes) k .tag) 7) (λ k. refused 14 k) 1) (all ∙ sym (nodes-held (a .file .now) (a .head))))
 
-node-tag-requires : tie.Need-node-tag-requires Inv-loop μ-loop
-node-tag-requires c κs = search needs
-
 returns : tie.Need-returns Inv-loop μ-loop
 returns c =
     let a = c .before .before .before .before .before .args in
@@ -43,9 +37,6 @@ returns c =
 
 add-n : tie.Need-add-n Inv-loop μ-loop
 add-n c = omega (arith, c .before .before .before .before .before .pre .nodes)
-
-loop-less : tie.Need-loop-less Inv-loop μ-loop
-loop-less c = search needs
 
 loop-again : tie.Need-loop-again Inv-loop μ-loop
 loop-again c =
@@ -63,13 +54,4 @@ returns-2 c =
 pub switches-spec : {M : Type 1} → statement M
 switches-spec =
     tie.close
-    (tie.spec
-    Inv-loop
-    μ-loop
-    loop-holds
-    node-tag-requires
-    returns
-    add-n
-    loop-less
-    loop-again
-    returns-2)
+    (tie.spec Inv-loop μ-loop loop-holds (λ c κs. search needs) returns add-n (λ c. search needs) loop-again returns-2)

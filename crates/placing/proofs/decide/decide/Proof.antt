@@ -1,26 +1,15 @@
-use mathlib.Core.Path.{_≡_, sym, ap, subst, _∙_}
+use mathlib.Core.Path.{sym, ap, subst, _∙_}
 use mathlib.Core.List.{List}
 use Rattle.format.specs.Contents.{contentsAt}
 use Rattle.format.specs.declared.Verdict.{Verdict}
 use Rattle.format.proofs.AnswerLaws.{NoRefusal}
 use Rattle.states.specs.States.{Label, turnsOf}
-use Rattle.placing.specs.Placing.{labelsFrom, placeableBy, settling, decided, noSums, unsettled, Settled}
+use Rattle.placing.specs.Placing.{labelsFrom, placeableBy, decided, noSums, unsettled}
 use Rattle.placing.specs.declared.Decision.{Decision}
 use Rattle.placing.proofs.DecideLaws.{decided-loud, settled-before, bare-number, bare-loud, bare-quiet, bare as of-bare}
 use borrow.Author.Needs.{needs}
 use Rattle.placing.proofs.decide.decide.Statement.{statement}
 use Rattle.placing.proofs.decide.decide.Tie as tie
-use Rattle.placing.proofs.decide.decide.Reads as reads
-use Rattle.placing.proofs.decide.decide.Lts as lts
-use Rattle.placing.proofs.bare.bare.Reads as bare-reads
-use Rattle.placing.proofs.decide.refused.Reads as refused-reads
-use Rattle.placing.proofs.decide.settle.Reads as settle-reads
-
-bare-requires : tie.Need-bare-requires
-bare-requires c κs = search needs
-
-refused-requires : tie.Need-refused-requires
-refused-requires c κs = search needs
 
 returns : tie.Need-returns
 returns c =
@@ -36,15 +25,6 @@ returns c =
           (ap unsettled (ap (λ (d : Decision). d .verdict .number) (c .refused .ensures) ∙ ap (λ (x : Verdict). x .number) (c .before .before .before .bare .ensures) ∙ bare-number C loud)),
     )
 
-settle-requires : tie.Need-settle-requires
-settle-requires c κs = search needs
-
-same-length : tie.Need-same-length
-same-length c = search needs
-
-same-length-2 : tie.Need-same-length-2
-same-length-2 c = search needs
-
 returns-2 : tie.Need-returns-2
 returns-2 c =
     let a = c .before .before .before .before .before .before .before .before .before .before .before .before .before .before .args in
@@ -57,11 +37,5 @@ returns-2 c =
 pub decide-spec : {M : Type 1} → statement M
 decide-spec =
     tie.close
-    (tie.spec
-    bare-requires
-    refused-requires
-    returns
-    settle-requires
-    same-length
-    same-length-2
-    returns-2)
+    (tie.spec (λ c κs. search needs) (λ c κs. search needs) returns (λ c κs. search needs) (λ c. search needs)
+    (λ c. search needs) returns-2)

@@ -19,21 +19,9 @@ use Rattle.placing.proofs.ServedLaws.{all-served}
 use borrow.Author.Needs.{needs}
 use Rattle.placing.proofs.decide.settle.Statement.{statement}
 use Rattle.placing.proofs.decide.settle.Tie as tie
-use Rattle.placing.proofs.decide.settle.Reads as reads
-use Rattle.placing.proofs.decide.settle.Lts as lts
-use Rattle.placing.proofs.decide.refused.Reads as refused-reads
-use Rattle.placing.proofs.served.unserved.Reads as unserved-reads
-use Rattle.groups.proofs.starts.Reads as starts-reads
-use Rattle.states.proofs.turns.Reads as turns-reads
 
 abbrev decision : Verdict → Sums → Decision
 decision v k = record { verdict = v; sums = k }
-
-unserved-requires : tie.Need-unserved-requires
-unserved-requires c κs = search needs
-
-refused-requires : tie.Need-refused-requires
-refused-requires c κs = search needs
 
 returns : tie.Need-returns
 returns c =
@@ -57,18 +45,6 @@ turns-requires c κs =
     let quiet : NoRefusal (unservedFrom 1 ls) = sym (ap (λ (x : Verdict). x .number) (c .before .before .before .unserved .ensures)) ∙ c .before .if1 .left in
     (pre .0, pre .1, pre .2, all-served 1 ls quiet)
 
-starts-requires : tie.Need-starts-requires
-starts-requires c κs = search needs
-
-refused-requires-2 : tie.Need-refused-requires-2
-refused-requires-2 c κs = search needs
-
-same-length : tie.Need-same-length
-same-length c = search needs
-
-same-length-2 : tie.Need-same-length-2
-same-length-2 c = search needs
-
 returns-2 : tie.Need-returns-2
 returns-2 c =
     let a = c .before .before .before .before .before .before .before .before .before .before .before .before .before .before .before .before .before .before .before .args in
@@ -90,12 +66,6 @@ returns-2 c =
           (c .before .before .before .before .before .starts .ensures .1 ∙ ap (λ l. sets (a .starts .now) 1 (startsFrom 1 l)) written),
     )
 
-same-length-3 : tie.Need-same-length-3
-same-length-3 c = search needs
-
-same-length-4 : tie.Need-same-length-4
-same-length-4 c = search needs
-
 returns-3 : tie.Need-returns-3
 returns-3 c =
     let a = c .before .before .before .before .before .before .before .before .before .before .before .before .before .before .before .before .before .before .args in
@@ -115,16 +85,6 @@ returns-3 c =
 pub settle-spec : {M : Type 1} → statement M
 settle-spec =
     tie.close
-    (tie.spec
-    unserved-requires
-    refused-requires
-    returns
-    turns-requires
-    starts-requires
-    refused-requires-2
-    same-length
-    same-length-2
-    returns-2
-    same-length-3
-    same-length-4
+    (tie.spec (λ c κs. search needs) (λ c κs. search needs) returns turns-requires (λ c κs. search needs)
+    (λ c κs. search needs) (λ c. search needs) (λ c. search needs) returns-2 (λ c. search needs) (λ c. search needs)
     returns-3)

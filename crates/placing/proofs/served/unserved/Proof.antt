@@ -12,11 +12,6 @@ use Rattle.placing.specs.Placing.{unservedFrom}
 use Rattle.placing.proofs.ServedLaws.{labelsLeft, left-served, left-unserved, left-none}
 use Rattle.placing.proofs.served.unserved.Statement.{statement}
 use Rattle.placing.proofs.served.unserved.Tie as tie
-use Rattle.placing.proofs.served.unserved.Reads as reads
-use Rattle.placing.proofs.served.unserved.Lts as lts
-use Rattle.format.proofs.sections.node_tag.Reads as node-tag-reads
-use Rattle.format.proofs.words.wide.Reads as wide-reads
-use Rattle.placing.proofs.served.is_unserved.Reads as is-unserved-reads
 
 abbrev Inv-loop : tie.InvT-loop
 Inv-loop file head roles count n₀ n =
@@ -29,21 +24,6 @@ abbrev μ-loop : tie.MeasureT-loop
 loop-holds : tie.Need-loop-holds Inv-loop μ-loop
 loop-holds c = (omega arith, refl, omega arith, refl)
 
-node-tag-requires : tie.Need-node-tag-requires Inv-loop μ-loop
-node-tag-requires c κs = search needs
-
-wide-requires : tie.Need-wide-requires Inv-loop μ-loop
-wide-requires c κs = search needs
-
-mul-is-unserved : tie.Need-mul-is-unserved Inv-loop μ-loop
-mul-is-unserved c = search needs
-
-shared-slice-read-is-unserved : tie.Need-shared-slice-read-is-unserved Inv-loop μ-loop
-shared-slice-read-is-unserved c = search needs
-
-is-unserved-requires : tie.Need-is-unserved-requires Inv-loop μ-loop
-is-unserved-requires c κs = search needs
-
 returns : tie.Need-returns Inv-loop μ-loop
 returns c =
     let a = c .before .before .before .before .before .before .before .before .before .args in
@@ -55,9 +35,6 @@ returns c =
 
 add-n : tie.Need-add-n Inv-loop μ-loop
 add-n c = omega (arith, c .before .before .before .before .before .before .before .before .before .pre)
-
-loop-less : tie.Need-loop-less Inv-loop μ-loop
-loop-less c = search needs
 
 loop-again : tie.Need-loop-again Inv-loop μ-loop
 loop-again c =
@@ -81,17 +58,5 @@ returns-2 c =
 pub unserved-spec : {M : Type 1} → statement M
 unserved-spec =
     tie.close
-    (tie.spec
-    Inv-loop
-    μ-loop
-    loop-holds
-    node-tag-requires
-    wide-requires
-    mul-is-unserved
-    shared-slice-read-is-unserved
-    is-unserved-requires
-    returns
-    add-n
-    loop-less
-    loop-again
-    returns-2)
+    (tie.spec Inv-loop μ-loop loop-holds (λ c κs. search needs) (λ c κs. search needs) (λ c. search needs)
+    (λ c. search needs) (λ c κs. search needs) returns add-n (λ c. search needs) loop-again returns-2)

@@ -7,8 +7,6 @@ use Rattle.reasons.specs.Reasons.{digitsAt}
 use Rattle.reasons.proofs.DigitsRead.{digits-past, digits-stop, low, high, digits-turn, digits-none}
 use Rattle.reasons.proofs.digits.digits_end.Statement.{statement}
 use Rattle.reasons.proofs.digits.digits_end.Tie as tie
-use Rattle.reasons.proofs.digits.digits_end.Reads as reads
-use Rattle.reasons.proofs.digits.digits_end.Lts as lts
 
 abbrev Inv-loop : tie.InvT-loop
 Inv-loop s at left₀ i₀ left i = (left ≤ 5) × (i + digitsAt left (drop i s) ≡ at + digitsAt 5 (drop at s))
@@ -25,32 +23,17 @@ returns c =
     let s = l .before .args .s .now in
     digits-past (l .loop .left) (l .loop .i) s (c .if1 .taken) ∙ l .loop .inv .1
 
-shared-slice-read-if2 : tie.Need-shared-slice-read-if2 Inv-loop μ-loop
-shared-slice-read-if2 c = omega arith
-
 returns-2 : tie.Need-returns-2 Inv-loop μ-loop
 returns-2 c =
     let l = c .before .before .before .before in
     let s = l .before .args .s .now in
     digits-stop (l .loop .left) (l .loop .i) s (search needs) (low (getD s (l .loop .i) 0) (c .if2 .taken)) ∙ l .loop .inv .1
 
-shared-slice-read-if3 : tie.Need-shared-slice-read-if3 Inv-loop μ-loop
-shared-slice-read-if3 c = omega arith
-
 returns-3 : tie.Need-returns-3 Inv-loop μ-loop
 returns-3 c =
     let l = c .before .before .before .before .before .before in
     let s = l .before .args .s .now in
     digits-stop (l .loop .left) (l .loop .i) s (search needs) (high (getD s (l .loop .i) 0) (c .if3 .taken)) ∙ l .loop .inv .1
-
-add-i : tie.Need-add-i Inv-loop μ-loop
-add-i c = omega arith
-
-sub-left : tie.Need-sub-left Inv-loop μ-loop
-sub-left c = omega arith
-
-loop-less : tie.Need-loop-less Inv-loop μ-loop
-loop-less c = omega arith
 
 loop-again : tie.Need-loop-again Inv-loop μ-loop
 loop-again c =
@@ -67,17 +50,5 @@ returns-4 c =
 pub digits-end-spec : {M : Type 1} → statement M
 digits-end-spec =
     tie.close
-    (tie.spec
-    Inv-loop
-    μ-loop
-    loop-holds
-    returns
-    shared-slice-read-if2
-    returns-2
-    shared-slice-read-if3
-    returns-3
-    add-i
-    sub-left
-    loop-less
-    loop-again
-    returns-4)
+    (tie.spec Inv-loop μ-loop loop-holds returns (λ c. omega arith) returns-2 (λ c. omega arith) returns-3
+    (λ c. omega arith) (λ c. omega arith) (λ c. omega arith) loop-again returns-4)

@@ -7,8 +7,6 @@ use Rattle.reasons.specs.Reasons.{numeral}
 use Rattle.reasons.proofs.DigitsRead.{numeral-end, numeral-no, low, high, numeral-turn, numeral-none, cap, cap-five, cap-top, cap-turn}
 use Rattle.reasons.proofs.digits.numeral_at.Statement.{statement}
 use Rattle.reasons.proofs.digits.numeral_at.Tie as tie
-use Rattle.reasons.proofs.digits.numeral_at.Reads as reads
-use Rattle.reasons.proofs.digits.numeral_at.Lts as lts
 
 abbrev Inv-loop : tie.InvT-loop
 Inv-loop s at left₀ i₀ a₀ left i a = (left ≤ 5) × (numeral left a (drop i s) ≡ numeral 5 0 (drop at s)) × (a ≤ cap left)
@@ -26,18 +24,12 @@ returns c =
     let top = cap-top (l .loop .left) (l .loop .inv .0) in
     (numeral-end (l .loop .left) (l .loop .a) (l .loop .i) s (c .if1 .taken) ∙ l .loop .inv .1, omega (arith, top, l .loop .inv .2))
 
-shared-slice-read-if2 : tie.Need-shared-slice-read-if2 Inv-loop μ-loop
-shared-slice-read-if2 c = omega arith
-
 returns-2 : tie.Need-returns-2 Inv-loop μ-loop
 returns-2 c =
     let l = c .before .before .before .before in
     let s = l .before .args .s .now in
     let top = cap-top (l .loop .left) (l .loop .inv .0) in
     (numeral-no (l .loop .left) (l .loop .a) (l .loop .i) s (search needs) (low (getD s (l .loop .i) 0) (c .if2 .taken)) ∙ l .loop .inv .1, omega (arith, top, l .loop .inv .2))
-
-shared-slice-read-if3 : tie.Need-shared-slice-read-if3 Inv-loop μ-loop
-shared-slice-read-if3 c = omega arith
 
 returns-3 : tie.Need-returns-3 Inv-loop μ-loop
 returns-3 c =
@@ -53,30 +45,12 @@ mul-a c =
     let top = cap-top (l .loop .left) (l .loop .inv .0) in
     omega (arith, top, l .loop .inv .2)
 
-shared-slice-read-a : tie.Need-shared-slice-read-a Inv-loop μ-loop
-shared-slice-read-a c = omega arith
-
-sub-a : tie.Need-sub-a Inv-loop μ-loop
-sub-a c = omega arith
-
-cast-a : tie.Need-cast-a Inv-loop μ-loop
-cast-a c = omega arith
-
 add-a : tie.Need-add-a Inv-loop μ-loop
 add-a c =
     let l = c .before .before .before .before .before .before .before in
     let s = l .before .args .s .now in
     let top = cap-top (l .loop .left) (l .loop .inv .0) in
     omega (arith, top, l .loop .inv .2)
-
-add-i : tie.Need-add-i Inv-loop μ-loop
-add-i c = omega arith
-
-sub-left : tie.Need-sub-left Inv-loop μ-loop
-sub-left c = omega arith
-
-loop-less : tie.Need-loop-less Inv-loop μ-loop
-loop-less c = omega arith
 
 loop-again : tie.Need-loop-again Inv-loop μ-loop
 loop-again c =
@@ -95,22 +69,6 @@ returns-4 c =
 pub numeral-at-spec : {M : Type 1} → statement M
 numeral-at-spec =
     tie.close
-    (tie.spec
-    Inv-loop
-    μ-loop
-    loop-holds
-    returns
-    shared-slice-read-if2
-    returns-2
-    shared-slice-read-if3
-    returns-3
-    mul-a
-    shared-slice-read-a
-    sub-a
-    cast-a
-    add-a
-    add-i
-    sub-left
-    loop-less
-    loop-again
-    returns-4)
+    (tie.spec Inv-loop μ-loop loop-holds returns (λ c. omega arith) returns-2 (λ c. omega arith) returns-3 mul-a
+    (λ c. omega arith) (λ c. omega arith) (λ c. omega arith) add-a (λ c. omega arith) (λ c. omega arith)
+    (λ c. omega arith) loop-again returns-4)

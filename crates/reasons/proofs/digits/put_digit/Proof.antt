@@ -7,29 +7,12 @@ use Rattle.reasons.proofs.PartsWritten.{put-nil, put-one}
 use borrow.Author.Tests.{eq-eqb, ne-eqb}
 use Rattle.reasons.proofs.digits.put_digit.Statement.{statement}
 use Rattle.reasons.proofs.digits.put_digit.Tie as tie
-use Rattle.reasons.proofs.digits.put_digit.Reads as reads
-use Rattle.reasons.proofs.digits.put_digit.Lts as lts
 
 returns : tie.Need-returns
 unfolding lastDigit
 returns c =
     let a = c .before .args in
     rw (eq-eqb (a .n) 0 (c .if1 .taken)) (omega arith, sym (put-nil (a .out .now) (a .at)))
-
-cast-out : tie.Need-cast-out
-cast-out c = search needs
-
-add-out : tie.Need-add-out
-add-out c = search needs
-
-slice-write-out : tie.Need-slice-write-out
-slice-write-out c = search needs
-
-add-result : tie.Need-add-result
-add-result c = search needs
-
-same-length : tie.Need-same-length
-same-length c = search needs
 
 returns-2 : tie.Need-returns-2
 unfolding lastDigit
@@ -39,4 +22,4 @@ returns-2 c =
 
 pub put-digit-spec : {M : Type 1} → statement M
 put-digit-spec =
-    tie.close (tie.spec returns cast-out add-out slice-write-out add-result same-length returns-2)
+    tie.close (tie.spec returns (λ c. search needs) (λ c. search needs) (λ c. search needs) (λ c. search needs) (λ c. search needs) returns-2)

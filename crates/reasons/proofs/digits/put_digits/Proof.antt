@@ -4,12 +4,6 @@ use borrow.Author.Needs.{needs}
 use Rattle.reasons.proofs.PartsWritten.{last-length, five}
 use Rattle.reasons.proofs.digits.put_digits.Statement.{statement}
 use Rattle.reasons.proofs.digits.put_digits.Tie as tie
-use Rattle.reasons.proofs.digits.put_digits.Reads as reads
-use Rattle.reasons.proofs.digits.put_digits.Lts as lts
-use Rattle.reasons.proofs.digits.put_digit.Reads as put-digit-reads
-
-put-digit-requires : tie.Need-put-digit-requires
-put-digit-requires c κs = search needs
 
 put-digit-requires-2 : tie.Need-put-digit-requires-2
 put-digit-requires-2 c κs = omega (arith, c .before .before .before .put-digit .ensures .0, last-length (c .before .before .before .before .before .before .args .n / 10 / 10 / 10 / 10))
@@ -22,9 +16,6 @@ put-digit-requires-4 c κs = omega (arith, c .before .before .before .put-digit3
 
 put-digit-requires-5 : tie.Need-put-digit-requires-5
 put-digit-requires-5 c κs = omega (arith, c .before .before .before .put-digit4 .ensures .0, c .before .before .before .before .before .before .before .put-digit3 .ensures .0, c .before .before .before .before .before .before .before .before .before .before .before .put-digit2 .ensures .0, c .before .before .before .before .before .before .before .before .before .before .before .before .before .before .before .put-digit .ensures .0, last-length (c .before .before .before .before .before .before .before .before .before .before .before .before .before .before .before .before .before .before .args .n / 10), last-length (c .before .before .before .before .before .before .before .before .before .before .before .before .before .before .before .before .before .before .args .n / 10 / 10), last-length (c .before .before .before .before .before .before .before .before .before .before .before .before .before .before .before .before .before .before .args .n / 10 / 10 / 10), last-length (c .before .before .before .before .before .before .before .before .before .before .before .before .before .before .before .before .before .before .args .n / 10 / 10 / 10 / 10))
-
-same-length : tie.Need-same-length
-same-length c = search needs
 
 returns : tie.Need-returns
 returns c =
@@ -41,11 +32,5 @@ returns c =
 pub put-digits-spec : {M : Type 1} → statement M
 put-digits-spec =
     tie.close
-    (tie.spec
-    put-digit-requires
-    put-digit-requires-2
-    put-digit-requires-3
-    put-digit-requires-4
-    put-digit-requires-5
-    same-length
-    returns)
+    (tie.spec (λ c κs. search needs) put-digit-requires-2 put-digit-requires-3 put-digit-requires-4 put-digit-requires-5
+    (λ c. search needs) returns)

@@ -13,11 +13,6 @@ use Rattle.rules.specs.Kept.{grantsTo, addRole, Beyond}
 use Rattle.rules.proofs.GrantLaws.{grants-begin, grants-more, grants-length, beyond-none, beyond-more}
 use Rattle.rules.proofs.grants.fill_grants.Statement.{statement}
 use Rattle.rules.proofs.grants.fill_grants.Tie as tie
-use Rattle.rules.proofs.grants.fill_grants.Reads as reads
-use Rattle.rules.proofs.grants.fill_grants.Lts as lts
-use Rattle.format.proofs.sections.role.Reads as role-reads
-use Rattle.format.proofs.sections.juniors.Reads as juniors-reads
-use Rattle.rules.proofs.grants.add_role.Reads as add-role-reads
 
 abbrev Inv-loop : tie.InvT-loop
 Inv-loop file head sends₀ receives₀ n₀ sends receives n =
@@ -40,21 +35,6 @@ loop-holds c = let a = c .before .before .before .args in
       beyond-none D Sends,
       beyond-none D Receives,
     )
-
-add-n : tie.Need-add-n Inv-loop μ-loop
-add-n c = search needs
-
-role-requires : tie.Need-role-requires Inv-loop μ-loop
-role-requires c κs = search needs
-
-juniors-requires : tie.Need-juniors-requires Inv-loop μ-loop
-juniors-requires c κs = search needs
-
-add-role-requires : tie.Need-add-role-requires Inv-loop μ-loop
-add-role-requires c κs = search needs
-
-loop-less : tie.Need-loop-less Inv-loop μ-loop
-loop-less c = search needs
 
 loop-again : tie.Need-loop-again Inv-loop μ-loop
 loop-again c =
@@ -80,12 +60,6 @@ loop-again c =
       beyond-more C Receives (it .result .receives) (j .result) (l .n) within own-receives (j .ensures) (omega arith) (l .inv .6),
     )
 
-same-length : tie.Need-same-length Inv-loop μ-loop
-same-length c = search needs
-
-same-length-2 : tie.Need-same-length-2 Inv-loop μ-loop
-same-length-2 c = search needs
-
 returns : tie.Need-returns Inv-loop μ-loop
 returns c =
     let a = c .before .before .before .before .before .before .args in
@@ -96,16 +70,5 @@ returns c =
 pub fill-grants-spec : {M : Type 1} → statement M
 fill-grants-spec =
     tie.close
-    (tie.spec
-    Inv-loop
-    μ-loop
-    loop-holds
-    add-n
-    role-requires
-    juniors-requires
-    add-role-requires
-    loop-less
-    loop-again
-    same-length
-    same-length-2
-    returns)
+    (tie.spec Inv-loop μ-loop loop-holds (λ c. search needs) (λ c κs. search needs) (λ c κs. search needs)
+    (λ c κs. search needs) (λ c. search needs) loop-again (λ c. search needs) (λ c. search needs) returns)

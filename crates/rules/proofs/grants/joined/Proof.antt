@@ -4,16 +4,6 @@ use Rattle.masks.specs.Mask.{with}
 use borrow.Author.Needs.{needs}
 use Rattle.rules.proofs.grants.joined.Statement.{statement}
 use Rattle.rules.proofs.grants.joined.Tie as tie
-use Rattle.rules.proofs.grants.joined.Reads as reads
-use Rattle.rules.proofs.grants.joined.Lts as lts
-use Rattle.masks.proofs.with_role.Reads as with-role-reads
-use Rattle.rules.proofs.grants.role_permits.Reads as role-permits-reads
-
-role-permits-requires : tie.Need-role-permits-requires
-role-permits-requires c κs = search needs
-
-with-role-requires : tie.Need-with-role-requires
-with-role-requires c κs = search needs
 
 returns : tie.Need-returns
 returns c =
@@ -28,4 +18,4 @@ returns-2 c =
     ap (λ b. cond b (with (a .lower) (a .role .0)) (a .lower)) no
 
 pub joined-spec : {M : Type 1} → statement M
-joined-spec = tie.close (tie.spec role-permits-requires with-role-requires returns returns-2)
+joined-spec = tie.close (tie.spec (λ c κs. search needs) (λ c κs. search needs) returns returns-2)

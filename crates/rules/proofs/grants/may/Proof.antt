@@ -6,12 +6,6 @@ use Rattle.rules.proofs.PermittedRoles.{may-iff}
 use borrow.Author.Needs.{needs}
 use Rattle.rules.proofs.grants.may.Statement.{statement}
 use Rattle.rules.proofs.grants.may.Tie as tie
-use Rattle.rules.proofs.grants.may.Reads as reads
-use Rattle.rules.proofs.grants.may.Lts as lts
-use Rattle.rules.proofs.grants.permitting.Reads as permitting-reads
-
-permitting-requires : tie.Need-permitting-requires
-permitting-requires c κs = search needs
 
 returns : tie.Need-returns
 returns c =
@@ -20,4 +14,4 @@ returns c =
     (e, λ D w its. may-iff D w (a .table .now) (a .roles) (a .kind) its _ e)
 
 pub may-spec : {M : Type 1} → statement M
-may-spec = tie.close (tie.spec permitting-requires returns)
+may-spec = tie.close (tie.spec (λ c κs. search needs) returns)

@@ -6,18 +6,6 @@ use Rattle.rules.proofs.PermittedRoles.{those-permitting}
 use borrow.Author.Needs.{needs}
 use Rattle.rules.proofs.grants.permitting.Statement.{statement}
 use Rattle.rules.proofs.grants.permitting.Tie as tie
-use Rattle.rules.proofs.grants.permitting.Reads as reads
-use Rattle.rules.proofs.grants.permitting.Lts as lts
-use Rattle.format.proofs.words.wide.Reads as wide-reads
-
-wide-requires : tie.Need-wide-requires
-wide-requires c κs = search needs
-
-mul-result : tie.Need-mul-result
-mul-result c = search needs
-
-shared-slice-read-result : tie.Need-shared-slice-read-result
-shared-slice-read-result c = search needs
 
 returns : tie.Need-returns
 returns c =
@@ -34,4 +22,4 @@ returns-2 c =
 
 pub permitting-spec : {M : Type 1} → statement M
 permitting-spec =
-    tie.close (tie.spec wide-requires mul-result shared-slice-read-result returns returns-2)
+    tie.close (tie.spec (λ c κs. search needs) (λ c. search needs) (λ c. search needs) returns returns-2)

@@ -1,6 +1,5 @@
 use mathlib.Core.Path.{ap, _∙_}
 use mathlib.Core.Bool.{not, _||_}
-use Prim.Native.Nat.{ℕ}
 use lib.Bits.{bitAnd}
 use lib.Dec.{eqb}
 use Rattle.masks.specs.Mask.{has}
@@ -8,16 +7,6 @@ use Rattle.rules.proofs.JuniorGrants.{joins-exactly}
 use borrow.Author.Needs.{needs}
 use Rattle.rules.proofs.grants.role_permits.Statement.{statement}
 use Rattle.rules.proofs.grants.role_permits.Tie as tie
-use Rattle.rules.proofs.grants.role_permits.Reads as reads
-use Rattle.rules.proofs.grants.role_permits.Lts as lts
-use Rattle.masks.proofs.has_kind.Reads as has-kind-reads
-use Rattle.rules.proofs.grants.granted_by.Reads as granted-by-reads
-
-granted-by-requires : tie.Need-granted-by-requires
-granted-by-requires c κs = search needs
-
-has-kind-requires : tie.Need-has-kind-requires
-has-kind-requires c κs = search needs
 
 returns : tie.Need-returns
 returns c =
@@ -27,4 +16,4 @@ returns c =
     (its, λ C here e. its ∙ joins-exactly C (a .way) (a .role) (a .kind) (a .it) (a .juniors) (a .lower) here e)
 
 pub role-permits-spec : {M : Type 1} → statement M
-role-permits-spec = tie.close (tie.spec granted-by-requires has-kind-requires returns)
+role-permits-spec = tie.close (tie.spec (λ c κs. search needs) (λ c κs. search needs) returns)

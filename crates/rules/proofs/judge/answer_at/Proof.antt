@@ -1,8 +1,6 @@
 use borrow.Author.Tests.{eq-eqb, ne-eqb}
 use Rattle.rules.proofs.judge.answer_at.Statement.{statement}
 use Rattle.rules.proofs.judge.answer_at.Tie as tie
-use Rattle.rules.proofs.judge.answer_at.Reads as reads
-use Rattle.rules.proofs.judge.answer_at.Lts as lts
 
 returns : tie.Need-returns
 returns c = rw (eq-eqb _ _ (c .if1 .taken))

@@ -6,17 +6,6 @@ use Rattle.rules.proofs.GrantLaws.{granting}
 use borrow.Author.Needs.{needs}
 use Rattle.rules.proofs.judge.judge_by.Statement.{statement}
 use Rattle.rules.proofs.judge.judge_by.Tie as tie
-use Rattle.rules.proofs.judge.judge_by.Reads as reads
-use Rattle.rules.proofs.judge.judge_by.Lts as lts
-use Rattle.rules.proofs.grants.fill_grants.Reads as fill-grants-reads
-use Rattle.rules.proofs.judge.walk.Reads as walk-reads
-use Rattle.rules.proofs.names.name_all.Reads as name-all-reads
-
-fill-grants-requires : tie.Need-fill-grants-requires
-fill-grants-requires c κs = search needs
-
-name-all-requires : tie.Need-name-all-requires
-name-all-requires c κs = search needs
 
 walk-requires : tie.Need-walk-requires
 walk-requires c κs =
@@ -35,34 +24,8 @@ walk-requires c κs =
       p .6,
     )
 
-same-length : tie.Need-same-length
-same-length c = search needs
-
-same-length-2 : tie.Need-same-length-2
-same-length-2 c = search needs
-
-same-length-3 : tie.Need-same-length-3
-same-length-3 c = search needs
-
-same-length-4 : tie.Need-same-length-4
-same-length-4 c = search needs
-
-same-length-5 : tie.Need-same-length-5
-same-length-5 c = search needs
-
-returns : tie.Need-returns
-returns c = search needs
-
 pub judge-by-spec : {M : Type 1} → statement M
 judge-by-spec =
     tie.close
-    (tie.spec
-    fill-grants-requires
-    name-all-requires
-    walk-requires
-    same-length
-    same-length-2
-    same-length-3
-    same-length-4
-    same-length-5
-    returns)
+    (tie.spec (λ c κs. search needs) (λ c κs. search needs) walk-requires (λ c. search needs) (λ c. search needs)
+    (λ c. search needs) (λ c. search needs) (λ c. search needs) (λ c. search needs))

@@ -15,13 +15,6 @@ use Rattle.rules.specs.Kept.{unpacking, contextOf, waiting, Waits, Given
 use Rattle.rules.proofs.StackLaws.{contexts-push, waits-push, context-bare}
 use Rattle.rules.proofs.judge.open_sessions.Statement.{statement}
 use Rattle.rules.proofs.judge.open_sessions.Tie as tie
-use Rattle.rules.proofs.judge.open_sessions.Reads as reads
-use Rattle.rules.proofs.judge.open_sessions.Lts as lts
-use Rattle.format.proofs.sections.session.Reads as session-reads
-use Rattle.format.proofs.words.narrow.Reads as narrow-reads
-use Rattle.format.proofs.words.wide.Reads as wide-reads
-use Rattle.rules.proofs.judge.packed.Reads as packed-reads
-use Rattle.format.proofs.sections.user_roles.Reads as user-roles-reads
 
 abbrev Inv-loop : tie.InvT-loop
 Inv-loop file head stack₀ sessions depth₀ stack depth =
@@ -31,9 +24,6 @@ Inv-loop file head stack₀ sessions depth₀ stack depth =
 abbrev μ-loop : tie.MeasureT-loop
 μ-loop file head stack₀ sessions depth₀ stack depth = sessions - depth
 
-wide-requires : tie.Need-wide-requires Inv-loop μ-loop
-wide-requires c κs = search needs
-
 loop-holds : tie.Need-loop-holds Inv-loop μ-loop
 unfolding stacked openingsFrom
 loop-holds c =
@@ -41,33 +31,6 @@ loop-holds c =
     let none : drop (c .wide .result - 0) (contentsAt (a .file .now) (a .head) .sessions) ≡ [] =
     none-past (contentsAt (a .file .now) (a .head) .sessions) (c .wide .result - 0) (omega (arith, sessions-held (a .file .now) (a .head), c .wide .ensures .0)) in
     (omega arith, refl, tt, rw none)
-
-sub-narrow : tie.Need-sub-narrow Inv-loop μ-loop
-sub-narrow c = search needs
-
-narrow-requires : tie.Need-narrow-requires Inv-loop μ-loop
-narrow-requires c κs = search needs
-
-session-requires : tie.Need-session-requires Inv-loop μ-loop
-session-requires c κs = search needs
-
-user-roles-requires : tie.Need-user-roles-requires Inv-loop μ-loop
-user-roles-requires c κs = search needs
-
-packed-requires : tie.Need-packed-requires Inv-loop μ-loop
-packed-requires c κs = search needs
-
-mul-stack : tie.Need-mul-stack Inv-loop μ-loop
-mul-stack c = search needs
-
-slice-write-stack : tie.Need-slice-write-stack Inv-loop μ-loop
-slice-write-stack c = search needs
-
-add-depth : tie.Need-add-depth Inv-loop μ-loop
-add-depth c = search needs
-
-loop-less : tie.Need-loop-less Inv-loop μ-loop
-loop-less c = search needs
 
 loop-again : tie.Need-loop-again Inv-loop μ-loop
 unfolding openingsFrom
@@ -90,9 +53,6 @@ loop-again c =
           (contexts-push unpacking [] (l .stack) (l .depth) (c .packed .result) p (omega arith) (c .packed .ensures .1) (context-bare (p .user) (p .assigned) (p .mask)) (l .inv .3)),
     )
 
-same-length : tie.Need-same-length Inv-loop μ-loop
-same-length c = search needs
-
 returns : tie.Need-returns Inv-loop μ-loop
 returns c = let a = c .before .before .before .before .before .args in
     let l = c .before .loop in
@@ -104,20 +64,6 @@ returns c = let a = c .before .before .before .before .before .args in
 pub open-sessions-spec : {M : Type 1} → statement M
 open-sessions-spec =
     tie.close
-    (tie.spec
-    Inv-loop
-    μ-loop
-    wide-requires
-    loop-holds
-    sub-narrow
-    narrow-requires
-    session-requires
-    user-roles-requires
-    packed-requires
-    mul-stack
-    slice-write-stack
-    add-depth
-    loop-less
-    loop-again
-    same-length
-    returns)
+    (tie.spec Inv-loop μ-loop (λ c κs. search needs) loop-holds (λ c. search needs) (λ c κs. search needs)
+    (λ c κs. search needs) (λ c κs. search needs) (λ c κs. search needs) (λ c. search needs) (λ c. search needs)
+    (λ c. search needs) (λ c. search needs) loop-again (λ c. search needs) returns)

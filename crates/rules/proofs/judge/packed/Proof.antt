@@ -4,38 +4,6 @@ use Rattle.rules.proofs.StackLaws.{packed-back}
 use borrow.Author.Needs.{needs}
 use Rattle.rules.proofs.judge.packed.Statement.{statement}
 use Rattle.rules.proofs.judge.packed.Tie as tie
-use Rattle.rules.proofs.judge.packed.Reads as reads
-use Rattle.rules.proofs.judge.packed.Lts as lts
-
-cast-result : tie.Need-cast-result
-cast-result c = search needs
-
-cast-result-2 : tie.Need-cast-result-2
-cast-result-2 c = search needs
-
-mul-result : tie.Need-mul-result
-mul-result c = search needs
-
-cast-result-3 : tie.Need-cast-result-3
-cast-result-3 c = search needs
-
-mul-result-2 : tie.Need-mul-result-2
-mul-result-2 c = search needs
-
-cast-result-4 : tie.Need-cast-result-4
-cast-result-4 c = search needs
-
-mul-result-3 : tie.Need-mul-result-3
-mul-result-3 c = search needs
-
-add-result : tie.Need-add-result
-add-result c = search needs
-
-add-result-2 : tie.Need-add-result-2
-add-result-2 c = search needs
-
-add-result-3 : tie.Need-add-result-3
-add-result-3 c = search needs
 
 returns : tie.Need-returns
 returns c = let a = c .before .before .before .before .args in (refl, packed-back (a .it) (omega arith) (omega arith) (omega arith))
@@ -43,15 +11,5 @@ returns c = let a = c .before .before .before .before .args in (refl, packed-bac
 pub packed-spec : {M : Type 1} → statement M
 packed-spec =
     tie.close
-    (tie.spec
-    cast-result
-    cast-result-2
-    mul-result
-    cast-result-3
-    mul-result-2
-    cast-result-4
-    mul-result-3
-    add-result
-    add-result-2
-    add-result-3
-    returns)
+    (tie.spec (λ c. search needs) (λ c. search needs) (λ c. search needs) (λ c. search needs) (λ c. search needs)
+    (λ c. search needs) (λ c. search needs) (λ c. search needs) (λ c. search needs) (λ c. search needs) returns)

@@ -23,16 +23,6 @@ use Rattle.rules.proofs.StackLaws.{waits-push, waits-more, contexts-kep
 use Rattle.rules.proofs.PassLaws.{Left, begins, goes-on, after-step, refuses, runs-out, ends, ends-tree, forks}
 use Rattle.rules.proofs.judge.walk.Statement.{statement}
 use Rattle.rules.proofs.judge.walk.Tie as tie
-use Rattle.rules.proofs.judge.walk.Reads as reads
-use Rattle.rules.proofs.judge.walk.Lts as lts
-use Rattle.format.proofs.answers.or_else.Reads as or-else-reads
-use Rattle.format.proofs.sections.node.Reads as node-reads
-use Rattle.format.proofs.words.wide.Reads as wide-reads
-use Rattle.rules.proofs.judge.answer_at.Reads as answer-at-reads
-use Rattle.rules.proofs.judge.open_sessions.Reads as open-sessions-reads
-use Rattle.rules.proofs.judge.packed.Reads as packed-reads
-use Rattle.rules.proofs.judge.unpacked.Reads as unpacked-reads
-use Rattle.rules.proofs.steps.step_at.Reads as step-at-reads
 
 abbrev Inv-loop : tie.InvT-loop
 Inv-loop file head sends receives names₀ stack₀ roles₀ fine depth₀ here₀ first₀ nodes i₀ names stack roles depth here first i =
@@ -59,12 +49,6 @@ right-at c =
     subst (λ (s : RuleStep). Right D (l .names) (l .here) n s) (sym (c .step-at .ensures .0))
     (step-right D (l .names) (l .here) n (omega (arith, users, pre .0 .users)) (omega (arith, channels, pre .0 .channels)) named long (l .inv .9) (l .inv .7 .0) (c .before .before .match .rest .0 .1) (c .before .before .match .rest .1) (omega arith) (c .step-at .ensures .1))
 
-open-sessions-requires : tie.Need-open-sessions-requires Inv-loop μ-loop
-open-sessions-requires c κs = search needs
-
-same-length : tie.Need-same-length Inv-loop μ-loop
-same-length c = search needs
-
 returns : tie.Need-returns Inv-loop μ-loop
 returns c =
     let a = c .before .before .before .before .before .before .before .before .before .before .before .args in
@@ -72,18 +56,6 @@ returns c =
     let stack = c .before .before .before .open-sessions .last .1 .1 .0 in
     let none : [] ≡ openings (contentsAt (a .file .now) (a .head)) = ap (map (contextOf [])) (sym (ap (waiting stack) (c .if1 .taken) ∙ read-none 0 unpacking stack)) ∙ os .2 in
     runs-out (contentsAt (a .file .now) (a .head)) (a .roles .now) 1 fine (a .roles .now) (begins (contentsAt (a .file .now) (a .head)) (a .roles .now) [] none)
-
-sub-depth : tie.Need-sub-depth Inv-loop μ-loop
-sub-depth c = search needs
-
-mul-unpacked : tie.Need-mul-unpacked Inv-loop μ-loop
-mul-unpacked c = search needs
-
-slice-read-unpacked : tie.Need-slice-read-unpacked Inv-loop μ-loop
-slice-read-unpacked c = search needs
-
-unpacked-requires : tie.Need-unpacked-requires Inv-loop μ-loop
-unpacked-requires c κs = search needs
 
 loop-holds : tie.Need-loop-holds Inv-loop μ-loop
 loop-holds c =
@@ -113,27 +85,6 @@ loop-holds c =
       begins (contentsAt (a .file .now) (a .head)) (a .roles .now) _ st,
     )
 
-node-requires : tie.Need-node-requires Inv-loop μ-loop
-node-requires c κs = search needs
-
-add-i : tie.Need-add-i Inv-loop μ-loop
-add-i c = search needs
-
-wide-requires : tie.Need-wide-requires Inv-loop μ-loop
-wide-requires c κs = search needs
-
-mul-roles : tie.Need-mul-roles Inv-loop μ-loop
-mul-roles c = search needs
-
-slice-write-roles : tie.Need-slice-write-roles Inv-loop μ-loop
-slice-write-roles c = search needs
-
-same-length-2 : tie.Need-same-length-2 Inv-loop μ-loop
-same-length-2 c = search needs
-
-same-length-3 : tie.Need-same-length-3 Inv-loop μ-loop
-same-length-3 c = search needs
-
 same-length-4 : tie.Need-same-length-4 Inv-loop μ-loop
 same-length-4 c = length-set (c .before .before .before .before .before .loop .roles) (c .before .wide .result) _ ∙ c .before .before .before .before .before .loop .inv .4 ∙ sym (c .before .before .before .before .before .before .before .before .before .before .before .before .before .before .before .before .before .before .before .pre .7)
 
@@ -146,21 +97,6 @@ returns-2 c =
     let left = ends-tree (contentsAt (a .file .now) (a .head)) (a .roles .now) (l .i + 1) (contextOf (l .names) (l .here)) _ (l .first) (l .roles) (l .here .assigned) (n .result) (l .inv .0) (omega (arith, nodes-held (a .file .now) (a .head), c .before .before .before .before .loop-test .taken)) (n .ensures) (c .before .before .match .keys1) (l .inv .7 .0) (l .inv .11) in
     let over = runs-out (contentsAt (a .file .now) (a .head)) (a .roles .now) (l .i + 1 + 1) (l .first) (set (l .roles) (l .i + 1) (l .here .assigned)) (subst (λ (x : List Context). Left (contentsAt (a .file .now) (a .head)) (a .roles .now) (l .i + 1 + 1) x (l .first) (set (l .roles) (l .i + 1) (l .here .assigned))) st left) in
     (over .0, ap (λ j. set (l .roles) j (l .here .assigned)) (c .before .wide .ensures .0) ∙ over .1)
-
-sub-depth-2 : tie.Need-sub-depth-2 Inv-loop μ-loop
-sub-depth-2 c = search needs
-
-mul-unpacked-2 : tie.Need-mul-unpacked-2 Inv-loop μ-loop
-mul-unpacked-2 c = search needs
-
-slice-read-unpacked-2 : tie.Need-slice-read-unpacked-2 Inv-loop μ-loop
-slice-read-unpacked-2 c = search needs
-
-unpacked-requires-2 : tie.Need-unpacked-requires-2 Inv-loop μ-loop
-unpacked-requires-2 c κs = search needs
-
-loop-less : tie.Need-loop-less Inv-loop μ-loop
-loop-less c = search needs
 
 loop-again : tie.Need-loop-again Inv-loop μ-loop
 loop-again c =
@@ -189,30 +125,6 @@ loop-again c =
       subst (λ j. Left (contentsAt (a .file .now) (a .head)) (a .roles .now) (l .i + 1 + 1) (contextOf (l .names) p ∷ map (contextOf (l .names)) (waiting (l .stack) (l .depth - 1))) (l .first) (set (l .roles) j (l .here .assigned))) (sym at)
           (subst (λ (ps : List Point). Left (contentsAt (a .file .now) (a .head)) (a .roles .now) (l .i + 1 + 1) (map (contextOf (l .names)) ps) (l .first) (set (l .roles) (l .i + 1) (l .here .assigned))) top left),
     )
-
-wide-requires-2 : tie.Need-wide-requires-2 Inv-loop μ-loop
-wide-requires-2 c κs = search needs
-
-mul-roles-2 : tie.Need-mul-roles-2 Inv-loop μ-loop
-mul-roles-2 c = search needs
-
-slice-write-roles-2 : tie.Need-slice-write-roles-2 Inv-loop μ-loop
-slice-write-roles-2 c = search needs
-
-packed-requires : tie.Need-packed-requires Inv-loop μ-loop
-packed-requires c κs = search needs
-
-mul-stack : tie.Need-mul-stack Inv-loop μ-loop
-mul-stack c = search needs
-
-slice-write-stack : tie.Need-slice-write-stack Inv-loop μ-loop
-slice-write-stack c = search needs
-
-add-depth : tie.Need-add-depth Inv-loop μ-loop
-add-depth c = search needs
-
-loop-less-2 : tie.Need-loop-less-2 Inv-loop μ-loop
-loop-less-2 c = search needs
 
 loop-again-2 : tie.Need-loop-again-2 Inv-loop μ-loop
 loop-again-2 c =
@@ -247,12 +159,6 @@ step-at-requires c κs =
     let few : l .here .bound < 1024 = omega (arith, l .inv .6, c .before .before .before .loop-test .taken, pre .0 .nodes) in
     (pre .0, l .inv .7 .1, omega (arith, few), omega (arith, few, l .inv .3), pre .2, pre .3)
 
-answer-at-requires : tie.Need-answer-at-requires Inv-loop μ-loop
-answer-at-requires c κs = search needs
-
-same-length-5 : tie.Need-same-length-5 Inv-loop μ-loop
-same-length-5 c = search needs
-
 same-length-6 : tie.Need-same-length-6 Inv-loop μ-loop
 same-length-6 c = c .before .before .before .before .before .before .before .before .loop .inv .2 ∙ c .before .before .before .before .before .before .before .before .before .before .before .before .before .stack .given
 
@@ -269,35 +175,11 @@ returns-3 c =
     let over = refuses (contentsAt (a .file .now) (a .head)) (a .roles .now) (l .i + 1) (contextOf (l .names) (l .here)) _ (l .first) (l .roles) (s .wrong) (n .result) (l .inv .0) (omega (arith, nodes-held (a .file .now) (a .head), c .before .before .before .before .before .before .before .loop-test .taken)) (n .ensures) (right .wrong) (c .before .if3 .taken) (l .inv .11) in
     (ap (λ (x : Verdict). record { names = x; roles = fine }) (c .answer-at .ensures) ∙ over .0, over .1)
 
-answer-at-requires-2 : tie.Need-answer-at-requires-2 Inv-loop μ-loop
-answer-at-requires-2 c κs = search needs
-
-or-else-requires : tie.Need-or-else-requires Inv-loop μ-loop
-or-else-requires c κs = search needs
-
-wide-requires-3 : tie.Need-wide-requires-3 Inv-loop μ-loop
-wide-requires-3 c κs = search needs
-
-mul-roles-3 : tie.Need-mul-roles-3 Inv-loop μ-loop
-mul-roles-3 c = search needs
-
 slice-write-roles-3 : tie.Need-slice-write-roles-3 Inv-loop μ-loop
 slice-write-roles-3 c = omega (arith, c .wide3 .ensures .0, c .before .before .before .before .before .before .before .before .before .before .loop .inv .4, c .before .before .before .before .before .before .before .before .before .loop-test .taken, c .before .before .before .before .before .before .before .before .before .before .before .before .before .before .before .before .before .before .before .before .before .before .before .before .pre .0 .nodes)
 
-wide-requires-4 : tie.Need-wide-requires-4 Inv-loop μ-loop
-wide-requires-4 c κs = search needs
-
-add-names : tie.Need-add-names Inv-loop μ-loop
-add-names c = search needs
-
-mul-names : tie.Need-mul-names Inv-loop μ-loop
-mul-names c = search needs
-
 slice-write-names : tie.Need-slice-write-names Inv-loop μ-loop
 slice-write-names c = omega (arith, c .wide4 .ensures .0, c .before .before .before .before .before .before .before .before .before .before .before .loop .inv .3, c .before .before .before .before .before .before .before .before .before .before .before .loop .inv .6, c .before .before .before .before .before .before .before .before .before .before .loop-test .taken, c .before .before .before .before .before .before .before .before .before .before .before .before .before .before .before .before .before .before .before .before .before .before .before .before .before .pre .4)
-
-loop-less-3 : tie.Need-loop-less-3 Inv-loop μ-loop
-loop-less-3 c = search needs
 
 loop-again-3 : tie.Need-loop-again-3 Inv-loop μ-loop
 loop-again-3 c =
@@ -334,15 +216,6 @@ loop-again-3 c =
       rw (at, first) left,
     )
 
-same-length-8 : tie.Need-same-length-8 Inv-loop μ-loop
-same-length-8 c = search needs
-
-same-length-9 : tie.Need-same-length-9 Inv-loop μ-loop
-same-length-9 c = search needs
-
-same-length-10 : tie.Need-same-length-10 Inv-loop μ-loop
-same-length-10 c = search needs
-
 returns-4 : tie.Need-returns-4 Inv-loop μ-loop
 returns-4 c =
     let a = c .before .before .before .before .before .before .before .before .before .before .before .before .before .before .before .args in
@@ -352,59 +225,13 @@ returns-4 c =
 pub walk-spec : {M : Type 1} → statement M
 walk-spec =
     tie.close
-    (tie.spec
-    Inv-loop
-    μ-loop
-    open-sessions-requires
-    same-length
-    returns
-    sub-depth
-    mul-unpacked
-    slice-read-unpacked
-    unpacked-requires
-    loop-holds
-    add-i
-    node-requires
-    wide-requires
-    mul-roles
-    slice-write-roles
-    same-length-2
-    same-length-3
-    same-length-4
-    returns-2
-    sub-depth-2
-    mul-unpacked-2
-    slice-read-unpacked-2
-    unpacked-requires-2
-    loop-less
-    loop-again
-    wide-requires-2
-    mul-roles-2
-    slice-write-roles-2
-    packed-requires
-    mul-stack
-    slice-write-stack
-    add-depth
-    loop-less-2
-    loop-again-2
-    step-at-requires
-    answer-at-requires
-    same-length-5
-    same-length-6
-    same-length-7
-    returns-3
-    answer-at-requires-2
-    or-else-requires
-    wide-requires-3
-    mul-roles-3
-    slice-write-roles-3
-    wide-requires-4
-    add-names
-    mul-names
-    slice-write-names
-    loop-less-3
-    loop-again-3
-    same-length-8
-    same-length-9
-    same-length-10
-    returns-4)
+    (tie.spec Inv-loop μ-loop (λ c κs. search needs) (λ c. search needs) returns (λ c. search needs) (λ c. search needs)
+    (λ c. search needs) (λ c κs. search needs) loop-holds (λ c. search needs) (λ c κs. search needs)
+    (λ c κs. search needs) (λ c. search needs) (λ c. search needs) (λ c. search needs) (λ c. search needs) same-length-4
+    returns-2 (λ c. search needs) (λ c. search needs) (λ c. search needs) (λ c κs. search needs) (λ c. search needs)
+    loop-again (λ c κs. search needs) (λ c. search needs) (λ c. search needs) (λ c κs. search needs) (λ c. search needs)
+    (λ c. search needs) (λ c. search needs) (λ c. search needs) loop-again-2 step-at-requires (λ c κs. search needs)
+    (λ c. search needs) same-length-6 same-length-7 returns-3 (λ c κs. search needs) (λ c κs. search needs)
+    (λ c κs. search needs) (λ c. search needs) slice-write-roles-3 (λ c κs. search needs) (λ c. search needs)
+    (λ c. search needs) slice-write-names (λ c. search needs) loop-again-3 (λ c. search needs) (λ c. search needs)
+    (λ c. search needs) returns-4)

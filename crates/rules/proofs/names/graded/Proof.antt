@@ -1,8 +1,6 @@
 use borrow.Author.Tests.{not-true, not-false}
 use Rattle.rules.proofs.names.graded.Statement.{statement}
 use Rattle.rules.proofs.names.graded.Tie as tie
-use Rattle.rules.proofs.names.graded.Reads as reads
-use Rattle.rules.proofs.names.graded.Lts as lts
 
 returns : tie.Need-returns
 returns c = rw (not-true (c .before .args .names) (c .if1 .taken))

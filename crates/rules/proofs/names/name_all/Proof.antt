@@ -11,11 +11,6 @@ use Rattle.rules.specs.Kept.{NameTable}
 use Rattle.rules.proofs.NameLaws.{named-none, users-more, channels-more}
 use Rattle.rules.proofs.names.name_all.Statement.{statement}
 use Rattle.rules.proofs.names.name_all.Tie as tie
-use Rattle.rules.proofs.names.name_all.Reads as reads
-use Rattle.rules.proofs.names.name_all.Lts as lts
-use Rattle.format.proofs.sections.channel.Reads as channel-reads
-use Rattle.format.proofs.words.paired.Reads as paired-reads
-use Rattle.format.proofs.words.wide.Reads as wide-reads
 
 abbrev Inv-loop : tie.InvT-loop
 Inv-loop file head names₀ n₀ names n = (n ≤ head .count .users) × (length names ≡ length names₀) × NameTable (schemaOf (contentsAt file head)) n 0 names × (drop 512 names ≡ drop 512 names₀)
@@ -31,24 +26,6 @@ abbrev μ-loop2 : tie.MeasureT-loop2
 
 loop-holds : tie.Need-loop-holds Inv-loop μ-loop Inv-loop2 μ-loop2
 loop-holds c = let a = c .before .before .args in (omega arith, refl, named-none (schemaOf (contentsAt (a .file .now) (a .head))) (a .names .now) (c .before .before .pre .3), refl)
-
-add-n : tie.Need-add-n Inv-loop μ-loop Inv-loop2 μ-loop2
-add-n c = search needs
-
-paired-requires : tie.Need-paired-requires Inv-loop μ-loop Inv-loop2 μ-loop2
-paired-requires c κs = search needs
-
-wide-requires : tie.Need-wide-requires Inv-loop μ-loop Inv-loop2 μ-loop2
-wide-requires c κs = search needs
-
-mul-names : tie.Need-mul-names Inv-loop μ-loop Inv-loop2 μ-loop2
-mul-names c = search needs
-
-slice-write-names : tie.Need-slice-write-names Inv-loop μ-loop Inv-loop2 μ-loop2
-slice-write-names c = search needs
-
-loop-less : tie.Need-loop-less Inv-loop μ-loop Inv-loop2 μ-loop2
-loop-less c = search needs
 
 loop-again : tie.Need-loop-again Inv-loop μ-loop Inv-loop2 μ-loop2
 loop-again c =
@@ -67,34 +44,10 @@ loop2-holds c =
     let all : l .n ≡ c .before .before .before .before .before .args .head .count .users = omega arith in
     (omega arith, refl, rw all at (l .inv .2), refl)
 
-add-c : tie.Need-add-c Inv-loop μ-loop Inv-loop2 μ-loop2
-add-c c = search needs
-
-channel-requires : tie.Need-channel-requires Inv-loop μ-loop Inv-loop2 μ-loop2
-channel-requires c κs = search needs
-
 add-paired : tie.Need-add-paired Inv-loop μ-loop Inv-loop2 μ-loop2
 add-paired c =
     let it = c .before .channel in
     omega (arith, subst (λ (x : Channel). x .owner < 65534) (sym (it .ensures)) (c .before .before .before .before .before .before .before .before .before .before .pre .1 .0 _))
-
-paired-requires-2 : tie.Need-paired-requires-2 Inv-loop μ-loop Inv-loop2 μ-loop2
-paired-requires-2 c κs = search needs
-
-wide-requires-2 : tie.Need-wide-requires-2 Inv-loop μ-loop Inv-loop2 μ-loop2
-wide-requires-2 c κs = search needs
-
-add-names : tie.Need-add-names Inv-loop μ-loop Inv-loop2 μ-loop2
-add-names c = search needs
-
-mul-names-2 : tie.Need-mul-names-2 Inv-loop μ-loop Inv-loop2 μ-loop2
-mul-names-2 c = search needs
-
-slice-write-names-2 : tie.Need-slice-write-names-2 Inv-loop μ-loop Inv-loop2 μ-loop2
-slice-write-names-2 c = search needs
-
-loop2-less : tie.Need-loop2-less Inv-loop μ-loop Inv-loop2 μ-loop2
-loop2-less c = search needs
 
 loop2-again : tie.Need-loop2-again Inv-loop μ-loop Inv-loop2 μ-loop2
 loop2-again c =
@@ -110,9 +63,6 @@ loop2-again c =
       drop-set-lt 512 (l .names) (256 + c .wide2 .result) (c .before .paired2 .result) (omega (arith, at, c .before .before .before .before .before .before .before .before .before .before .before .before .pre .0 .channels)) ∙ l .inv .3,
     )
 
-same-length : tie.Need-same-length Inv-loop μ-loop Inv-loop2 μ-loop2
-same-length c = search needs
-
 returns : tie.Need-returns Inv-loop μ-loop Inv-loop2 μ-loop2
 returns c =
     let l = c .before .before .loop2 in
@@ -122,29 +72,8 @@ returns c =
 pub name-all-spec : {M : Type 1} → statement M
 name-all-spec =
     tie.close
-    (tie.spec
-    Inv-loop
-    μ-loop
-    Inv-loop2
-    μ-loop2
-    loop-holds
-    add-n
-    paired-requires
-    wide-requires
-    mul-names
-    slice-write-names
-    loop-less
-    loop-again
-    loop2-holds
-    add-c
-    channel-requires
-    add-paired
-    paired-requires-2
-    wide-requires-2
-    add-names
-    mul-names-2
-    slice-write-names-2
-    loop2-less
-    loop2-again
-    same-length
+    (tie.spec Inv-loop μ-loop Inv-loop2 μ-loop2 loop-holds (λ c. search needs) (λ c κs. search needs)
+    (λ c κs. search needs) (λ c. search needs) (λ c. search needs) (λ c. search needs) loop-again loop2-holds
+    (λ c. search needs) (λ c κs. search needs) add-paired (λ c κs. search needs) (λ c κs. search needs)
+    (λ c. search needs) (λ c. search needs) (λ c. search needs) (λ c. search needs) loop2-again (λ c. search needs)
     returns)

@@ -8,79 +8,6 @@ use Rattle.rules.proofs.StepLaws.{step-repeat, step-new, step-compare, 
 use borrow.Author.Needs.{needs}
 use Rattle.rules.proofs.steps.step_at.Statement.{statement}
 use Rattle.rules.proofs.steps.step_at.Tie as tie
-use Rattle.rules.proofs.steps.step_at.Reads as reads
-use Rattle.rules.proofs.steps.step_at.Lts as lts
-use Rattle.rules.proofs.names.owner_of.Reads as owner-of-reads
-use Rattle.format.proofs.sections.in_count.Reads as in-count-reads
-use Rattle.rules.proofs.names.kind_of.Reads as kind-of-reads
-use Rattle.rules.proofs.names.look_up.Reads as look-up-reads
-use Rattle.rules.proofs.names.graded.Reads as graded-reads
-use Rattle.rules.proofs.steps.new_at.Reads as new-at-reads
-use Rattle.rules.proofs.steps.off_at.Reads as off-at-reads
-use Rattle.rules.proofs.steps.on_at.Reads as on-at-reads
-use Rattle.rules.proofs.steps.receive_at.Reads as receive-at-reads
-use Rattle.rules.proofs.steps.send_at.Reads as send-at-reads
-use Rattle.rules.proofs.steps.staying.Reads as staying-reads
-
-staying-requires : tie.Need-staying-requires
-staying-requires c κs = search needs
-
-new-at-requires : tie.Need-new-at-requires
-new-at-requires c κs = search needs
-
-look-up-requires : tie.Need-look-up-requires
-look-up-requires c κs = search needs
-
-look-up-requires-2 : tie.Need-look-up-requires-2
-look-up-requires-2 c κs = search needs
-
-owner-of-requires : tie.Need-owner-of-requires
-owner-of-requires c κs = search needs
-
-owner-of-requires-2 : tie.Need-owner-of-requires-2
-owner-of-requires-2 c κs = search needs
-
-kind-of-requires : tie.Need-kind-of-requires
-kind-of-requires c κs = search needs
-
-kind-of-requires-2 : tie.Need-kind-of-requires-2
-kind-of-requires-2 c κs = search needs
-
-graded-requires : tie.Need-graded-requires
-graded-requires c κs = search needs
-
-staying-requires-2 : tie.Need-staying-requires-2
-staying-requires-2 c κs = search needs
-
-look-up-requires-3 : tie.Need-look-up-requires-3
-look-up-requires-3 c κs = search needs
-
-receive-at-requires : tie.Need-receive-at-requires
-receive-at-requires c κs = search needs
-
-look-up-requires-4 : tie.Need-look-up-requires-4
-look-up-requires-4 c κs = search needs
-
-look-up-requires-5 : tie.Need-look-up-requires-5
-look-up-requires-5 c κs = search needs
-
-send-at-requires : tie.Need-send-at-requires
-send-at-requires c κs = search needs
-
-on-at-requires : tie.Need-on-at-requires
-on-at-requires c κs = search needs
-
-off-at-requires : tie.Need-off-at-requires
-off-at-requires c κs = search needs
-
-in-count-requires : tie.Need-in-count-requires
-in-count-requires c κs = search needs
-
-graded-requires-2 : tie.Need-graded-requires-2
-graded-requires-2 c κs = search needs
-
-staying-requires-3 : tie.Need-staying-requires-3
-staying-requires-3 c κs = search needs
 
 returns : tie.Need-returns
 returns c =
@@ -166,32 +93,8 @@ returns-8 c =
 pub step-at-spec : {M : Type 1} → statement M
 step-at-spec =
     tie.close
-    (tie.spec
-    staying-requires
-    new-at-requires
-    look-up-requires
-    look-up-requires-2
-    owner-of-requires
-    owner-of-requires-2
-    kind-of-requires
-    kind-of-requires-2
-    graded-requires
-    staying-requires-2
-    look-up-requires-3
-    receive-at-requires
-    look-up-requires-4
-    look-up-requires-5
-    send-at-requires
-    on-at-requires
-    off-at-requires
-    in-count-requires
-    graded-requires-2
-    staying-requires-3
-    returns
-    returns-2
-    returns-3
-    returns-4
-    returns-5
-    returns-6
-    returns-7
-    returns-8)
+    (tie.spec (λ c κs. search needs) (λ c κs. search needs) (λ c κs. search needs) (λ c κs. search needs)
+    (λ c κs. search needs) (λ c κs. search needs) (λ c κs. search needs) (λ c κs. search needs) (λ c κs. search needs)
+    (λ c κs. search needs) (λ c κs. search needs) (λ c κs. search needs) (λ c κs. search needs) (λ c κs. search needs)
+    (λ c κs. search needs) (λ c κs. search needs) (λ c κs. search needs) (λ c κs. search needs) (λ c κs. search needs)
+    (λ c κs. search needs) returns returns-2 returns-3 returns-4 returns-5 returns-6 returns-7 returns-8)

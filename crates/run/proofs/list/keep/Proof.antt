@@ -5,16 +5,10 @@ use borrow.Author.Needs.{needs}
 use Rattle.run.proofs.list.keep.Statement.{statement}
 use Rattle.run.proofs.list.keep.Tie as tie
 
-add-enough : tie.Need-add-enough
-add-enough c = search needs
-
-enough-requires : tie.Need-enough-requires
-enough-requires c κs = search needs
-
 returns : tie.Need-returns
 returns c =
     let a = c .before .before .args in
     (keeps enoughBytes (a .buffer .now) (a .kept) (a .piece) (c .enough .result) (c .before .before .pre) (c .enough .ensures .0) (omega arith), (omega arith, omega arith))
 
 pub keep-spec : {M : Type 1} → statement M
-keep-spec = tie.close (tie.spec add-enough enough-requires returns)
+keep-spec = tie.close (tie.spec (λ c. search needs) (λ c κs. search needs) returns)

@@ -22,21 +22,6 @@ loop-holds c =
     let a = c .before .before .args in
     (omega arith, refl, refl, words-begin (a .bytes .now) (a .words .now) _)
 
-inner-word-requires : tie.Need-inner-word-requires Inv-loop μ-loop
-inner-word-requires c κs = search needs
-
-mul-words : tie.Need-mul-words Inv-loop μ-loop
-mul-words c = search needs
-
-slice-write-words : tie.Need-slice-write-words Inv-loop μ-loop
-slice-write-words c = search needs
-
-add-i : tie.Need-add-i Inv-loop μ-loop
-add-i c = search needs
-
-loop-less : tie.Need-loop-less Inv-loop μ-loop
-loop-less c = omega arith
-
 loop-again : tie.Need-loop-again Inv-loop μ-loop
 loop-again c =
     let a = c .before .before .before .before .before .args in
@@ -47,9 +32,6 @@ loop-again c =
       words-turn (a .bytes .now) (l .words) _ _ (l .i) (c .inner-word .result) (omega arith) (c .inner-word .ensures) (l .inv .3),
     )
 
-same-length : tie.Need-same-length Inv-loop μ-loop
-same-length c = search needs
-
 returns : tie.Need-returns Inv-loop μ-loop
 returns c =
     let a = c .before .before .before .before .args in
@@ -59,15 +41,5 @@ returns c =
 pub put-words-spec : {M : Type 1} → statement M
 put-words-spec =
     tie.close
-    (tie.spec
-    Inv-loop
-    μ-loop
-    loop-holds
-    inner-word-requires
-    mul-words
-    slice-write-words
-    add-i
-    loop-less
-    loop-again
-    same-length
-    returns)
+    (tie.spec Inv-loop μ-loop loop-holds (λ c κs. search needs) (λ c. search needs) (λ c. search needs)
+    (λ c. search needs) (λ c. omega arith) loop-again (λ c. search needs) returns)

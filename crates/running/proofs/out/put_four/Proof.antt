@@ -5,21 +5,6 @@ use Rattle.format.proofs.PutRuns.{puts-then}
 use borrow.Author.Needs.{needs}
 use Rattle.running.proofs.out.put_four.Statement.{statement}
 use Rattle.running.proofs.out.put_four.Tie as tie
-use Rattle.running.proofs.out.put_four.Reads as reads
-use Rattle.running.proofs.out.put_four.Lts as lts
-use Rattle.running.proofs.out.put_two.Reads as put-two-reads
-
-put-two-requires : tie.Need-put-two-requires
-put-two-requires c κs = search needs
-
-add-put-two : tie.Need-add-put-two
-add-put-two c = search needs
-
-put-two-requires-2 : tie.Need-put-two-requires-2
-put-two-requires-2 c κs = search needs
-
-same-length : tie.Need-same-length
-same-length c = search needs
 
 returns : tie.Need-returns
 returns c =
@@ -30,4 +15,4 @@ returns c =
 
 pub put-four-spec : {M : Type 1} → statement M
 put-four-spec =
-    tie.close (tie.spec put-two-requires add-put-two put-two-requires-2 same-length returns)
+    tie.close (tie.spec (λ c κs. search needs) (λ c. search needs) (λ c κs. search needs) (λ c. search needs) returns)

@@ -9,10 +9,6 @@ use Rattle.running.proofs.PutLaws.{made-begin, made-turn, made-end}
 use borrow.Author.Needs.{needs}
 use Rattle.running.proofs.out.put_made.Statement.{statement}
 use Rattle.running.proofs.out.put_made.Tie as tie
-use Rattle.running.proofs.out.put_made.Reads as reads
-use Rattle.running.proofs.out.put_made.Lts as lts
-use Rattle.running.proofs.out.put_two.Reads as put-two-reads
-use Rattle.steps.proofs.beside.made_at.Reads as made-at-reads
 
 abbrev Inv-loop : tie.InvT-loop
 Inv-loop beside made out₀ i₀ out i =
@@ -27,24 +23,6 @@ loop-holds c =
     let a = c .before .before .args in
     (omega arith, refl, made-begin (a .beside .now) (a .out .now) (a .made))
 
-made-at-requires : tie.Need-made-at-requires Inv-loop μ-loop
-made-at-requires c κs = search needs
-
-mul-put-two : tie.Need-mul-put-two Inv-loop μ-loop
-mul-put-two c = search needs
-
-add-put-two : tie.Need-add-put-two Inv-loop μ-loop
-add-put-two c = search needs
-
-put-two-requires : tie.Need-put-two-requires Inv-loop μ-loop
-put-two-requires c κs = search needs
-
-add-i : tie.Need-add-i Inv-loop μ-loop
-add-i c = search needs
-
-loop-less : tie.Need-loop-less Inv-loop μ-loop
-loop-less c = search needs
-
 loop-again : tie.Need-loop-again Inv-loop μ-loop
 loop-again c =
     let a = c .before .before .before .before .before .before .before .before .before .args in
@@ -56,9 +34,6 @@ loop-again c =
       made-turn (a .beside .now) (l .out) (g .last .0) _ (a .made) (l .i) (it .result) (omega arith) (it .ensures) (g .ensures) (l .inv .2),
     )
 
-same-length : tie.Need-same-length Inv-loop μ-loop
-same-length c = search needs
-
 returns : tie.Need-returns Inv-loop μ-loop
 returns c =
     let a = c .before .before .before .before .args in
@@ -68,16 +43,5 @@ returns c =
 pub put-made-spec : {M : Type 1} → statement M
 put-made-spec =
     tie.close
-    (tie.spec
-    Inv-loop
-    μ-loop
-    loop-holds
-    made-at-requires
-    mul-put-two
-    add-put-two
-    put-two-requires
-    add-i
-    loop-less
-    loop-again
-    same-length
-    returns)
+    (tie.spec Inv-loop μ-loop loop-holds (λ c κs. search needs) (λ c. search needs) (λ c. search needs)
+    (λ c κs. search needs) (λ c. search needs) (λ c. search needs) loop-again (λ c. search needs) returns)

@@ -10,10 +10,6 @@ use Rattle.running.proofs.PutLaws.{threads-begin, threads-turn, threads
 use borrow.Author.Needs.{needs}
 use Rattle.running.proofs.out.put_threads.Statement.{statement}
 use Rattle.running.proofs.out.put_threads.Tie as tie
-use Rattle.running.proofs.out.put_threads.Reads as reads
-use Rattle.running.proofs.out.put_threads.Lts as lts
-use Rattle.running.proofs.out.put_thread.Reads as put-thread-reads
-use Rattle.steps.proofs.records.thread_at.Reads as thread-at-reads
 
 abbrev Inv-loop : tie.InvT-loop
 Inv-loop threads count out₀ base i₀ out i =
@@ -28,24 +24,6 @@ loop-holds c =
     let a = c .before .before .args in
     (omega arith, refl, threads-begin (a .threads .now) (a .out .now) (a .base) (a .count))
 
-mul-put-thread : tie.Need-mul-put-thread Inv-loop μ-loop
-mul-put-thread c = search needs
-
-add-put-thread : tie.Need-add-put-thread Inv-loop μ-loop
-add-put-thread c = search needs
-
-thread-at-requires : tie.Need-thread-at-requires Inv-loop μ-loop
-thread-at-requires c κs = search needs
-
-put-thread-requires : tie.Need-put-thread-requires Inv-loop μ-loop
-put-thread-requires c κs = search needs
-
-add-i : tie.Need-add-i Inv-loop μ-loop
-add-i c = search needs
-
-loop-less : tie.Need-loop-less Inv-loop μ-loop
-loop-less c = search needs
-
 loop-again : tie.Need-loop-again Inv-loop μ-loop
 loop-again c =
     let a = c .before .before .before .before .before .before .before .before .before .args in
@@ -57,9 +35,6 @@ loop-again c =
       threads-turn (a .threads .now) (l .out) (g .last .0) _ (a .base) (a .count) (l .i) (t .result) (omega arith) (t .ensures) (g .ensures) (l .inv .2),
     )
 
-same-length : tie.Need-same-length Inv-loop μ-loop
-same-length c = search needs
-
 returns : tie.Need-returns Inv-loop μ-loop
 returns c =
     let a = c .before .before .before .before .args in
@@ -69,16 +44,5 @@ returns c =
 pub put-threads-spec : {M : Type 1} → statement M
 put-threads-spec =
     tie.close
-    (tie.spec
-    Inv-loop
-    μ-loop
-    loop-holds
-    mul-put-thread
-    add-put-thread
-    thread-at-requires
-    put-thread-requires
-    add-i
-    loop-less
-    loop-again
-    same-length
-    returns)
+    (tie.spec Inv-loop μ-loop loop-holds (λ c. search needs) (λ c. search needs) (λ c κs. search needs)
+    (λ c κs. search needs) (λ c. search needs) (λ c. search needs) loop-again (λ c. search needs) returns)

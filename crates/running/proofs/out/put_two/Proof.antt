@@ -5,21 +5,6 @@ use Rattle.format.proofs.PutRuns.{puts-then}
 use borrow.Author.Needs.{needs}
 use Rattle.running.proofs.out.put_two.Statement.{statement}
 use Rattle.running.proofs.out.put_two.Tie as tie
-use Rattle.running.proofs.out.put_two.Reads as reads
-use Rattle.running.proofs.out.put_two.Lts as lts
-use Rattle.format.proofs.words.put_word.Reads as put-word-reads
-
-put-word-requires : tie.Need-put-word-requires
-put-word-requires c κs = search needs
-
-add-put-word : tie.Need-add-put-word
-add-put-word c = search needs
-
-put-word-requires-2 : tie.Need-put-word-requires-2
-put-word-requires-2 c κs = search needs
-
-same-length : tie.Need-same-length
-same-length c = search needs
 
 returns : tie.Need-returns
 returns c =
@@ -30,4 +15,4 @@ returns c =
 
 pub put-two-spec : {M : Type 1} → statement M
 put-two-spec =
-    tie.close (tie.spec put-word-requires add-put-word put-word-requires-2 same-length returns)
+    tie.close (tie.spec (λ c κs. search needs) (λ c. search needs) (λ c κs. search needs) (λ c. search needs) returns)

@@ -10,14 +10,6 @@ use Rattle.running.proofs.WayLaws.{out-held, in-held, each-more}
 use borrow.Author.Needs.{needs}
 use Rattle.running.proofs.pairs.fill_ways.Statement.{statement}
 use Rattle.running.proofs.pairs.fill_ways.Tie as tie
-use Rattle.running.proofs.pairs.fill_ways.Reads as reads
-use Rattle.running.proofs.pairs.fill_ways.Lts as lts
-use Rattle.steps.proofs.records.thread_at.Reads as thread-at-reads
-use Rattle.format.proofs.sections.node.Reads as node-reads
-use Rattle.steps.proofs.beside.thread_count.Reads as thread-count-reads
-use Rattle.format.proofs.words.wide.Reads as wide-reads
-use Rattle.running.proofs.pairs.way_in.Reads as way-in-reads
-use Rattle.running.proofs.pairs.way_out.Reads as way-out-reads
 
 abbrev Inv-loop : tie.InvT-loop
 Inv-loop file head sends receives threads beside outs₀ ins₀ count i₀ outs ins i =
@@ -27,46 +19,10 @@ Inv-loop file head sends receives threads beside outs₀ ins₀ count i₀ outs 
 abbrev μ-loop : tie.MeasureT-loop
 μ-loop file head sends receives threads beside outs₀ ins₀ count i₀ outs ins i = threadCount beside - i
 
-thread-count-requires : tie.Need-thread-count-requires Inv-loop μ-loop
-thread-count-requires c κs = search needs
-
-wide-requires : tie.Need-wide-requires Inv-loop μ-loop
-wide-requires c κs = search needs
-
 loop-holds : tie.Need-loop-holds Inv-loop μ-loop
 loop-holds c =
     let s = c .before .before .before .before .before .before .before .before .before in
     (omega arith, s .pre .4, s .pre .5, λ k none. absurd (omega arith), λ k none. absurd (omega arith))
-
-thread-at-requires : tie.Need-thread-at-requires Inv-loop μ-loop
-thread-at-requires c κs = search needs
-
-node-requires : tie.Need-node-requires Inv-loop μ-loop
-node-requires c κs = search needs
-
-way-out-requires : tie.Need-way-out-requires Inv-loop μ-loop
-way-out-requires c κs = search needs
-
-mul-outs : tie.Need-mul-outs Inv-loop μ-loop
-mul-outs c = search needs
-
-slice-write-outs : tie.Need-slice-write-outs Inv-loop μ-loop
-slice-write-outs c = search needs
-
-way-in-requires : tie.Need-way-in-requires Inv-loop μ-loop
-way-in-requires c κs = search needs
-
-mul-ins : tie.Need-mul-ins Inv-loop μ-loop
-mul-ins c = search needs
-
-slice-write-ins : tie.Need-slice-write-ins Inv-loop μ-loop
-slice-write-ins c = search needs
-
-add-i : tie.Need-add-i Inv-loop μ-loop
-add-i c = search needs
-
-loop-less : tie.Need-loop-less Inv-loop μ-loop
-loop-less c = search needs
 
 loop-again : tie.Need-loop-again Inv-loop μ-loop
 loop-again c =
@@ -89,12 +45,6 @@ loop-again c =
           (in-held F made (t .result) (n .result) (in-way .result) (n .ensures) (in-way .ensures) ∙ ap (inOf (clinicOf F) made) (t .ensures)) (l .inv .4),
     )
 
-same-length : tie.Need-same-length Inv-loop μ-loop
-same-length c = search needs
-
-same-length-2 : tie.Need-same-length-2 Inv-loop μ-loop
-same-length-2 c = search needs
-
 returns : tie.Need-returns Inv-loop μ-loop
 returns c =
     let l = c .before .loop in
@@ -104,23 +54,7 @@ returns c =
 pub fill-ways-spec : {M : Type 1} → statement M
 fill-ways-spec =
     tie.close
-    (tie.spec
-    Inv-loop
-    μ-loop
-    thread-count-requires
-    wide-requires
-    loop-holds
-    thread-at-requires
-    node-requires
-    way-out-requires
-    mul-outs
-    slice-write-outs
-    way-in-requires
-    mul-ins
-    slice-write-ins
-    add-i
-    loop-less
-    loop-again
-    same-length
-    same-length-2
-    returns)
+    (tie.spec Inv-loop μ-loop (λ c κs. search needs) (λ c κs. search needs) loop-holds (λ c κs. search needs)
+    (λ c κs. search needs) (λ c κs. search needs) (λ c. search needs) (λ c. search needs) (λ c κs. search needs)
+    (λ c. search needs) (λ c. search needs) (λ c. search needs) (λ c. search needs) loop-again (λ c. search needs)
+    (λ c. search needs) returns)

@@ -5,17 +5,11 @@ use Rattle.running.proofs.PairLaws.{left-none, left-by}
 use borrow.Author.Needs.{needs}
 use Rattle.running.proofs.pairs.left_out.Statement.{statement}
 use Rattle.running.proofs.pairs.left_out.Tie as tie
-use Rattle.running.proofs.pairs.left_out.Reads as reads
-use Rattle.running.proofs.pairs.left_out.Lts as lts
-use Rattle.running.proofs.pairs.stands_in.Reads as stands-in-reads
 
 returns : tie.Need-returns
 returns c =
     let a = c .before .before .args in
     left-none (a .over) (a .count) (standsIn (a .over) (a .ins .now)) (c .if1 .taken)
-
-stands-in-requires : tie.Need-stands-in-requires
-stands-in-requires c κs = search needs
 
 returns-2 : tie.Need-returns-2
 returns-2 c =
@@ -28,4 +22,4 @@ returns-3 c =
     left-by (a .over) (a .count) false (standsIn (a .over) (a .ins .now)) (c .before .before .if1 .left) (sym (c .before .stands-in .ensures) ∙ c .if2 .left)
 
 pub left-out-spec : {M : Type 1} → statement M
-left-out-spec = tie.close (tie.spec returns stands-in-requires returns-2 returns-3)
+left-out-spec = tie.close (tie.spec returns (λ c κs. search needs) returns-2 returns-3)

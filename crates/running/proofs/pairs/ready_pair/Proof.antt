@@ -11,13 +11,6 @@ use Rattle.running.proofs.PairLaws.{two, NoneAlike, none-more, passed-m
 use borrow.Author.Needs.{needs}
 use Rattle.running.proofs.pairs.ready_pair.Statement.{statement}
 use Rattle.running.proofs.pairs.ready_pair.Tie as tie
-use Rattle.running.proofs.pairs.ready_pair.Reads as reads
-use Rattle.running.proofs.pairs.ready_pair.Lts as lts
-use Rattle.format.proofs.words.narrow.Reads as narrow-reads
-use Rattle.steps.proofs.beside.thread_count.Reads as thread-count-reads
-use Rattle.format.proofs.words.wide.Reads as wide-reads
-use Rattle.running.proofs.pairs.fill_ways.Reads as fill-ways-reads
-use Rattle.running.proofs.pairs.left_out.Reads as left-out-reads
 
 abbrev Inv-loop : tie.InvT-loop
 Inv-loop file sends receives threads beside outs ins count sender₀ receiver₀ i over j₀ sender receiver j =
@@ -41,29 +34,8 @@ slice-aggregate-fill-ways-2 :
     tie.Need-slice-aggregate-fill-ways-2 Inv-loop μ-loop Inv-senders μ-senders
 slice-aggregate-fill-ways-2 c = search needs
 
-fill-ways-requires : tie.Need-fill-ways-requires Inv-loop μ-loop Inv-senders μ-senders
-fill-ways-requires c κs = search needs
-
-thread-count-requires : tie.Need-thread-count-requires Inv-loop μ-loop Inv-senders μ-senders
-thread-count-requires c κs = search needs
-
-wide-requires : tie.Need-wide-requires Inv-loop μ-loop Inv-senders μ-senders
-wide-requires c κs = search needs
-
 senders-holds : tie.Need-senders-holds Inv-loop μ-loop Inv-senders μ-senders
 senders-holds c = (omega arith, refl, refl, λ k none. absurd (omega arith))
-
-mul-over : tie.Need-mul-over Inv-loop μ-loop Inv-senders μ-senders
-mul-over c = search needs
-
-array-read-over : tie.Need-array-read-over Inv-loop μ-loop Inv-senders μ-senders
-array-read-over c = search needs
-
-slice-aggregate-left-out : tie.Need-slice-aggregate-left-out Inv-loop μ-loop Inv-senders μ-senders
-slice-aggregate-left-out c = search needs
-
-left-out-requires : tie.Need-left-out-requires Inv-loop μ-loop Inv-senders μ-senders
-left-out-requires c κs = search needs
 
 loop-holds : tie.Need-loop-holds Inv-loop μ-loop Inv-senders μ-senders
 loop-holds c =
@@ -73,27 +45,6 @@ loop-holds c =
     let (le, some, none) = left-begin ins (getD outs (s .i) 0) (c .before .before .before .before .wide .result) (c .left-out .result) (omega arith) (c .left-out .ensures) in
     (le, s .inv .1, s .inv .2, some, none)
 
-mul-at : tie.Need-mul-at Inv-loop μ-loop Inv-senders μ-senders
-mul-at c = search needs
-
-array-read-at : tie.Need-array-read-at Inv-loop μ-loop Inv-senders μ-senders
-array-read-at c = search needs
-
-add-j : tie.Need-add-j Inv-loop μ-loop Inv-senders μ-senders
-add-j c = search needs
-
-add-narrow : tie.Need-add-narrow Inv-loop μ-loop Inv-senders μ-senders
-add-narrow c = search needs
-
-narrow-requires : tie.Need-narrow-requires Inv-loop μ-loop Inv-senders μ-senders
-narrow-requires c κs = search needs
-
-narrow-requires-2 : tie.Need-narrow-requires-2 Inv-loop μ-loop Inv-senders μ-senders
-narrow-requires-2 c κs = search needs
-
-loop-less : tie.Need-loop-less Inv-loop μ-loop Inv-senders μ-senders
-loop-less c = search needs
-
 loop-again : tie.Need-loop-again Inv-loop μ-loop Inv-senders μ-senders
 loop-again c =
     let outs : List ℕ = c .before .before .before .before .before .before .before .before .before .before .before .fill-ways .last .1 .1 .1 .1 .1 .1 .0 in
@@ -102,12 +53,6 @@ loop-again c =
     let s = c .before .before .before .before .before .before .senders in
     let h = c .before .loop-test .taken in
     (omega arith, l .inv .1, l .inv .2, λ later. l .inv .3 h, none-more ins (l .j) (getD outs (s .i) 0) (c .if1 .left) (l .inv .4))
-
-add-i : tie.Need-add-i Inv-loop μ-loop Inv-senders μ-senders
-add-i c = search needs
-
-senders-less : tie.Need-senders-less Inv-loop μ-loop Inv-senders μ-senders
-senders-less c = search needs
 
 senders-again : tie.Need-senders-again Inv-loop μ-loop Inv-senders μ-senders
 senders-again c =
@@ -148,32 +93,8 @@ returns-2 c =
 pub ready-pair-spec : {M : Type 1} → statement M
 ready-pair-spec =
     tie.close
-    (tie.spec
-    Inv-loop
-    μ-loop
-    Inv-senders
-    μ-senders
-    slice-aggregate-fill-ways
-    slice-aggregate-fill-ways-2
-    fill-ways-requires
-    thread-count-requires
-    wide-requires
-    senders-holds
-    mul-over
-    array-read-over
-    slice-aggregate-left-out
-    left-out-requires
-    loop-holds
-    mul-at
-    array-read-at
-    add-j
-    add-narrow
-    narrow-requires
-    narrow-requires-2
-    loop-less
-    loop-again
-    add-i
-    senders-less
-    senders-again
-    returns
-    returns-2)
+    (tie.spec Inv-loop μ-loop Inv-senders μ-senders slice-aggregate-fill-ways slice-aggregate-fill-ways-2
+    (λ c κs. search needs) (λ c κs. search needs) (λ c κs. search needs) senders-holds (λ c. search needs)
+    (λ c. search needs) (λ c. search needs) (λ c κs. search needs) loop-holds (λ c. search needs) (λ c. search needs)
+    (λ c. search needs) (λ c. search needs) (λ c κs. search needs) (λ c κs. search needs) (λ c. search needs) loop-again
+    (λ c. search needs) (λ c. search needs) senders-again returns returns-2)

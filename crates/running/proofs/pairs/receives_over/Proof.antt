@@ -4,15 +4,6 @@ use Rattle.running.proofs.WayLaws.{over-elsewhere, over-other, over-the
 use borrow.Author.Needs.{needs}
 use Rattle.running.proofs.pairs.receives_over.Statement.{statement}
 use Rattle.running.proofs.pairs.receives_over.Tie as tie
-use Rattle.running.proofs.pairs.receives_over.Reads as reads
-use Rattle.running.proofs.pairs.receives_over.Lts as lts
-use Rattle.format.proofs.sections.node.Reads as node-reads
-use Rattle.rules.proofs.grants.may.Reads as may-reads
-use Rattle.steps.proofs.Thread.value.Reads as value-reads
-use Rattle.steps.proofs.act.kind_held.Reads as kind-held-reads
-
-node-requires : tie.Need-node-requires
-node-requires c κs = search needs
 
 returns : tie.Need-returns
 returns c =
@@ -21,21 +12,12 @@ returns c =
     let n = c .before .before .node in
     over-elsewhere (contentsAt (a .file .now) (a .head)) (madeOf (a .beside .now)) (a .t) (n .result) (a .over) some (n .ensures) (c .if1 .taken)
 
-value-requires : tie.Need-value-requires
-value-requires c κs = search needs
-
 returns-2 : tie.Need-returns-2
 returns-2 c =
     let a = c .before .before .before .before .before .before .before .before .args in
     let some = c .before .before .before .before .before .before .before .before .pre .4 in
     let n = c .before .before .before .before .node in
     over-other (contentsAt (a .file .now) (a .head)) (madeOf (a .beside .now)) (a .t) (n .result) (a .over) some (n .ensures) (c .before .value .result) (c .before .before .if1 .left) (c .before .value .ensures) (c .if2 .taken)
-
-kind-held-requires : tie.Need-kind-held-requires
-kind-held-requires c κs = search needs
-
-may-requires : tie.Need-may-requires
-may-requires c κs = search needs
 
 returns-3 : tie.Need-returns-3
 returns-3 c =
@@ -47,11 +29,5 @@ returns-3 c =
 pub receives-over-spec : {M : Type 1} → statement M
 receives-over-spec =
     tie.close
-    (tie.spec
-    node-requires
-    returns
-    value-requires
-    returns-2
-    kind-held-requires
-    may-requires
-    returns-3)
+    (tie.spec (λ c κs. search needs) returns (λ c κs. search needs) returns-2 (λ c κs. search needs)
+    (λ c κs. search needs) returns-3)

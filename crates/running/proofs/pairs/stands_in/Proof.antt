@@ -9,8 +9,6 @@ use Rattle.running.proofs.WayLaws.{stands-turn, stands-end}
 use borrow.Author.Needs.{needs}
 use Rattle.running.proofs.pairs.stands_in.Statement.{statement}
 use Rattle.running.proofs.pairs.stands_in.Tie as tie
-use Rattle.running.proofs.pairs.stands_in.Reads as reads
-use Rattle.running.proofs.pairs.stands_in.Lts as lts
 
 abbrev Inv-loop : tie.InvT-loop
 Inv-loop table x found₀ k₀ found k = (k ≤ 64) × ((not (eqb found 0) || standsIn x (drop k table)) ≡ standsIn x table)
@@ -20,21 +18,6 @@ abbrev μ-loop : tie.MeasureT-loop
 
 loop-holds : tie.Need-loop-holds Inv-loop μ-loop
 loop-holds c = (omega arith, refl)
-
-mul-found : tie.Need-mul-found Inv-loop μ-loop
-mul-found c = search needs
-
-shared-slice-read-found : tie.Need-shared-slice-read-found Inv-loop μ-loop
-shared-slice-read-found c = search needs
-
-cast-found : tie.Need-cast-found Inv-loop μ-loop
-cast-found c = search needs
-
-add-k : tie.Need-add-k Inv-loop μ-loop
-add-k c = search needs
-
-loop-less : tie.Need-loop-less Inv-loop μ-loop
-loop-less c = search needs
 
 loop-again : tie.Need-loop-again Inv-loop μ-loop
 loop-again c =
@@ -53,14 +36,5 @@ returns c =
 pub stands-in-spec : {M : Type 1} → statement M
 stands-in-spec =
     tie.close
-    (tie.spec
-    Inv-loop
-    μ-loop
-    loop-holds
-    mul-found
-    shared-slice-read-found
-    cast-found
-    add-k
-    loop-less
-    loop-again
-    returns)
+    (tie.spec Inv-loop μ-loop loop-holds (λ c. search needs) (λ c. search needs) (λ c. search needs) (λ c. search needs)
+    (λ c. search needs) loop-again returns)

@@ -6,17 +6,11 @@ use Rattle.running.proofs.WayLaws.{way-elsewhere, way-there}
 use borrow.Author.Needs.{needs}
 use Rattle.running.proofs.pairs.way_in.Statement.{statement}
 use Rattle.running.proofs.pairs.way_in.Tie as tie
-use Rattle.running.proofs.pairs.way_in.Reads as reads
-use Rattle.running.proofs.pairs.way_in.Lts as lts
-use Rattle.running.proofs.pairs.works_on.Reads as works-on-reads
 
 returns : tie.Need-returns
 returns c =
     let a = c .before .before .before .before .before .args in
     way-elsewhere (clinicOf (contentsAt (a .file .now) (a .head))) (madeOf (a .beside .now)) (a .t) Receives (a .receives .now) (a .it) 5 (c .if1 .taken)
-
-works-on-requires : tie.Need-works-on-requires
-works-on-requires c κs = search needs
 
 returns-2 : tie.Need-returns-2
 returns-2 c =
@@ -25,4 +19,4 @@ returns-2 c =
     way-there (clinicOf (contentsAt (a .file .now) (a .head))) (madeOf (a .beside .now)) (a .t) Receives (a .receives .now) (a .it) 5 (c .works-on .result) (c .before .if1 .left) (s .pre .1) (c .works-on .ensures)
 
 pub way-in-spec : {M : Type 1} → statement M
-way-in-spec = tie.close (tie.spec returns works-on-requires returns-2)
+way-in-spec = tie.close (tie.spec returns (λ c κs. search needs) returns-2)

@@ -7,20 +7,6 @@ use Rattle.running.proofs.WayLaws.{worked-on}
 use borrow.Author.Needs.{needs}
 use Rattle.running.proofs.pairs.works_on.Statement.{statement}
 use Rattle.running.proofs.pairs.works_on.Tie as tie
-use Rattle.running.proofs.pairs.works_on.Reads as reads
-use Rattle.running.proofs.pairs.works_on.Lts as lts
-use Rattle.steps.proofs.Thread.value.Reads as value-reads
-use Rattle.rules.proofs.grants.may.Reads as may-reads
-use Rattle.steps.proofs.act.kind_held.Reads as kind-held-reads
-
-value-requires : tie.Need-value-requires
-value-requires c κs = search needs
-
-kind-held-requires : tie.Need-kind-held-requires
-kind-held-requires c κs = search needs
-
-may-requires : tie.Need-may-requires
-may-requires c κs = search needs
 
 returns : tie.Need-returns
 returns c =
@@ -40,4 +26,4 @@ returns-2 c =
 
 pub works-on-spec : {M : Type 1} → statement M
 works-on-spec =
-    tie.close (tie.spec value-requires kind-held-requires may-requires returns returns-2)
+    tie.close (tie.spec (λ c κs. search needs) (λ c κs. search needs) (λ c κs. search needs) returns returns-2)

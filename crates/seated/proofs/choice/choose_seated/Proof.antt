@@ -1,29 +1,12 @@
-use mathlib.Core.Path.{_≡_, refl, sym, ap, _∙_}
 use Rattle.format.specs.Contents.{contentsAt}
 use Rattle.naming.specs.Scopes.{awaitedBy}
 use Rattle.seated.proofs.ChoseLaws.{chose-waits, chose-steps}
 use borrow.Author.Needs.{needs}
 use Rattle.seated.proofs.choice.choose_seated.Statement.{statement}
 use Rattle.seated.proofs.choice.choose_seated.Tie as tie
-use Rattle.seated.proofs.choice.choose_seated.Reads as reads
-use Rattle.seated.proofs.choice.choose_seated.Lts as lts
-use Rattle.seated.proofs.choice.has_to_wait.Reads as has-to-wait-reads
-use Rattle.seated.proofs.choice.step_on.Reads as step-on-reads
 
 has-to-wait-requires : tie.Need-has-to-wait-requires
 has-to-wait-requires c κs = (c .before .before .before .before .before .before .before .before .before .before .before .before .before .pre .0, c .before .before .before .before .before .before .before .before .before .before .before .before .before .pre .3, c .before .before .before .before .before .before .before .before .before .before .before .before .before .pre .4)
-
-same-length : tie.Need-same-length
-same-length c = search needs
-
-same-length-2 : tie.Need-same-length-2
-same-length-2 c = search needs
-
-same-length-3 : tie.Need-same-length-3
-same-length-3 c = search needs
-
-same-length-4 : tie.Need-same-length-4
-same-length-4 c = search needs
 
 returns : tie.Need-returns
 returns c =
@@ -34,18 +17,6 @@ returns c =
 step-on-requires : tie.Need-step-on-requires
 step-on-requires c κs = (c .before .before .before .before .before .before .before .before .before .before .before .before .before .before .before .before .before .before .before .before .pre .0, c .before .before .before .before .before .before .before .before .before .before .before .before .before .before .before .before .before .before .before .before .pre .1, c .before .before .before .before .before .before .before .before .before .before .before .before .before .before .before .before .before .before .before .before .pre .2, c .before .before .before .before .before .before .before .before .before .before .before .before .before .before .before .before .before .before .before .before .pre .4 .sized, c .before .before .before .before .before .before .before .before .before .before .before .before .before .before .before .before .before .before .before .before .pre .4 .owners)
 
-same-length-5 : tie.Need-same-length-5
-same-length-5 c = search needs
-
-same-length-6 : tie.Need-same-length-6
-same-length-6 c = search needs
-
-same-length-7 : tie.Need-same-length-7
-same-length-7 c = search needs
-
-same-length-8 : tie.Need-same-length-8
-same-length-8 c = search needs
-
 returns-2 : tie.Need-returns-2
 returns-2 c =
     let a = c .before .before .before .before .before .before .before .before .before .before .before .before .before .before .before .before .before .before .before .before .before .before .before .before .before .before .before .args in
@@ -55,16 +26,5 @@ returns-2 c =
 pub choose-seated-spec : {M : Type 1} → statement M
 choose-seated-spec =
     tie.close
-    (tie.spec
-    has-to-wait-requires
-    same-length
-    same-length-2
-    same-length-3
-    same-length-4
-    returns
-    step-on-requires
-    same-length-5
-    same-length-6
-    same-length-7
-    same-length-8
-    returns-2)
+    (tie.spec has-to-wait-requires (λ c. search needs) (λ c. search needs) (λ c. search needs) (λ c. search needs)
+    returns step-on-requires (λ c. search needs) (λ c. search needs) (λ c. search needs) (λ c. search needs) returns-2)

@@ -1,39 +1,19 @@
-use mathlib.Core.Path.{_≡_, refl, sym, ap, ap₂, _∙_, subst}
+use mathlib.Core.Path.{sym, ap, _∙_, subst}
 use Prim.Native.Nat.{ℕ, _-_}
 use native.Mathlib.Omega.{arith}
 use lib.ListN.{getD, set}
-use Rattle.steps.specs.declared.Answer.{Answer}
 use Rattle.steps.specs.declared.Answer.the-variants as answers
 use Rattle.steps.proofs.TableLaws.{down}
 use Rattle.seated.specs.SeatedTables.{ownersPassed, PassRoom}
 use borrow.Author.Needs.{needs}
 use Rattle.seated.proofs.choice.pass_on.Statement.{statement}
 use Rattle.seated.proofs.choice.pass_on.Tie as tie
-use Rattle.seated.proofs.choice.pass_on.Reads as reads
-use Rattle.seated.proofs.choice.pass_on.Lts as lts
-use Rattle.format.proofs.words.wide.Reads as wide-reads
-use Rattle.seated.proofs.choice.move_down.Reads as move-down-reads
-
-enum-told : tie.Need-enum-told
-enum-told c = search needs
-
-enum-told-2 : tie.Need-enum-told-2
-enum-told-2 c = search needs
-
-enum-told-3 : tie.Need-enum-told-3
-enum-told-3 c = search needs
 
 sub-wide : tie.Need-sub-wide
 sub-wide c =
     let a = c .before .before .before .args in
     let r = subst (PassRoom (a .count) (a .i)) (c .enum-told3 .given .1) (c .before .before .before .pre .1) in
     omega (arith, r .0)
-
-wide-requires : tie.Need-wide-requires
-wide-requires c κs = search needs
-
-mul-owners : tie.Need-mul-owners
-mul-owners c = search needs
 
 slice-read-owners : tie.Need-slice-read-owners
 slice-read-owners c =
@@ -53,20 +33,11 @@ slice-write-owners c =
     let r = subst (PassRoom (a .count) (a .i)) (c .before .before .enum-told3 .given .1) (c .before .before .before .before .before .pre .1) in
     omega (arith, r .2, c .before .before .before .before .before .pre .0)
 
-enum-told-4 : tie.Need-enum-told-4
-enum-told-4 c = search needs
-
-enum-told-5 : tie.Need-enum-told-5
-enum-told-5 c = search needs
-
 sub-wide-2 : tie.Need-sub-wide-2
 sub-wide-2 c =
     let a = c .before .before .before .before .args in
     let r = subst (PassRoom (a .count) (a .i)) (c .before .enum-told5 .given .1) (c .before .before .before .before .pre .1) in
     omega (arith, r .0)
-
-wide-requires-2 : tie.Need-wide-requires-2
-wide-requires-2 c κs = search needs
 
 move-down-requires : tie.Need-move-down-requires
 move-down-requires c κs =
@@ -74,17 +45,11 @@ move-down-requires c κs =
     let r = subst (PassRoom (a .count) (a .i)) (c .before .before .enum-told5 .given .1) (c .before .before .before .before .before .pre .1) in
     (omega (arith, r .0, r .1, c .wide2 .ensures .0), omega (arith, r .2, c .before .before .before .before .before .pre .0))
 
-enum-told-6 : tie.Need-enum-told-6
-enum-told-6 c = search needs
-
 returns : tie.Need-returns
 returns c = sym (ap (ownersPassed _ _ _) (c .enum-told .given .1))
 
 returns-2 : tie.Need-returns-2
 returns-2 c = sym (ap (ownersPassed _ _ _) (c .enum-told2 .given .1))
-
-same-length : tie.Need-same-length
-same-length c = search needs
 
 returns-3 : tie.Need-returns-3
 returns-3 c =
@@ -93,9 +58,6 @@ returns-3 c =
 
 returns-4 : tie.Need-returns-4
 returns-4 c = sym (ap (ownersPassed _ _ _) (c .enum-told4 .given .1))
-
-same-length-2 : tie.Need-same-length-2
-same-length-2 c = search needs
 
 returns-5 : tie.Need-returns-5
 returns-5 c =
@@ -108,27 +70,7 @@ returns-6 c = sym (ap (ownersPassed _ _ _) (c .enum-told6 .given .1))
 pub pass-on-spec : {M : Type 1} → statement M
 pass-on-spec =
     tie.close
-    (tie.spec
-    enum-told
-    enum-told-2
-    enum-told-3
-    sub-wide
-    wide-requires
-    mul-owners
-    slice-read-owners
-    mul-owners-2
-    slice-write-owners
-    enum-told-4
-    enum-told-5
-    sub-wide-2
-    wide-requires-2
-    move-down-requires
-    enum-told-6
-    returns
-    returns-2
-    same-length
-    returns-3
-    returns-4
-    same-length-2
-    returns-5
-    returns-6)
+    (tie.spec (λ c. search needs) (λ c. search needs) (λ c. search needs) sub-wide (λ c κs. search needs)
+    (λ c. search needs) slice-read-owners mul-owners-2 slice-write-owners (λ c. search needs) (λ c. search needs)
+    sub-wide-2 (λ c κs. search needs) move-down-requires (λ c. search needs) returns returns-2 (λ c. search needs)
+    returns-3 returns-4 (λ c. search needs) returns-5 returns-6)

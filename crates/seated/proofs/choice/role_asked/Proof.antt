@@ -4,22 +4,6 @@ use Rattle.seated.proofs.RoleLaws.{asked-out, asked-there, asked-other,
 use borrow.Author.Needs.{needs}
 use Rattle.seated.proofs.choice.role_asked.Statement.{statement}
 use Rattle.seated.proofs.choice.role_asked.Tie as tie
-use Rattle.seated.proofs.choice.role_asked.Reads as reads
-use Rattle.seated.proofs.choice.role_asked.Lts as lts
-use Rattle.format.proofs.sections.in_count.Reads as in-count-reads
-use Rattle.format.proofs.sections.single_node.Reads as single-node-reads
-use Rattle.format.proofs.sections.user_roles.Reads as user-roles-reads
-use Rattle.format.proofs.words.wide.Reads as wide-reads
-use Rattle.masks.proofs.has_role.Reads as has-role-reads
-use Rattle.seated.proofs.choice.seats_of.Reads as seats-of-reads
-use Rattle.steps.proofs.beside.thread_count.Reads as thread-count-reads
-use Rattle.steps.proofs.records.thread_at.Reads as thread-at-reads
-
-thread-count-requires : tie.Need-thread-count-requires
-thread-count-requires c κs = search needs
-
-in-count-requires : tie.Need-in-count-requires
-in-count-requires c κs = search needs
 
 returns : tie.Need-returns
 returns c =
@@ -32,36 +16,21 @@ sub-wide c =
     let (one, most) = asked-there (contentsAt (a .file .now) (a .head)) (a .seats .now) (a .threads .now) (a .beside .now) (a .i) (a .p) _ _ (c .before .in-count .ensures) (c .before .before .thread-count .ensures) (c .if1 .left) in
     omega (arith, one)
 
-wide-requires : tie.Need-wide-requires
-wide-requires c κs = search needs
-
 thread-at-requires : tie.Need-thread-at-requires
 thread-at-requires c κs =
     let a = c .before .before .before .before .before .before .before .before .args in
     let (one, most) = asked-there (contentsAt (a .file .now) (a .head)) (a .seats .now) (a .threads .now) (a .beside .now) (a .i) (a .p) _ _ (c .before .before .in-count .ensures) (c .before .before .before .thread-count .ensures) (c .before .if1 .left) in
     omega (arith, one, most, c .wide .ensures .0, c .before .before .before .before .before .before .before .before .pre .1 .words, c .before .before .before .before .before .before .before .before .pre .1 .threads)
 
-single-node-requires : tie.Need-single-node-requires
-single-node-requires c κs = search needs
-
 returns-2 : tie.Need-returns-2
 returns-2 c =
     let a = c .before .before .before .before .before .before .before .before .before .before .before .before .args in
     asked-other (contentsAt (a .file .now) (a .head)) (a .seats .now) (a .threads .now) (a .beside .now) (a .i) (a .p) _ _ (c .before .before .before .before .before .before .in-count .ensures) (c .before .before .before .before .before .before .before .thread-count .ensures) (c .before .before .before .before .before .if1 .left) _ _ _ (c .before .before .before .before .wide .ensures .0) (c .before .before .before .thread-at .ensures) (c .before .before .single-node .ensures) (c .if2 .taken)
 
-user-roles-requires : tie.Need-user-roles-requires
-user-roles-requires c κs = search needs
-
-has-role-requires : tie.Need-has-role-requires
-has-role-requires c κs = search needs
-
 returns-3 : tie.Need-returns-3
 returns-3 c =
     let a = c .before .before .before .before .before .before .before .before .before .before .before .before .before .before .before .args in
     asked-stranger (contentsAt (a .file .now) (a .head)) (a .seats .now) (a .threads .now) (a .beside .now) (a .i) (a .p) _ _ (c .before .before .before .before .before .before .before .before .before .in-count .ensures) (c .before .before .before .before .before .before .before .before .before .before .thread-count .ensures) (c .before .before .before .before .before .before .before .before .if1 .left) _ _ _ (c .before .before .before .before .before .before .before .wide .ensures .0) (c .before .before .before .before .before .before .thread-at .ensures) (c .before .before .before .before .before .single-node .ensures) (c .before .before .before .if2 .left) _ _ (c .before .before .user-roles .ensures) (c .before .has-role .ensures) (c .if3 .taken)
-
-seats-of-requires : tie.Need-seats-of-requires
-seats-of-requires c κs = search needs
 
 returns-4 : tie.Need-returns-4
 returns-4 c =
@@ -76,18 +45,6 @@ returns-5 c =
 pub role-asked-spec : {M : Type 1} → statement M
 role-asked-spec =
     tie.close
-    (tie.spec
-    thread-count-requires
-    in-count-requires
-    returns
-    sub-wide
-    wide-requires
-    thread-at-requires
-    single-node-requires
-    returns-2
-    user-roles-requires
-    has-role-requires
-    returns-3
-    seats-of-requires
-    returns-4
-    returns-5)
+    (tie.spec (λ c κs. search needs) (λ c κs. search needs) returns sub-wide (λ c κs. search needs) thread-at-requires
+    (λ c κs. search needs) returns-2 (λ c κs. search needs) (λ c κs. search needs) returns-3 (λ c κs. search needs)
+    returns-4 returns-5)

@@ -1,7 +1,6 @@
 -- The invariant: k choices are done, and what is left from here gives what the whole gives.
-use Prim.Native.Nat.{ℕ, suc, _+_, _-_, _/_, _≤_}
-use mathlib.Core.Path.{_≡_, refl, sym, ap, _∙_}
-use mathlib.Core.List.{List}
+use Prim.Native.Nat.{_-_, _/_, _≤_}
+use mathlib.Core.Path.{sym, _∙_}
 use native.Mathlib.Omega.{arith}
 use lib.ListN.{length}
 use Rattle.format.specs.Contents.{contentsAt}
@@ -12,10 +11,6 @@ use Rattle.seated.proofs.ListLaws.{LeftSeated, left-begin, go-halts, go
 use borrow.Author.Needs.{needs}
 use Rattle.seated.proofs.list.go_seated.Statement.{statement}
 use Rattle.seated.proofs.list.go_seated.Tie as tie
-use Rattle.seated.proofs.list.go_seated.Reads as reads
-use Rattle.seated.proofs.list.go_seated.Lts as lts
-use Rattle.format.proofs.words.narrow.Reads as narrow-reads
-use Rattle.seated.proofs.choice.choose_seated.Reads as choose-seated-reads
 
 abbrev Inv-loop : tie.InvT-loop
 Inv-loop file head sends receives table seats choices threads₀ beside₀ owners₀ lines₀ n waited₀ last₀ k₀ threads beside owners lines waited last k =
@@ -31,43 +26,10 @@ loop-holds c =
     let p = c .before .before .before .before .before .before .before .before .before .before .pre in
     (omega arith, p .4, p .5, left-begin (awaitedBy (a .table .now)) (limitedOf (contentsAt (a .file .now) (a .head)) (a .seats .now)) (seatedIn (a .threads .now) (a .beside .now) (a .owners .now) (a .lines .now)) (a .beside .now) (a .choices .now))
 
-mul-i : tie.Need-mul-i Inv-loop μ-loop
-mul-i c = omega arith
-
-mul-i-2 : tie.Need-mul-i-2 Inv-loop μ-loop
-mul-i-2 c = omega arith
-
-shared-slice-read-i : tie.Need-shared-slice-read-i Inv-loop μ-loop
-shared-slice-read-i c = omega arith
-
-mul-p : tie.Need-mul-p Inv-loop μ-loop
-mul-p c = omega arith
-
-add-p : tie.Need-add-p Inv-loop μ-loop
-add-p c = omega arith
-
-mul-p-2 : tie.Need-mul-p-2 Inv-loop μ-loop
-mul-p-2 c = omega arith
-
-shared-slice-read-p : tie.Need-shared-slice-read-p Inv-loop μ-loop
-shared-slice-read-p c = omega arith
-
 choose-seated-requires : tie.Need-choose-seated-requires Inv-loop μ-loop
 choose-seated-requires c κs =
     let p = c .before .before .before .before .before .before .before .before .before .before .before .before .before .before .before .before .before .before .pre in
     (p .0, p .1, p .2, p .3, c .before .before .before .before .before .before .before .loop .inv .2)
-
-add-k : tie.Need-add-k Inv-loop μ-loop
-add-k c = omega arith
-
-enum-known-sat : tie.Need-enum-known-sat Inv-loop μ-loop
-enum-known-sat c = search needs
-
-sub-narrow : tie.Need-sub-narrow Inv-loop μ-loop
-sub-narrow c = omega arith
-
-narrow-requires : tie.Need-narrow-requires Inv-loop μ-loop
-narrow-requires c κs = omega arith
 
 same-length : tie.Need-same-length Inv-loop μ-loop
 same-length c = c .before .before .before .before .before .before .before .before .before .before .before .before .choose-seated .ensures .kept .sized .words ∙ sym (c .before .before .before .before .before .before .before .before .before .before .before .before .before .before .before .before .before .before .before .before .before .before .before .before .before .before .before .before .before .before .before .pre .5 .sized .words)
@@ -88,14 +50,8 @@ returns c =
     let g = c .before .before .before .before .before .before .before .before .before .before .before .before .choose-seated in
     go-halts (awaitedBy (a .table .now)) (limitedOf (contentsAt (a .file .now) (a .head)) (a .seats .now)) (seatedIn (a .threads .now) (a .beside .now) (a .owners .now) (a .lines .now)) (a .beside .now) (a .choices .now) (l .k) (l .threads) (l .beside) (l .owners) (l .lines) _ _ _ _ (l .waited) (l .last) (omega (arith, c .before .before .before .before .before .before .before .before .before .before .before .before .before .before .before .before .before .before .before .loop-test .taken)) (l .inv .3) (g .result) (g .ensures) (c .before .before .sat .given .0 .0) (c .narrow .result) (c .before .before .sat .given .1) (omega (arith, c .narrow .ensures))
 
-enum-told : tie.Need-enum-told Inv-loop μ-loop
-enum-told c = search needs
-
 add-waited : tie.Need-add-waited Inv-loop μ-loop
 add-waited c = omega (arith, c .before .before .before .before .before .before .before .before .before .before .before .before .before .before .before .before .before .before .loop .inv .3 .few)
-
-loop-less : tie.Need-loop-less Inv-loop μ-loop
-loop-less c = omega arith
 
 loop-again : tie.Need-loop-again Inv-loop μ-loop
 loop-again c =
@@ -104,12 +60,6 @@ loop-again c =
     let g = c .before .before .before .before .before .before .before .before .before .before .choose-seated in
     (omega (arith, c .before .before .before .before .before .before .before .before .before .before .before .before .before .before .before .before .before .loop-test .taken), l .inv .1, g .ensures .kept, go-waits (awaitedBy (a .table .now)) (limitedOf (contentsAt (a .file .now) (a .head)) (a .seats .now)) (seatedIn (a .threads .now) (a .beside .now) (a .owners .now) (a .lines .now)) (a .beside .now) (a .choices .now) (l .k) (l .threads) (l .beside) (l .owners) (l .lines) _ _ _ _ (l .waited) (l .last) (omega (arith, c .before .before .before .before .before .before .before .before .before .before .before .before .before .before .before .before .before .loop-test .taken)) (l .inv .3) (g .result) (g .ensures) (c .enum-told .given .1))
 
-enum-told-2 : tie.Need-enum-told-2 Inv-loop μ-loop
-enum-told-2 c = search needs
-
-loop-less-2 : tie.Need-loop-less-2 Inv-loop μ-loop
-loop-less-2 c = omega arith
-
 loop-again-2 : tie.Need-loop-again-2 Inv-loop μ-loop
 loop-again-2 c =
     let a = c .before .before .before .before .before .before .before .before .before .before .before .before .before .before .before .before .before .before .before .before .before .before .before .before .before .before .before .before .before .args in
@@ -117,33 +67,12 @@ loop-again-2 c =
     let g = c .before .before .before .before .before .before .before .before .before .before .choose-seated in
     (omega (arith, c .before .before .before .before .before .before .before .before .before .before .before .before .before .before .before .before .before .loop-test .taken), l .inv .1, g .ensures .kept, go-ends (awaitedBy (a .table .now)) (limitedOf (contentsAt (a .file .now) (a .head)) (a .seats .now)) (seatedIn (a .threads .now) (a .beside .now) (a .owners .now) (a .lines .now)) (a .beside .now) (a .choices .now) (l .k) (l .threads) (l .beside) (l .owners) (l .lines) _ _ _ _ (l .waited) (l .last) (omega (arith, c .before .before .before .before .before .before .before .before .before .before .before .before .before .before .before .before .before .loop-test .taken)) (l .inv .3) (g .result) (g .ensures) (c .enum-told2 .given .1))
 
-enum-told-3 : tie.Need-enum-told-3 Inv-loop μ-loop
-enum-told-3 c = search needs
-
-loop-less-3 : tie.Need-loop-less-3 Inv-loop μ-loop
-loop-less-3 c = omega arith
-
 loop-again-3 : tie.Need-loop-again-3 Inv-loop μ-loop
 loop-again-3 c =
     let a = c .before .before .before .before .before .before .before .before .before .before .before .before .before .before .before .before .before .before .before .before .before .before .before .before .before .before .before .before .before .args in
     let l = c .before .before .before .before .before .before .before .before .before .before .before .before .before .before .before .before .before .before .loop in
     let g = c .before .before .before .before .before .before .before .before .before .before .choose-seated in
     (omega (arith, c .before .before .before .before .before .before .before .before .before .before .before .before .before .before .before .before .before .loop-test .taken), l .inv .1, g .ensures .kept, go-steps (awaitedBy (a .table .now)) (limitedOf (contentsAt (a .file .now) (a .head)) (a .seats .now)) (seatedIn (a .threads .now) (a .beside .now) (a .owners .now) (a .lines .now)) (a .beside .now) (a .choices .now) (l .k) (l .threads) (l .beside) (l .owners) (l .lines) _ _ _ _ (l .waited) (l .last) (omega (arith, c .before .before .before .before .before .before .before .before .before .before .before .before .before .before .before .before .before .loop-test .taken)) (l .inv .3) (g .result) (g .ensures) (c .enum-told3 .given .1))
-
-narrow-requires-2 : tie.Need-narrow-requires-2 Inv-loop μ-loop
-narrow-requires-2 c κs = omega arith
-
-same-length-5 : tie.Need-same-length-5 Inv-loop μ-loop
-same-length-5 c = search needs
-
-same-length-6 : tie.Need-same-length-6 Inv-loop μ-loop
-same-length-6 c = search needs
-
-same-length-7 : tie.Need-same-length-7 Inv-loop μ-loop
-same-length-7 c = search needs
-
-same-length-8 : tie.Need-same-length-8 Inv-loop μ-loop
-same-length-8 c = search needs
 
 returns-2 : tie.Need-returns-2 Inv-loop μ-loop
 returns-2 c =
@@ -154,40 +83,9 @@ returns-2 c =
 pub go-seated-spec : {M : Type 1} → statement M
 go-seated-spec =
     tie.close
-    (tie.spec
-    Inv-loop
-    μ-loop
-    loop-holds
-    mul-i
-    mul-i-2
-    shared-slice-read-i
-    mul-p
-    add-p
-    mul-p-2
-    shared-slice-read-p
-    choose-seated-requires
-    add-k
-    enum-known-sat
-    sub-narrow
-    narrow-requires
-    same-length
-    same-length-2
-    same-length-3
-    same-length-4
-    returns
-    enum-told
-    add-waited
-    loop-less
-    loop-again
-    enum-told-2
-    loop-less-2
-    loop-again-2
-    enum-told-3
-    loop-less-3
-    loop-again-3
-    narrow-requires-2
-    same-length-5
-    same-length-6
-    same-length-7
-    same-length-8
-    returns-2)
+    (tie.spec Inv-loop μ-loop loop-holds (λ c. omega arith) (λ c. omega arith) (λ c. omega arith) (λ c. omega arith)
+    (λ c. omega arith) (λ c. omega arith) (λ c. omega arith) choose-seated-requires (λ c. omega arith)
+    (λ c. search needs) (λ c. omega arith) (λ c κs. omega arith) same-length same-length-2 same-length-3 same-length-4
+    returns (λ c. search needs) add-waited (λ c. omega arith) loop-again (λ c. search needs) (λ c. omega arith)
+    loop-again-2 (λ c. search needs) (λ c. omega arith) loop-again-3 (λ c κs. omega arith) (λ c. search needs)
+    (λ c. search needs) (λ c. search needs) (λ c. search needs) returns-2)

@@ -1,22 +1,15 @@
 -- The invariant: the first k words are filled.
-use Prim.Native.Nat.{ℕ, _+_, _*_, _-_, _/_, _%_, _≤_}
+use Prim.Native.Nat.{ℕ, _+_, _-_, _/_, _%_, _≤_}
 use mathlib.Core.List.{[]}
-use mathlib.Core.Path.{_≡_, refl, sym, ap, ap₂, _∙_}
+use mathlib.Core.Path.{_≡_, refl, sym, ap, _∙_}
 use native.Mathlib.Omega.{arith}
-use lib.ListN.{length, getD, take, length-set}
-use Rattle.masks.specs.Mask.{held}
+use lib.ListN.{length, take, length-set}
 use Rattle.format.specs.Contents.{tabled}
-use Rattle.steps.specs.Records.{threadsIn}
-use Rattle.steps.specs.Beside.{threadCount}
-use Rattle.seating.specs.SeatTables.{gathered}
 use Rattle.seated.specs.ReadWords.{lineWord}
 use Rattle.seated.proofs.ReadLaws.{filled-none, filled-more, filled-all}
 use borrow.Author.Needs.{needs}
 use Rattle.seated.proofs.read.line_words.Statement.{statement}
 use Rattle.seated.proofs.read.line_words.Tie as tie
-use Rattle.seated.proofs.read.line_words.Reads as reads
-use Rattle.seated.proofs.read.line_words.Lts as lts
-use Rattle.seated.proofs.read.line_word.Reads as line-word-reads
 
 abbrev Inv-loop : tie.InvT-loop
 Inv-loop lines all₀ k₀ all k = (k ≤ 512) × (length all ≡ 512) × (take k all ≡ tabled (λ x. lineWord lines (x / 32) (x % 32)) 0 k)
@@ -29,18 +22,6 @@ loop-holds c = (omega arith, refl, filled-none (λ x. lineWord (c .before .args 
 
 line-word-requires : tie.Need-line-word-requires Inv-loop μ-loop
 line-word-requires c κs = (c .before .before .before .pre, omega arith, omega arith)
-
-mul-all : tie.Need-mul-all Inv-loop μ-loop
-mul-all c = search needs
-
-array-write-all : tie.Need-array-write-all Inv-loop μ-loop
-array-write-all c = search needs
-
-add-k : tie.Need-add-k Inv-loop μ-loop
-add-k c = omega arith
-
-loop-less : tie.Need-loop-less Inv-loop μ-loop
-loop-less c = omega arith
 
 loop-again : tie.Need-loop-again Inv-loop μ-loop
 loop-again c =
@@ -57,14 +38,5 @@ returns c =
 pub line-words-spec : {M : Type 1} → statement M
 line-words-spec =
     tie.close
-    (tie.spec
-    Inv-loop
-    μ-loop
-    loop-holds
-    line-word-requires
-    mul-all
-    array-write-all
-    add-k
-    loop-less
-    loop-again
-    returns)
+    (tie.spec Inv-loop μ-loop loop-holds line-word-requires (λ c. search needs) (λ c. search needs) (λ c. omega arith)
+    (λ c. omega arith) loop-again returns)

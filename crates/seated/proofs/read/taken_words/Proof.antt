@@ -1,26 +1,18 @@
 -- The invariant: the first k words are filled.
-use Prim.Native.Nat.{ℕ, _+_, _*_, _-_, _/_, _%_, _≤_}
+use Prim.Native.Nat.{ℕ, _+_, _-_, _≤_}
 use mathlib.Core.List.{[]}
 use mathlib.Core.Path.{_≡_, refl, sym, ap, ap₂, _∙_}
 use native.Mathlib.Omega.{arith}
-use lib.ListN.{length, getD, take, length-set}
+use lib.ListN.{length, take, length-set}
 use Rattle.masks.specs.Mask.{held}
 use Rattle.format.specs.Contents.{tabled}
 use Rattle.steps.specs.Records.{threadsIn}
 use Rattle.steps.specs.Beside.{threadCount}
 use Rattle.seating.specs.SeatTables.{gathered}
-use Rattle.seated.specs.ReadWords.{lineWord}
 use Rattle.seated.proofs.ReadLaws.{filled-none, filled-more, filled-all}
 use borrow.Author.Needs.{needs}
 use Rattle.seated.proofs.read.taken_words.Statement.{statement}
 use Rattle.seated.proofs.read.taken_words.Tie as tie
-use Rattle.seated.proofs.read.taken_words.Reads as reads
-use Rattle.seated.proofs.read.taken_words.Lts as lts
-use Rattle.format.proofs.words.narrow.Reads as narrow-reads
-use Rattle.format.proofs.words.wide.Reads as wide-reads
-use Rattle.seating.proofs.sessions.session_count.Reads as session-count-reads
-use Rattle.seating.proofs.sessions.sessions_in.Reads as sessions-in-reads
-use Rattle.steps.proofs.beside.thread_count.Reads as thread-count-reads
 
 abbrev Inv-loop : tie.InvT-loop
 Inv-loop threads beside owners count all₀ k₀ all k = (k ≤ 16) × (length all ≡ 16) × (take k all ≡ tabled (λ role. held 32 (gathered (threadsIn threads 0 (threadCount beside)) owners role 0)) 1 k)
@@ -28,38 +20,11 @@ Inv-loop threads beside owners count all₀ k₀ all k = (k ≤ 16) × (length a
 abbrev μ-loop : tie.MeasureT-loop
 μ-loop threads beside owners count all₀ k₀ all k = 16 - k
 
-thread-count-requires : tie.Need-thread-count-requires Inv-loop μ-loop
-thread-count-requires c κs = search needs
-
-wide-requires : tie.Need-wide-requires Inv-loop μ-loop
-wide-requires c κs = search needs
-
 loop-holds : tie.Need-loop-holds Inv-loop μ-loop
 loop-holds c = (omega arith, refl, filled-none (λ role. held 32 (gathered (threadsIn (c .before .before .before .before .before .args .threads .now) 0 (threadCount (c .before .before .before .before .before .args .beside .now))) (c .before .before .before .before .before .args .owners .now) role 0)) 1 [])
 
-add-narrow : tie.Need-add-narrow Inv-loop μ-loop
-add-narrow c = search needs
-
-narrow-requires : tie.Need-narrow-requires Inv-loop μ-loop
-narrow-requires c κs = search needs
-
 sessions-in-requires : tie.Need-sessions-in-requires Inv-loop μ-loop
 sessions-in-requires c κs = (omega (arith, c .before .before .before .before .before .before .before .before .pre .0 .words, c .before .before .before .before .before .before .before .before .pre .0 .threads, c .before .before .before .wide .ensures .0 ∙ c .before .before .before .before .thread-count .ensures), omega (arith, c .before .before .before .before .before .before .before .before .pre .0 .threads, c .before .before .before .before .before .before .before .before .pre .1, c .before .before .before .wide .ensures .0 ∙ c .before .before .before .before .thread-count .ensures))
-
-session-count-requires : tie.Need-session-count-requires Inv-loop μ-loop
-session-count-requires c κs = search needs
-
-mul-all : tie.Need-mul-all Inv-loop μ-loop
-mul-all c = search needs
-
-array-write-all : tie.Need-array-write-all Inv-loop μ-loop
-array-write-all c = search needs
-
-add-k : tie.Need-add-k Inv-loop μ-loop
-add-k c = omega arith
-
-loop-less : tie.Need-loop-less Inv-loop μ-loop
-loop-less c = omega arith
 
 loop-again : tie.Need-loop-again Inv-loop μ-loop
 loop-again c =
@@ -76,19 +41,6 @@ returns c =
 pub taken-words-spec : {M : Type 1} → statement M
 taken-words-spec =
     tie.close
-    (tie.spec
-    Inv-loop
-    μ-loop
-    thread-count-requires
-    wide-requires
-    loop-holds
-    add-narrow
-    narrow-requires
-    sessions-in-requires
-    session-count-requires
-    mul-all
-    array-write-all
-    add-k
-    loop-less
-    loop-again
-    returns)
+    (tie.spec Inv-loop μ-loop (λ c κs. search needs) (λ c κs. search needs) loop-holds (λ c. search needs)
+    (λ c κs. search needs) sessions-in-requires (λ c κs. search needs) (λ c. search needs) (λ c. search needs)
+    (λ c. omega arith) (λ c. omega arith) loop-again returns)

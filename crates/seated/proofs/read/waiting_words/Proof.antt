@@ -1,21 +1,14 @@
 -- The invariant: the first k words are filled.
-use Prim.Native.Nat.{ℕ, _+_, _*_, _-_, _/_, _%_, _≤_}
+use Prim.Native.Nat.{ℕ, _+_, _*_, _-_, _≤_}
 use mathlib.Core.List.{[]}
-use mathlib.Core.Path.{_≡_, refl, sym, ap, ap₂, _∙_}
+use mathlib.Core.Path.{_≡_, refl, sym, ap, _∙_}
 use native.Mathlib.Omega.{arith}
 use lib.ListN.{length, getD, take, length-set}
-use Rattle.masks.specs.Mask.{held}
 use Rattle.format.specs.Contents.{tabled}
-use Rattle.steps.specs.Records.{threadsIn}
-use Rattle.steps.specs.Beside.{threadCount}
-use Rattle.seating.specs.SeatTables.{gathered}
-use Rattle.seated.specs.ReadWords.{lineWord}
 use Rattle.seated.proofs.ReadLaws.{filled-none, filled-more, filled-all}
 use borrow.Author.Needs.{needs}
 use Rattle.seated.proofs.read.waiting_words.Statement.{statement}
 use Rattle.seated.proofs.read.waiting_words.Tie as tie
-use Rattle.seated.proofs.read.waiting_words.Reads as reads
-use Rattle.seated.proofs.read.waiting_words.Lts as lts
 
 abbrev Inv-loop : tie.InvT-loop
 Inv-loop lines all₀ k₀ all k = (k ≤ 16) × (length all ≡ 16) × (take k all ≡ tabled (λ role. getD lines (33 * (role - 1)) 0) 1 k)
@@ -26,26 +19,8 @@ abbrev μ-loop : tie.MeasureT-loop
 loop-holds : tie.Need-loop-holds Inv-loop μ-loop
 loop-holds c = (omega arith, refl, filled-none (λ role. getD (c .args .lines .now) (33 * (role - 1)) 0) 1 [])
 
-mul-all : tie.Need-mul-all Inv-loop μ-loop
-mul-all c = search needs
-
-mul-all-2 : tie.Need-mul-all-2 Inv-loop μ-loop
-mul-all-2 c = search needs
-
 shared-slice-read-all : tie.Need-shared-slice-read-all Inv-loop μ-loop
 shared-slice-read-all c = omega (arith, c .before .before .before .pre .words)
-
-mul-all-3 : tie.Need-mul-all-3 Inv-loop μ-loop
-mul-all-3 c = search needs
-
-array-write-all : tie.Need-array-write-all Inv-loop μ-loop
-array-write-all c = search needs
-
-add-k : tie.Need-add-k Inv-loop μ-loop
-add-k c = omega arith
-
-loop-less : tie.Need-loop-less Inv-loop μ-loop
-loop-less c = omega arith
 
 loop-again : tie.Need-loop-again Inv-loop μ-loop
 loop-again c =
@@ -62,16 +37,5 @@ returns c =
 pub waiting-words-spec : {M : Type 1} → statement M
 waiting-words-spec =
     tie.close
-    (tie.spec
-    Inv-loop
-    μ-loop
-    loop-holds
-    mul-all
-    mul-all-2
-    shared-slice-read-all
-    mul-all-3
-    array-write-all
-    add-k
-    loop-less
-    loop-again
-    returns)
+    (tie.spec Inv-loop μ-loop loop-holds (λ c. search needs) (λ c. search needs) shared-slice-read-all
+    (λ c. search needs) (λ c. search needs) (λ c. omega arith) (λ c. omega arith) loop-again returns)

@@ -1,14 +1,9 @@
-use mathlib.Core.Path.{_≡_, refl, sym, ap, _∙_}
 use Rattle.format.specs.Contents.{contentsAt}
 use Rattle.naming.specs.Scopes.{awaitedBy}
 use Rattle.seated.proofs.OpenLaws.{open-kept, open-through}
 use borrow.Author.Needs.{needs}
 use Rattle.seated.proofs.runs.run_seated_by.Statement.{statement}
 use Rattle.seated.proofs.runs.run_seated_by.Tie as tie
-use Rattle.seated.proofs.runs.run_seated_by.Reads as reads
-use Rattle.seated.proofs.runs.run_seated_by.Lts as lts
-use Rattle.seated.proofs.list.go_seated.Reads as go-seated-reads
-use Rattle.seated.proofs.runs.open_seated.Reads as open-seated-reads
 
 open-seated-requires : tie.Need-open-seated-requires
 open-seated-requires c κs =
@@ -22,24 +17,6 @@ go-seated-requires c κs =
     let O = c .before .before .before .before .before .before .before .before .before .before .before .before .before .before .before .before .open-seated .ensures in
     (p .0, O .1, O .2, p .9, p .10, open-kept (awaitedBy (a .table .now)) (contentsAt (a .file .now) (a .head)) (a .seats .now) (a .beside .now) _ _ _ (a .lines .now) (O .0) (p .8) (p .11))
 
-same-length : tie.Need-same-length
-same-length c = search needs
-
-same-length-2 : tie.Need-same-length-2
-same-length-2 c = search needs
-
-same-length-3 : tie.Need-same-length-3
-same-length-3 c = search needs
-
-same-length-4 : tie.Need-same-length-4
-same-length-4 c = search needs
-
-same-length-5 : tie.Need-same-length-5
-same-length-5 c = search needs
-
-same-length-6 : tie.Need-same-length-6
-same-length-6 c = search needs
-
 returns : tie.Need-returns
 returns c =
     let a = c .before .before .before .before .before .before .before .before .before .before .before .before .before .before .before .before .before .before .before .before .before .before .before .before .before .before .before .before .before .before .before .before .before .before .before .before .before .before .before .before .before .args in
@@ -51,13 +28,5 @@ returns c =
 pub run-seated-by-spec : {M : Type 1} → statement M
 run-seated-by-spec =
     tie.close
-    (tie.spec
-    open-seated-requires
-    go-seated-requires
-    same-length
-    same-length-2
-    same-length-3
-    same-length-4
-    same-length-5
-    same-length-6
-    returns)
+    (tie.spec open-seated-requires go-seated-requires (λ c. search needs) (λ c. search needs) (λ c. search needs)
+    (λ c. search needs) (λ c. search needs) (λ c. search needs) returns)

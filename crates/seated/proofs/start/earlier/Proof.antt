@@ -1,9 +1,6 @@
 use borrow.Author.Tests.{eq-eqb, ne-eqb}
-use borrow.Author.Needs.{needs}
 use Rattle.seated.proofs.start.earlier.Statement.{statement}
 use Rattle.seated.proofs.start.earlier.Tie as tie
-use Rattle.seated.proofs.start.earlier.Reads as reads
-use Rattle.seated.proofs.start.earlier.Lts as lts
 
 returns : tie.Need-returns
 returns c = let a = c .before .before .args in rw (eq-eqb (a .found) 0 (c .before .if1 .taken), c .if2 .taken)
@@ -17,7 +14,4 @@ returns-3 c = let a = c .before .args in rw (ne-eqb (a .found) 0 (c .if1 .left))
 pub earlier-spec : {M : Type 1} → statement M
 earlier-spec =
     tie.close
-    (tie.spec
-    returns
-    returns-2
-    returns-3)
+    (tie.spec returns returns-2 returns-3)

@@ -8,19 +8,12 @@ use Rattle.seated.proofs.StartLaws.{numbered-none, numbered-more, kept-
 use borrow.Author.Needs.{needs}
 use Rattle.seated.proofs.start.number_owners.Statement.{statement}
 use Rattle.seated.proofs.start.number_owners.Tie as tie
-use Rattle.seated.proofs.start.number_owners.Reads as reads
-use Rattle.seated.proofs.start.number_owners.Lts as lts
-use Rattle.format.proofs.words.narrow.Reads as narrow-reads
-use Rattle.format.proofs.words.wide.Reads as wide-reads
 
 abbrev Inv-loop : tie.InvT-loop
 Inv-loop owners₀ n m k₀ owners k = (k ≤ m) × (length owners ≡ length owners₀) × (take k owners ≡ numbers 1 k) × (drop k owners ≡ drop k owners₀)
 
 abbrev μ-loop : tie.MeasureT-loop
 μ-loop owners₀ n m k₀ owners k = m - k
-
-wide-requires : tie.Need-wide-requires Inv-loop μ-loop
-wide-requires c κs = search needs
 
 loop-holds : tie.Need-loop-holds Inv-loop μ-loop
 loop-holds c = (omega arith, refl, numbered-none (c .before .before .args .owners .now), refl)
@@ -40,16 +33,10 @@ slice-write-owners c = omega (arith, c .before .before .loop .inv .1, c .before 
 add-k : tie.Need-add-k Inv-loop μ-loop
 add-k c = omega (arith, c .before .before .before .wide .ensures .0, c .before .before .before .before .before .pre .1)
 
-loop-less : tie.Need-loop-less Inv-loop μ-loop
-loop-less c = omega arith
-
 loop-again : tie.Need-loop-again Inv-loop μ-loop
 loop-again c =
     let l = c .before .before .loop in
     (omega arith, simp length-set (l .inv .1), numbered-more (l .owners) (l .k) (c .narrow .result) (omega (arith, l .inv .1, c .before .before .before .wide .ensures .0, c .before .before .before .before .before .pre .0)) (c .narrow .ensures) (l .inv .2), kept-more (l .owners) _ (l .k) (c .narrow .result) (l .inv .3))
-
-same-length : tie.Need-same-length Inv-loop μ-loop
-same-length c = search needs
 
 returns : tie.Need-returns Inv-loop μ-loop
 returns c =
@@ -61,17 +48,5 @@ returns c =
 pub number-owners-spec : {M : Type 1} → statement M
 number-owners-spec =
     tie.close
-    (tie.spec
-    Inv-loop
-    μ-loop
-    wide-requires
-    loop-holds
-    add-narrow
-    narrow-requires
-    mul-owners
-    slice-write-owners
-    add-k
-    loop-less
-    loop-again
-    same-length
-    returns)
+    (tie.spec Inv-loop μ-loop (λ c κs. search needs) loop-holds add-narrow narrow-requires mul-owners slice-write-owners
+    add-k (λ c. omega arith) loop-again (λ c. search needs) returns)

@@ -1,6 +1,6 @@
 -- The invariant: whether the first k sessions overfill one of the roles 1 to r.
-use Prim.Native.Nat.{ℕ, suc, _+_, _-_, _≤_}
-use mathlib.Core.Path.{_≡_, refl, sym, ap, _∙_}
+use Prim.Native.Nat.{ℕ, _+_, _-_, _≤_}
+use mathlib.Core.Path.{_≡_, refl, ap, _∙_}
 use native.Mathlib.Omega.{arith}
 use lib.ListN.{length}
 use Rattle.format.specs.Contents.{contentsAt}
@@ -9,11 +9,6 @@ use Rattle.seated.proofs.StartLaws.{over-none, over-next}
 use borrow.Author.Needs.{needs}
 use Rattle.seated.proofs.start.overfill.Statement.{statement}
 use Rattle.seated.proofs.start.overfill.Tie as tie
-use Rattle.seated.proofs.start.overfill.Reads as reads
-use Rattle.seated.proofs.start.overfill.Lts as lts
-use Rattle.format.proofs.words.narrow.Reads as narrow-reads
-use Rattle.seated.proofs.choice.seats_of.Reads as seats-of-reads
-use Rattle.seated.proofs.start.is_over.Reads as is-over-reads
 
 abbrev Inv-loop : tie.InvT-loop
 Inv-loop file head seats k m over₀ r₀ over r = (r ≤ m) × (m ≤ 16) × (over ≡ overfills (limitedOf (contentsAt file head) seats) (seatedStart (contentsAt file head)) r k)
@@ -28,18 +23,6 @@ loop-holds : tie.Need-loop-holds Inv-loop μ-loop
 loop-holds c =
     let a = c .before .before .before .args in
     (omega arith, omega (arith, c .narrow .ensures, c .before .before .before .pre .1), over-none (limitedOf (contentsAt (a .file .now) (a .head)) (a .seats .now)) (seatedStart (contentsAt (a .file .now) (a .head))) (a .k))
-
-add-r : tie.Need-add-r Inv-loop μ-loop
-add-r c = omega arith
-
-seats-of-requires : tie.Need-seats-of-requires Inv-loop μ-loop
-seats-of-requires c κs = search needs
-
-is-over-requires : tie.Need-is-over-requires Inv-loop μ-loop
-is-over-requires c κs = search needs
-
-loop-less : tie.Need-loop-less Inv-loop μ-loop
-loop-less c = omega arith
 
 loop-again : tie.Need-loop-again Inv-loop μ-loop
 loop-again c =
@@ -57,14 +40,5 @@ returns c =
 pub overfill-spec : {M : Type 1} → statement M
 overfill-spec =
     tie.close
-    (tie.spec
-    Inv-loop
-    μ-loop
-    narrow-requires
-    loop-holds
-    add-r
-    seats-of-requires
-    is-over-requires
-    loop-less
-    loop-again
-    returns)
+    (tie.spec Inv-loop μ-loop narrow-requires loop-holds (λ c. omega arith) (λ c κs. search needs)
+    (λ c κs. search needs) (λ c. omega arith) loop-again returns)

@@ -1,18 +1,7 @@
-use native.Mathlib.Omega.{arith}
 use Rattle.seated.proofs.EntryLaws.{fits-yes, fits-no}
 use borrow.Author.Needs.{needs}
 use Rattle.seated.proofs.table.fits.Statement.{statement}
 use Rattle.seated.proofs.table.fits.Tie as tie
-use Rattle.seated.proofs.table.fits.Reads as reads
-use Rattle.seated.proofs.table.fits.Lts as lts
-use Rattle.format.proofs.words.wide.Reads as wide-reads
-use Rattle.seated.proofs.table.are_small.Reads as are-small-reads
-
-wide-requires : tie.Need-wide-requires
-wide-requires c κs = search needs
-
-are-small-requires : tie.Need-are-small-requires
-are-small-requires c κs = search needs
 
 returns : tie.Need-returns
 returns c = let a = c .before .before .before .before .args in fits-yes (a .seats .now) (c .before .before .wide .result) (a .roles) (c .are-small .result) (c .before .if1 .taken) (c .before .before .wide .ensures .0) (c .are-small .ensures)
@@ -23,8 +12,4 @@ returns-2 c = let a = c .before .before .before .args in fits-no (a .seats .now)
 pub fits-spec : {M : Type 1} → statement M
 fits-spec =
     tie.close
-    (tie.spec
-    wide-requires
-    are-small-requires
-    returns
-    returns-2)
+    (tie.spec (λ c κs. search needs) (λ c κs. search needs) returns returns-2)

@@ -1,4 +1,4 @@
-use mathlib.Core.Path.{_≡_, refl, sym, ap, _∙_}
+use mathlib.Core.Path.{sym, _∙_}
 use native.Mathlib.Omega.{arith}
 use borrow.Author.Tests.{not-true, not-false}
 use Rattle.format.specs.Contents.{contentsAt}
@@ -7,13 +7,6 @@ use Rattle.seated.proofs.EntryLaws.{fits-short, test-is, bar-table, bar
 use borrow.Author.Needs.{needs}
 use Rattle.seated.proofs.table.seats_bar.Statement.{statement}
 use Rattle.seated.proofs.table.seats_bar.Tie as tie
-use Rattle.seated.proofs.table.seats_bar.Reads as reads
-use Rattle.seated.proofs.table.seats_bar.Lts as lts
-use Rattle.seated.proofs.start.overfilled_at.Reads as overfilled-at-reads
-use Rattle.seated.proofs.table.fits.Reads as fits-reads
-
-fits-requires : tie.Need-fits-requires
-fits-requires c κs = search needs
 
 returns : tie.Need-returns
 returns c =
@@ -38,9 +31,4 @@ returns-3 c =
 pub seats-bar-spec : {M : Type 1} → statement M
 seats-bar-spec =
     tie.close
-    (tie.spec
-    fits-requires
-    returns
-    overfilled-at-requires
-    returns-2
-    returns-3)
+    (tie.spec (λ c κs. search needs) returns overfilled-at-requires returns-2 returns-3)

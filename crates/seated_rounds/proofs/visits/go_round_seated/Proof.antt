@@ -1,6 +1,6 @@
 -- The invariant: so many choices are written, and what is left from here gives what the whole gives.
 use Prim.Native.Nat.{suc, _-_}
-use mathlib.Core.Path.{_≡_, sym, ap, _∙_}
+use mathlib.Core.Path.{sym, ap, _∙_}
 use native.Mathlib.Omega.{arith}
 use lib.ListN.{length}
 use Rattle.format.specs.Contents.{contentsAt}
@@ -11,12 +11,6 @@ use Rattle.seated_rounds.proofs.SeatedRoundLaws.{Left, left-begin, leng
 use borrow.Author.Needs.{needs}
 use Rattle.seated_rounds.proofs.visits.go_round_seated.Statement.{statement}
 use Rattle.seated_rounds.proofs.visits.go_round_seated.Tie as tie
-use Rattle.seated_rounds.proofs.visits.go_round_seated.Reads as reads
-use Rattle.seated_rounds.proofs.visits.go_round_seated.Lts as lts
-use Rattle.dispatching.proofs.visits.put_choice.Reads as put-choice-reads
-use Rattle.format.proofs.words.narrow.Reads as narrow-reads
-use Rattle.seated_rounds.proofs.visits.visit_seated.Reads as visit-seated-reads
-use Rattle.steps.proofs.beside.thread_count.Reads as thread-count-reads
 
 abbrev Inv-loop : tie.InvT-loop
 Inv-loop file head sends receives table seats threads₀ beside₀ owners₀ lines₀ words₀ i₀ there₀ moved₀ n₀ threads beside owners lines words i there moved n =
@@ -24,9 +18,6 @@ Inv-loop file head sends receives table seats threads₀ beside₀ owners₀ lin
 
 abbrev μ-loop : tie.MeasureT-loop
 μ-loop file head sends receives table seats threads₀ beside₀ owners₀ lines₀ words₀ i₀ there₀ moved₀ n₀ threads beside owners lines words i there moved n = suc there - i
-
-thread-count-requires : tie.Need-thread-count-requires Inv-loop μ-loop
-thread-count-requires c κs = search needs
 
 loop-holds : tie.Need-loop-holds Inv-loop μ-loop
 loop-holds c =
@@ -73,19 +64,5 @@ returns c = left-ends _ _ _ _ _ _ _ _ _ _ _ (c .before .before .loop .inv) (c .n
 pub go-round-seated-spec : {M : Type 1} → statement M
 go-round-seated-spec =
     tie.close
-    (tie.spec
-    Inv-loop
-    μ-loop
-    thread-count-requires
-    loop-holds
-    visit-seated-requires
-    put-choice-requires
-    loop-less
-    loop-again
-    narrow-requires
-    same-length
-    same-length-2
-    same-length-3
-    same-length-4
-    same-length-5
-    returns)
+    (tie.spec Inv-loop μ-loop (λ c κs. search needs) loop-holds visit-seated-requires put-choice-requires loop-less
+    loop-again narrow-requires same-length same-length-2 same-length-3 same-length-4 same-length-5 returns)

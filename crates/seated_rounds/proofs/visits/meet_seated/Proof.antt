@@ -1,4 +1,3 @@
-use mathlib.Core.Path.{_≡_, refl, sym, ap, _∙_}
 use native.Mathlib.Omega.{arith}
 use Rattle.format.specs.Contents.{contentsAt}
 use Rattle.naming.specs.Scopes.{awaitedBy}
@@ -6,23 +5,12 @@ use Rattle.seated_rounds.proofs.SeatedVisitLaws.{receiver-is, told-noth
 use borrow.Author.Needs.{needs}
 use Rattle.seated_rounds.proofs.visits.meet_seated.Statement.{statement}
 use Rattle.seated_rounds.proofs.visits.meet_seated.Tie as tie
-use Rattle.seated_rounds.proofs.visits.meet_seated.Reads as reads
-use Rattle.seated_rounds.proofs.visits.meet_seated.Lts as lts
-use Rattle.dispatching.proofs.marks.with_moved.Reads as with-moved-reads
-use Rattle.dispatching.proofs.visits.receiver_for.Reads as receiver-for-reads
-use Rattle.seated.proofs.list.choose_one.Reads as choose-one-reads
 
 receiver-for-requires : tie.Need-receiver-for-requires
 receiver-for-requires c κs = let q = c .before .before .before .before .before .before .before .before .before .before .before .pre in (q .0, q .1, q .2, q .4 .sized, q .5, omega (arith, q .6, q .7), q .7)
 
 add-t20 : tie.Need-add-t20
 add-t20 c = omega (arith, c .before .before .before .before .before .before .before .before .before .before .before .before .before .pre .5, c .before .before .before .before .before .before .before .before .before .before .before .before .before .pre .6, c .before .before .before .before .before .before .before .before .before .before .before .before .before .pre .7, c .before .before .before .before .before .before .before .before .before .before .before .before .before .pre .4 .sized .threads)
-
-same-length : tie.Need-same-length
-same-length c = search needs
-
-same-length-2 : tie.Need-same-length-2
-same-length-2 c = search needs
 
 returns : tie.Need-returns
 returns c =
@@ -48,18 +36,6 @@ with-moved-requires c κs =
 with-moved-requires-2 : tie.Need-with-moved-requires-2
 with-moved-requires-2 c κs = let q = c .before .before .before .before .before .before .before .before .before .before .before .before .before .before .before .before .before .before .before .before .before .before .before .before .before .before .before .pre in (q .5, omega (arith, q .6, q .7, q .4 .sized .threads))
 
-same-length-3 : tie.Need-same-length-3
-same-length-3 c = search needs
-
-same-length-4 : tie.Need-same-length-4
-same-length-4 c = search needs
-
-same-length-5 : tie.Need-same-length-5
-same-length-5 c = search needs
-
-same-length-6 : tie.Need-same-length-6
-same-length-6 c = search needs
-
 returns-2 : tie.Need-returns-2
 returns-2 c =
     let a = c .before .before .before .before .before .before .before .before .before .before .before .before .before .before .before .before .before .before .before .before .before .before .before .before .before .before .before .before .args in
@@ -71,18 +47,6 @@ returns-2 c =
 pub meet-seated-spec : {M : Type 1} → statement M
 meet-seated-spec =
     tie.close
-    (tie.spec
-    receiver-for-requires
-    add-t20
-    same-length
-    same-length-2
-    returns
-    choose-one-requires
-    add-t30
-    with-moved-requires
-    with-moved-requires-2
-    same-length-3
-    same-length-4
-    same-length-5
-    same-length-6
-    returns-2)
+    (tie.spec receiver-for-requires add-t20 (λ c. search needs) (λ c. search needs) returns choose-one-requires add-t30
+    with-moved-requires with-moved-requires-2 (λ c. search needs) (λ c. search needs) (λ c. search needs)
+    (λ c. search needs) returns-2)

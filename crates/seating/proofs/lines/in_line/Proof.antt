@@ -1,10 +1,9 @@
 -- The invariant: the search from here on finds what the search from the start finds.
 use Prim.Native.Nat.{ℕ, _+_, _*_, _-_, _≤_, _<_}
-use mathlib.Core.Path.{_≡_, refl, sym, ap, _∙_}
-use mathlib.Core.Bool.{Bool, true, false, _||_}
+use mathlib.Core.Path.{_≡_, sym, ap, _∙_}
+use mathlib.Core.Bool.{Bool, _||_}
 use native.Mathlib.Omega.{arith}
 use borrow.Author.Needs.{needs}
-use lib.Dec.{eqb}
 use lib.ListN.{length, getD, take, drop}
 use borrow.Author.Tests.{eq-eqb, ne-eqb}
 use Rattle.seats.specs.Seats.{inLine}
@@ -12,9 +11,6 @@ use Rattle.seating.specs.SeatTables.{lineRow}
 use Rattle.seating.proofs.RowLaws.{search-step, search-end}
 use Rattle.seating.proofs.lines.in_line.Statement.{statement}
 use Rattle.seating.proofs.lines.in_line.Tie as tie
-use Rattle.seating.proofs.lines.in_line.Reads as reads
-use Rattle.seating.proofs.lines.in_line.Lts as lts
-use Rattle.format.proofs.words.wide.Reads as wide-reads
 
 abbrev Inv-loop : tie.InvT-loop
 Inv-loop lines row k at n i₀ i = (i ≤ n) × (inLine k (take (n - i) (drop (at + i) lines)) ≡ inLine k (lineRow lines row))
@@ -22,31 +18,6 @@ Inv-loop lines row k at n i₀ i = (i ≤ n) × (inLine k (take (n - i) (drop (a
 abbrev μ-loop : tie.MeasureT-loop
 μ-loop lines row k at n i₀ i = n - i
 
--- src/lines.rt:26:14
-mul-at : tie.Need-mul-at Inv-loop μ-loop
-mul-at c = search needs
-
--- src/lines.rt:26:14
-add-at : tie.Need-add-at Inv-loop μ-loop
-add-at c = search needs
-
--- src/lines.rt:27:24
-mul-wide : tie.Need-mul-wide Inv-loop μ-loop
-mul-wide c = search needs
-
--- src/lines.rt:27:18
-mul-wide-2 : tie.Need-mul-wide-2 Inv-loop μ-loop
-mul-wide-2 c = search needs
-
--- src/lines.rt:27:18
-shared-slice-read-wide : tie.Need-shared-slice-read-wide Inv-loop μ-loop
-shared-slice-read-wide c = search needs
-
--- src/lines.rt:27:9
-wide-requires : tie.Need-wide-requires Inv-loop μ-loop
-wide-requires c κs = search needs
-
--- src/lines.rt:29:5
 loop-holds : tie.Need-loop-holds Inv-loop μ-loop
 loop-holds c =
     let a = c .before .before .before .args in
@@ -57,22 +28,12 @@ loop-holds c =
       ap (λ (x : ℕ). inLine (a .k) (take x (drop (33 * a .row + 1 + 0) w))) e ∙ ap (λ (x : ℕ). inLine (a .k) (take (getD w (33 * a .row) 0) (drop x w))) d,
     )
 
--- src/lines.rt:30:18
-add-if1 : tie.Need-add-if1 Inv-loop μ-loop
-add-if1 c = search needs
-
--- src/lines.rt:30:12
-mul-if1 : tie.Need-mul-if1 Inv-loop μ-loop
-mul-if1 c = search needs
-
--- src/lines.rt:30:12
 shared-slice-read-if1 : tie.Need-shared-slice-read-if1 Inv-loop μ-loop
 shared-slice-read-if1 c =
     let q = c .before .before .before .before .before .before .pre in
     let a = c .before .before .before .before .before .before .args in
     omega (arith, q .0 .words, q .0 .few (a .row) (q .1), c .before .before .before .wide .ensures .0)
 
--- src/lines.rt:31:13
 returns : tie.Need-returns Inv-loop μ-loop
 returns c =
     let q = c .before .before .before .before .before .before .before .pre in
@@ -85,15 +46,6 @@ returns c =
     sym (sym (l .inv .1) ∙ search-step w n at (l .i) (a .k) (omega arith) m
     ∙ ap (λ (b : Bool). b || inLine (a .k) (take (n - (l .i + 1)) (drop (at + (l .i + 1)) w))) (eq-eqb (getD w (at + l .i) 0) (a .k) (omega arith)))
 
--- src/lines.rt:33:9
-add-i : tie.Need-add-i Inv-loop μ-loop
-add-i c = search needs
-
--- src/lines.rt:29:5
-loop-less : tie.Need-loop-less Inv-loop μ-loop
-loop-less c = omega arith
-
--- src/lines.rt:29:5
 loop-again : tie.Need-loop-again Inv-loop μ-loop
 loop-again c =
     let q = c .before .before .before .before .before .before .before .pre in
@@ -108,7 +60,6 @@ loop-again c =
           ∙ sym (search-step w n at (l .i) (a .k) (omega arith) m) ∙ l .inv .1,
     )
 
--- src/lines.rt:22:1
 returns-2 : tie.Need-returns-2 Inv-loop μ-loop
 returns-2 c =
     let a = c .before .before .before .before .before .args in
@@ -119,21 +70,6 @@ returns-2 c =
 pub in-line-spec : {M : Type 1} → statement M
 in-line-spec =
     tie.close
-    (tie.spec
-    Inv-loop
-    μ-loop
-    mul-at
-    add-at
-    mul-wide
-    mul-wide-2
-    shared-slice-read-wide
-    wide-requires
-    loop-holds
-    add-if1
-    mul-if1
-    shared-slice-read-if1
-    returns
-    add-i
-    loop-less
-    loop-again
-    returns-2)
+    (tie.spec Inv-loop μ-loop (λ c. search needs) (λ c. search needs) (λ c. search needs) (λ c. search needs)
+    (λ c. search needs) (λ c κs. search needs) loop-holds (λ c. search needs) (λ c. search needs) shared-slice-read-if1
+    returns (λ c. search needs) (λ c. omega arith) loop-again returns-2)

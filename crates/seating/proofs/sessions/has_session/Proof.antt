@@ -17,17 +17,8 @@ returns c =
 returns-2 : tie.Need-returns-2
 returns-2 c = let a = c .before .before .args in sym (has-above 32 (a .mask) (a .k) (omega arith) (omega arith))
 
-sub-result : tie.Need-sub-result
-sub-result c = search needs
-
-cast-result : tie.Need-cast-result
-cast-result c = search needs
-
-shr-result : tie.Need-shr-result
-shr-result c = search needs
-
 returns-3 : tie.Need-returns-3
 returns-3 c = let a = c .before .before .args in has-form (a .mask) (a .k) (omega arith)
 
 pub has-session-spec : {M : Type 1} → statement M
-has-session-spec = tie.close (tie.spec returns returns-2 sub-result cast-result shr-result returns-3)
+has-session-spec = tie.close (tie.spec returns returns-2 (λ c. search needs) (λ c. search needs) (λ c. search needs) returns-3)

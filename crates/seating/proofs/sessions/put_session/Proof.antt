@@ -1,16 +1,9 @@
 use mathlib.Core.Bool.{true, false}
 use Rattle.masks.specs.Mask.{has}
-use mathlib.Core.Path.{_≡_, sym, ap, _∙_}
-use native.Mathlib.Omega.{arith}
+use mathlib.Core.Path.{_≡_, sym, _∙_}
 use borrow.Author.Needs.{needs}
 use Rattle.seating.proofs.sessions.put_session.Statement.{statement}
 use Rattle.seating.proofs.sessions.put_session.Tie as tie
-
-has-role-requires : tie.Need-has-role-requires
-has-role-requires c κs = search needs
-
-with-session-requires : tie.Need-with-session-requires
-with-session-requires c κs = search needs
 
 returns : tie.Need-returns
 returns c =
@@ -25,4 +18,4 @@ returns-2 c =
     sym (rw no)
 
 pub put-session-spec : {M : Type 1} → statement M
-put-session-spec = tie.close (tie.spec has-role-requires with-session-requires returns returns-2)
+put-session-spec = tie.close (tie.spec (λ c κs. search needs) (λ c κs. search needs) returns returns-2)

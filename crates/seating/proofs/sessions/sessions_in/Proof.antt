@@ -1,9 +1,9 @@
 -- The invariant: the sessions from here on, put into what is gathered so far, are those of the whole.
 use Prim.Native.Nat.{ℕ, _+_, _-_, _≤_}
-use mathlib.Core.Path.{_≡_, refl, sym, ap, _∙_}
+use mathlib.Core.Path.{_≡_, sym, ap, _∙_}
 use native.Mathlib.Omega.{arith}
 use borrow.Author.Needs.{needs}
-use lib.ListN.{length, drop}
+use lib.ListN.{drop}
 use Rattle.steps.specs.Records.{threadsIn, recordAt}
 use Rattle.seating.specs.SeatTables.{gathered}
 use Rattle.seating.proofs.GatherLaws.{gather-step, gather-end}
@@ -23,32 +23,8 @@ loop-holds c =
     let e : a .count - 0 ≡ a .count = omega arith in
     (omega arith, ap (λ (x : ℕ). gathered (threadsIn (a .threads .now) 0 x) (a .owners .now) (a .role .0) 0) e)
 
-mul-put-session : tie.Need-mul-put-session Inv-loop μ-loop
-mul-put-session c = search needs
-
-add-put-session : tie.Need-add-put-session Inv-loop μ-loop
-add-put-session c = search needs
-
-mul-put-session-2 : tie.Need-mul-put-session-2 Inv-loop μ-loop
-mul-put-session-2 c = search needs
-
-shared-slice-read-put-session : tie.Need-shared-slice-read-put-session Inv-loop μ-loop
-shared-slice-read-put-session c = omega arith
-
-mul-put-session-3 : tie.Need-mul-put-session-3 Inv-loop μ-loop
-mul-put-session-3 c = search needs
-
-shared-slice-read-put-session-2 : tie.Need-shared-slice-read-put-session-2 Inv-loop μ-loop
-shared-slice-read-put-session-2 c = omega arith
-
 put-session-requires : tie.Need-put-session-requires Inv-loop μ-loop
 put-session-requires c κs = tt
-
-add-i : tie.Need-add-i Inv-loop μ-loop
-add-i c = search needs
-
-loop-less : tie.Need-loop-less Inv-loop μ-loop
-loop-less c = omega arith
 
 loop-again : tie.Need-loop-again Inv-loop μ-loop
 loop-again c =
@@ -68,18 +44,6 @@ returns c =
 pub sessions-in-spec : {M : Type 1} → statement M
 sessions-in-spec =
     tie.close
-    (tie.spec
-    Inv-loop
-    μ-loop
-    loop-holds
-    mul-put-session
-    add-put-session
-    mul-put-session-2
-    shared-slice-read-put-session
-    mul-put-session-3
-    shared-slice-read-put-session-2
-    put-session-requires
-    add-i
-    loop-less
-    loop-again
+    (tie.spec Inv-loop μ-loop loop-holds (λ c. search needs) (λ c. search needs) (λ c. search needs) (λ c. omega arith)
+    (λ c. search needs) (λ c. omega arith) put-session-requires (λ c. search needs) (λ c. omega arith) loop-again
     returns)

@@ -20,11 +20,6 @@ use Rattle.sheets.proofs.EntryLaws.{entry-loud, entry-quiet}
 use borrow.Author.Needs.{needs}
 use Rattle.sheets.proofs.entries.entry_body.Statement.{statement}
 use Rattle.sheets.proofs.entries.entry_body.Tie as tie
-use Rattle.sheets.proofs.entries.entry_body.Reads as reads
-use Rattle.sheets.proofs.entries.entry_body.Lts as lts
-use Rattle.placing.proofs.decide.decide.Reads as decide-reads
-use Rattle.sheets.proofs.entries.refused.Reads as refused-reads
-use Rattle.sheets.proofs.most.most_in.Reads as most-in-reads
 
 -- what the file holds, and its nodes as they are seen
 abbrev held : tie.Else1 → Contents
@@ -60,15 +55,6 @@ turns-at c =
 decide-requires : tie.Need-decide-requires
 decide-requires c κs = let a = c .before .before .before .before .before .before .args in let pre = c .before .before .before .before .before .before .pre in (entered-fine (a .file .now) (a .head) (pre .0) .0, pre .1, pre .2, pre .3)
 
-refused-requires : tie.Need-refused-requires
-refused-requires c κs = search needs
-
-same-length : tie.Need-same-length
-same-length c = search needs
-
-same-length-2 : tie.Need-same-length-2
-same-length-2 c = search needs
-
 returns : tie.Need-returns
 returns c =
     let a = c .before .before .before .before .before .before .before .before .before .before .before .before .before .args in
@@ -83,12 +69,6 @@ most-in-requires c κs =
     let pre = c .before .before .before .before .before .before .before .before .before .before .before .before .before .pre in
     (pre .0, ap length (table-at (c .before)) ∙ length-sets {A = ℕ} (c .before .before .before .before .before .before .before .before .before .before .before .before .before .args .turns .now) 1 (map packed (turnsOf (seen (c .before)))) ∙ pre .2)
 
-same-length-3 : tie.Need-same-length-3
-same-length-3 c = search needs
-
-same-length-4 : tie.Need-same-length-4
-same-length-4 c = search needs
-
 returns-2 : tie.Need-returns-2
 returns-2 c =
     let a = c .before .before .before .before .before .before .before .before .before .before .before .before .before .before .args in
@@ -101,13 +81,5 @@ returns-2 c =
 pub entry-body-spec : {M : Type 1} → statement M
 entry-body-spec =
     tie.close
-    (tie.spec
-    decide-requires
-    refused-requires
-    same-length
-    same-length-2
-    returns
-    most-in-requires
-    same-length-3
-    same-length-4
-    returns-2)
+    (tie.spec decide-requires (λ c κs. search needs) (λ c. search needs) (λ c. search needs) returns most-in-requires
+    (λ c. search needs) (λ c. search needs) returns-2)

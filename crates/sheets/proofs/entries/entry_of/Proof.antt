@@ -16,11 +16,6 @@ use Rattle.sheets.proofs.EntryLaws.{entry-from, entry-refused, entry-wi
 use borrow.Author.Needs.{needs}
 use Rattle.sheets.proofs.entries.entry_of.Statement.{statement}
 use Rattle.sheets.proofs.entries.entry_of.Tie as tie
-use Rattle.sheets.proofs.entries.entry_of.Reads as reads
-use Rattle.sheets.proofs.entries.entry_of.Lts as lts
-use Rattle.checking.proofs.examine.Reads as examine-reads
-use Rattle.sheets.proofs.entries.entry_body.Reads as entry-body-reads
-use Rattle.sheets.proofs.entries.refused.Reads as refused-reads
 
 -- the head that was read, and each node's candidates in the table
 told : (c : tie.After-known-told2) → entered (c .before .before .before .before .before .before .before .before .before .before .before .args .file .now) ≡ Fine (c .before .names2 .given .0 .0)
@@ -35,23 +30,8 @@ labels c =
     let (l, n) = surveyed-labels f h (told c) (a .roles .now) _ (c .before .before .before .before .before .examine .ensures .1) (omega (arith, nodes-held f h, entered-fine f h (told c) .0 .nodes, room)) in
     (l, n ∙ room)
 
-examine-requires : tie.Need-examine-requires
-examine-requires c κs = search needs
-
-enum-known-names : tie.Need-enum-known-names
-enum-known-names c = search needs
-
-refused-requires : tie.Need-refused-requires
-refused-requires c κs = search needs
-
-enum-known-names-2 : tie.Need-enum-known-names-2
-enum-known-names-2 c = search needs
-
 entry-body-requires : tie.Need-entry-body-requires
 entry-body-requires c κs = let at = c .before .before .before in let pre = c .before .before .before .before .before .before .before .before .before .before .before .before .before .before .pre in (told at, labels at .1, pre .1, pre .2)
-
-same-length : tie.Need-same-length
-same-length c = search needs
 
 returns : tie.Need-returns
 returns c =
@@ -60,15 +40,6 @@ returns c =
     let (e, loud) = names-loud f w (sym (ap (λ (x : Examined). x .names) (c .before .before .before .before .before .before .examine .ensures .0)) ∙ c .before .before .names .given .1) in
     let same : c .refused .result ≡ entryOf f = c .refused .ensures ∙ sym (entry-refused f w e loud) in
     (same, subst Within (sym same) (entry-within f))
-
-same-length-2 : tie.Need-same-length-2
-same-length-2 c = search needs
-
-same-length-3 : tie.Need-same-length-3
-same-length-3 c = search needs
-
-same-length-4 : tie.Need-same-length-4
-same-length-4 c = search needs
 
 returns-2 : tie.Need-returns-2
 returns-2 c =
@@ -81,15 +52,5 @@ returns-2 c =
 pub entry-of-spec : {M : Type 1} → statement M
 entry-of-spec =
     tie.close
-    (tie.spec
-    examine-requires
-    enum-known-names
-    refused-requires
-    enum-known-names-2
-    entry-body-requires
-    same-length
-    returns
-    same-length-2
-    same-length-3
-    same-length-4
-    returns-2)
+    (tie.spec (λ c κs. search needs) (λ c. search needs) (λ c κs. search needs) (λ c. search needs) entry-body-requires
+    (λ c. search needs) returns (λ c. search needs) (λ c. search needs) (λ c. search needs) returns-2)

@@ -1,4 +1,4 @@
-use Prim.Native.Nat.{ℕ, _+_, _-_, _≤_, _<_, max}
+use Prim.Native.Nat.{ℕ, _+_, _-_, _≤_, max}
 use mathlib.Core.Path.{_≡_, refl, sym, ap, _∙_, subst}
 use mathlib.Core.List.{List}
 use native.Mathlib.Omega.{arith}
@@ -16,11 +16,6 @@ use Rattle.sheets.specs.Entries.{mostFrom, endBy}
 use Rattle.sheets.proofs.MostLaws.{entered-shape, part, Passing, passing-first, passing-next, passing-last}
 use Rattle.sheets.proofs.most.most_in.Statement.{statement}
 use Rattle.sheets.proofs.most.most_in.Tie as tie
-use Rattle.sheets.proofs.most.most_in.Reads as reads
-use Rattle.sheets.proofs.most.most_in.Lts as lts
-use Rattle.sheets.proofs.most.end_of.Reads as end-of-reads
-use Rattle.sheets.proofs.most.larger.Reads as larger-reads
-use Rattle.sheets.proofs.most.ons_between.Reads as ons-between-reads
 
 abbrev Passed : List ℕ → Head → List ℕ → ℕ → ℕ → ℕ → Type 0
 Passed file head turns most at k =
@@ -73,9 +68,6 @@ ons-between-requires c κs =
     let a = c .before .before .before .before .before .args in
     (omega (arith, next c .within, nodes-held (a .file .now) (a .head), entered-fine (a .file .now) (a .head) (c .before .before .before .before .before .pre .0) .0 .nodes), c .before .before .before .before .before .pre .1)
 
-larger-requires : tie.Need-larger-requires Inv-loop μ-loop
-larger-requires c κs = search needs
-
 loop-less : tie.Need-loop-less Inv-loop μ-loop
 loop-less c = omega (arith, c .before .before .before .loop-test .taken)
 
@@ -95,4 +87,4 @@ returns c =
     (omega (arith, c .loop-test .left, l .inv .0, sessions-held (a .file .now) (a .head))) (l .inv .2)
 
 pub most-in-spec : {M : Type 1} → statement M
-most-in-spec = tie.close (tie.spec Inv-loop μ-loop loop-holds add-k end-of-requires ons-between-requires larger-requires loop-less loop-again returns)
+most-in-spec = tie.close (tie.spec Inv-loop μ-loop loop-holds add-k end-of-requires ons-between-requires (λ c κs. search needs) loop-less loop-again returns)

@@ -1,5 +1,5 @@
-use Prim.Native.Nat.{ℕ, _+_, _-_, _≤_, _<_}
-use mathlib.Core.Path.{_≡_, refl, sym, ap, _∙_}
+use Prim.Native.Nat.{_+_, _-_, _≤_}
+use mathlib.Core.Path.{_≡_}
 use native.Mathlib.Omega.{arith}
 use lib.ListN.{getD}
 use borrow.Author.Needs.{needs}
@@ -8,9 +8,6 @@ use Rattle.groups.specs.Groups.{onOf, onsOf}
 use Rattle.sheets.proofs.MostLaws.{part, ons-next, ons-none}
 use Rattle.sheets.proofs.most.ons_between.Statement.{statement}
 use Rattle.sheets.proofs.most.ons_between.Tie as tie
-use Rattle.sheets.proofs.most.ons_between.Reads as reads
-use Rattle.sheets.proofs.most.ons_between.Lts as lts
-use Rattle.sheets.proofs.most.on_before.Reads as on-before-reads
 
 abbrev Inv-loop : tie.InvT-loop
 Inv-loop turns at end ons₀ i₀ ons i = (at ≤ i) × (ons + at ≤ i) × (ons + onsOf (part turns i end) ≡ onsOf (part turns at end))
@@ -18,35 +15,24 @@ Inv-loop turns at end ons₀ i₀ ons i = (at ≤ i) × (ons + at ≤ i) × (ons
 abbrev μ-loop : tie.MeasureT-loop
 μ-loop turns at end ons₀ i₀ ons i = end - i
 
--- src/most.rt:39:5
 loop-holds : tie.Need-loop-holds Inv-loop μ-loop
 loop-holds c = (omega arith, omega arith, omega arith)
 
--- src/most.rt:40:26
 mul-on-before : tie.Need-mul-on-before Inv-loop μ-loop
 mul-on-before c = omega (arith, c .loop-test .taken, c .before .before .before .pre .0)
 
--- src/most.rt:40:26
 shared-slice-read-on-before : tie.Need-shared-slice-read-on-before Inv-loop μ-loop
 shared-slice-read-on-before c = omega (arith, c .before .loop-test .taken, c .before .before .before .before .pre .0, c .before .before .before .before .pre .1)
 
--- src/most.rt:40:16
-on-before-requires : tie.Need-on-before-requires Inv-loop μ-loop
-on-before-requires c κs = search needs
-
--- src/most.rt:40:9
 add-ons : tie.Need-add-ons Inv-loop μ-loop
 add-ons c = omega (arith, c .on-before .ensures .1, c .before .before .before .loop .inv .1, c .before .before .loop-test .taken, c .before .before .before .before .before .pre .0)
 
--- src/most.rt:41:9
 add-i : tie.Need-add-i Inv-loop μ-loop
 add-i c = omega (arith, c .before .before .loop-test .taken, c .before .before .before .before .before .pre .0)
 
--- src/most.rt:39:5
 loop-less : tie.Need-loop-less Inv-loop μ-loop
 loop-less c = omega (arith, c .before .before .loop-test .taken)
 
--- src/most.rt:39:5
 loop-again : tie.Need-loop-again Inv-loop μ-loop
 loop-again c =
     let a = c .before .before .before .before .before .args in
@@ -55,7 +41,6 @@ loop-again c =
     let next = ons-next (a .turns .now) (l .i) (a .end) (c .before .before .loop-test .taken) (omega (arith, c .before .before .before .before .before .pre .0, c .before .before .before .before .before .pre .1)) in
     (omega (arith, l .inv .0), omega (arith, l .inv .1, c .on-before .ensures .1), omega (arith, l .inv .2, on, next))
 
--- src/most.rt:33:1
 returns : tie.Need-returns Inv-loop μ-loop
 returns c =
     let a = c .before .before .before .args in
@@ -65,15 +50,5 @@ returns c =
 pub ons-between-spec : {M : Type 1} → statement M
 ons-between-spec =
     tie.close
-    (tie.spec
-    Inv-loop
-    μ-loop
-    loop-holds
-    mul-on-before
-    shared-slice-read-on-before
-    on-before-requires
-    add-ons
-    add-i
-    loop-less
-    loop-again
-    returns)
+    (tie.spec Inv-loop μ-loop loop-holds mul-on-before shared-slice-read-on-before (λ c κs. search needs) add-ons add-i
+    loop-less loop-again returns)

@@ -1,25 +1,16 @@
 use Prim.Native.Nat.{ℕ, _+_, _*_, _≤_}
-use mathlib.Core.Path.{_≡_, sym, ap, ap₂, subst, _∙_}
+use mathlib.Core.Path.{_≡_, sym, ap, ap₂, _∙_}
 use mathlib.Core.Bool.{cond}
-use mathlib.Core.List.{List}
 use native.Mathlib.Omega.{arith}
 use lib.Dec.{eqb, ltb}
 use lib.ListN.{getD}
 use borrow.Author.Tests.{ne-eqb}
 use Rattle.states.specs.States as states
-use Rattle.states.specs.Kept.{noSaving, added, worthAt, worthsOf, rank, highest, above, leftOver, savingBy, savingOf, wordBy, wordOf}
+use Rattle.states.specs.Kept.{noSaving, added, worthAt, worthsOf, rank, highest, savingBy, savingOf, wordBy, wordOf}
 use Rattle.states.proofs.LaneLaws.{kids-most, worth-most, extra-most, floor-is, floor-least, idle-tag, idle-saving, idle-word, end-saving, end-word}
 use borrow.Author.Needs.{needs}
 use Rattle.states.proofs.costs.keep.Statement.{statement}
 use Rattle.states.proofs.costs.keep.Tie as tie
-use Rattle.states.proofs.costs.keep.Reads as reads
-use Rattle.states.proofs.costs.keep.Lts as lts
-use Rattle.states.proofs.costs.by_rank.Reads as by-rank-reads
-use Rattle.states.proofs.costs.either.Reads as either-reads
-use Rattle.states.proofs.costs.kids_of.Reads as kids-of-reads
-use Rattle.states.proofs.costs.lanes_above.Reads as lanes-above-reads
-use Rattle.states.proofs.costs.left_over.Reads as left-over-reads
-use Rattle.states.proofs.costs.worths.Reads as worths-reads
 
 -- an end
 returns : tie.Need-returns
@@ -29,12 +20,6 @@ returns c =
       sym (ap (λ t. savingOf t (a .roles) (a .one .now) (a .two .now)) z ∙ end-saving (a .roles) (a .one .now) (a .two .now)),
       sym (ap (λ t. wordOf t (a .roles) (a .one .now) (a .two .now)) z ∙ end-word (a .roles) (a .one .now) (a .two .now)),
     )
-
-kids-of-requires : tie.Need-kids-of-requires
-kids-of-requires c κs = search needs
-
-either-requires : tie.Need-either-requires
-either-requires c κs = search needs
 
 -- what the children save, and what the states are worth
 most-saved : (c : tie.After-kids-of) (q : ℕ) → getD (c .kids-of .result) q 0 ≤ 2050
@@ -61,9 +46,6 @@ most c q =
       worth-most (c .before .before .before .before .before .args .roles) (c .before .before .before .kids-of .result) (c .before .either .result) 3076 (λ q. omega (arith, most-saved (c .before .before .before) q, c .before .either .ensures, extra-most (ltb 4 (c .before .before .before .before .before .args .tag)))) q,
     )
 
-either-requires-2 : tie.Need-either-requires-2
-either-requires-2 c κs = search needs
-
 by-rank-requires : tie.Need-by-rank-requires
 by-rank-requires c κs = (omega (arith, c .before .either2 .ensures, floor-least (states.needs (c .before .before .before .before .before .before .before .before .args .tag))), most (c .before .before .before), c .before .before .before .before .before .before .before .before .pre .2)
 
@@ -76,18 +58,6 @@ returns-2 c =
       c .by-rank .ensures .0 ∙ ap₂ (λ b u. savingBy (highest b 16 (rank u)) u) base u,
       c .by-rank .ensures .1 ∙ ap₂ (λ b u. wordBy (highest b 16 (rank u)) u) base u,
     )
-
-left-over-requires : tie.Need-left-over-requires
-left-over-requires c κs = search needs
-
-lanes-above-requires : tie.Need-lanes-above-requires
-lanes-above-requires c κs = search needs
-
-cast-t22 : tie.Need-cast-t22
-cast-t22 c = search needs
-
-mul-t23 : tie.Need-mul-t23
-mul-t23 c = search needs
 
 -- no state is worth as much as none
 few : (c : tie.After-lanes-above) (q : ℕ) → getD (c .before .before .before .before .before .worths .result) q 0 ≤ 2050
@@ -116,16 +86,6 @@ returns-3 c =
 pub keep-spec : {M : Type 1} → statement M
 keep-spec =
     tie.close
-    (tie.spec
-    returns
-    kids-of-requires
-    either-requires
-    worths-requires
-    either-requires-2
-    by-rank-requires
-    returns-2
-    left-over-requires
-    lanes-above-requires
-    cast-t22
-    mul-t23
+    (tie.spec returns (λ c κs. search needs) (λ c κs. search needs) worths-requires (λ c κs. search needs)
+    by-rank-requires returns-2 (λ c κs. search needs) (λ c κs. search needs) (λ c. search needs) (λ c. search needs)
     returns-3)

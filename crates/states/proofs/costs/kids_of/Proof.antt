@@ -1,14 +1,8 @@
-use mathlib.Core.Path.{refl, _∙_, sym}
+use mathlib.Core.Path.{refl}
 use borrow.Author.Tests.{eq-eqb, ne-eqb}
 use borrow.Author.Needs.{needs}
 use Rattle.states.proofs.costs.kids_of.Statement.{statement}
 use Rattle.states.proofs.costs.kids_of.Tie as tie
-use Rattle.states.proofs.costs.kids_of.Reads as reads
-use Rattle.states.proofs.costs.kids_of.Lts as lts
-use Rattle.states.proofs.costs.sums.Reads as sums-reads
-
-sums-requires : tie.Need-sums-requires
-sums-requires c κs = search needs
 
 returns : tie.Need-returns
 returns c = rw (eq-eqb _ _ (c .before .if1 .taken)) (c .sums .ensures)
@@ -17,4 +11,4 @@ returns-2 : tie.Need-returns-2
 returns-2 c = rw (ne-eqb _ _ (c .before .if1 .left)) refl
 
 pub kids-of-spec : {M : Type 1} → statement M
-kids-of-spec = tie.close (tie.spec sums-requires returns returns-2)
+kids-of-spec = tie.close (tie.spec (λ c κs. search needs) returns returns-2)

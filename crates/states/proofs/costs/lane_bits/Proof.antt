@@ -2,8 +2,6 @@ use mathlib.Core.Path.{refl}
 use Rattle.states.specs.States.{up}
 use Rattle.states.proofs.costs.lane_bits.Statement.{statement}
 use Rattle.states.proofs.costs.lane_bits.Tie as tie
-use Rattle.states.proofs.costs.lane_bits.Reads as reads
-use Rattle.states.proofs.costs.lane_bits.Lts as lts
 
 returns : tie.Need-returns
 unfolding up

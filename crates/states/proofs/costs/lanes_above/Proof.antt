@@ -1,4 +1,4 @@
-use Prim.Native.Nat.{_+_, _-_, _≤_}
+use Prim.Native.Nat.{_-_, _≤_}
 use mathlib.Core.Path.{_≡_, refl, ap, _∙_}
 use native.Mathlib.Omega.{arith}
 use lib.Dec.{ltb}
@@ -7,9 +7,6 @@ use Rattle.states.specs.Kept.{gather}
 use Rattle.states.proofs.LaneLaws.{lane-bit, gather-more, gather-fits}
 use Rattle.states.proofs.costs.lanes_above.Statement.{statement}
 use Rattle.states.proofs.costs.lanes_above.Tie as tie
-use Rattle.states.proofs.costs.lanes_above.Reads as reads
-use Rattle.states.proofs.costs.lanes_above.Lts as lts
-use Rattle.states.proofs.costs.either.Reads as either-reads
 
 abbrev Inv-loop : tie.InvT-loop
 Inv-loop least lanes bits set₀ q₀ set q =
@@ -22,21 +19,6 @@ loop-holds : tie.Need-loop-holds Inv-loop μ-loop
 unfolding gather
 loop-holds c = (omega arith, refl)
 
-mul-either : tie.Need-mul-either Inv-loop μ-loop
-mul-either c = omega arith
-
-element-copy-out-either : tie.Need-element-copy-out-either Inv-loop μ-loop
-element-copy-out-either c = omega arith
-
-mul-either-2 : tie.Need-mul-either-2 Inv-loop μ-loop
-mul-either-2 c = omega arith
-
-element-copy-out-either-2 : tie.Need-element-copy-out-either-2 Inv-loop μ-loop
-element-copy-out-either-2 c = omega arith
-
-either-requires : tie.Need-either-requires Inv-loop μ-loop
-either-requires c κs = omega arith
-
 add-set : tie.Need-add-set Inv-loop μ-loop
 add-set c =
     let l = c .before .before .before .before .loop in
@@ -46,12 +28,6 @@ add-set c =
       gather-fits (l .q) (λ q. ltb (a .least) (getD (a .lanes .now) q 0)) (omega arith) (l .set) (c .either .result) (l .inv .1)
           (c .either .ensures ∙ lane-bit (a .bits .now) (c .before .before .before .before .before .pre) (ltb (a .least) (getD (a .lanes .now) (l .q) 0)) (l .q) (omega arith)),
     )
-
-add-q : tie.Need-add-q Inv-loop μ-loop
-add-q c = omega arith
-
-loop-less : tie.Need-loop-less Inv-loop μ-loop
-loop-less c = omega arith
 
 loop-again : tie.Need-loop-again Inv-loop μ-loop
 loop-again c =
@@ -68,17 +44,5 @@ returns c = let e : c .before .loop .q ≡ 16 = omega arith in c .before .loop .
 pub lanes-above-spec : {M : Type 1} → statement M
 lanes-above-spec =
     tie.close
-    (tie.spec
-    Inv-loop
-    μ-loop
-    loop-holds
-    mul-either
-    element-copy-out-either
-    mul-either-2
-    element-copy-out-either-2
-    either-requires
-    add-set
-    add-q
-    loop-less
-    loop-again
-    returns)
+    (tie.spec Inv-loop μ-loop loop-holds (λ c. omega arith) (λ c. omega arith) (λ c. omega arith) (λ c. omega arith)
+    (λ c κs. omega arith) add-set (λ c. omega arith) (λ c. omega arith) loop-again returns)

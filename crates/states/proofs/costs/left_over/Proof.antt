@@ -1,14 +1,11 @@
-use Prim.Native.Nat.{_+_, _-_, _≤_}
-use mathlib.Core.Path.{_≡_, refl, ap, _∙_}
+use Prim.Native.Nat.{_-_, _≤_}
+use mathlib.Core.Path.{_≡_, refl}
 use native.Mathlib.Omega.{arith}
 use lib.ListN.{length, getD, take, length-set}
 use Rattle.states.specs.States.{up}
 use Rattle.states.proofs.LaneLaws.{fill-more, filled}
 use Rattle.states.proofs.costs.left_over.Statement.{statement}
 use Rattle.states.proofs.costs.left_over.Tie as tie
-use Rattle.states.proofs.costs.left_over.Reads as reads
-use Rattle.states.proofs.costs.left_over.Lts as lts
-use Rattle.states.proofs.costs.larger.Reads as larger-reads
 
 abbrev Inv-loop : tie.InvT-loop
 Inv-loop least us out₀ q₀ out q =
@@ -21,29 +18,8 @@ loop-holds : tie.Need-loop-holds Inv-loop μ-loop
 unfolding up
 loop-holds c = (omega arith, refl, refl)
 
-mul-larger : tie.Need-mul-larger Inv-loop μ-loop
-mul-larger c = omega arith
-
-element-copy-out-larger : tie.Need-element-copy-out-larger Inv-loop μ-loop
-element-copy-out-larger c = omega arith
-
-larger-requires : tie.Need-larger-requires Inv-loop μ-loop
-larger-requires c κs = omega arith
-
 sub-out : tie.Need-sub-out Inv-loop μ-loop
 sub-out c = omega (arith, c .larger .ensures)
-
-mul-out : tie.Need-mul-out Inv-loop μ-loop
-mul-out c = omega arith
-
-array-write-out : tie.Need-array-write-out Inv-loop μ-loop
-array-write-out c = omega arith
-
-add-q : tie.Need-add-q Inv-loop μ-loop
-add-q c = omega arith
-
-loop-less : tie.Need-loop-less Inv-loop μ-loop
-loop-less c = omega arith
 
 loop-again : tie.Need-loop-again Inv-loop μ-loop
 loop-again c =
@@ -60,17 +36,5 @@ returns c =
 pub left-over-spec : {M : Type 1} → statement M
 left-over-spec =
     tie.close
-    (tie.spec
-    Inv-loop
-    μ-loop
-    loop-holds
-    mul-larger
-    element-copy-out-larger
-    larger-requires
-    sub-out
-    mul-out
-    array-write-out
-    add-q
-    loop-less
-    loop-again
-    returns)
+    (tie.spec Inv-loop μ-loop loop-holds (λ c. omega arith) (λ c. omega arith) (λ c κs. omega arith) sub-out
+    (λ c. omega arith) (λ c. omega arith) (λ c. omega arith) (λ c. omega arith) loop-again returns)

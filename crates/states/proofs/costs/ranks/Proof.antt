@@ -1,14 +1,12 @@
-use Prim.Native.Nat.{_+_, _-_, _≤_}
-use mathlib.Core.Path.{_≡_, refl, ap, _∙_}
+use Prim.Native.Nat.{_-_, _≤_}
+use mathlib.Core.Path.{_≡_, refl}
 use native.Mathlib.Omega.{arith}
-use lib.ListN.{length, getD, take, length-set}
+use lib.ListN.{length, take, length-set}
 use Rattle.states.specs.States.{up}
 use Rattle.states.specs.Kept.{rank}
 use Rattle.states.proofs.LaneLaws.{fill-more, filled}
 use Rattle.states.proofs.costs.ranks.Statement.{statement}
 use Rattle.states.proofs.costs.ranks.Tie as tie
-use Rattle.states.proofs.costs.ranks.Reads as reads
-use Rattle.states.proofs.costs.ranks.Lts as lts
 
 abbrev Inv-loop : tie.InvT-loop
 Inv-loop us out₀ q₀ out q =
@@ -21,35 +19,11 @@ loop-holds : tie.Need-loop-holds Inv-loop μ-loop
 unfolding up
 loop-holds c = (omega arith, refl, refl)
 
-mul-out : tie.Need-mul-out Inv-loop μ-loop
-mul-out c = omega arith
-
-element-copy-out-out : tie.Need-element-copy-out-out Inv-loop μ-loop
-element-copy-out-out c = omega arith
-
 mul-out-2 : tie.Need-mul-out-2 Inv-loop μ-loop
 mul-out-2 c = omega (arith, c .before .before .before .pre (c .before .before .loop .q))
 
-cast-out : tie.Need-cast-out Inv-loop μ-loop
-cast-out c = omega arith
-
-sub-out : tie.Need-sub-out Inv-loop μ-loop
-sub-out c = omega arith
-
 add-out : tie.Need-add-out Inv-loop μ-loop
 add-out c = omega (arith, c .before .before .before .pre (c .before .before .loop .q))
-
-mul-out-3 : tie.Need-mul-out-3 Inv-loop μ-loop
-mul-out-3 c = omega arith
-
-array-write-out : tie.Need-array-write-out Inv-loop μ-loop
-array-write-out c = omega arith
-
-add-q : tie.Need-add-q Inv-loop μ-loop
-add-q c = omega arith
-
-loop-less : tie.Need-loop-less Inv-loop μ-loop
-loop-less c = omega arith
 
 loop-again : tie.Need-loop-again Inv-loop μ-loop
 loop-again c =
@@ -66,19 +40,6 @@ returns c =
 pub ranks-spec : {M : Type 1} → statement M
 ranks-spec =
     tie.close
-    (tie.spec
-    Inv-loop
-    μ-loop
-    loop-holds
-    mul-out
-    element-copy-out-out
-    mul-out-2
-    cast-out
-    sub-out
-    add-out
-    mul-out-3
-    array-write-out
-    add-q
-    loop-less
-    loop-again
+    (tie.spec Inv-loop μ-loop loop-holds (λ c. omega arith) (λ c. omega arith) mul-out-2 (λ c. omega arith)
+    (λ c. omega arith) add-out (λ c. omega arith) (λ c. omega arith) (λ c. omega arith) (λ c. omega arith) loop-again
     returns)

@@ -12,14 +12,6 @@ use Rattle.states.specs.Kept.{noSaving, savings, keptAll}
 use Rattle.states.proofs.PassLaws.{Same, labelsFrom, right-small, right-savings, right-words, right-begins, right-empty, right-depth, first-kept}
 use Rattle.states.proofs.pass.decide.Statement.{statement}
 use Rattle.states.proofs.pass.decide.Tie as tie
-use Rattle.states.proofs.pass.decide.Reads as reads
-use Rattle.states.proofs.pass.decide.Lts as lts
-use Rattle.format.proofs.sections.node_tag.Reads as node-tag-reads
-use Rattle.format.proofs.words.narrow.Reads as narrow-reads
-use Rattle.format.proofs.words.wide.Reads as wide-reads
-use Rattle.states.proofs.costs.keep.Reads as keep-reads
-use Rattle.states.proofs.pass.by_tag.Reads as by-tag-reads
-use Rattle.states.proofs.pass.less.Reads as less-reads
 
 abbrev Inv-loop : tie.InvT-loop
 Inv-loop file head roles bits stack₀ words₀ depth₀ row₀ i₀ stack words depth row i =
@@ -40,9 +32,6 @@ left c =
 few : (c : tie.After-by-tag Inv-loop μ-loop) → c .by-tag .result ≤ c .before .before .before .before .before .before .before .before .before .before .loop .depth + 1
 few c = right-depth (c .before .before .before .before .before .before .before .node-tag .result) (c .before .before .before .before .before .before .before .before .before .before .loop .depth) (c .by-tag .result) (left c)
 
-wide-requires : tie.Need-wide-requires Inv-loop μ-loop
-wide-requires c κs = omega arith
-
 loop-holds : tie.Need-loop-holds Inv-loop μ-loop
 unfolding stacked
 loop-holds c =
@@ -59,29 +48,8 @@ loop-holds c =
       ap (λ k. drop k (a .words .now)) (c .wide .ensures .0) ∙ right-empty ns (a .roles .now) (drop (a .head .count .nodes) (a .words .now)) n all,
     )
 
-narrow-requires : tie.Need-narrow-requires Inv-loop μ-loop
-narrow-requires c κs = omega arith
-
 node-tag-requires : tie.Need-node-tag-requires Inv-loop μ-loop
 node-tag-requires c κs = c .before .before .before .before .before .before .before .pre .0
-
-sub-i : tie.Need-sub-i Inv-loop μ-loop
-sub-i c = omega arith
-
-mul-two : tie.Need-mul-two Inv-loop μ-loop
-mul-two c = omega arith
-
-slice-copy-out-two : tie.Need-slice-copy-out-two Inv-loop μ-loop
-slice-copy-out-two c = omega arith
-
-add-keep : tie.Need-add-keep Inv-loop μ-loop
-add-keep c = omega arith
-
-mul-keep : tie.Need-mul-keep Inv-loop μ-loop
-mul-keep c = omega arith
-
-shared-slice-read-keep : tie.Need-shared-slice-read-keep Inv-loop μ-loop
-shared-slice-read-keep c = omega arith
 
 keep-requires : tie.Need-keep-requires Inv-loop μ-loop
 keep-requires c κs =
@@ -95,33 +63,6 @@ keep-requires c κs =
     (λ k. l .inv .5 k ∙ ap (λ x. getD (savings (labelsFrom ns (a .roles .now) x)) k noSaving) (sym back)) (c .before .before .before .before .node-tag .result)
     (c .before .before .before .before .node-tag .ensures ∙ ap (λ n. item noNode ns n .tag) (c .before .before .before .before .before .narrow .ensures ∙ sym back)) (omega arith) in
     (one, two, c .before .before .before .before .before .before .before .before .before .before .before .before .pre .2)
-
-add-t15 : tie.Need-add-t15 Inv-loop μ-loop
-add-t15 c = omega arith
-
-mul-t18 : tie.Need-mul-t18 Inv-loop μ-loop
-mul-t18 c = omega arith
-
-slice-set-from-stack : tie.Need-slice-set-from-stack Inv-loop μ-loop
-slice-set-from-stack c = omega arith
-
-add-by-tag : tie.Need-add-by-tag Inv-loop μ-loop
-add-by-tag c = omega arith
-
-less-requires : tie.Need-less-requires Inv-loop μ-loop
-less-requires c κs = omega arith
-
-by-tag-requires : tie.Need-by-tag-requires Inv-loop μ-loop
-by-tag-requires c κs = omega arith
-
-mul-words : tie.Need-mul-words Inv-loop μ-loop
-mul-words c = omega arith
-
-slice-write-words : tie.Need-slice-write-words Inv-loop μ-loop
-slice-write-words c = omega arith
-
-loop-less : tie.Need-loop-less Inv-loop μ-loop
-loop-less c = omega arith
 
 loop-again : tie.Need-loop-again Inv-loop μ-loop
 loop-again c =
@@ -151,12 +92,6 @@ loop-again c =
           (l .words) ends (it .result .word) (it .ensures .1) (omega (arith, p .4)) done,
     )
 
-same-length : tie.Need-same-length Inv-loop μ-loop
-same-length c = omega arith
-
-same-length-2 : tie.Need-same-length-2 Inv-loop μ-loop
-same-length-2 c = omega arith
-
 returns : tie.Need-returns Inv-loop μ-loop
 returns c =
     let a = c .before .before .before .before .before .before .args in
@@ -168,30 +103,8 @@ returns c =
 pub decide-spec : {M : Type 1} → statement M
 decide-spec =
     tie.close
-    (tie.spec
-    Inv-loop
-    μ-loop
-    wide-requires
-    loop-holds
-    narrow-requires
-    node-tag-requires
-    sub-i
-    mul-two
-    slice-copy-out-two
-    add-keep
-    mul-keep
-    shared-slice-read-keep
-    keep-requires
-    add-t15
-    mul-t18
-    slice-set-from-stack
-    add-by-tag
-    less-requires
-    by-tag-requires
-    mul-words
-    slice-write-words
-    loop-less
-    loop-again
-    same-length
-    same-length-2
-    returns)
+    (tie.spec Inv-loop μ-loop (λ c κs. omega arith) loop-holds (λ c κs. omega arith) node-tag-requires
+    (λ c. omega arith) (λ c. omega arith) (λ c. omega arith) (λ c. omega arith) (λ c. omega arith) (λ c. omega arith)
+    keep-requires (λ c. omega arith) (λ c. omega arith) (λ c. omega arith) (λ c. omega arith) (λ c κs. omega arith)
+    (λ c κs. omega arith) (λ c. omega arith) (λ c. omega arith) (λ c. omega arith) loop-again (λ c. omega arith)
+    (λ c. omega arith) returns)

@@ -14,15 +14,6 @@ use Rattle.states.specs.Kept.{followed}
 use Rattle.states.proofs.PassLaws.{Same, Under, under-onward, under-same, same-followed, left-stack, left-turn, left-begins, left-ends, left-depth, first-kept}
 use Rattle.states.proofs.pass.follow.Statement.{statement}
 use Rattle.states.proofs.pass.follow.Tie as tie
-use Rattle.states.proofs.pass.follow.Reads as reads
-use Rattle.states.proofs.pass.follow.Lts as lts
-use Rattle.format.proofs.sections.node_tag.Reads as node-tag-reads
-use Rattle.format.proofs.words.narrow.Reads as narrow-reads
-use Rattle.format.proofs.words.wide.Reads as wide-reads
-use Rattle.states.proofs.pass.above_next.Reads as above-next-reads
-use Rattle.states.proofs.pass.by_tag.Reads as by-tag-reads
-use Rattle.states.proofs.pass.less.Reads as less-reads
-use Rattle.states.proofs.pass.state_after.Reads as state-after-reads
 
 abbrev Inv-loop : tie.InvT-loop
 Inv-loop file head words stack₀ turns₀ depth₀ from₀ n i₀ stack turns depth from i =
@@ -40,9 +31,6 @@ left c =
     let d = c .before .before .before .before .before .before .before .before .before .loop .depth in
     let tag = c .before .before .before .before .node-tag .result in
     c .by-tag .ensures ∙ ap (λ x. cond (eqb tag 0) x (cond (eqb tag 1) (d + 1) d)) (c .before .less .ensures)
-
-wide-requires : tie.Need-wide-requires Inv-loop μ-loop
-wide-requires c κs = omega arith
 
 loop-holds : tie.Need-loop-holds Inv-loop μ-loop
 unfolding Under stacked
@@ -64,20 +52,8 @@ small : (c : tie.After-shared-slice-known3 Inv-loop μ-loop) → c .before .befo
 unfolding Under
 small c = c .before .before .loop .inv .6 .0
 
-mul-state-after : tie.Need-mul-state-after Inv-loop μ-loop
-mul-state-after c = omega arith
-
-shared-slice-read-state-after : tie.Need-shared-slice-read-state-after Inv-loop μ-loop
-shared-slice-read-state-after c = omega arith
-
 state-after-requires : tie.Need-state-after-requires Inv-loop μ-loop
 state-after-requires c κs = omega (arith, small c)
-
-add-i : tie.Need-add-i Inv-loop μ-loop
-add-i c = omega arith
-
-narrow-requires : tie.Need-narrow-requires Inv-loop μ-loop
-narrow-requires c κs = omega arith
 
 node-tag-requires : tie.Need-node-tag-requires Inv-loop μ-loop
 node-tag-requires c κs = c .before .before .before .before .before .before .before .before .before .before .pre .0
@@ -87,42 +63,6 @@ mul-turns c = omega (arith, small (c .before .before .before))
 
 add-turns : tie.Need-add-turns Inv-loop μ-loop
 add-turns c = omega (arith, small (c .before .before .before))
-
-mul-turns-2 : tie.Need-mul-turns-2 Inv-loop μ-loop
-mul-turns-2 c = omega arith
-
-slice-write-turns : tie.Need-slice-write-turns Inv-loop μ-loop
-slice-write-turns c = omega arith
-
-mul-above-next : tie.Need-mul-above-next Inv-loop μ-loop
-mul-above-next c = omega arith
-
-slice-read-above-next : tie.Need-slice-read-above-next Inv-loop μ-loop
-slice-read-above-next c = omega arith
-
-above-next-requires : tie.Need-above-next-requires Inv-loop μ-loop
-above-next-requires c κs = omega arith
-
-add-stack : tie.Need-add-stack Inv-loop μ-loop
-add-stack c = omega arith
-
-mul-stack : tie.Need-mul-stack Inv-loop μ-loop
-mul-stack c = omega arith
-
-slice-write-stack : tie.Need-slice-write-stack Inv-loop μ-loop
-slice-write-stack c = omega arith
-
-less-requires : tie.Need-less-requires Inv-loop μ-loop
-less-requires c κs = omega arith
-
-add-by-tag : tie.Need-add-by-tag Inv-loop μ-loop
-add-by-tag c = omega arith
-
-by-tag-requires : tie.Need-by-tag-requires Inv-loop μ-loop
-by-tag-requires c κs = omega arith
-
-loop-less : tie.Need-loop-less Inv-loop μ-loop
-loop-less c = omega arith
 
 loop-again : tie.Need-loop-again Inv-loop μ-loop
 loop-again c =
@@ -150,12 +90,6 @@ loop-again c =
           (omega (arith, nodes-held (a .file .now) (a .head))) (omega arith) its refl (to .ensures .0) refl (l .inv .7),
     )
 
-same-length : tie.Need-same-length Inv-loop μ-loop
-same-length c = omega arith
-
-same-length-2 : tie.Need-same-length-2 Inv-loop μ-loop
-same-length-2 c = omega arith
-
 returns : tie.Need-returns Inv-loop μ-loop
 returns c =
     let a = c .before .before .before .before .before .before .before .args in
@@ -165,32 +99,8 @@ returns c =
 pub follow-spec : {M : Type 1} → statement M
 follow-spec =
     tie.close
-    (tie.spec
-    Inv-loop
-    μ-loop
-    wide-requires
-    loop-holds
-    mul-state-after
-    shared-slice-read-state-after
-    state-after-requires
-    add-i
-    narrow-requires
-    node-tag-requires
-    mul-turns
-    add-turns
-    mul-turns-2
-    slice-write-turns
-    mul-above-next
-    slice-read-above-next
-    above-next-requires
-    add-stack
-    mul-stack
-    slice-write-stack
-    less-requires
-    add-by-tag
-    by-tag-requires
-    loop-less
-    loop-again
-    same-length
-    same-length-2
-    returns)
+    (tie.spec Inv-loop μ-loop (λ c κs. omega arith) loop-holds (λ c. omega arith) (λ c. omega arith)
+    state-after-requires (λ c. omega arith) (λ c κs. omega arith) node-tag-requires mul-turns add-turns
+    (λ c. omega arith) (λ c. omega arith) (λ c. omega arith) (λ c. omega arith) (λ c κs. omega arith) (λ c. omega arith)
+    (λ c. omega arith) (λ c. omega arith) (λ c κs. omega arith) (λ c. omega arith) (λ c κs. omega arith)
+    (λ c. omega arith) loop-again (λ c. omega arith) (λ c. omega arith) returns)

@@ -7,9 +7,6 @@ use borrow.Author.Needs.{needs}
 use Rattle.steps.proofs.ThreadLaws.{Passed, pass-more, passed-all, unmapped}
 use Rattle.steps.proofs.Thread.bound.Statement.{statement}
 use Rattle.steps.proofs.Thread.bound.Tie as tie
-use Rattle.steps.proofs.Thread.bound.Reads as reads
-use Rattle.steps.proofs.Thread.bound.Lts as lts
-use Rattle.steps.proofs.threads.either.Reads as either-reads
 
 abbrev Inv-loop : tie.InvT-loop
 Inv-loop given self₀ open₀ k₀ self «open» k =
@@ -24,27 +21,6 @@ loop-holds c =
     let l = unmapped _ (c .args .t1 .vars) 8 (c .good .0 .1 .1 .1 .1 .1 .0 .1 .0 .1) in
     (omega arith, l, l, (refl, omega arith), refl, refl, refl)
 
-mul-v : tie.Need-mul-v Inv-loop μ-loop
-mul-v c = search needs
-
-element-copy-out-v : tie.Need-element-copy-out-v Inv-loop μ-loop
-element-copy-out-v c = search needs
-
-either-requires : tie.Need-either-requires Inv-loop μ-loop
-either-requires c κs = search needs
-
-mul-self : tie.Need-mul-self Inv-loop μ-loop
-mul-self c = search needs
-
-element-write-self : tie.Need-element-write-self Inv-loop μ-loop
-element-write-self c = search needs
-
-add-k : tie.Need-add-k Inv-loop μ-loop
-add-k c = search needs
-
-loop-less : tie.Need-loop-less Inv-loop μ-loop
-loop-less c = omega arith
-
 loop-again : tie.Need-loop-again Inv-loop μ-loop
 loop-again c =
     let a = c .before .before .before .before .args in
@@ -58,9 +34,6 @@ loop-again c =
       l .inv .6,
     )
 
-add-self : tie.Need-add-self Inv-loop μ-loop
-add-self c = omega arith
-
 returns : tie.Need-returns Inv-loop μ-loop
 returns c =
     let l = c .before .loop in
@@ -71,17 +44,6 @@ returns c =
 pub bound-spec : {M : Type 1} → statement M
 bound-spec =
     tie.close
-    (tie.spec
-    Inv-loop
-    μ-loop
-    loop-holds
-    mul-v
-    element-copy-out-v
-    either-requires
-    mul-self
-    element-write-self
-    add-k
-    loop-less
-    loop-again
-    add-self
+    (tie.spec Inv-loop μ-loop loop-holds (λ c. search needs) (λ c. search needs) (λ c κs. search needs)
+    (λ c. search needs) (λ c. search needs) (λ c. search needs) (λ c. omega arith) loop-again (λ c. omega arith)
     returns)

@@ -3,21 +3,9 @@ use Rattle.steps.proofs.ThreadLaws.{value-itself, value-variable, value
 use borrow.Author.Needs.{needs}
 use Rattle.steps.proofs.Thread.value.Statement.{statement}
 use Rattle.steps.proofs.Thread.value.Tie as tie
-use Rattle.steps.proofs.Thread.value.Reads as reads
-use Rattle.steps.proofs.Thread.value.Lts as lts
-use Rattle.format.proofs.words.wide.Reads as wide-reads
 
 returns : tie.Need-returns
 returns c = value-itself (c .before .args .t1) (c .before .args .x) (c .if1 .taken)
-
-wide-requires : tie.Need-wide-requires
-wide-requires c κs = search needs
-
-mul-result : tie.Need-mul-result
-mul-result c = search needs
-
-element-copy-out-result : tie.Need-element-copy-out-result
-element-copy-out-result c = search needs
 
 returns-2 : tie.Need-returns-2
 returns-2 c =
@@ -33,4 +21,4 @@ returns-3 c =
 pub value-spec : {M : Type 1} → statement M
 value-spec =
     tie.close
-    (tie.spec returns wide-requires mul-result element-copy-out-result returns-2 returns-3)
+    (tie.spec returns (λ c κs. search needs) (λ c. search needs) (λ c. search needs) returns-2 returns-3)

@@ -13,34 +13,16 @@ use Rattle.steps.proofs.ActLaws.{answered, length-made, acting-out, act
 use borrow.Author.Needs.{needs}
 use Rattle.steps.proofs.act.act.Statement.{statement}
 use Rattle.steps.proofs.act.act.Tie as tie
-use Rattle.steps.proofs.act.act.Reads as reads
-use Rattle.steps.proofs.act.act.Lts as lts
-use Rattle.format.proofs.sections.in_count.Reads as in-count-reads
-use Rattle.format.proofs.sections.single_node.Reads as single-node-reads
-use Rattle.steps.proofs.act.refused.Reads as refused-reads
-use Rattle.steps.proofs.act.send.Reads as send-reads
-use Rattle.steps.proofs.act.step.Reads as step-reads
-use Rattle.steps.proofs.beside.made_count.Reads as made-count-reads
-use Rattle.steps.proofs.beside.thread_count.Reads as thread-count-reads
 
 -- the thread's node is in count, or not
 counted : (c : tie.After-in-count) {b : Bool} → c .in-count .result ≡ b
     → let a = c .before .before .before .before .before .args in inCount (length (contentsAt (a .file .now) (a .head) .nodes)) (a .own .node) ≡ b
 counted c h = let a = c .before .before .before .before .before .args in sym (nodes-counted (a .file .now) (a .head) (a .own .node)) ∙ sym (c .in-count .ensures) ∙ h
 
-in-count-requires : tie.Need-in-count-requires
-in-count-requires c κs = search needs
-
-refused-requires : tie.Need-refused-requires
-refused-requires c κs = search needs
-
 returns : tie.Need-returns
 returns c =
     let a = c .before .before .before .before .before .before .before .args in
     answered (acting-out (clinicOf (contentsAt (a .file .now) (a .head))) (getD (a .beside .now) 0 0) (madeIn (a .beside .now) 2 (getD (a .beside .now) 1 0)) (a .own) (a .partner) (a .other) (counted (c .before .before) (not-true _ (c .before .if1 .taken)))) (c .refused .ensures)
-
-single-node-requires : tie.Need-single-node-requires
-single-node-requires c κs = search needs
 
 send-requires : tie.Need-send-requires
 send-requires c κs =
@@ -54,27 +36,15 @@ returns-2 c =
     let a = c .before .before .before .before .before .before .before .before .before .before .args in
     answered (acting-send (clinicOf (contentsAt (a .file .now) (a .head))) (getD (a .beside .now) 0 0) (madeIn (a .beside .now) 2 (getD (a .beside .now) 1 0)) (a .own) (a .partner) (a .other) (c .before .before .before .single-node .result) (c .before .before .before .single-node .ensures) (counted (c .before .before .before .before .before) (not-false _ (c .before .before .before .before .if1 .left))) (c .before .if2 .taken)) (c .send .ensures)
 
-refused-requires-2 : tie.Need-refused-requires-2
-refused-requires-2 c κs = search needs
-
 returns-3 : tie.Need-returns-3
 returns-3 c =
     let a = c .before .before .before .before .before .before .before .before .before .before .before .before .args in
     answered (acting-receive (clinicOf (contentsAt (a .file .now) (a .head))) (getD (a .beside .now) 0 0) (madeIn (a .beside .now) 2 (getD (a .beside .now) 1 0)) (a .own) (a .partner) (a .other) (c .before .before .before .before .before .single-node .result) (c .before .before .before .before .before .single-node .ensures) (counted (c .before .before .before .before .before .before .before) (not-false _ (c .before .before .before .before .before .before .if1 .left))) (c .before .if3 .taken)) (c .refused2 .ensures)
 
-refused-requires-3 : tie.Need-refused-requires-3
-refused-requires-3 c κs = search needs
-
 returns-4 : tie.Need-returns-4
 returns-4 c =
     let a = c .before .before .before .before .before .before .before .before .before .before .before .before .before .args in
     answered (acting-partner (clinicOf (contentsAt (a .file .now) (a .head))) (getD (a .beside .now) 0 0) (madeIn (a .beside .now) 2 (getD (a .beside .now) 1 0)) (a .own) (a .partner) (a .other) (c .before .before .before .before .before .before .single-node .result) (c .before .before .before .before .before .before .single-node .ensures) (counted (c .before .before .before .before .before .before .before .before) (not-false _ (c .before .before .before .before .before .before .before .if1 .left))) (c .before .before .before .before .if2 .left) (c .before .before .if3 .left) (c .before .if4 .taken)) (c .refused3 .ensures)
-
-thread-count-requires : tie.Need-thread-count-requires
-thread-count-requires c κs = search needs
-
-made-count-requires : tie.Need-made-count-requires
-made-count-requires c κs = search needs
 
 step-requires : tie.Need-step-requires
 step-requires c κs =
@@ -91,18 +61,6 @@ returns-5 c =
 pub act-spec : {M : Type 1} → statement M
 act-spec =
     tie.close
-    (tie.spec
-    in-count-requires
-    refused-requires
-    returns
-    single-node-requires
-    send-requires
-    returns-2
-    refused-requires-2
-    returns-3
-    refused-requires-3
-    returns-4
-    thread-count-requires
-    made-count-requires
-    step-requires
-    returns-5)
+    (tie.spec (λ c κs. search needs) (λ c κs. search needs) returns (λ c κs. search needs) send-requires returns-2
+    (λ c κs. search needs) returns-3 (λ c κs. search needs) returns-4 (λ c κs. search needs) (λ c κs. search needs)
+    step-requires returns-5)

@@ -9,38 +9,17 @@ use lib.ListN.{getD}
 use borrow.Author.Needs.{needs}
 use Rattle.steps.proofs.act.kind_held.Statement.{statement}
 use Rattle.steps.proofs.act.kind_held.Tie as tie
-use Rattle.steps.proofs.act.kind_held.Reads as reads
-use Rattle.steps.proofs.act.kind_held.Lts as lts
-use Rattle.format.proofs.sections.channel.Reads as channel-reads
-use Rattle.format.proofs.words.wide.Reads as wide-reads
-use Rattle.steps.proofs.beside.made_at.Reads as made-at-reads
-use Rattle.steps.proofs.beside.made_count.Reads as made-count-reads
 
 returns : tie.Need-returns
 returns c =
     let a = c .before .before .before .args in
     kind-plain (schemaOf (contentsAt (now (a .file)) (a .head))) (now (a .beside)) (getD (now (a .beside)) 1 0) (a .v) (c .if1 .taken)
 
-sub-channel : tie.Need-sub-channel
-sub-channel c = search needs
-
-channel-requires : tie.Need-channel-requires
-channel-requires c κs = search needs
-
 returns-2 : tie.Need-returns-2
 returns-2 c =
     let a = c .before .before .before .before .before .before .args in
     ap (λ (y : Channel). y .kind .0) (c .before .channel .ensures)
     ∙ kind-channel (schemaOf (contentsAt (now (a .file)) (a .head))) (now (a .beside)) (getD (now (a .beside)) 1 0) (a .v) (c .before .before .before .if1 .left) (c .before .before .if2 .taken)
-
-wide-requires : tie.Need-wide-requires
-wide-requires c κs = search needs
-
-made-count-requires : tie.Need-made-count-requires
-made-count-requires c κs = search needs
-
-wide-requires-2 : tie.Need-wide-requires-2
-wide-requires-2 c κs = search needs
 
 made-at-requires : tie.Need-made-at-requires
 made-at-requires c κs =
@@ -64,14 +43,5 @@ returns-4 c =
 pub kind-held-spec : {M : Type 1} → statement M
 kind-held-spec =
     tie.close
-    (tie.spec
-    returns
-    sub-channel
-    channel-requires
-    returns-2
-    wide-requires
-    made-count-requires
-    wide-requires-2
-    made-at-requires
-    returns-3
-    returns-4)
+    (tie.spec returns (λ c. search needs) (λ c κs. search needs) returns-2 (λ c κs. search needs) (λ c κs. search needs)
+    (λ c κs. search needs) made-at-requires returns-3 returns-4)

@@ -5,20 +5,6 @@ use Rattle.steps.proofs.ActLaws.{leaving}
 use borrow.Author.Needs.{needs}
 use Rattle.steps.proofs.act.makes.Statement.{statement}
 use Rattle.steps.proofs.act.makes.Tie as tie
-use Rattle.steps.proofs.act.makes.Reads as reads
-use Rattle.steps.proofs.act.makes.Lts as lts
-use Rattle.steps.proofs.Thread.bound.Reads as bound-reads
-use Rattle.steps.proofs.act.refused.Reads as refused-reads
-use Rattle.steps.proofs.act.sole.Reads as sole-reads
-
-add-bound : tie.Need-add-bound
-add-bound c = search needs
-
-bound-requires : tie.Need-bound-requires
-bound-requires c κs = search needs
-
-sole-requires : tie.Need-sole-requires
-sole-requires c κs = search needs
 
 returns : tie.Need-returns
 returns c =
@@ -26,12 +12,9 @@ returns c =
     rw (lt-ltb (a .made) 64 (c .before .before .if1 .taken))
     (c .sole .ensures ∙ ap (leaving (answers.Makes (record { owner = a .own .user; kind = a .kind }))) (c .before .bound .ensures))
 
-refused-requires : tie.Need-refused-requires
-refused-requires c κs = search needs
-
 returns-2 : tie.Need-returns-2
 returns-2 c = rw (le-ltb _ _ (c .before .if1 .left)) (c .refused .ensures)
 
 pub makes-spec : {M : Type 1} → statement M
 makes-spec =
-    tie.close (tie.spec add-bound bound-requires sole-requires returns refused-requires returns-2)
+    tie.close (tie.spec (λ c. search needs) (λ c κs. search needs) (λ c κs. search needs) returns (λ c κs. search needs) returns-2)

@@ -15,14 +15,6 @@ use Rattle.steps.proofs.ActLaws.{answered, able-by, meeting-sender, mee
 use borrow.Author.Needs.{needs}
 use Rattle.steps.proofs.act.meets.Statement.{statement}
 use Rattle.steps.proofs.act.meets.Tie as tie
-use Rattle.steps.proofs.act.meets.Reads as reads
-use Rattle.steps.proofs.act.meets.Lts as lts
-use Rattle.steps.proofs.Thread.bound.Reads as bound-reads
-use Rattle.steps.proofs.Thread.onward.Reads as onward-reads
-use Rattle.steps.proofs.Thread.value.Reads as value-reads
-use Rattle.rules.proofs.grants.may.Reads as may-reads
-use Rattle.steps.proofs.act.kind_held.Reads as kind-held-reads
-use Rattle.steps.proofs.act.refused.Reads as refused-reads
 
 -- what a test says of rule 6: for the sender; for the receiver on a channel of its own; for the receiver on the sender's channel
 sent : (c : tie.After-may) {b : Bool} → c .may .result ≡ b
@@ -46,67 +38,25 @@ received c h =
     let a = c .before .before .before .before .before .before .before .before .before .before .before .args in
     able-by (schemaOf (contentsAt (a .file .now) (a .head))) Receives (a .receives .now) (a .other .mask) (madeIn (a .beside .now) 2 (getD (a .beside .now) 1 0)) (c .before .before .before .before .before .kind-held .result .0) (c .before .before .before .before .before .before .value .result) (value (a .other) (a .theirs .f1)) (c .may3 .result) _ (c .before .before .before .before .before .before .before .before .before .before .before .pre .4) (c .before .before .before .before .before .kind-held .ensures) (c .before .before .before .before .before .before .value .ensures ∙ same (c .before)) (c .may3 .ensures .0) h
 
-value-requires : tie.Need-value-requires
-value-requires c κs = search needs
-
-kind-held-requires : tie.Need-kind-held-requires
-kind-held-requires c κs = search needs
-
-may-requires : tie.Need-may-requires
-may-requires c κs = search needs
-
-refused-requires : tie.Need-refused-requires
-refused-requires c κs = search needs
-
 returns : tie.Need-returns
 returns c =
     let a = c .before .before .before .before .before .before .before .before .before .args in
     answered (meeting-sender (clinicOf (contentsAt (a .file .now) (a .head))) (madeIn (a .beside .now) 2 (getD (a .beside .now) 1 0)) (a .own) (a .it) (a .other) (a .theirs) (sent (c .before .before) (not-true _ (c .before .if1 .taken)))) (c .refused .ensures)
-
-value-requires-2 : tie.Need-value-requires-2
-value-requires-2 c κs = search needs
-
-kind-held-requires-2 : tie.Need-kind-held-requires-2
-kind-held-requires-2 c κs = search needs
-
-may-requires-2 : tie.Need-may-requires-2
-may-requires-2 c κs = search needs
-
-refused-requires-2 : tie.Need-refused-requires-2
-refused-requires-2 c κs = search needs
 
 returns-2 : tie.Need-returns-2
 returns-2 c =
     let a = c .before .before .before .before .before .before .before .before .before .before .before .before .before .before .args in
     answered (meeting-apart (clinicOf (contentsAt (a .file .now) (a .head))) (madeIn (a .beside .now) 2 (getD (a .beside .now) 1 0)) (a .own) (a .it) (a .other) (a .theirs) (sent (c .before .before .before .before .before .before .before) (not-false _ (c .before .before .before .before .before .before .if1 .left))) (apart (c .before .before) (c .before .if3 .taken)) (λ e. c .before .before .before .before .if2 .taken (c .before .before .before .before .before .before .before .before .before .value .ensures ∙ e ∙ sym (c .before .before .before .before .before .value2 .ensures)))) (c .refused2 .ensures)
 
-refused-requires-3 : tie.Need-refused-requires-3
-refused-requires-3 c κs = search needs
-
 returns-3 : tie.Need-returns-3
 returns-3 c =
     let a = c .before .before .before .before .before .before .before .before .before .before .before .before .before .before .args in
     answered (meeting-receiver (clinicOf (contentsAt (a .file .now) (a .head))) (madeIn (a .beside .now) 2 (getD (a .beside .now) 1 0)) (a .own) (a .it) (a .other) (a .theirs) (sent (c .before .before .before .before .before .before .before) (not-false _ (c .before .before .before .before .before .before .if1 .left))) (apart (c .before .before) (c .before .if3 .left))) (c .refused3 .ensures)
 
-may-requires-3 : tie.Need-may-requires-3
-may-requires-3 c κs = search needs
-
-refused-requires-4 : tie.Need-refused-requires-4
-refused-requires-4 c κs = search needs
-
 returns-4 : tie.Need-returns-4
 returns-4 c =
     let a = c .before .before .before .before .before .before .before .before .before .before .before .before .before .args in
     answered (meeting-receiver (clinicOf (contentsAt (a .file .now) (a .head))) (madeIn (a .beside .now) 2 (getD (a .beside .now) 1 0)) (a .own) (a .it) (a .other) (a .theirs) (sent (c .before .before .before .before .before .before) (not-false _ (c .before .before .before .before .before .if1 .left))) (received (c .before .before) (not-true _ (c .before .if4 .taken)))) (c .refused4 .ensures)
-
-onward-requires : tie.Need-onward-requires
-onward-requires c κs = search needs
-
-value-requires-3 : tie.Need-value-requires-3
-value-requires-3 c κs = search needs
-
-bound-requires : tie.Need-bound-requires
-bound-requires c κs = search needs
 
 returns-5 : tie.Need-returns-5
 returns-5 c =
@@ -116,23 +66,7 @@ returns-5 c =
 pub meets-spec : {M : Type 1} → statement M
 meets-spec =
     tie.close
-    (tie.spec
-    value-requires
-    kind-held-requires
-    may-requires
-    refused-requires
-    returns
-    value-requires-2
-    kind-held-requires-2
-    may-requires-2
-    refused-requires-2
-    returns-2
-    refused-requires-3
-    returns-3
-    may-requires-3
-    refused-requires-4
-    returns-4
-    onward-requires
-    value-requires-3
-    bound-requires
-    returns-5)
+    (tie.spec (λ c κs. search needs) (λ c κs. search needs) (λ c κs. search needs) (λ c κs. search needs) returns
+    (λ c κs. search needs) (λ c κs. search needs) (λ c κs. search needs) (λ c κs. search needs) returns-2
+    (λ c κs. search needs) returns-3 (λ c κs. search needs) (λ c κs. search needs) returns-4 (λ c κs. search needs)
+    (λ c κs. search needs) (λ c κs. search needs) returns-5)

@@ -11,54 +11,26 @@ use Rattle.steps.proofs.ActLaws.{answered, sending-alone, sending-missi
 use borrow.Author.Needs.{needs}
 use Rattle.steps.proofs.act.send.Statement.{statement}
 use Rattle.steps.proofs.act.send.Tie as tie
-use Rattle.steps.proofs.act.send.Reads as reads
-use Rattle.steps.proofs.act.send.Lts as lts
-use Rattle.format.proofs.sections.in_count.Reads as in-count-reads
-use Rattle.format.proofs.sections.single_node.Reads as single-node-reads
-use Rattle.steps.proofs.act.meets.Reads as meets-reads
-use Rattle.steps.proofs.act.refused.Reads as refused-reads
-use Rattle.steps.proofs.beside.thread_count.Reads as thread-count-reads
 
 -- the partner's node is in count, or not
 counted : (c : tie.After-in-count) {b : Bool} → c .in-count .result ≡ b
     → let a = c .before .before .before .before .before .before .before .before .args in inCount (length (contentsAt (a .file .now) (a .head) .nodes)) (a .other .node) ≡ b
 counted c h = let a = c .before .before .before .before .before .before .before .before .args in sym (nodes-counted (a .file .now) (a .head) (a .other .node)) ∙ sym (c .in-count .ensures) ∙ h
 
-refused-requires : tie.Need-refused-requires
-refused-requires c κs = search needs
-
 returns : tie.Need-returns
 returns c =
     let a = c .before .before .before .before .before .before .args in
     answered (sending-alone (clinicOf (contentsAt (a .file .now) (a .head))) (madeIn (a .beside .now) 2 (getD (a .beside .now) 1 0)) (a .own) (a .it) (getD (a .beside .now) 0 0) (a .partner) (a .other) (c .before .if1 .taken)) (c .refused .ensures)
-
-thread-count-requires : tie.Need-thread-count-requires
-thread-count-requires c κs = search needs
-
-refused-requires-2 : tie.Need-refused-requires-2
-refused-requires-2 c κs = search needs
 
 returns-2 : tie.Need-returns-2
 returns-2 c =
     let a = c .before .before .before .before .before .before .before .before .args in
     answered (sending-missing (clinicOf (contentsAt (a .file .now) (a .head))) (madeIn (a .beside .now) 2 (getD (a .beside .now) 1 0)) (a .own) (a .it) (getD (a .beside .now) 0 0) (a .partner) (a .other) (c .before .before .before .if1 .left) (omega (arith, c .before .if2 .taken, c .before .before .thread-count .ensures))) (c .refused2 .ensures)
 
-in-count-requires : tie.Need-in-count-requires
-in-count-requires c κs = search needs
-
-refused-requires-3 : tie.Need-refused-requires-3
-refused-requires-3 c κs = search needs
-
 returns-3 : tie.Need-returns-3
 returns-3 c =
     let a = c .before .before .before .before .before .before .before .before .before .before .args in
     answered (sending-out (clinicOf (contentsAt (a .file .now) (a .head))) (madeIn (a .beside .now) 2 (getD (a .beside .now) 1 0)) (a .own) (a .it) (getD (a .beside .now) 0 0) (a .partner) (a .other) (c .before .before .before .before .before .if1 .left) (omega (arith, c .before .before .before .if2 .left, c .before .before .before .before .thread-count .ensures)) (counted (c .before .before) (not-true _ (c .before .if3 .taken)))) (c .refused3 .ensures)
-
-single-node-requires : tie.Need-single-node-requires
-single-node-requires c κs = search needs
-
-refused-requires-4 : tie.Need-refused-requires-4
-refused-requires-4 c κs = search needs
 
 returns-4 : tie.Need-returns-4
 returns-4 c =
@@ -80,17 +52,6 @@ returns-5 c =
 pub send-spec : {M : Type 1} → statement M
 send-spec =
     tie.close
-    (tie.spec
-    refused-requires
-    returns
-    thread-count-requires
-    refused-requires-2
-    returns-2
-    in-count-requires
-    refused-requires-3
-    returns-3
-    single-node-requires
-    refused-requires-4
-    returns-4
-    meets-requires
-    returns-5)
+    (tie.spec (λ c κs. search needs) returns (λ c κs. search needs) (λ c κs. search needs) returns-2
+    (λ c κs. search needs) (λ c κs. search needs) returns-3 (λ c κs. search needs) (λ c κs. search needs) returns-4
+    meets-requires returns-5)

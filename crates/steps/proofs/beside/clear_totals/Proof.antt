@@ -1,17 +1,14 @@
 -- The invariant: clearing what is left from here gives what clearing the whole gives.
-use Prim.Native.Nat.{ℕ, suc, _+_, _-_, _≤_}
-use mathlib.Core.Path.{_≡_, refl, sym, ap, ap₂, _∙_}
-use mathlib.Core.List.{List}
+use Prim.Native.Nat.{_+_, _-_, _≤_}
+use mathlib.Core.Path.{_≡_, refl, _∙_}
 use native.Mathlib.Omega.{arith}
-use lib.ListN.{length, set, replicate, length-set}
+use lib.ListN.{length, replicate, length-set}
 use lib.Seq.{sets}
 use borrow.Author.Needs.{needs}
 use Rattle.steps.specs.Beside.{cleared}
 use Rattle.steps.proofs.TotalLaws.{clear-on, clear-done}
 use Rattle.steps.proofs.beside.clear_totals.Statement.{statement}
 use Rattle.steps.proofs.beside.clear_totals.Tie as tie
-use Rattle.steps.proofs.beside.clear_totals.Reads as reads
-use Rattle.steps.proofs.beside.clear_totals.Lts as lts
 
 abbrev Inv-loop : tie.InvT-loop
 Inv-loop beside₀ k₀ beside k = (k ≤ 32) × (length beside ≡ 162) × (sets beside (130 + k) (replicate (32 - k) 0) ≡ cleared beside₀)
@@ -23,28 +20,13 @@ loop-holds : tie.Need-loop-holds Inv-loop μ-loop
 unfolding cleared
 loop-holds c = (omega arith, c .pre, refl)
 
-add-beside : tie.Need-add-beside Inv-loop μ-loop
-add-beside c = search needs
-
-mul-beside : tie.Need-mul-beside Inv-loop μ-loop
-mul-beside c = search needs
-
 slice-write-beside : tie.Need-slice-write-beside Inv-loop μ-loop
 slice-write-beside c = omega (arith, c .before .loop .inv .1)
-
-add-k : tie.Need-add-k Inv-loop μ-loop
-add-k c = search needs
-
-loop-less : tie.Need-loop-less Inv-loop μ-loop
-loop-less c = search needs
 
 loop-again : tie.Need-loop-again Inv-loop μ-loop
 loop-again c =
     let l = c .before .loop in
     (omega arith, length-set (l .beside) (130 + l .k) 0 ∙ l .inv .1, clear-on (l .beside) (l .k) (c .loop-test .taken) ∙ l .inv .2)
-
-same-length : tie.Need-same-length Inv-loop μ-loop
-same-length c = search needs
 
 returns : tie.Need-returns Inv-loop μ-loop
 returns c = let l = c .before .loop in clear-done (l .beside) (l .k) (omega (arith, l .inv .0, c .loop-test .left)) ∙ l .inv .2
@@ -52,15 +34,5 @@ returns c = let l = c .before .loop in clear-done (l .beside) (l .k) (omega (ari
 pub clear-totals-spec : {M : Type 1} → statement M
 clear-totals-spec =
     tie.close
-    (tie.spec
-    Inv-loop
-    μ-loop
-    loop-holds
-    add-beside
-    mul-beside
-    slice-write-beside
-    add-k
-    loop-less
-    loop-again
-    same-length
-    returns)
+    (tie.spec Inv-loop μ-loop loop-holds (λ c. search needs) (λ c. search needs) slice-write-beside (λ c. search needs)
+    (λ c. search needs) loop-again (λ c. search needs) returns)

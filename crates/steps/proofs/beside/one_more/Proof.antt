@@ -2,19 +2,10 @@ use Rattle.steps.specs.Beside.{oneMore}
 use borrow.Author.Needs.{needs}
 use Rattle.steps.proofs.beside.one_more.Statement.{statement}
 use Rattle.steps.proofs.beside.one_more.Tie as tie
-use Rattle.steps.proofs.beside.one_more.Reads as reads
-use Rattle.steps.proofs.beside.one_more.Lts as lts
-use Rattle.steps.proofs.beside.add_to.Reads as add-to-reads
-
-add-to-requires : tie.Need-add-to-requires
-add-to-requires c κs = search needs
-
-same-length : tie.Need-same-length
-same-length c = search needs
 
 returns : tie.Need-returns
 unfolding oneMore
 returns c = c .before .before .add-to .ensures
 
 pub one-more-spec : {M : Type 1} → statement M
-one-more-spec = tie.close (tie.spec add-to-requires same-length returns)
+one-more-spec = tie.close (tie.spec (λ c κs. search needs) (λ c. search needs) returns)

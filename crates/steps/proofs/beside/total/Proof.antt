@@ -1,4 +1,4 @@
-use mathlib.Core.Path.{_≡_, refl, sym, ap, _∙_}
+use mathlib.Core.Path.{sym, _∙_}
 use native.Mathlib.Omega.{arith}
 use borrow.Author.Needs.{needs}
 use borrow.Author.Tests.{not-true, not-false, eq-eqb, ne-eqb}
@@ -6,26 +6,10 @@ use Rattle.format.proofs.ContentsLaws.{in-count}
 use Rattle.steps.specs.Beside.{totalIn}
 use Rattle.steps.proofs.beside.total.Statement.{statement}
 use Rattle.steps.proofs.beside.total.Tie as tie
-use Rattle.steps.proofs.beside.total.Reads as reads
-use Rattle.steps.proofs.beside.total.Lts as lts
-use Rattle.format.proofs.sections.in_count.Reads as in-count-reads
-use Rattle.format.proofs.words.wide.Reads as wide-reads
-
-in-count-requires : tie.Need-in-count-requires
-in-count-requires c κs = search needs
 
 returns : tie.Need-returns
 unfolding totalIn
 returns c = rw (sym (c .before .in-count .ensures) ∙ not-true _ (c .if1 .taken))
-
-wide-requires : tie.Need-wide-requires
-wide-requires c κs = search needs
-
-add-result : tie.Need-add-result
-add-result c = search needs
-
-mul-result : tie.Need-mul-result
-mul-result c = search needs
 
 shared-slice-read-result : tie.Need-shared-slice-read-result
 shared-slice-read-result c = let some = in-count 32 (c .before .before .before .before .before .before .args .kind) (sym (c .before .before .before .before .in-count .ensures) ∙ not-false _ (c .before .before .before .if1 .left)) in omega (arith, some .1, c .before .wide .ensures .0, c .before .before .if2 .taken)
@@ -41,12 +25,5 @@ returns-3 c = rw (sym (c .before .before .in-count .ensures) ∙ not-false _ (c 
 pub total-spec : {M : Type 1} → statement M
 total-spec =
     tie.close
-    (tie.spec
-    in-count-requires
-    returns
-    wide-requires
-    add-result
-    mul-result
-    shared-slice-read-result
-    returns-2
-    returns-3)
+    (tie.spec (λ c κs. search needs) returns (λ c κs. search needs) (λ c. search needs) (λ c. search needs)
+    shared-slice-read-result returns-2 returns-3)

@@ -1,14 +1,12 @@
 -- The invariant: the first k are copied.
-use Prim.Native.Nat.{ℕ, _+_, _-_, _≤_}
-use mathlib.Core.Path.{_≡_, refl, sym, ap, _∙_}
+use Prim.Native.Nat.{_-_, _≤_}
+use mathlib.Core.Path.{_≡_, refl, _∙_}
 use native.Mathlib.Omega.{arith}
-use lib.ListN.{length, take, drop, set, length-set}
+use lib.ListN.{length, take, drop, length-set}
 use borrow.Author.Needs.{needs}
 use Rattle.steps.proofs.TotalLaws.{copy-on, copy-done}
 use Rattle.steps.proofs.beside.totals_of.Statement.{statement}
 use Rattle.steps.proofs.beside.totals_of.Tie as tie
-use Rattle.steps.proofs.beside.totals_of.Reads as reads
-use Rattle.steps.proofs.beside.totals_of.Lts as lts
 
 abbrev Inv-loop : tie.InvT-loop
 Inv-loop beside all₀ k₀ all k = (k ≤ 32) × (length all ≡ 32) × (take k all ≡ take k (drop 130 beside))
@@ -19,26 +17,8 @@ abbrev μ-loop : tie.MeasureT-loop
 loop-holds : tie.Need-loop-holds Inv-loop μ-loop
 loop-holds c = (omega arith, refl, refl)
 
-add-all : tie.Need-add-all Inv-loop μ-loop
-add-all c = search needs
-
-mul-all : tie.Need-mul-all Inv-loop μ-loop
-mul-all c = search needs
-
 shared-slice-read-all : tie.Need-shared-slice-read-all Inv-loop μ-loop
 shared-slice-read-all c = omega (arith, c .before .before .before .pre)
-
-mul-all-2 : tie.Need-mul-all-2 Inv-loop μ-loop
-mul-all-2 c = search needs
-
-array-write-all : tie.Need-array-write-all Inv-loop μ-loop
-array-write-all c = search needs
-
-add-k : tie.Need-add-k Inv-loop μ-loop
-add-k c = search needs
-
-loop-less : tie.Need-loop-less Inv-loop μ-loop
-loop-less c = search needs
 
 loop-again : tie.Need-loop-again Inv-loop μ-loop
 loop-again c =
@@ -52,16 +32,5 @@ returns c = let l = c .before .loop in copy-done (c .before .before .args .besid
 pub totals-of-spec : {M : Type 1} → statement M
 totals-of-spec =
     tie.close
-    (tie.spec
-    Inv-loop
-    μ-loop
-    loop-holds
-    add-all
-    mul-all
-    shared-slice-read-all
-    mul-all-2
-    array-write-all
-    add-k
-    loop-less
-    loop-again
-    returns)
+    (tie.spec Inv-loop μ-loop loop-holds (λ c. search needs) (λ c. search needs) shared-slice-read-all
+    (λ c. search needs) (λ c. search needs) (λ c. search needs) (λ c. search needs) loop-again returns)

@@ -1,8 +1,6 @@
 use borrow.Author.Tests.{eq-eqb, ne-eqb, le-leb, lt-leb}
 use Rattle.trees.proofs.ends.end_of.Statement.{statement}
 use Rattle.trees.proofs.ends.end_of.Tie as tie
-use Rattle.trees.proofs.ends.end_of.Reads as reads
-use Rattle.trees.proofs.ends.end_of.Lts as lts
 
 returns : tie.Need-returns
 returns c = rw (eq-eqb _ _ (c .if1 .taken))

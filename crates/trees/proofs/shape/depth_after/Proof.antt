@@ -2,17 +2,9 @@ use borrow.Author.Tests.{eq-eqb, ne-eqb}
 use borrow.Author.Needs.{needs}
 use Rattle.trees.proofs.shape.depth_after.Statement.{statement}
 use Rattle.trees.proofs.shape.depth_after.Tie as tie
-use Rattle.trees.proofs.shape.depth_after.Reads as reads
-use Rattle.trees.proofs.shape.depth_after.Lts as lts
-
-sub-result : tie.Need-sub-result
-sub-result c = search needs
 
 returns : tie.Need-returns
 returns c = rw (eq-eqb _ _ (c .if1 .taken))
-
-add-result : tie.Need-add-result
-add-result c = search needs
 
 returns-2 : tie.Need-returns-2
 returns-2 c = rw (ne-eqb _ _ (c .before .if1 .left), eq-eqb _ _ (c .if2 .taken))
@@ -21,4 +13,4 @@ returns-3 : tie.Need-returns-3
 returns-3 c = rw (ne-eqb _ _ (c .before .if1 .left), ne-eqb _ _ (c .if2 .left))
 
 pub depth-after-spec : {M : Type 1} → statement M
-depth-after-spec = tie.close (tie.spec sub-result returns add-result returns-2 returns-3)
+depth-after-spec = tie.close (tie.spec (λ c. search needs) returns (λ c. search needs) returns-2 returns-3)

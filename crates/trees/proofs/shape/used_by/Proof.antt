@@ -1,7 +1,5 @@
 use Rattle.trees.proofs.shape.used_by.Statement.{statement}
 use Rattle.trees.proofs.shape.used_by.Tie as tie
-use Rattle.trees.proofs.shape.used_by.Reads as reads
-use Rattle.trees.proofs.shape.used_by.Lts as lts
 
 returns : tie.Need-returns
 returns c = rw (c .if1 .taken)

@@ -17,16 +17,6 @@ use Rattle.trees.proofs.FitsLaws.{fits-room}
 use Rattle.trees.proofs.ShapeLaws.{blank, roots-push, due-after, judged, over-empty, over-due, left-over, table-size, depth-most}
 use Rattle.trees.proofs.shape.walk.Statement.{statement}
 use Rattle.trees.proofs.shape.walk.Tie as tie
-use Rattle.trees.proofs.shape.walk.Reads as reads
-use Rattle.trees.proofs.shape.walk.Lts as lts
-use Rattle.format.proofs.sections.node.Reads as node-reads
-use Rattle.format.proofs.sections.session.Reads as session-reads
-use Rattle.trees.proofs.shape.bound_below.Reads as bound-below-reads
-use Rattle.trees.proofs.shape.bound_of.Reads as bound-of-reads
-use Rattle.trees.proofs.shape.depth_after.Reads as depth-after-reads
-use Rattle.trees.proofs.shape.node_fits.Reads as node-fits-reads
-use Rattle.format.proofs.words.narrow.Reads as narrow-reads
-use Rattle.format.proofs.words.wide.Reads as wide-reads
 
 abbrev Inv-loop : tie.InvT-loop
 Inv-loop file head ends stack₀ sessions depth₀ stack depth =
@@ -62,35 +52,11 @@ module _ (c : tie.After-node-fits Inv-loop μ-loop Inv-loop2 μ-loop2) where
       (ap (shapeFrom (l .i) (drop (l .i - 1) (contentsAt (a .file .now) (a .head) .nodes)))
       (sym (stacked-top blank (l .stack) (l .depth) (omega arith))) ∙ l .inv .4)
 
-wide-requires : tie.Need-wide-requires Inv-loop μ-loop Inv-loop2 μ-loop2
-wide-requires c κs = omega arith
-
 loop-holds : tie.Need-loop-holds Inv-loop μ-loop Inv-loop2 μ-loop2
 unfolding roots stacked
 loop-holds c =
     let a = c .before .before .before .args in
     (omega arith, refl, rw (none-past (contentsAt (a .file .now) (a .head) .sessions) (c .wide .result - 0) (omega (arith, sessions-held (a .file .now) (a .head)))))
-
-sub-narrow : tie.Need-sub-narrow Inv-loop μ-loop Inv-loop2 μ-loop2
-sub-narrow c = omega arith
-
-narrow-requires : tie.Need-narrow-requires Inv-loop μ-loop Inv-loop2 μ-loop2
-narrow-requires c κs = omega arith
-
-session-requires : tie.Need-session-requires Inv-loop μ-loop Inv-loop2 μ-loop2
-session-requires c κs = search needs
-
-mul-stack : tie.Need-mul-stack Inv-loop μ-loop Inv-loop2 μ-loop2
-mul-stack c = omega arith
-
-array-set-from-stack : tie.Need-array-set-from-stack Inv-loop μ-loop Inv-loop2 μ-loop2
-array-set-from-stack c = omega arith
-
-add-depth : tie.Need-add-depth Inv-loop μ-loop Inv-loop2 μ-loop2
-add-depth c = omega arith
-
-loop-less : tie.Need-loop-less Inv-loop μ-loop Inv-loop2 μ-loop2
-loop-less c = omega arith
 
 loop-again : tie.Need-loop-again Inv-loop μ-loop Inv-loop2 μ-loop2
 loop-again c =
@@ -125,42 +91,15 @@ returns c =
     sym (left-over ns (l .i) (l .inv .0) (omega (arith, nodes-held (a .file .now) (a .head))))
     ∙ ap (λ d. shapeFrom (l .i) (drop (l .i - 1) ns) (stacked blank (l .stack) d)) (sym (c .if1 .taken)) ∙ l .inv .4
 
-sub-due : tie.Need-sub-due Inv-loop μ-loop Inv-loop2 μ-loop2
-sub-due c = omega arith
-
-mul-due : tie.Need-mul-due Inv-loop μ-loop Inv-loop2 μ-loop2
-mul-due c = omega arith
-
-array-copy-out-due : tie.Need-array-copy-out-due Inv-loop μ-loop Inv-loop2 μ-loop2
-array-copy-out-due c = omega arith
-
-node-requires : tie.Need-node-requires Inv-loop μ-loop Inv-loop2 μ-loop2
-node-requires c κs = search needs
-
-wide-requires-2 : tie.Need-wide-requires-2 Inv-loop μ-loop Inv-loop2 μ-loop2
-wide-requires-2 c κs = omega arith
-
-add-node-fits : tie.Need-add-node-fits Inv-loop μ-loop Inv-loop2 μ-loop2
-add-node-fits c = omega arith
-
-mul-node-fits : tie.Need-mul-node-fits Inv-loop μ-loop Inv-loop2 μ-loop2
-mul-node-fits c = omega arith
-
 shared-slice-read-node-fits :
     tie.Need-shared-slice-read-node-fits Inv-loop μ-loop Inv-loop2 μ-loop2
 shared-slice-read-node-fits c =
     let a = c .before .before .before .before .before .before .before .before .before .before .before .before .args in
     omega (arith, table-size (a .ends .now) (contentsAt (a .file .now) (a .head) .nodes) (c .before .before .before .before .before .before .before .before .before .before .before .before .pre .1), nodes-held (a .file .now) (a .head), c .before .wide2 .ensures .0)
 
-node-fits-requires : tie.Need-node-fits-requires Inv-loop μ-loop Inv-loop2 μ-loop2
-node-fits-requires c κs = omega arith
-
 returns-2 : tie.Need-returns-2 Inv-loop μ-loop Inv-loop2 μ-loop2
 returns-2 c =
     let h = going (c .before) in rw (not-true (c .before .node-fits .result) (c .if2 .taken)) at h
-
-bound-of-requires : tie.Need-bound-of-requires Inv-loop μ-loop Inv-loop2 μ-loop2
-bound-of-requires c κs = omega arith
 
 bound-below-requires : tie.Need-bound-below-requires Inv-loop μ-loop Inv-loop2 μ-loop2
 bound-below-requires c κs =
@@ -168,30 +107,6 @@ bound-below-requires c κs =
     let small : boundOf (getD (l .stack) (l .depth - 1) blank) < 8 =
     fits-room _ _ _ _ (sym (c .before .before .node-fits .ensures) ∙ not-false _ (c .before .if2 .left)) b in
     omega (arith, c .bound-of .ensures)
-
-sub-stack : tie.Need-sub-stack Inv-loop μ-loop Inv-loop2 μ-loop2
-sub-stack c = omega arith
-
-mul-stack-2 : tie.Need-mul-stack-2 Inv-loop μ-loop Inv-loop2 μ-loop2
-mul-stack-2 c = omega arith
-
-array-set-from-stack-2 : tie.Need-array-set-from-stack-2 Inv-loop μ-loop Inv-loop2 μ-loop2
-array-set-from-stack-2 c = omega arith
-
-mul-stack-3 : tie.Need-mul-stack-3 Inv-loop μ-loop Inv-loop2 μ-loop2
-mul-stack-3 c = omega arith
-
-array-set-from-stack-3 : tie.Need-array-set-from-stack-3 Inv-loop μ-loop Inv-loop2 μ-loop2
-array-set-from-stack-3 c = omega arith
-
-depth-after-requires : tie.Need-depth-after-requires Inv-loop μ-loop Inv-loop2 μ-loop2
-depth-after-requires c κs = omega arith
-
-add-i : tie.Need-add-i Inv-loop μ-loop Inv-loop2 μ-loop2
-add-i c = omega arith
-
-loop2-less : tie.Need-loop2-less Inv-loop μ-loop Inv-loop2 μ-loop2
-loop2-less c = omega arith
 
 loop2-again : tie.Need-loop2-again Inv-loop μ-loop Inv-loop2 μ-loop2
 loop2-again c =
@@ -234,43 +149,10 @@ returns-4 c =
 pub walk-spec : {M : Type 1} → statement M
 walk-spec =
     tie.close
-    (tie.spec
-    Inv-loop
-    μ-loop
-    Inv-loop2
-    μ-loop2
-    wide-requires
-    loop-holds
-    sub-narrow
-    narrow-requires
-    session-requires
-    mul-stack
-    array-set-from-stack
-    add-depth
-    loop-less
-    loop-again
-    loop2-holds
-    returns
-    sub-due
-    mul-due
-    array-copy-out-due
-    node-requires
-    wide-requires-2
-    add-node-fits
-    mul-node-fits
-    shared-slice-read-node-fits
-    node-fits-requires
-    returns-2
-    bound-of-requires
-    bound-below-requires
-    sub-stack
-    mul-stack-2
-    array-set-from-stack-2
-    mul-stack-3
-    array-set-from-stack-3
-    depth-after-requires
-    add-i
-    loop2-less
-    loop2-again
-    returns-3
-    returns-4)
+    (tie.spec Inv-loop μ-loop Inv-loop2 μ-loop2 (λ c κs. omega arith) loop-holds (λ c. omega arith)
+    (λ c κs. omega arith) (λ c κs. search needs) (λ c. omega arith) (λ c. omega arith) (λ c. omega arith)
+    (λ c. omega arith) loop-again loop2-holds returns (λ c. omega arith) (λ c. omega arith) (λ c. omega arith)
+    (λ c κs. search needs) (λ c κs. omega arith) (λ c. omega arith) (λ c. omega arith) shared-slice-read-node-fits
+    (λ c κs. omega arith) returns-2 (λ c κs. omega arith) bound-below-requires (λ c. omega arith) (λ c. omega arith)
+    (λ c. omega arith) (λ c. omega arith) (λ c. omega arith) (λ c κs. omega arith) (λ c. omega arith) (λ c. omega arith)
+    loop2-again returns-3 returns-4)

@@ -7,32 +7,6 @@ use Rattle.trees.proofs.SumLaws.{sum-exact}
 use borrow.Author.Needs.{needs}
 use Rattle.trees.proofs.sound.goes_on.Statement.{statement}
 use Rattle.trees.proofs.sound.goes_on.Tie as tie
-use Rattle.trees.proofs.sound.goes_on.Reads as reads
-use Rattle.trees.proofs.sound.goes_on.Lts as lts
-use Rattle.trees.proofs.shape.binds_one.Reads as binds-one-reads
-use Rattle.trees.proofs.shape.used_by.Reads as used-by-reads
-use Rattle.trees.proofs.sound.left_over.Reads as left-over-reads
-
-used-by-requires : tie.Need-used-by-requires
-used-by-requires c κs = search needs
-
-left-over-requires : tie.Need-left-over-requires
-left-over-requires c κs = search needs
-
-left-over-requires-2 : tie.Need-left-over-requires-2
-left-over-requires-2 c κs = search needs
-
-binds-one-requires : tie.Need-binds-one-requires
-binds-one-requires c κs = search needs
-
-left-over-requires-3 : tie.Need-left-over-requires-3
-left-over-requires-3 c κs = search needs
-
-add-result : tie.Need-add-result
-add-result c = search needs
-
-add-result-2 : tie.Need-add-result-2
-add-result-2 c = search needs
 
 returns : tie.Need-returns
 returns c =
@@ -48,12 +22,5 @@ returns c =
 pub goes-on-spec : {M : Type 1} → statement M
 goes-on-spec =
     tie.close
-    (tie.spec
-    used-by-requires
-    left-over-requires
-    left-over-requires-2
-    binds-one-requires
-    left-over-requires-3
-    add-result
-    add-result-2
-    returns)
+    (tie.spec (λ c κs. search needs) (λ c κs. search needs) (λ c κs. search needs) (λ c κs. search needs)
+    (λ c κs. search needs) (λ c. search needs) (λ c. search needs) returns)

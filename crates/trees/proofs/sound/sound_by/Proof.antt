@@ -17,17 +17,6 @@ use Rattle.trees.proofs.SoundLaws.{waiting, unpack, held, held-push, ac
 use Rattle.trees.proofs.SoundExact.{look-exact}
 use Rattle.trees.proofs.sound.sound_by.Statement.{statement}
 use Rattle.trees.proofs.sound.sound_by.Tie as tie
-use Rattle.trees.proofs.sound.sound_by.Reads as reads
-use Rattle.trees.proofs.sound.sound_by.Lts as lts
-use Rattle.format.proofs.sections.node.Reads as node-reads
-use Rattle.format.proofs.sections.session.Reads as session-reads
-use Rattle.format.proofs.words.narrow.Reads as narrow-reads
-use Rattle.format.proofs.words.paired.Reads as paired-reads
-use Rattle.format.proofs.words.wide.Reads as wide-reads
-use Rattle.trees.proofs.shape.bound_below.Reads as bound-below-reads
-use Rattle.trees.proofs.sound.bound_above.Reads as bound-above-reads
-use Rattle.trees.proofs.sound.goes_on.Reads as goes-on-reads
-use Rattle.trees.proofs.sound.named.Reads as named-reads
 
 abbrev Inv-loop : tie.InvT-loop
 Inv-loop file head stack₀ nodes sessions depth₀ stack depth =
@@ -56,18 +45,6 @@ kept c = c .loop .inv .1 ∙ length-set (c .before .before .before .before .befo
 kept2 : (c : tie.At-loop2 Inv-loop μ-loop Inv-loop2 μ-loop2) → length (c .loop2 .stack) ≡ length (c .before .before .before .before .before .before .before .before .before .before .args .stack .now)
 kept2 c = c .loop2 .inv .2 ∙ kept (c .before .before .before .before .before)
 
-wide-requires : tie.Need-wide-requires Inv-loop μ-loop Inv-loop2 μ-loop2
-wide-requires c κs = omega arith
-
-add-paired : tie.Need-add-paired Inv-loop μ-loop Inv-loop2 μ-loop2
-add-paired c = omega arith
-
-paired-requires : tie.Need-paired-requires Inv-loop μ-loop Inv-loop2 μ-loop2
-paired-requires c κs = omega arith
-
-slice-write-stack : tie.Need-slice-write-stack Inv-loop μ-loop Inv-loop2 μ-loop2
-slice-write-stack c = omega arith
-
 loop-holds : tie.Need-loop-holds Inv-loop μ-loop Inv-loop2 μ-loop2
 unfolding waits stacked
 loop-holds c =
@@ -79,29 +56,8 @@ loop-holds c =
       rw none (ap (λ v. held (set (a .stack .now) 0 v) 1) (c .paired .ensures) ∙ held-push (a .stack .now) 0 (n + 1) 0 (omega arith) (omega arith)),
     )
 
-sub-narrow : tie.Need-sub-narrow Inv-loop μ-loop Inv-loop2 μ-loop2
-sub-narrow c = omega arith
-
-narrow-requires : tie.Need-narrow-requires Inv-loop μ-loop Inv-loop2 μ-loop2
-narrow-requires c κs = omega arith
-
-session-requires : tie.Need-session-requires Inv-loop μ-loop Inv-loop2 μ-loop2
-session-requires c κs = search needs
-
-add-depth : tie.Need-add-depth Inv-loop μ-loop Inv-loop2 μ-loop2
-add-depth c = omega arith
-
-paired-requires-2 : tie.Need-paired-requires-2 Inv-loop μ-loop Inv-loop2 μ-loop2
-paired-requires-2 c κs = omega arith
-
-mul-stack : tie.Need-mul-stack Inv-loop μ-loop Inv-loop2 μ-loop2
-mul-stack c = omega arith
-
 slice-write-stack-2 : tie.Need-slice-write-stack-2 Inv-loop μ-loop Inv-loop2 μ-loop2
 slice-write-stack-2 c = omega (arith, kept (c .before .before .before .before))
-
-loop-less : tie.Need-loop-less Inv-loop μ-loop Inv-loop2 μ-loop2
-loop-less c = omega arith
 
 loop-again : tie.Need-loop-again Inv-loop μ-loop Inv-loop2 μ-loop2
 loop-again c =
@@ -119,14 +75,8 @@ loop-again c =
           ∙ waits-push ss s (l .depth) (a .head .count .nodes + 1) x (l .stack) all (omega arith) (omega (arith, kept (c .before .before .before .before))) (omega arith) root (l .inv .2),
     )
 
-mul-named : tie.Need-mul-named Inv-loop μ-loop Inv-loop2 μ-loop2
-mul-named c = omega arith
-
 slice-read-named : tie.Need-slice-read-named Inv-loop μ-loop Inv-loop2 μ-loop2
 slice-read-named c = omega (arith, kept (c .before .before))
-
-named-requires : tie.Need-named-requires Inv-loop μ-loop Inv-loop2 μ-loop2
-named-requires c κs = omega arith
 
 same-length : tie.Need-same-length Inv-loop μ-loop Inv-loop2 μ-loop2
 same-length c = omega (arith, kept (c .before .before .before .before))
@@ -165,12 +115,6 @@ loop2-holds c =
       rw (eq-eqb (top .number) 1 one) at look,
     )
 
-add-i : tie.Need-add-i Inv-loop μ-loop Inv-loop2 μ-loop2
-add-i c = omega arith
-
-node-requires : tie.Need-node-requires Inv-loop μ-loop Inv-loop2 μ-loop2
-node-requires c κs = search needs
-
 same-length-2 : tie.Need-same-length-2 Inv-loop μ-loop Inv-loop2 μ-loop2
 same-length-2 c = omega (arith, kept2 (c .before .before .before .before .before .before))
 
@@ -195,20 +139,8 @@ returns-3 c =
     let empty : held (l .stack) (l .depth) ≡ [] = ap (held (l .stack)) (c .if3 .taken) ∙ read-none 0 unpack (l .stack) in
     sym (ap (accepts (l .i + 1) (drop (l .i + 1 - 1) ns) (l .bound)) empty ∙ off-none ns (l .i + 1) (omega arith) (omega (arith, nodes-held (a .file .now) (a .head))) node (c .before .before .before .before .before .node .ensures) (l .bound) (c .before .before .before .before .match .keys1) (eqb-true _ _ (zeros .0)) (eqb-true _ _ (zeros .1))) ∙ l .inv .4
 
-sub-depth : tie.Need-sub-depth Inv-loop μ-loop Inv-loop2 μ-loop2
-sub-depth c = omega arith
-
-mul-next : tie.Need-mul-next Inv-loop μ-loop Inv-loop2 μ-loop2
-mul-next c = omega arith
-
 slice-read-next : tie.Need-slice-read-next Inv-loop μ-loop Inv-loop2 μ-loop2
 slice-read-next c = omega (arith, kept2 (c .before .before .before .before .before .before .before .before))
-
-named-requires-2 : tie.Need-named-requires-2 Inv-loop μ-loop Inv-loop2 μ-loop2
-named-requires-2 c κs = omega arith
-
-add-if4 : tie.Need-add-if4 Inv-loop μ-loop Inv-loop2 μ-loop2
-add-if4 c = omega arith
 
 same-length-4 : tie.Need-same-length-4 Inv-loop μ-loop Inv-loop2 μ-loop2
 same-length-4 c = omega (arith, kept2 (c .before .before .before .before .before .before .before .before .before .before))
@@ -224,12 +156,6 @@ returns-4 c =
     let pos : 0 < l .depth = omega arith in
     sym (ap (accepts (l .i + 1) (drop (l .i + 1 - 1) ns) (l .bound)) (read-top 0 unpack (l .stack) (l .depth) pos)
     ∙ off-number ns (l .i + 1) (omega arith) (omega (arith, nodes-held (a .file .now) (a .head))) node (c .before .before .before .before .before .before .before .before .node .ensures) (l .bound) w (held (l .stack) (l .depth - 1)) (c .before .before .before .before .before .before .before .match .keys1) (eqb-true _ _ (zeros .0)) (eqb-true _ _ (zeros .1)) (λ e. c .if4 .taken (c .before .named2 .ensures ∙ e))) ∙ l .inv .4
-
-bound-above-requires : tie.Need-bound-above-requires Inv-loop μ-loop Inv-loop2 μ-loop2
-bound-above-requires c κs = omega arith
-
-loop2-less : tie.Need-loop2-less Inv-loop μ-loop Inv-loop2 μ-loop2
-loop2-less c = omega arith
 
 loop2-again : tie.Need-loop2-again Inv-loop μ-loop Inv-loop2 μ-loop2
 loop2-again c =
@@ -261,20 +187,8 @@ returns-5 c =
     let ns = contentsAt (a .file .now) (a .head) .nodes in
     sym (off-fork ns (l .i + 1) (omega arith) (omega (arith, nodes-held (a .file .now) (a .head))) node (c .before .before .before .node .ensures) (l .bound) (held (l .stack) (l .depth)) (c .before .before .match .keys2) (c .if5 .taken)) ∙ l .inv .4
 
-paired-requires-3 : tie.Need-paired-requires-3 Inv-loop μ-loop Inv-loop2 μ-loop2
-paired-requires-3 c κs = omega arith
-
-mul-stack-2 : tie.Need-mul-stack-2 Inv-loop μ-loop Inv-loop2 μ-loop2
-mul-stack-2 c = omega arith
-
 slice-write-stack-3 : tie.Need-slice-write-stack-3 Inv-loop μ-loop Inv-loop2 μ-loop2
 slice-write-stack-3 c = omega (arith, kept2 (c .before .before .before .before .before .before))
-
-add-depth-2 : tie.Need-add-depth-2 Inv-loop μ-loop Inv-loop2 μ-loop2
-add-depth-2 c = omega arith
-
-loop2-less-2 : tie.Need-loop2-less-2 Inv-loop μ-loop Inv-loop2 μ-loop2
-loop2-less-2 c = omega arith
 
 loop2-again-2 : tie.Need-loop2-again-2 Inv-loop μ-loop Inv-loop2 μ-loop2
 loop2-again-2 c =
@@ -291,9 +205,6 @@ loop2-again-2 c =
       omega arith,
       rw pushed (law (l .bound) (held (l .stack) (l .depth)) (c .before .before .before .match .keys2) (c .before .if5 .left) ∙ l .inv .4),
     )
-
-goes-on-requires : tie.Need-goes-on-requires Inv-loop μ-loop Inv-loop2 μ-loop2
-goes-on-requires c κs = search needs
 
 same-length-6 : tie.Need-same-length-6 Inv-loop μ-loop Inv-loop2 μ-loop2
 same-length-6 c = omega (arith, kept2 (c .before .before .before .before .before))
@@ -314,9 +225,6 @@ bound-below-requires c κs =
     let node = c .before .before .before .node .result in
     has-room (contentsAt (a .file .now) (a .head) .nodes) (l .i + 1) (omega arith) (omega (arith, nodes-held (a .file .now) (a .head))) node (c .before .before .before .node .ensures) (l .bound)
     (sym (c .before .goes-on .ensures) ∙ not-false (c .before .goes-on .result) (c .if6 .left))
-
-loop2-less-3 : tie.Need-loop2-less-3 Inv-loop μ-loop Inv-loop2 μ-loop2
-loop2-less-3 c = omega arith
 
 loop2-again-3 : tie.Need-loop2-again-3 Inv-loop μ-loop Inv-loop2 μ-loop2
 loop2-again-3 c =
@@ -346,60 +254,12 @@ returns-7 c =
 pub sound-by-spec : {M : Type 1} → statement M
 sound-by-spec =
     tie.close
-    (tie.spec
-    Inv-loop
-    μ-loop
-    Inv-loop2
-    μ-loop2
-    wide-requires
-    add-paired
-    paired-requires
-    slice-write-stack
-    loop-holds
-    sub-narrow
-    narrow-requires
-    session-requires
-    add-depth
-    paired-requires-2
-    mul-stack
-    slice-write-stack-2
-    loop-less
-    loop-again
-    mul-named
-    slice-read-named
-    named-requires
-    same-length
-    returns
-    loop2-holds
-    add-i
-    node-requires
-    same-length-2
-    returns-2
-    same-length-3
-    returns-3
-    sub-depth
-    mul-next
-    slice-read-next
-    named-requires-2
-    add-if4
-    same-length-4
-    returns-4
-    bound-above-requires
-    loop2-less
-    loop2-again
-    same-length-5
-    returns-5
-    paired-requires-3
-    mul-stack-2
-    slice-write-stack-3
-    add-depth-2
-    loop2-less-2
-    loop2-again-2
-    goes-on-requires
-    same-length-6
-    returns-6
-    bound-below-requires
-    loop2-less-3
-    loop2-again-3
-    same-length-7
-    returns-7)
+    (tie.spec Inv-loop μ-loop Inv-loop2 μ-loop2 (λ c κs. omega arith) (λ c. omega arith) (λ c κs. omega arith)
+    (λ c. omega arith) loop-holds (λ c. omega arith) (λ c κs. omega arith) (λ c κs. search needs) (λ c. omega arith)
+    (λ c κs. omega arith) (λ c. omega arith) slice-write-stack-2 (λ c. omega arith) loop-again (λ c. omega arith)
+    slice-read-named (λ c κs. omega arith) same-length returns loop2-holds (λ c. omega arith) (λ c κs. search needs)
+    same-length-2 returns-2 same-length-3 returns-3 (λ c. omega arith) (λ c. omega arith) slice-read-next
+    (λ c κs. omega arith) (λ c. omega arith) same-length-4 returns-4 (λ c κs. omega arith) (λ c. omega arith)
+    loop2-again same-length-5 returns-5 (λ c κs. omega arith) (λ c. omega arith) slice-write-stack-3 (λ c. omega arith)
+    (λ c. omega arith) loop2-again-2 (λ c κs. search needs) same-length-6 returns-6 bound-below-requires
+    (λ c. omega arith) loop2-again-3 same-length-7 returns-7)
