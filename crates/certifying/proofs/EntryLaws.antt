@@ -21,7 +21,7 @@ use Rattle.seated.specs.SeatedEntry.{seatsBar}
 use Rattle.seated.specs.SeatedLists.{SeatedThrough}
 use Rattle.seated.specs.SeatedTables.{seatedIn, Seated}
 use Rattle.certifying.specs.declared.Closing.{Closing}
-use Rattle.certifying.specs.Rows.{rowWords, standsAt}
+use Rattle.rows.specs.Rows.{rowWords, standsAt}
 use Rattle.certifying.specs.Certificate.{Certificate, certificateOf, isRow, rowsTried, searchBegins, rowAtFault, closedFine, closedBy, faultAt, someRows, closingBy, closing, KnownRows}
 use Rattle.certifying.proofs.ExploreLaws.{first-known}
 

@@ -25,10 +25,10 @@ use Rattle.seated.specs.SeatedTables.{linesIn, seatedIn, Seated, SatTold, Chose
 use Rattle.certifying.specs.declared.Search.{Search}
 use Rattle.certifying.specs.declared.Trial.{Trial}
 use Rattle.certifying.specs.declared.Trial.the-variants.{Fails, Passes}
-use Rattle.certifying.specs.Rows.{rowWords, standsAt, seatedAt, RowFits, Loaded}
+use Rattle.rows.specs.Rows.{rowWords, standsAt, seatedAt, RowFits, Loaded}
 use Rattle.certifying.specs.Certificate.{Certificate, certificateOf, rowPlace, rowState, isRow, arrives, takenTried, choiceTried, onward, partnersTried, threadsTried, rowTried, rowOnward, rowsTried, isDone, Holds, KnownRows, Trying, IfPasses, Tries}
-use Rattle.certifying.proofs.StandLaws.{made-length}
-use Rattle.certifying.proofs.ReadLaws.{Readable, state-read, state-fits}
+use Rattle.rows.proofs.StandLaws.{made-length}
+use Rattle.rows.proofs.ReadLaws.{Readable, state-read, state-fits}
 
 -- one row more is known, or none
 pub now-known : (k known m : ℕ) → k ≡ known → m ≡ k + 1 → m ≡ cond (eqb k known) (known + 1) known

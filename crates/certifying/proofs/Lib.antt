@@ -1,5 +1,2 @@
-pub mod StandLaws
-pub mod ReadLaws
-pub mod LoadLaws
 pub mod ExploreLaws
 pub mod EntryLaws

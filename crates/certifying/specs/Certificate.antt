@@ -20,7 +20,7 @@ use Rattle.certifying.specs.declared.Closing.{Closing}
 use Rattle.certifying.specs.declared.Search.{Search}
 use Rattle.certifying.specs.declared.Trial.{Trial}
 use Rattle.certifying.specs.declared.Trial.the-variants.{Fails, Passes}
-use Rattle.certifying.specs.Rows.{rowWords, standsAt, seatedAt, RowFits}
+use Rattle.rows.specs.Rows.{rowWords, standsAt, seatedAt, RowFits}
 
 pub record Certificate : Type 0 where
   pub limited : Limited

@@ -1,11 +1,11 @@
 // Each choice of a row is tried: it is refused, or leads to the row that is named for it.
 use super::Search;
 use super::Trial;
-use super::compare::same_row;
-use super::load::load_row;
 use super::words::index_after;
 use super::words::number_at;
 use format::Head;
+use rows::compare::same_row;
+use rows::load::load_row;
 use seated::Sat;
 use seated::list::choose_one;
 use steps::beside::thread_count;
@@ -23,7 +23,7 @@ ghost use Rattle.steps.specs.Beside.{besideWords, threadCount};
 ghost use Rattle.seats.specs.Seats.{seatedChoice};
 ghost use Rattle.seating.specs.SeatTables.{LineRows};
 ghost use Rattle.seated.specs.SeatedTables.{seatedIn};
-ghost use Rattle.certifying.specs.Rows.{seatedAt};
+ghost use Rattle.rows.specs.Rows.{seatedAt};
 ghost use Rattle.certifying.specs.Certificate.{certificateOf, arrives, choiceTried, partnersTried, rowTried};
 ghost use Rattle.certifying.specs.Certificate.{rowsTried, isDone, KnownRows, Trying, Tries};
 

@@ -1,15 +1,13 @@
 // A certificate for all schedules: a table of states is checked to have every state that a run can come to, and no
 // other.
-pub mod compare;
 pub mod explore;
-pub mod load;
 pub mod words;
 
 use checking::enter;
-use compare::same_row;
 use explore::try_rows;
 use format::Head;
 use reading::Opened;
+use rows::compare::same_row;
 use seated::runs::run_seated_by;
 use seated::table::seats_bar;
 use steps::beside::BESIDE;

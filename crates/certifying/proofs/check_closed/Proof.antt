@@ -1,7 +1,7 @@
 use mathlib.Core.Path.{sym, _∙_}
 use lib.ListN.{length}
 use Rattle.checking.proofs.CheckLaws.{entered-fine}
-use Rattle.certifying.proofs.StandLaws.{not-true, not-false}
+use Rattle.rows.proofs.StandLaws.{not-true, not-false}
 use Rattle.certifying.proofs.EntryLaws.{no-rows, some-rows, file-refused, file-fine}
 use native.Mathlib.Omega.{arith}
 use borrow.Author.Needs.{needs}

@@ -1,6 +1,6 @@
 use mathlib.Core.Path.{_≡_, refl, sym, ap, _∙_}
 use Rattle.format.specs.Contents.{contentsAt}
-use Rattle.certifying.proofs.StandLaws.{not-true, not-false}
+use Rattle.rows.proofs.StandLaws.{not-true, not-false}
 use Rattle.certifying.proofs.EntryLaws.{start-differs, start-known, start-same}
 use native.Mathlib.Omega.{arith}
 use borrow.Author.Needs.{needs}

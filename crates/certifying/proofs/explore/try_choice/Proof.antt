@@ -1,7 +1,7 @@
 use mathlib.Core.Path.{sym, _∙_}
 use Rattle.format.specs.Contents.{contentsAt}
 use Rattle.naming.specs.Scopes.{awaitedBy}
-use Rattle.certifying.proofs.StandLaws.{not-true, not-false}
+use Rattle.rows.proofs.StandLaws.{not-true, not-false}
 use Rattle.certifying.proofs.ExploreLaws.{choice-refused, choice-done}
 use native.Mathlib.Omega.{arith}
 use borrow.Author.Needs.{needs}
@@ -12,7 +12,7 @@ use Rattle.certifying.proofs.explore.try_choice.Reads as reads
 use Rattle.certifying.proofs.explore.try_choice.Lts as lts
 use Rattle.certifying.proofs.explore.arrive.Reads as arrive-reads
 use Rattle.certifying.proofs.explore.is_done.Reads as is-done-reads
-use Rattle.certifying.proofs.load.load_row.Reads as load-row-reads
+use Rattle.rows.proofs.load.load_row.Reads as load-row-reads
 use Rattle.seated.proofs.list.choose_one.Reads as choose-one-reads
 
 -- src/explore.rt:107:9

@@ -4,7 +4,7 @@ use mathlib.Core.Path.{_≡_, refl, sym, ap, _∙_}
 use lib.ListN.{length}
 use Rattle.format.specs.Contents.{contentsAt}
 use Rattle.seats.specs.Seats.{SeatedState}
-use Rattle.certifying.specs.Rows.{seatedAt}
+use Rattle.rows.specs.Rows.{seatedAt}
 use Rattle.certifying.specs.Certificate.{Certificate, certificateOf, partnersTried, Trying}
 use Rattle.certifying.proofs.ExploreLaws.{partner-fails, partner-passes, partners-end, passed-trying}
 use native.Mathlib.Omega.{arith}

@@ -3,7 +3,7 @@ use Prim.Native.Nat.{ℕ, _+_, _-_, _≤_, _<_}
 use mathlib.Core.Path.{_≡_, refl, sym, ap, subst, _∙_}
 use lib.ListN.{length}
 use Rattle.format.specs.Contents.{contentsAt}
-use Rattle.certifying.specs.Rows.{seatedAt, RowFits}
+use Rattle.rows.specs.Rows.{seatedAt, RowFits}
 use Rattle.certifying.specs.Certificate.{Certificate, certificateOf, rowTried, rowsTried, KnownRows}
 use Rattle.certifying.proofs.ExploreLaws.{row-trying, row-grows, row-fails, row-passes, row-unknown, rows-end, passed-trying}
 use native.Mathlib.Omega.{arith}
@@ -13,7 +13,7 @@ use Rattle.certifying.proofs.explore.try_rows.Tie as tie
 use Rattle.certifying.proofs.explore.try_rows.Reads as reads
 use Rattle.certifying.proofs.explore.try_rows.Lts as lts
 use Rattle.certifying.proofs.explore.try_threads.Reads as try-threads-reads
-use Rattle.certifying.proofs.load.load_row.Reads as load-row-reads
+use Rattle.rows.proofs.load.load_row.Reads as load-row-reads
 use Rattle.certifying.proofs.words.index_after.Reads as index-after-reads
 use Rattle.certifying.proofs.words.number_at.Reads as number-at-reads
 
