@@ -22,8 +22,9 @@ use Rattle.seated.specs.SeatedLists.{SeatedThrough}
 use Rattle.seated.specs.SeatedTables.{seatedIn, Seated}
 use Rattle.certifying.specs.declared.Closing.{Closing}
 use Rattle.rows.specs.Rows.{rowWords, standsAt}
-use Rattle.certifying.specs.Certificate.{Certificate, certificateOf, isRow, rowsTried, searchBegins, rowAtFault, closedFine, closedBy, faultAt, someRows, closingBy, closing, KnownRows}
-use Rattle.certifying.proofs.ExploreLaws.{first-known}
+use Rattle.certifying.specs.Certificate.{Certificate, certificateOf, isRow, rowsTried, searchBegins, rowAtFault, closedFine, closedBy, faultAt, someRows, closingBy, closing}
+use Rattle.certifying.specs.Kept.{KnownRows}
+use Rattle.certifying.proofs.KnownLaws.{held-state, first-known}
 
 module _ (C : Contents) (seats states places next : List ℕ) where
   abbrev K : Certificate
@@ -48,10 +49,11 @@ module _ (C : Contents) (seats states places next : List ℕ) where
     pub start-same : standsAt states at (rowWords (length seats) (seatedIn w b os ls)) ≡ true → rowsTried K 0 (length places) searchBegins ≡ rowAtFault K (seatedStart C)
     start-same = by-first true
 
-  pub start-known : (w b os ls : List ℕ) → Seated (K .limited) w b os ls → 0 < length places → (at : ℕ) → at ≡ getD places 0 0
+  pub start-known : length (C .sessions) ≤ 32 → (w b os ls : List ℕ) → Seated (K .limited) w b os ls → 0 < length places → (at : ℕ) → at ≡ getD places 0 0
       → standsAt states at (rowWords (length seats) (seatedIn w b os ls)) ≡ true → KnownRows K 1
-  start-known w b os ls Z some at place e =
-      first-known C seats states places next w b os ls Z some (ap (λ (x : ℕ). standsAt states x (rowWords (length seats) (seatedIn w b os ls))) (sym place) ∙ e)
+  start-known few w b os ls Z some at place e =
+      first-known C seats states places next few (seatedIn w b os ls) (held-state (K .limited) w b os ls Z) some
+      (ap (λ (x : ℕ). standsAt states x (rowWords (length seats) (seatedIn w b os ls))) (sym place) ∙ e)
 
   -- the table of seats and the start
   module _ (v : Verdict) (is : v ≡ seatsBar C seats) where

@@ -1,2 +1,4 @@
 pub mod ExploreLaws
+pub mod ChoiceFits
+pub mod KnownLaws
 pub mod EntryLaws

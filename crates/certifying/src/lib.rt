@@ -118,7 +118,6 @@ fn row_at_fault(
         head,
         &sends,
         &receives,
-        &table,
         seats,
         states,
         places,

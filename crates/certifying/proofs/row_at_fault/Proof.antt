@@ -1,5 +1,6 @@
 use mathlib.Core.Path.{_≡_, refl, sym, ap, _∙_}
 use Rattle.format.specs.Contents.{contentsAt}
+use Rattle.format.proofs.ContentsLaws.{sessions-held}
 use Rattle.rows.proofs.StandLaws.{not-true, not-false}
 use Rattle.certifying.proofs.EntryLaws.{start-differs, start-known, start-same}
 use native.Mathlib.Omega.{arith}
@@ -84,33 +85,27 @@ slice-aggregate-try-rows-5 c = search needs
 slice-aggregate-try-rows-6 : tie.Need-slice-aggregate-try-rows-6
 slice-aggregate-try-rows-6 c = search needs
 
-slice-aggregate-try-rows-7 : tie.Need-slice-aggregate-try-rows-7
-slice-aggregate-try-rows-7 c = search needs
-
 try-rows-requires : tie.Need-try-rows-requires
 try-rows-requires c κs =
-    let a = c .before .before .before .before .before .before .before .before .before .before .before .before .before .before .before .before .before .before .before .before .before .before .before .before .before .before .before .before .before .before .before .before .before .before .args in
-    let q = c .before .before .before .before .before .before .before .before .before .before .before .before .before .before .before .before .before .before .before .before .before .before .before .before .before .before .before .before .before .before .before .before .before .before .pre in
-    let R = c .before .before .before .before .before .before .before .before .before .before .before .before .before .before .before .before .before .before .before .before .run-seated-by in
+    let a = c .before .before .before .before .before .before .before .before .before .before .before .before .before .before .before .before .before .before .before .before .before .before .before .before .before .before .before .before .before .before .before .before .before .args in
+    let q = c .before .before .before .before .before .before .before .before .before .before .before .before .before .before .before .before .before .before .before .before .before .before .before .before .before .before .before .before .before .before .before .before .before .pre in
+    let R = c .before .before .before .before .before .before .before .before .before .before .before .before .before .before .before .before .before .before .before .run-seated-by in
     let Z = R .ensures .0 .kept in (
-      q .0,
-      R .ensures .1,
-      R .ensures .2,
-      q .1,
+      record { laid = q .0; may-send = R .ensures .1; may-receive = R .ensures .2; roles = q .1 },
       Z .sized .words,
       Z .sized .beside,
       Z .owners,
       Z .rows .words,
       q .3,
-      start-known (contentsAt (a .file .now) (a .head)) (a .seats .now) (a .states .now) (a .places .now) (a .next .now) _ _ _ _ Z (q .2) (c .before .before .before .before .before .before .before .before .before .before .before .before .before .number-at .result) (c .before .before .before .before .before .before .before .before .before .before .before .before .before .number-at .ensures .0) (sym (c .before .before .before .before .before .before .before .before .same-row .ensures) ∙ not-false (c .before .before .before .before .before .before .before .before .same-row .result) (c .before .before .before .before .before .before .before .if1 .left)),
+      start-known (contentsAt (a .file .now) (a .head)) (a .seats .now) (a .states .now) (a .places .now) (a .next .now) (omega (arith, sessions-held (a .file .now) (a .head), q .0 .sessions)) _ _ _ _ Z (q .2) (c .before .before .before .before .before .before .before .before .before .before .before .before .number-at .result) (c .before .before .before .before .before .before .before .before .before .before .before .before .number-at .ensures .0) (sym (c .before .before .before .before .before .before .before .same-row .ensures) ∙ not-false (c .before .before .before .before .before .before .before .same-row .result) (c .before .before .before .before .before .before .if1 .left)),
     )
 
 returns-2 : tie.Need-returns-2
 returns-2 c =
-    let a = c .before .before .before .before .before .before .before .before .before .before .before .before .before .before .before .before .before .before .before .before .before .before .before .before .before .before .before .before .before .before .before .before .before .before .before .before .before .before .before .args in
-    let R = c .before .before .before .before .before .before .before .before .before .before .before .before .before .before .before .before .before .before .before .before .before .before .before .before .before .run-seated-by in
+    let a = c .before .before .before .before .before .before .before .before .before .before .before .before .before .before .before .before .before .before .before .before .before .before .before .before .before .before .before .before .before .before .before .before .before .before .before .before .before .before .args in
+    let R = c .before .before .before .before .before .before .before .before .before .before .before .before .before .before .before .before .before .before .before .before .before .before .before .before .run-seated-by in
     let t = c .before .before .before .before .try-rows in (
-      t .ensures .0 ∙ start-same (contentsAt (a .file .now) (a .head)) (a .seats .now) (a .states .now) (a .places .now) (a .next .now) _ _ _ _ _ _ _ (R .ensures .0) (c .before .before .before .before .before .before .before .before .before .before .before .before .before .before .before .before .before .before .number-at .result) (c .before .before .before .before .before .before .before .before .before .before .before .before .before .before .before .before .before .before .number-at .ensures .0) (sym (c .before .before .before .before .before .before .before .before .before .before .before .before .before .same-row .ensures) ∙ not-false (c .before .before .before .before .before .before .before .before .before .before .before .before .before .same-row .result) (c .before .before .before .before .before .before .before .before .before .before .before .before .if1 .left)),
+      t .ensures .0 ∙ start-same (contentsAt (a .file .now) (a .head)) (a .seats .now) (a .states .now) (a .places .now) (a .next .now) _ _ _ _ _ _ _ (R .ensures .0) (c .before .before .before .before .before .before .before .before .before .before .before .before .before .before .before .before .before .number-at .result) (c .before .before .before .before .before .before .before .before .before .before .before .before .before .before .before .before .before .number-at .ensures .0) (sym (c .before .before .before .before .before .before .before .before .before .before .before .before .same-row .ensures) ∙ not-false (c .before .before .before .before .before .before .before .before .before .before .before .before .same-row .result) (c .before .before .before .before .before .before .before .before .before .before .before .if1 .left)),
       t .ensures .1,
     )
 
@@ -140,6 +135,5 @@ row-at-fault-spec =
     slice-aggregate-try-rows-4
     slice-aggregate-try-rows-5
     slice-aggregate-try-rows-6
-    slice-aggregate-try-rows-7
     try-rows-requires
     returns-2)
