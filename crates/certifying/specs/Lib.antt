@@ -1,3 +1,4 @@
 pub mod Known
 pub mod Certificate
 pub mod Kept
+pub mod Parts

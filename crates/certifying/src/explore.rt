@@ -190,7 +190,7 @@ fn try_partners(
 }
 
 // The choices of all threads.
-fn try_threads(
+pub fn try_threads(
     file: &[u8],
     head: Head,
     sends: &[u16],
