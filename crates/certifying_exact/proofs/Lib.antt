@@ -3,3 +3,4 @@ pub mod ChoiceEight
 pub mod Explored
 pub mod Certified
 pub mod CasesShown
+pub mod Numbering

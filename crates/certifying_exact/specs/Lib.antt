@@ -1,1 +1,2 @@
 pub mod CertificateCases
+pub mod Numbered
