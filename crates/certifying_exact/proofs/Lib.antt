@@ -4,3 +4,4 @@ pub mod Explored
 pub mod Certified
 pub mod CasesShown
 pub mod Numbering
+pub mod ClosingAnswers

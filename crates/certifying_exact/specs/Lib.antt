@@ -1,2 +1,3 @@
 pub mod CertificateCases
 pub mod Numbered
+pub mod ClosingCauses

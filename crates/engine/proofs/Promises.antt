@@ -218,8 +218,12 @@ use Rattle.wards.proofs.Wards.{isolated, isolated-at}
 use Rattle.wards.proofs.WardNodes.{from-root, isolated-words, isolated-words-at}
 use Rattle.wards.proofs.WardsShown.{wards-agree, wards-shown}
 use Rattle.certifying.specs.Certificate.{certificateOf, rowState, isRow, closing, closedFine}
+use Rattle.certifying.specs.declared.Closing.{Closing}
 use Rattle.certifying_exact.specs.CertificateCases.{CertificateShown, certificateCases}
+use Rattle.certifying_exact.specs.Numbered.{CertificateHolds, FaultAt}
+use Rattle.certifying_exact.specs.ClosingCauses.{Triable, closingAt, ClosingCause}
 use Rattle.certifying_exact.proofs.Certified.{schedule-is-a-row, row-is-reached, each-row-holds, plain-schedule-is-a-row}
+use Rattle.certifying_exact.proofs.ClosingAnswers.{answers-by-cause, holds-exactly, lowest-fault}
 use Rattle.certifying_exact.proofs.CasesShown.{certificates-shown}
 use Rattle.engine.proofs.LongInputs.{kept-alike}
 use Rattle.engine.proofs.NothingPlanned.{nothing-alike, nothing-checked, nothing-measured, nothing-placed, nothing-short, nothing-over, nothing-run, nothing-chosen, short-one, short-second}
@@ -1859,6 +1863,21 @@ what-holds-of-rows-holds-of-schedules = each-row-holds
 pub every-plain-schedule-is-a-row : (f seats states places next : List ℕ) → closing f seats states places next ≡ closedFine → All (λ w. w ≡ 0) seats → (ws : List ℕ)
     → (k : ℕ) × (k < length places) × (ranOf f ws .state ≡ rowState (certificateOf (contentsOf f) seats states places next) k .state)
 every-plain-schedule-is-a-row = plain-schedule-is-a-row
+
+-- When a certificate holds: exactly where nothing refuses before the rows, row 0 has the words of the start, and in each row, which is known by then, the words of `next` name the rows of the states that its choices lead
+-- to, one after the other.
+pub closed-exactly : (f seats states places next : List ℕ) → (closing f seats states places next ≡ closedFine)
+    ↔ (Triable f seats (length places) × CertificateHolds (certificateOf (contentsOf f) seats states places next) (seatedStart (contentsOf f)))
+closed-exactly = holds-exactly
+
+-- The row that 18 names is the first where it is not the start, and else the lowest that doesn't hold, counted from 1 on.
+pub fault-exactly : (f seats states places next : List ℕ) (k : ℕ) → (closing f seats states places next ≡ closingAt 18 0 k)
+    ↔ (Triable f seats (length places) × FaultAt (certificateOf (contentsOf f) seats states places next) (seatedStart (contentsOf f)) k)
+fault-exactly = lowest-fault
+
+-- The refusals in order: 17 for the rows, 1 to 10 as the file is read, 17 for the table of seats, 26 at the session as of a run with seats, then 18 or 0. An answer is given exactly where it has its cause.
+pub closing-answers : (f seats states places next : List ℕ) (x : Closing) → (closing f seats states places next ≡ x) ↔ ClosingCause f seats states places next x
+closing-answers = answers-by-cause
 
 -- In literal words: two sessions that end, and two that want one seat, with their tables accepted; and tables with another first row, a target one off, not known yet or missing, a row missing or
 -- never reached, refused at their rows.
