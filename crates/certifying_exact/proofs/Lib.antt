@@ -5,3 +5,4 @@ pub mod Certified
 pub mod CasesShown
 pub mod Numbering
 pub mod ClosingAnswers
+pub mod RowOutput
