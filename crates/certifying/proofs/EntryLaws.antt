@@ -24,7 +24,7 @@ use Rattle.certifying.specs.declared.Closing.{Closing}
 use Rattle.certifying.specs.declared.Part.{Part}
 use Rattle.certifying.specs.declared.Asked.{Asked}
 use Rattle.certifying.specs.declared.Asked.the-variants.{All, Only}
-use Rattle.certifying.specs.Certificate.{Certificate, certificateOf, isRow, rowsTried, searchBegins, rowAtFault, closedBy, faultAt, someRows, closingAt, closingOnce}
+use Rattle.certifying.specs.Certificate.{Certificate, certificateOf, isRow, rowsTried, searchBegins, rowAtFault, closedBy, faultAt, someRows, afterSeats, afterReading}
 use Rattle.certifying.specs.Kept.{KnownRows}
 use Rattle.certifying.specs.Parts.{partTried, searchAt, partAtFault, somePart, askedFits, askedFrom, askedTried, askedFault}
 use Rattle.certifying.proofs.KnownLaws.{held-state, first-known}
@@ -96,11 +96,11 @@ module _ (C : Contents) (seats : List ℕ) (v : Verdict) (is : v ≡ seatsBar C 
   number-is : v .number ≡ seatsBar C seats .number
   number-is = ap (λ (x : Verdict). x .number) is
 
-  pub barred : (v .number ≡ 0 → ⊥) → closedBy v ≡ closingAt C seats k
+  pub barred : (v .number ≡ 0 → ⊥) → closedBy v ≡ afterSeats C seats k
   barred bar =
       ap closedBy is ∙ sym (ap (λ (x : Bool). cond x (faultAt k) (closedBy (seatsBar C seats))) (ne-eqb (seatsBar C seats .number) 0 (λ e. bar (number-is ∙ e))))
 
-  pub not-barred : v .number ≡ 0 → (x : ℕ) → x ≡ k → faultAt x ≡ closingAt C seats k
+  pub not-barred : v .number ≡ 0 → (x : ℕ) → x ≡ k → faultAt x ≡ afterSeats C seats k
   not-barred none x e =
       ap faultAt e ∙ sym (ap (λ (b : Bool). cond b (faultAt k) (closedBy (seatsBar C seats))) (eq-eqb (seatsBar C seats .number) 0 (sym number-is ∙ none)))
 
@@ -109,17 +109,17 @@ module _ (f : List ℕ) (b : Bool) (x : Contents → Closing) where
   abbrev answered : Verdict → Closing
   answered v = cond (eqb (v .number) 0) (x (contentsOf f)) (closedBy v)
 
-  pub not-asked : b ≡ false → closedBy (refused 17 0) ≡ closingOnce b f (x (contentsOf f))
+  pub not-asked : b ≡ false → closedBy (refused 17 0) ≡ afterReading b f (x (contentsOf f))
   not-asked e = sym (ap (λ (c : Bool). answered (unready c f)) e)
 
   module _ (asked : b ≡ true) where
-    by-file : closingOnce b f (x (contentsOf f)) ≡ answered (readingNames f)
+    by-file : afterReading b f (x (contentsOf f)) ≡ answered (readingNames f)
     by-file = ap (λ (c : Bool). answered (unready c f)) asked
 
-    pub file-refused : (v : Verdict) → entered f ≡ Refused v → closedBy v ≡ closingOnce b f (x (contentsOf f))
+    pub file-refused : (v : Verdict) → entered f ≡ Refused v → closedBy v ≡ afterReading b f (x (contentsOf f))
     file-refused v e =
         let (bad, is) = entered-refused f v e in
         ap closedBy is ∙ sym (by-file ∙ ap (λ (c : Bool). cond c (x (contentsOf f)) (closedBy (readingNames f))) (ne-eqb (readingNames f .number) 0 bad))
 
-    pub file-fine : (h : Head) → entered f ≡ Fine h → x (contentsAt f h) ≡ closingOnce b f (x (contentsOf f))
+    pub file-fine : (h : Head) → entered f ≡ Fine h → x (contentsAt f h) ≡ afterReading b f (x (contentsOf f))
     file-fine h e = let (laid, is, clean) = entered-fine f h e in ap (λ (g : Head). x (contentsAt f g)) is ∙ sym (by-file ∙ ap answered clean)

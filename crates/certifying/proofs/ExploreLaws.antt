@@ -162,7 +162,7 @@ module _ (K : Certificate) (S : SeatedState) (i n : ℕ) (q : Search) where
 -- one row more, and none
 module _ (K : Certificate) (j n : ℕ) (q : Search) where
   module _ (lt : j < n) where
-    row-on : rowsTried K j (n - j) q ≡ cond (ltb j (q .known)) (rowOnward (rowTried K (rowState K j) q) j (λ x. rowsTried K (j + 1) (n - (j + 1)) x)) (q .known + 1)
+    pub row-on : rowsTried K j (n - j) q ≡ cond (ltb j (q .known)) (rowOnward (rowTried K (rowState K j) q) j (λ x. rowsTried K (j + 1) (n - (j + 1)) x)) (q .known + 1)
     unfolding rowsTried
     row-on = let more : n - j ≡ suc (n - (j + 1)) = omega (arith, lt) in ap (λ (x : ℕ). rowsTried K j x q) more
 

@@ -117,17 +117,17 @@ someRows n = ltb 0 n && ltb n 4294967295
 
 -- of what a file holds: 17 for the table of seats and 26 for the start, as for a seated run; then 18 at the row at
 -- fault
-abbrev pub closingAt : Contents → List ℕ → ℕ → Closing
-closingAt C seats k = cond (eqb (seatsBar C seats .number) 0) (faultAt k) (closedBy (seatsBar C seats))
+abbrev pub afterSeats : Contents → List ℕ → ℕ → Closing
+afterSeats C seats k = cond (eqb (seatsBar C seats .number) 0) (faultAt k) (closedBy (seatsBar C seats))
 
 abbrev pub closingBy : Contents → List ℕ → List ℕ → List ℕ → List ℕ → Closing
 closingBy C seats states places next =
-    closingAt C seats (rowAtFault (certificateOf C seats states places next) (seatedStart C))
+    afterSeats C seats (rowAtFault (certificateOf C seats states places next) (seatedStart C))
 
 -- 17 where what is lent can't be judged, then 1 to 10
-abbrev pub closingOnce : Bool → List ℕ → Closing → Closing
-closingOnce b f x = let v : Verdict = unready b f in cond (eqb (v .number) 0) x (closedBy v)
+abbrev pub afterReading : Bool → List ℕ → Closing → Closing
+afterReading b f x = let v : Verdict = unready b f in cond (eqb (v .number) 0) x (closedBy v)
 
 unfoldable pub closing : List ℕ → List ℕ → List ℕ → List ℕ → List ℕ → Closing
 closing f seats states places next =
-    closingOnce (someRows (length places)) f (closingBy (contentsOf f) seats states places next)
+    afterReading (someRows (length places)) f (closingBy (contentsOf f) seats states places next)

@@ -18,7 +18,7 @@ use Rattle.certifying.specs.declared.Asked.{Asked}
 use Rattle.certifying.specs.declared.Asked.the-variants.{All, Only}
 use Rattle.certifying.specs.Known.{knownBy}
 use Rattle.certifying.specs.Certificate.{Certificate, certificateOf, rowPlace, rowState, isRow, rowTried, rowOnward}
-use Rattle.certifying.specs.Certificate.{rowsTried, searchBegins, rowAtFault, someRows, closingAt, closingOnce}
+use Rattle.certifying.specs.Certificate.{rowsTried, searchBegins, rowAtFault, someRows, afterSeats, afterReading}
 
 -- the rows before a part are not looked at: so each row of it is asked whether it is a state in order
 abbrev pub isOrdered : Certificate → ℕ → Bool
@@ -52,11 +52,11 @@ somePart rows words P =
 
 abbrev pub closingPartBy : Contents → List ℕ → List ℕ → List ℕ → List ℕ → Part → Closing
 closingPartBy C seats states places next P =
-    closingAt C seats (partAtFault (certificateOf C seats states places next) (seatedStart C) P)
+    afterSeats C seats (partAtFault (certificateOf C seats states places next) (seatedStart C) P)
 
 unfoldable pub closingPart : List ℕ → List ℕ → List ℕ → List ℕ → List ℕ → Part → Closing
 closingPart f seats states places next P =
-    closingOnce (somePart (length places) (length next) P) f (closingPartBy (contentsOf f) seats states places next P)
+    afterReading (somePart (length places) (length next) P) f (closingPartBy (contentsOf f) seats states places next P)
 
 -- How the code goes about both: all rows, or only a part of them.
 
@@ -78,9 +78,9 @@ askedFault K S (Only P) = partAtFault K S P
 
 abbrev pub closingAskedBy : Contents → List ℕ → List ℕ → List ℕ → List ℕ → Asked → Closing
 closingAskedBy C seats states places next asked =
-    closingAt C seats (askedFault (certificateOf C seats states places next) (seatedStart C) asked)
+    afterSeats C seats (askedFault (certificateOf C seats states places next) (seatedStart C) asked)
 
 abbrev pub closingAsked : List ℕ → List ℕ → List ℕ → List ℕ → List ℕ → Asked → Closing
 closingAsked f seats states places next asked =
-    closingOnce (askedFits (length places) (length next) asked) f
+    afterReading (askedFits (length places) (length next) asked) f
     (closingAskedBy (contentsOf f) seats states places next asked)
