@@ -48,7 +48,7 @@ start-eight [] = tt
 start-eight (s ∷ ss) = (refl, start-eight ss)
 
 -- an answer that is fine comes by way of no refusal
-not-refused : (v : Verdict) (x : Closing) → cond (eqb (v .number) 0) x (closedBy v) ≡ closedFine → (v .number ≡ 0) × (x ≡ closedFine)
+pub not-refused : (v : Verdict) (x : Closing) → cond (eqb (v .number) 0) x (closedBy v) ≡ closedFine → (v .number ≡ 0) × (x ≡ closedFine)
 not-refused v x e = go (eqb (v .number) 0) refl e
   where
     go : (b : Bool) → eqb (v .number) 0 ≡ b → cond b x (closedBy v) ≡ closedFine → (v .number ≡ 0) × (x ≡ closedFine)
@@ -58,7 +58,7 @@ not-refused v x e = go (eqb (v .number) 0) refl e
         let clash : true ≡ false = sym (eq-eqb (v .number) 0 zero-number) ∙ t in
         absurd (true≢false clash)
 
-no-fault : (k : ℕ) → faultAt k ≡ closedFine → k ≡ 0
+pub no-fault : (k : ℕ) → faultAt k ≡ closedFine → k ≡ 0
 no-fault k e = go (eqb k 0) refl e
   where
     go : (b : Bool) → eqb k 0 ≡ b → cond b closedFine (record { number = 18; place = 0; row = k }) ≡ closedFine → k ≡ 0
@@ -78,21 +78,21 @@ module _ (f seats states places next : List ℕ) (fine : closing f seats states 
   abbrev S : SeatedState
   S = seatedStart C
 
-  ready : (unready (someRows (length places)) f .number ≡ 0) × (closingBy C seats states places next ≡ closedFine)
+  pub ready : (unready (someRows (length places)) f .number ≡ 0) × (closingBy C seats states places next ≡ closedFine)
   unfolding closing
   ready = not-refused (unready (someRows (length places)) f) (closingBy C seats states places next) fine
 
-  clear : (seatsBar C seats .number ≡ 0) × (faultAt (rowAtFault K S) ≡ closedFine)
+  pub clear : (seatsBar C seats .number ≡ 0) × (faultAt (rowAtFault K S) ≡ closedFine)
   clear = not-refused (seatsBar C seats) (faultAt (rowAtFault K S)) (ready .1)
 
-  rows-some : 0 < length places
+  pub rows-some : 0 < length places
   rows-some = go (someRows (length places)) refl (ready .0)
     where
       go : (b : Bool) → someRows (length places) ≡ b → unready b f .number ≡ 0 → 0 < length places
       go true e h = some-rows (length places) e .0
       go false e h = let no : ⊥ = omega (arith, h) in absurd no
 
-  explored : (isRow K 0 S ≡ true) × (rowsTried K 0 (length places) searchBegins ≡ 0)
+  pub explored : (isRow K 0 S ≡ true) × (rowsTried K 0 (length places) searchBegins ≡ 0)
   unfolding rowAtFault
   explored = go (isRow K 0 S) refl (no-fault (rowAtFault K S) (clear .1))
     where
@@ -100,7 +100,7 @@ module _ (f seats states places next : List ℕ) (fine : closing f seats states 
       go true e h = (e, h)
       go false e h = let no : ⊥ = omega (arith, h) in absurd no
 
-  start-good : Good C seats states places next S
+  pub start-good : Good C seats states places next S
   start-good = (start-eight (C .sessions), start-ordered C seats (bar-clear C seats (clear .0) .1))
 
   first : S ≡ rowState K 0

@@ -1,5 +1,9 @@
 pub mod ChoiceBounds
-pub mod ChoiceEight
 pub mod Explored
 pub mod Certified
+pub mod PartsWhole
 pub mod CasesShown
+pub mod PartsShown
+pub mod Numbering
+pub mod ClosingAnswers
+pub mod RowOutput

@@ -66,7 +66,7 @@ use Rattle.naming.specs.Scopes.{awaits}
 use Rattle.rules.specs.Names.{kindOf}
 use Rattle.checking_exact.specs.Faults.{InContext}
 use Rattle.rules.specs.Checking.{openings}
-use Rattle.running.specs.Run.{listed, stopped, running, runOver, readyPair, ready, besideOfRun, totalsOf, totalsAfter}
+use Rattle.running.specs.Run.{ranWords, listed, stopped, running, runOver, readyPair, ready, besideOfRun, totalsOf, totalsAfter}
 use Rattle.running_exact.specs.Steps.{StandsAt, Steps, Chain}
 use Rattle.running_exact.specs.Conditions.{Condition, FirstRefusal}
 use Rattle.running_exact.specs.Effects.{Effect}
@@ -171,7 +171,7 @@ use Rattle.merging_exact.proofs.MergedOutput.{merged-as-data, merged-reads, fir
 use Rattle.merging_exact.proofs.MergesShown.{merges-shown}
 use Rattle.running_exact.specs.Output.{stateBytes}
 use Rattle.rounds.specs.Round.{Taken, refuses, waits, steps}
-use Rattle.seats.specs.Seats.{Limited, limitedOf, seatsIn, SeatedState, sits, seatsTaken, threadNode, ownerOf, inLine, seatedChoice, oneDone, seatedRun, plainly, waitsIn, seatedStart, seatedRanOf}
+use Rattle.seats.specs.Seats.{Limited, limitedOf, seatsIn, SeatedState, SeatedRan, sits, seatsTaken, threadNode, ownerOf, inLine, seatedChoice, oneDone, seatedRun, plainly, waitsIn, seatedStart, seatedRanOf}
 use Rattle.seats.specs.SeatOrder.{AsksSeat, GetsSeat, SeatedStep, Distinct, ahead, LineStep, HasRole, StandsAtOn, InTreeOf, Always, Between, NoMoreBefore}
 use Rattle.seats.proofs.LineLaws.{in-line-member}
 use Rattle.seats.proofs.SeatedTold.{seated-agrees, goes-iff, waits-iff, waits-only-line, halts-iff}
@@ -217,9 +217,21 @@ use Rattle.wards.specs.WardCases.{alone, aloneFile, alonePlaced, beside, beside
 use Rattle.wards.proofs.Wards.{isolated, isolated-at}
 use Rattle.wards.proofs.WardNodes.{from-root, isolated-words, isolated-words-at}
 use Rattle.wards.proofs.WardsShown.{wards-agree, wards-shown}
+use Rattle.rows.specs.Rows.{rowWords}
 use Rattle.certifying.specs.Certificate.{certificateOf, rowState, isRow, closing, closedFine}
+use Rattle.certifying.specs.declared.Closing.{Closing}
 use Rattle.certifying_exact.specs.CertificateCases.{CertificateShown, certificateCases}
+use Rattle.certifying_exact.specs.Numbered.{collect, CertificateHolds, FaultAt}
+use Rattle.certifying_exact.specs.ClosingCauses.{Triable, closingAt, ClosingCause}
 use Rattle.certifying_exact.proofs.Certified.{schedule-is-a-row, row-is-reached, each-row-holds, plain-schedule-is-a-row}
+use Rattle.certifying_exact.proofs.ClosingAnswers.{answers-by-cause, holds-exactly, lowest-fault}
+use Rattle.certifying_exact.proofs.RowOutput.{row-in-parts, output-is-a-row}
+use Rattle.certifying.specs.declared.Part.{Part}
+use Rattle.certifying.specs.Parts.{closingPart}
+use Rattle.certifying_exact.specs.Chains.{Chained, partBetween}
+use Rattle.certifying_exact.specs.PartCases.{PartShown, partCases}
+use Rattle.certifying_exact.proofs.PartsWhole.{chain-is-whole, whole-has-part}
+use Rattle.certifying_exact.proofs.PartsShown.{parts-shown}
 use Rattle.certifying_exact.proofs.CasesShown.{certificates-shown}
 use Rattle.engine.proofs.LongInputs.{kept-alike}
 use Rattle.engine.proofs.NothingPlanned.{nothing-alike, nothing-checked, nothing-measured, nothing-placed, nothing-short, nothing-over, nothing-run, nothing-chosen, short-one, short-second}
@@ -1859,6 +1871,46 @@ what-holds-of-rows-holds-of-schedules = each-row-holds
 pub every-plain-schedule-is-a-row : (f seats states places next : List ℕ) → closing f seats states places next ≡ closedFine → All (λ w. w ≡ 0) seats → (ws : List ℕ)
     → (k : ℕ) × (k < length places) × (ranOf f ws .state ≡ rowState (certificateOf (contentsOf f) seats states places next) k .state)
 every-plain-schedule-is-a-row = plain-schedule-is-a-row
+
+-- When a certificate holds: exactly where nothing refuses before the rows, row 0 has the words of the start, and in each row, which is known by then, the words of `next` name the rows of the states that its choices lead
+-- to, one after the other.
+pub closed-exactly : (f seats states places next : List ℕ) → (closing f seats states places next ≡ closedFine)
+    ↔ (Triable f seats (length places) × CertificateHolds (certificateOf (contentsOf f) seats states places next) (seatedStart (contentsOf f)))
+closed-exactly = holds-exactly
+
+-- The row that 18 names is the first where it is not the start, and else the lowest that doesn't hold, counted from 1 on.
+pub fault-exactly : (f seats states places next : List ℕ) (k : ℕ) → (closing f seats states places next ≡ closingAt 18 0 k)
+    ↔ (Triable f seats (length places) × FaultAt (certificateOf (contentsOf f) seats states places next) (seatedStart (contentsOf f)) k)
+fault-exactly = lowest-fault
+
+-- The refusals in order: 17 for the rows, 1 to 10 as the file is read, 17 for the table of seats, 26 at the session as of a run with seats, then 18 or 0. An answer is given exactly where it has its cause.
+pub closing-answers : (f seats states places next : List ℕ) (x : Closing) → (closing f seats states places next ≡ x) ↔ ClosingCause f seats states places next x
+closing-answers = answers-by-cause
+
+-- A row's words: those of the run's output from the third on, then the session of each thread, then for each role how many wait, and these.
+pub row-begins-as-the-run : (roles : ℕ) (r : SeatedRan)
+    → rowWords roles (r .seating) ≡ drop 2 (ranWords (plainly r)) ++ (r .seating .owners ++ collect (λ x. length (r .seating .lines x) ∷ r .seating .lines x) 1 roles)
+row-begins-as-the-run = row-in-parts
+
+-- So what `pilzdamo_run_seated` writes through any list of choices stands in a row of a certificate that holds: word i of the row is word i + 2 of the output.
+pub every-output-is-a-row : (f seats states places next : List ℕ) → closing f seats states places next ≡ closedFine → (ws out : List ℕ) → Fit ws (length out)
+    → (k : ℕ) × (k < length places)
+    × ((i : ℕ) → 2 * (i + 2) < seatedLength f ws seats (length out) → getD states (getD places k 0 + i) 0 ≡ wordAt (seatedOver f ws seats out) (i + 2))
+every-output-is-a-row = output-is-a-row
+
+-- A certificate by parts. `pilzdamo_closed_part` answers `closingPart`; where that is fine for each part of a chain, from row 0 and word 0 to the last row, the whole certificate is fine.
+pub parts-are-the-whole : (f seats states places next : List ℕ) (P : Part) (Ps : List Part) → Chained 0 0 (P ∷ Ps) (length places)
+    → All (λ Q. closingPart f seats states places next Q ≡ closedFine) (P ∷ Ps) → closing f seats states places next ≡ closedFine
+parts-are-the-whole = chain-is-whole
+
+-- And where the whole is fine each part is, from any row to any later one, with the words of the choices that are done in its rows.
+pub the-whole-has-parts : (f seats states places next : List ℕ) → closing f seats states places next ≡ closedFine → (j k : ℕ) → j < k → k ≤ length places
+    → closingPart f seats states places next (partBetween (certificateOf (contentsOf f) seats states places next) j k) ≡ closedFine
+the-whole-has-parts = whole-has-part
+
+-- In literal words: a certificate in two parts; parts whose words end elsewhere, with a row that isn't known or isn't in order, refused at their rows.
+pub parts-in-words : All PartShown partCases
+parts-in-words = parts-shown
 
 -- In literal words: two sessions that end, and two that want one seat, with their tables accepted; and tables with another first row, a target one off, not known yet or missing, a row missing or
 -- never reached, refused at their rows.

@@ -41,7 +41,7 @@ module _ (ws old : List ℕ) (fits : 2 * length ws ≤ length old) where
       let at : 0 + length (bytesOf ws) ≡ 2 * length ws = omega (arith, bytes-length ws) in
       sets-eq (bytesOf ws) old 0 (omega (arith, at)) ∙ ap (λ (k : ℕ). bytesOf ws ++ drop k old) at
 
-  over-word : (k : ℕ) → k < length ws → wordAt over k ≡ getD ws k 0
+  pub over-word : (k : ℕ) → k < length ws → wordAt over k ≡ getD ws k 0
   over-word k h = ap (λ (l : List ℕ). wordAt l k) over-is ∙ bytes-word ws k h (drop (2 * length ws) old)
 
   over-past : drop (2 * length ws) over ≡ drop (2 * length ws) old

@@ -238,7 +238,7 @@ module _ (f table ws : List ℕ) where
   barred-loud apart (readied y c t s e) (inr (inr (inl m))) z = never-fits C table t m
   barred-loud apart (readied y c t s e) (inr (inr (inr (k, o)))) z = s k o
 
-  ready-number : (room : ℕ) → Fit ws room → readingNames f ≡ fine → SeatTableFits C table → StartFits C table → eqb (seatedUnreadyIn f ws table room .number) 0 ≡ true
+  pub ready-number : (room : ℕ) → Fit ws room → readingNames f ≡ fine → SeatTableFits C table → StartFits C table → eqb (seatedUnreadyIn f ws table room .number) 0 ≡ true
   ready-number room y c t s = eq-eqb _ 0 (ready-quiet (never-fit ws room) (run-ready room) y c t s)
 
   barred-number : (room : ℕ) → SeatsBar (Unfit ws room) f table → eqb (seatedUnreadyIn f ws table room .number) 0 ≡ false
