@@ -1892,7 +1892,7 @@ pub every-output-is-a-row : (f seats states places next : List ℕ) → closing 
     × ((i : ℕ) → 2 * (i + 2) < seatedLength f ws seats (length out) → getD states (getD places k 0 + i) 0 ≡ wordAt (seatedOver f ws seats out) (i + 2))
 every-output-is-a-row = output-is-a-row
 
--- In literal words: two sessions that end, and two that want one seat, with their tables accepted; and tables with another first row, a target one off, not known yet or missing, a row missing or
--- never reached, refused at their rows.
+-- In literal words: two sessions that end, two that meet, one that makes a channel, and two that want one seat, with their tables accepted; and tables with another first row, a target one off, not
+-- known yet or missing, a row missing or never reached, refused at their rows; and the refusals before the rows, in order.
 pub certificates-in-words : All CertificateShown certificateCases
 certificates-in-words = certificates-shown
