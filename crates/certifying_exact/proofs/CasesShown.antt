@@ -36,4 +36,4 @@ use Rattle.certifying_exact.specs.CertificateCases.{CertificateShown, ce
 
 pub certificates-shown : All CertificateShown certificateCases
 unfolding has with without held namesOnly within bytesOf firstOf from1 from2 from3 from4 from5 headOf tabled item spot contentsAt recordFits sectionAnswer recordsAnswer following nodeFits shapeFrom roots shapeAnswer reading together effective permits permittingTo named kindOf mine namesFit kindsFit able wrong childOf reached openingsFrom firstBy namesAnswer rightly bindScope scopeFrom scopeOf marked nodeScope scopesIn readingNames value firstFree kindHeld meeting sending lone aloneOnly acting done outcome choice madeWords oneMore oneLess cleared counted threadsFrom run tried standsIn threadWords ranWords receiverFor visited visit roundFrom round numbers occupies countTo asksSeat isNext getsSeat lineWith ownersBy seatedChoice seatedRun stepsOnly waitsIn lastIn overfills lowestTo smallSeats seatTableAnswer seatStartAnswer lineWords rowWords standsAt rowThreads rowLines arrives partnersTried threadsTried rowsTried rowAtFault closing madeIn
-certificates-shown = (refl, (refl, (refl, (refl, (refl, (refl, (refl, (refl, (refl, (refl, (refl, (refl, (refl, (refl, tt))))))))))))))
+certificates-shown = (refl, (refl, (refl, (refl, (refl, (refl, (refl, (refl, (refl, (refl, (refl, (refl, (refl, (refl, (refl, (refl, (refl, (refl, (refl, (refl, (refl, (refl, (refl, (refl, (refl, tt)))))))))))))))))))))))))

@@ -24,7 +24,7 @@ use Rattle.seated.specs.SeatedEntry.{seatsBar}
 use Rattle.certifying.specs.declared.Closing.{Closing}
 use Rattle.certifying.specs.Certificate.{Certificate, certificateOf, rowAtFault, closedFine, closedBy, faultAt, someRows, closingBy, closing}
 use Rattle.certifying_exact.specs.Numbered.{CertificateHolds, FaultAt}
-use Rattle.certifying_exact.specs.ClosingCauses.{RowsFit, RowsUnfit, Triable, closingAt, ClosingCause}
+use Rattle.certifying_exact.specs.ClosingCauses.{RowsFit, RowsUnfit, Triable, closingOf, ClosingCause}
 use Rattle.certifying_exact.specs.ClosingCauses as causes
 use Rattle.certifying_exact.proofs.Numbering.{Judged, sound, unsound, fault-judged, holds-not-fault, one-fault}
 
@@ -79,8 +79,8 @@ module _ (f seats states places next : List ℕ) where
   loud : (u : Verdict) → u .number ≢ 0 → answer u ≡ closedBy u
   loud u z = ap (λ (x : Bool). cond x (faultAt (rowAtFault K S)) (closedBy u)) (ne-eqb (u .number) 0 z)
 
-  fault-number : (k : ℕ) → 1 ≤ k → faultAt k ≡ closingAt 18 0 k
-  fault-number k one = ap (λ (x : Bool). cond x closedFine (closingAt 18 0 k)) (ne-eqb k 0 (λ z. omega (arith, one, z)))
+  fault-number : (k : ℕ) → 1 ≤ k → faultAt k ≡ closingOf 18 0 k
+  fault-number k one = ap (λ (x : Bool). cond x closedFine (closingOf 18 0 k)) (ne-eqb k 0 (λ z. omega (arith, one, z)))
 
   tried : Triable f seats (length places) → (x : Closing) → x ≡ faultAt (rowAtFault K S) → Cause x
   tried T x e = go (fault-judged K S)
@@ -118,7 +118,7 @@ module _ (f seats states places next : List ℕ) where
       go (sound H z) = absurd (holds-not-fault K S k H F)
       go (unsound G one) =
           let same : rowAtFault K S ≡ k = one-fault K S (rowAtFault K S) k G F in
-          clear T ∙ fault-number (rowAtFault K S) one ∙ ap (closingAt 18 0) same ∙ sym e
+          clear T ∙ fault-number (rowAtFault K S) one ∙ ap (closingOf 18 0) same ∙ sym e
   from-cause x (causes.holds T H e) = go (fault-judged K S)
     where
       go : Judged K S (rowAtFault K S) → closing f seats states places next ≡ x
@@ -142,10 +142,10 @@ module _ (f seats states places next : List ℕ) where
       to (causes.faulty T k F e) = let never : ⊥ = omega (arith, ap (λ (c : Closing). c .number) e) in absurd never
 
   -- 18 with row k exactly where nothing refuses before the rows, and k, counted from 1 on, is the lowest row at fault.
-  pub lowest-fault : (k : ℕ) → (closing f seats states places next ≡ closingAt 18 0 k) ↔ (Triable f seats (length places) × FaultAt K S k)
-  lowest-fault k = (λ e. to (answers-by-cause (closingAt 18 0 k) .0 e), λ (T, F). from-cause (closingAt 18 0 k) (causes.faulty T k F refl))
+  pub lowest-fault : (k : ℕ) → (closing f seats states places next ≡ closingOf 18 0 k) ↔ (Triable f seats (length places) × FaultAt K S k)
+  lowest-fault k = (λ e. to (answers-by-cause (closingOf 18 0 k) .0 e), λ (T, F). from-cause (closingOf 18 0 k) (causes.faulty T k F refl))
     where
-      to : Cause (closingAt 18 0 k) → Triable f seats (length places) × FaultAt K S k
+      to : Cause (closingOf 18 0 k) → Triable f seats (length places) × FaultAt K S k
       to (causes.faulty T j F e) = (T, subst (FaultAt K S) (sym (ap (λ (c : Closing). c .row) e)) F)
       to (causes.unfit w e) = let never : ⊥ = omega (arith, ap (λ (c : Closing). c .number) e) in absurd never
       to (causes.misread y n p o c e) = absurd (not-of-file n 18 o (omega arith) (omega arith) (sym (ap (λ (c : Closing). c .number) e)))

@@ -28,22 +28,22 @@ pub record Triable (f seats : List ℕ) (n : ℕ) : Type 0 where
   pub table : SeatTableFits (contentsOf f) seats
   pub start : StartFits (contentsOf f) seats
 
-abbrev pub closingAt : ℕ → ℕ → ℕ → Closing
-closingAt n p k = record { number = n; place = p; row = k }
+abbrev pub closingOf : ℕ → ℕ → ℕ → Closing
+closingOf n p k = record { number = n; place = p; row = k }
 
 pub data ClosingCause (f seats states places next : List ℕ) (x : Closing) : Type 0 where
   -- 17 for the rows, 1 to 10, 17 for the table of seats, 26 for the start
-  unfit : RowsUnfit (length places) → x ≡ closingAt 17 0 0 → ClosingCause f seats states places next x
-  misread : RowsFit (length places) → (n p : ℕ) → OfFile n → readingNames f ≡ refused n p → x ≡ closingAt n p 0
+  unfit : RowsUnfit (length places) → x ≡ closingOf 17 0 0 → ClosingCause f seats states places next x
+  misread : RowsFit (length places) → (n p : ℕ) → OfFile n → readingNames f ≡ refused n p → x ≡ closingOf n p 0
       → ClosingCause f seats states places next x
   misfits : RowsFit (length places) → readingNames f ≡ fine → SeatTableMisfits (contentsOf f) seats
-      → x ≡ closingAt 17 0 0 → ClosingCause f seats states places next x
+      → x ≡ closingOf 17 0 0 → ClosingCause f seats states places next x
   overfull : RowsFit (length places) → readingNames f ≡ fine → SeatTableFits (contentsOf f) seats
-      → (k : ℕ) → OverfullAt (contentsOf f) seats k → x ≡ closingAt 26 k 0 → ClosingCause f seats states places next x
+      → (k : ℕ) → OverfullAt (contentsOf f) seats k → x ≡ closingOf 26 k 0 → ClosingCause f seats states places next x
   -- 18 at the row at fault, or 0
   faulty : Triable f seats (length places)
       → (k : ℕ) → FaultAt (certificateOf (contentsOf f) seats states places next) (seatedStart (contentsOf f)) k
-      → x ≡ closingAt 18 0 k → ClosingCause f seats states places next x
+      → x ≡ closingOf 18 0 k → ClosingCause f seats states places next x
   holds : Triable f seats (length places)
       → CertificateHolds (certificateOf (contentsOf f) seats states places next) (seatedStart (contentsOf f))
-      → x ≡ closingAt 0 0 0 → ClosingCause f seats states places next x
+      → x ≡ closingOf 0 0 0 → ClosingCause f seats states places next x

@@ -222,7 +222,7 @@ use Rattle.certifying.specs.Certificate.{certificateOf, rowState, isRow, closin
 use Rattle.certifying.specs.declared.Closing.{Closing}
 use Rattle.certifying_exact.specs.CertificateCases.{CertificateShown, certificateCases}
 use Rattle.certifying_exact.specs.Numbered.{collect, CertificateHolds, FaultAt}
-use Rattle.certifying_exact.specs.ClosingCauses.{Triable, closingAt, ClosingCause}
+use Rattle.certifying_exact.specs.ClosingCauses.{Triable, closingOf, ClosingCause}
 use Rattle.certifying_exact.proofs.Certified.{schedule-is-a-row, row-is-reached, each-row-holds, plain-schedule-is-a-row}
 use Rattle.certifying_exact.proofs.ClosingAnswers.{answers-by-cause, holds-exactly, lowest-fault}
 use Rattle.certifying_exact.proofs.RowOutput.{row-in-parts, output-is-a-row}
@@ -1879,7 +1879,7 @@ pub closed-exactly : (f seats states places next : List ℕ) → (closing f seat
 closed-exactly = holds-exactly
 
 -- The row that 18 names is the first where it is not the start, and else the lowest that doesn't hold, counted from 1 on.
-pub fault-exactly : (f seats states places next : List ℕ) (k : ℕ) → (closing f seats states places next ≡ closingAt 18 0 k)
+pub fault-exactly : (f seats states places next : List ℕ) (k : ℕ) → (closing f seats states places next ≡ closingOf 18 0 k)
     ↔ (Triable f seats (length places) × FaultAt (certificateOf (contentsOf f) seats states places next) (seatedStart (contentsOf f)) k)
 fault-exactly = lowest-fault
 
@@ -1912,7 +1912,7 @@ the-whole-has-parts = whole-has-part
 pub parts-in-words : All PartShown partCases
 parts-in-words = parts-shown
 
--- In literal words: two sessions that end, and two that want one seat, with their tables accepted; and tables with another first row, a target one off, not known yet or missing, a row missing or
--- never reached, refused at their rows.
+-- In literal words: two sessions that end, two that meet, one that makes a channel, and two that want one seat, with their tables accepted; and tables with another first row, a target one off, not
+-- known yet or missing, a row missing or never reached, refused at their rows; and the refusals before the rows, in order.
 pub certificates-in-words : All CertificateShown certificateCases
 certificates-in-words = certificates-shown
