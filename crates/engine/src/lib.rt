@@ -17,6 +17,7 @@ use lending::starting::begin;
 use lending::starting::sessions_of;
 use lending::verdict_of;
 use notices::InForce;
+use offering::Offers;
 use placing::Placed;
 use reasons::Reason;
 use running::Ready;
@@ -38,6 +39,7 @@ ghost use Rattle.seating.specs.SeatedRunning.{seatedOver};
 ghost use Rattle.seating.specs.SeatsRead.{seatsAfter};
 ghost use Rattle.seating.specs.SeatedRound.{seatedRounding, seatedRoundOver};
 ghost use Rattle.seated.specs.SeatedEntry.{seatedWritten};
+ghost use Rattle.offering.specs.Offers.{offering};
 ghost use Rattle.certifying.specs.Certificate.{closing};
 ghost use Rattle.certifying.specs.Parts.{closingPart};
 ghost use Rattle.reasons.specs.Reasons.{reasonOf, understood, reasonLength, reasonOver, meaningLength, meaningOver};
@@ -290,6 +292,22 @@ pub extern "C" fn pilzdamo_closed_part(
         end,
     };
     certifying::check_closed_part(file, seats, states, places, next, part)
+}
+
+// All choices of one lent state, the file judged once: for whoever searches all schedules. `state` has the words of a row, as a certificate has them. For each choice that is done, threads outside
+// and partners inside, `out` has the thread, the partner, the answer (26 where it has to wait, else 0), how many words the state has that it leads to, and these. 1 to 10; refused as the run with
+// seats is; 18 where the lent words are no state's in order; 17 where an offer has no room, and then those before it are written, as of a run that halts; or 0, 0, with their count and words.
+#[no_mangle]
+pub extern "C" fn pilzdamo_offers(
+    file: &[u8],
+    seats: &[u16],
+    state: &[u16],
+    out: &mut [u16],
+) -> Offers
+    ensures { λ r. ⌜ (r ≡ offering (now (file .entry)) (now (seats .entry)) (now (state .entry)) (now (out .entry)) .answer)
+        × (now (out .exit) ≡ offering (now (file .entry)) (now (seats .entry)) (now (state .entry)) (now (out .entry)) .out) ⌝ }
+{
+    offering::find_offers(file, seats, state, out)
 }
 
 // Carries out one choice in the list that the live desk lends: 64 records of threads, and beside them 162 words: the thread count, the number of made

@@ -143,7 +143,7 @@ module _ (s : List ℕ) where
         row-length : length (take (getD ls (33 * r) 0) (drop (33 * r + 1) ls)) ≡ getD ls (33 * r) 0
         row-length = length-take-le (getD ls (33 * r) 0) (drop (33 * r + 1) ls) (omega (arith, few, length-drop (33 * r + 1) ls, R .words))
 
-    line-front : (n : ℕ) → n ≡ getD ls (33 * r) 0 + 1 → take n (drop (33 * r) ls) ≡ length (linesIn ls (suc r)) ∷ linesIn ls (suc r)
+    pub line-front : (n : ℕ) → n ≡ getD ls (33 * r) 0 + 1 → take n (drop (33 * r) ls) ≡ length (linesIn ls (suc r)) ∷ linesIn ls (suc r)
     line-front n e =
         let less : n - 1 ≡ getD ls (33 * r) 0 = omega (arith, e) in
         take-at ls n (33 * r) (omega (arith, e)) (omega (arith, low, R .words))
@@ -151,18 +151,21 @@ module _ (s : List ℕ) where
         ∙ ap₂ (λ (a : ℕ) (l : List ℕ). a ∷ l) (sym line-long) refl
         ∙ ap (λ (l : List ℕ). length l ∷ l) (sym line-is)
 
+    pub line-words : (roles n : ℕ) → r < roles → n ≡ getD ls (33 * r) 0 + 1 → lineWords (linesIn ls) (suc r) (roles - r) ≡ take n (drop (33 * r) ls) ++ lineWords (linesIn ls) (suc (r + 1)) (roles - (r + 1))
+    unfolding lineWords
+    line-words roles n lt e =
+        let some : roles - r ≡ suc (roles - (r + 1)) = omega (arith, lt) in
+        let more : suc (suc r) ≡ suc (r + 1) = omega arith in
+        ap (lineWords (linesIn ls) (suc r)) some
+        ∙ ap₂ (λ (l : List ℕ) (x : ℕ). l ++ lineWords (linesIn ls) x (roles - (r + 1))) (sym (line-front n e)) more
+
     line-on : (roles on n : ℕ) → r < roles → n ≡ getD ls (33 * r) 0 + 1 → standsAt s on (lineWords (linesIn ls) (suc r) (roles - r))
         ≡ standsAt s on (take n (drop (33 * r) ls)) && standsAt s (on + n) (lineWords (linesIn ls) (suc (r + 1)) (roles - (r + 1)))
-    unfolding lineWords
     line-on roles on n lt e =
-        let some : roles - r ≡ suc (roles - (r + 1)) = omega (arith, lt) in
-        let f : ℕ → List ℕ = linesIn ls in
-        let long : on + length (length (f (suc r)) ∷ f (suc r)) ≡ on + n = omega (arith, e, ap length line-is ∙ line-long) in
-        let more : suc (suc r) ≡ suc (r + 1) = omega arith in
-        ap (λ (x : ℕ). standsAt s on (lineWords f (suc r) x)) some
-        ∙ stands-append (length (f (suc r)) ∷ f (suc r)) on (lineWords f (suc (suc r)) (roles - (r + 1)))
-        ∙ ap₂ (λ (x y : Bool). x && y) (ap (standsAt s on) (sym (line-front n e)))
-        (ap₂ (λ (x y : ℕ). standsAt s x (lineWords f y (roles - (r + 1)))) long more)
+        let long : on + length (take n (drop (33 * r) ls)) ≡ on + n = omega (arith, e, ap length (line-front n e), ap length line-is ∙ line-long) in
+        ap (standsAt s on) (line-words roles n lt e)
+        ∙ stands-append (take n (drop (33 * r) ls)) on (lineWords (linesIn ls) (suc (r + 1)) (roles - (r + 1)))
+        ∙ ap (λ (x : ℕ). standsAt s on (take n (drop (33 * r) ls)) && standsAt s x (lineWords (linesIn ls) (suc (r + 1)) (roles - (r + 1)))) long
 
   module _ (ls : List ℕ) (R : LineRows ls) (r : ℕ) (low : r < 16) (roles on n : ℕ) (lt : r < roles) (is : n ≡ getD ls (33 * r) 0 + 1) where
     pub line-other : standsAt s on (take n (drop (33 * r) ls)) ≡ false → false ≡ standsAt s on (lineWords (linesIn ls) (suc r) (roles - r))
@@ -240,27 +243,31 @@ module _ (s w b os ls : List ℕ) (Z : Sized w b) (long : length os ≡ 64) (at 
       ∙ ap (λ (l : List ℕ). getD b 0 0 ∷ l) (take-at b (used - 1) 1 (omega (arith, is-used)) (omega (arith, Z .beside)) ∙ ap (λ (x : ℕ). getD b 1 0 ∷ take x (drop 2 b)) a)
       ∙ ap (λ (l : List ℕ). threadCount b ∷ m ∷ l) (sym (made-front b 2 m (omega (arith, few, Z .beside))))
 
+  -- the words in four parts
+  pub row-words : rowWords roles (seatedIn w b os ls) ≡ take used (drop 0 b) ++ (threadWords (threadsIn w 0 n) ++ (take n (drop 0 os) ++ lineWords (linesIn ls) 1 roles))
+  unfolding rowWords
+  row-words =
+      let m : ℕ = madeCount b in
+      let k : ℕ = threadCount b in
+      let D : List ℕ = lineWords (linesIn ls) 1 roles in
+      ap₂ (λ (x y : ℕ). x ∷ y ∷ madeWords (madeIn b 2 m) ++ (threadWords (threadsIn w 0 k) ++ (take k os ++ D))) (threads-length w 0 k) (made-length b 2 m)
+      ∙ ap₂ (λ (l : List ℕ) (x : ℕ). l ++ (threadWords (threadsIn w 0 x) ++ (take x os ++ D))) (sym front) (sym is-n)
+
   row-parts : standsAt s at (rowWords roles (seatedIn w b os ls))
       ≡ standsAt s at (take used (drop 0 b))
       && (standsAt s (at + used) (threadWords (threadsIn w 0 n))
       && (standsAt s (at + used + 12 * n) (take n (drop 0 os)) && standsAt s (at + used + 12 * n + n) (lineWords (linesIn ls) 1 roles)))
-  unfolding rowWords
   row-parts =
-      let m : ℕ = madeCount b in
-      let k : ℕ = threadCount b in
       let few : madeCount b ≤ 64 = Z .made in
       let least : threadCount b ≤ 64 = Z .threads in
       let A : List ℕ = take used (drop 0 b) in
       let B : List ℕ = threadWords (threadsIn w 0 n) in
       let O : List ℕ = take n (drop 0 os) in
       let D : List ℕ = lineWords (linesIn ls) 1 roles in
-      let whole : rowWords roles (seatedIn w b os ls) ≡ A ++ (B ++ (O ++ D)) =
-      ap₂ (λ (x y : ℕ). x ∷ y ∷ madeWords (madeIn b 2 m) ++ (threadWords (threadsIn w 0 k) ++ (take k os ++ D))) (threads-length w 0 k) (made-length b 2 m)
-      ∙ ap₂ (λ (l : List ℕ) (x : ℕ). l ++ (threadWords (threadsIn w 0 x) ++ (take x os ++ D))) (sym front) (sym is-n) in
       let la : at + length A ≡ at + used = omega (arith, length-take-le used b (omega (arith, is-used, few, Z .beside))) in
       let lb : at + used + length B ≡ at + used + 12 * n = omega (arith, thread-words-length w 0 n) in
       let lo : at + used + 12 * n + length O ≡ at + used + 12 * n + n = omega (arith, length-take-le n os (omega (arith, is-n, least, long))) in
-      ap (standsAt s at) whole
+      ap (standsAt s at) row-words
       ∙ stands-append s A at (B ++ (O ++ D))
       ∙ ap (λ (x : ℕ). standsAt s at A && standsAt s x (B ++ (O ++ D))) la
       ∙ ap (λ (x : Bool). standsAt s at A && x)
