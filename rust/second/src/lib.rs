@@ -2,12 +2,12 @@
 //!
 //! It is written from the paper and the requests alone and shares nothing with the
 //! engine, so that the two can be compared. "1 to 8" and "1 to 10" include 21. The timed
-//! functions, [`read`], [`read_names`],
-//! [`check`], [`check_at`], [`place`], [`place_at`], [`measure`], [`measure_at`],
-//! [`run`], [`round`], [`ready`], [`totals`], [`run_seated`], [`round_seated`],
-//! [`seats`], [`closing`], [`closing_part`], [`offers`], [`start`], [`choose`], [`merge`], [`to_columns`], [`to_rows`],
-//! [`in_force`] and [`sheet`], go over the file a few times, in place, and allocate
-//! nothing; nor do [`reason`], [`read_reason`] and [`phrase`].
+//! functions, [`read`], [`read_names`], [`check`], [`check_at`], [`place`], [`place_at`],
+//! [`measure`], [`measure_at`], [`run`], [`round`], [`ready`], [`totals`], [`run_seated`],
+//! [`round_seated`], [`seats`], [`closing`], [`closing_part`], [`offers`], [`start`],
+//! [`choose`], [`merge`], [`to_columns`], [`to_rows`], [`in_force`] and [`sheet`], go over
+//! the file a few times, in place, and allocate nothing; nor do [`reason`], [`read_reason`]
+//! and [`phrase`].
 
 #![forbid(unsafe_code)]
 

@@ -160,10 +160,10 @@ impl Damages<'_> {
     /// Another table of seats, and another file.
     fn others(&mut self) {
         let seats = self.lending.seats.clone();
-        for at in 0..seats.len() {
+        for (at, &of_role) in seats.iter().enumerate() {
             self.lending.seats[at] = *self.rng.of(&[0, 1, 2, 32, 33]);
             self.ask("other seats");
-            self.lending.seats[at] = seats[at];
+            self.lending.seats[at] = of_role;
         }
         self.lending.seats.push(0);
         let answer = self.ask("a seat more");

@@ -299,10 +299,10 @@ impl Damages<'_> {
     /// With another table of seats or another file the parts are closed only if the whole is.
     fn others(&mut self) {
         let seats = self.certified.seats.clone();
-        for at in 0..seats.len() {
+        for (at, &of_role) in seats.iter().enumerate() {
             self.certified.seats[at] = *self.rng.of(&[0, 1, 2, 3, 32, 33]);
             self.ask_whole("other seats");
-            self.certified.seats[at] = seats[at];
+            self.certified.seats[at] = of_role;
         }
         self.certified.seats.push(0);
         self.ask_whole("a seat more");

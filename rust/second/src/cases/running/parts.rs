@@ -123,15 +123,28 @@ fn bounds() -> Vec<ClosingPartCase> {
     let all = &one_seat();
     let none = Closing::refused(17, 0);
     let most = usize::MAX;
+    let back = |start: usize, end: usize| start..end;
     let mut cases = vec![
         part("no rows", all, 3..3, 6..6, none),
         part("no rows at the start", all, 0..0, 0..0, none),
-        part("rows that end before they begin", all, 5..4, 9..9, none),
+        part(
+            "rows that end before they begin",
+            all,
+            back(5, 4),
+            9..9,
+            none,
+        ),
         part("a row past the last", all, 11..13, 16..16, none),
         part("rows far past the last", all, 0..most, 0..16, none),
         part("from there on", all, most..most, 16..16, none),
         part("from there back", all, most..0, 0..0, none),
-        part("numbers that end before they begin", all, 4..5, 9..7, none),
+        part(
+            "numbers that end before they begin",
+            all,
+            4..5,
+            back(9, 7),
+            none,
+        ),
         part("a number past the last", all, 11..12, 16..17, none),
         part("numbers past the last", all, 11..12, 17..17, none),
         part("numbers far past the last", all, 0..12, 0..most, none),
