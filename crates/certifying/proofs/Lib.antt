@@ -1,5 +1,5 @@
-pub mod StandLaws
-pub mod ReadLaws
-pub mod LoadLaws
 pub mod ExploreLaws
+pub mod ChoiceFits
+pub mod KnownLaws
+pub mod PartLaws
 pub mod EntryLaws

@@ -1,8 +1,7 @@
 -- A certificate for all schedules: the states that a search found, where each begins, and for each choice that is done
 -- the number of the state that follows.
-use Prim.Native.Nat.{ℕ, zero, suc, _+_, _≤_, _<_}
-use mathlib.Core.Path.{_≡_}
-use mathlib.Core.Bool.{Bool, true, false, cond, _&&_}
+use Prim.Native.Nat.{ℕ, zero, suc, _+_}
+use mathlib.Core.Bool.{Bool, cond, _&&_}
 use mathlib.Core.List.{List}
 use lib.Dec.{eqb, leb, ltb}
 use lib.ListN.{length, getD}
@@ -10,17 +9,13 @@ use Rattle.format.specs.declared.Verdict.{Verdict}
 use Rattle.format.specs.Contents.{Contents, contentsOf}
 use Rattle.rounds.specs.Round.{Taken, refuses, waits, steps}
 use Rattle.seats.specs.Seats.{Limited, limitedOf, SeatedState, seatedChoice, seatedStart}
-use Rattle.seats.specs.SeatOrder.{Ordered}
 use Rattle.running.specs.Run.{unready}
 use Rattle.seated.specs.SeatedEntry.{seatsBar}
-use Rattle.seated.specs.SeatedTables.{seatedIn, Seated}
-use Rattle.seated.specs.declared.Sat.{Sat}
-use Rattle.seated.specs.declared.Sat.the-variants as sat
 use Rattle.certifying.specs.declared.Closing.{Closing}
 use Rattle.certifying.specs.declared.Search.{Search}
 use Rattle.certifying.specs.declared.Trial.{Trial}
 use Rattle.certifying.specs.declared.Trial.the-variants.{Fails, Passes}
-use Rattle.certifying.specs.Rows.{rowWords, standsAt, seatedAt, RowFits}
+use Rattle.rows.specs.Rows.{rowWords, standsAt, seatedAt}
 
 pub record Certificate : Type 0 where
   pub limited : Limited
@@ -70,6 +65,11 @@ abbrev pub onward : Trial → (Search → Trial) → Trial
 onward Fails go = Fails
 onward (Passes q) go = go q
 
+-- what holds of a search that goes on
+abbrev pub IfPasses : Trial → (Search → Type 0) → Type 0
+IfPasses Fails P = Unit {0}
+IfPasses (Passes q) P = P q
+
 -- the choices of thread i with so many partners from p on
 unfoldable pub partnersTried : Certificate → SeatedState → ℕ → ℕ → ℕ → Search → Trial
 partnersTried K S i p zero q = Passes q
@@ -117,47 +117,17 @@ someRows n = ltb 0 n && ltb n 4294967295
 
 -- of what a file holds: 17 for the table of seats and 26 for the start, as for a seated run; then 18 at the row at
 -- fault
+abbrev pub closingAt : Contents → List ℕ → ℕ → Closing
+closingAt C seats k = cond (eqb (seatsBar C seats .number) 0) (faultAt k) (closedBy (seatsBar C seats))
+
 abbrev pub closingBy : Contents → List ℕ → List ℕ → List ℕ → List ℕ → Closing
 closingBy C seats states places next =
-    cond (eqb (seatsBar C seats .number) 0)
-    (faultAt (rowAtFault (certificateOf C seats states places next) (seatedStart C))) (closedBy (seatsBar C seats))
+    closingAt C seats (rowAtFault (certificateOf C seats states places next) (seatedStart C))
 
--- 17 for the number of rows, then 1 to 10
+-- 17 where what is lent can't be judged, then 1 to 10
+abbrev pub closingOnce : Bool → List ℕ → Closing → Closing
+closingOnce b f x = let v : Verdict = unready b f in cond (eqb (v .number) 0) x (closedBy v)
+
 unfoldable pub closing : List ℕ → List ℕ → List ℕ → List ℕ → List ℕ → Closing
 closing f seats states places next =
-    let v : Verdict = unready (someRows (length places)) f in
-    cond (eqb (v .number) 0) (closingBy (contentsOf f) seats states places next) (closedBy v)
-
--- How the code keeps it.
-
-abbrev pub isDone : Sat → Bool
-isDone (sat.Refused n) = false
-isDone sat.Waits = true
-isDone sat.Ends = true
-isDone sat.Steps = true
-
--- the tables hold the state of the row from p on
-pub record Holds (K : Certificate) (p : ℕ) (w b os ls : List ℕ) : Type 0 where
-  pub seated : Seated (K .limited) w b os ls
-  pub state : seatedIn w b os ls ≡ seatedAt (K .roles) (K .states) p
-
--- the rows below n are states that a run comes to
-pub record KnownRows (K : Certificate) (n : ℕ) : Type 0 where
-  pub within : n ≤ length (K .places)
-  pub fits : (k : ℕ) → k < n → RowFits (K .roles) (K .states) (rowPlace K k)
-  pub ordered : (k : ℕ) → k < n → Ordered (K .limited) (rowState K k)
-
--- while the row from p on is tried
-pub record Trying (K : Certificate) (p n : ℕ) (w b os ls : List ℕ) : Type 0 where
-  pub holds : Holds K p w b os ls
-  pub fits : RowFits (K .roles) (K .states) p
-  pub small : p < 4294967296
-  pub known : KnownRows K n
-
-abbrev pub IfPasses : Trial → (Search → Type 0) → Type 0
-IfPasses Fails P = Unit {0}
-IfPasses (Passes q) P = P q
-
-pub record Tries (K : Certificate) (p : ℕ) (given answer : Trial) (w b os ls : List ℕ) : Type 0 where
-  pub answered : answer ≡ given
-  pub trying : IfPasses answer (λ q. Trying K p (q .known) w b os ls)
+    closingOnce (someRows (length places)) f (closingBy (contentsOf f) seats states places next)

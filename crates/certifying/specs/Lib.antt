@@ -1,2 +1,4 @@
-pub mod Rows
+pub mod Known
 pub mod Certificate
+pub mod Kept
+pub mod Parts

@@ -1,31 +1,24 @@
 // Each choice of a row is tried: it is refused, or leads to the row that is named for it.
 use super::Search;
 use super::Trial;
-use super::compare::same_row;
-use super::load::load_row;
 use super::words::index_after;
 use super::words::number_at;
 use format::Head;
+use rows::compare::same_row;
+use rows::load::load_row;
 use seated::Sat;
 use seated::list::choose_one;
 use steps::beside::thread_count;
 ghost use mathlib.Core.Path.{_≡_};
 ghost use Prim.Native.Nat.{_+_, _≤_, _<_};
 ghost use lib.ListN.{length};
-ghost use Rattle.format.specs.Header.{Laid};
-ghost use Rattle.format.specs.Contents.{contentsAt};
-ghost use Rattle.rules.specs.Schema.{schemaOf};
-ghost use Rattle.rules.specs.Kept.{Granting};
-ghost use Rattle.rules.specs.declared.Way.the-variants.{Sends, Receives};
 ghost use Rattle.steps.specs.Kept.{Sized};
 ghost use Rattle.steps.specs.Records.{threadTableWords};
-ghost use Rattle.steps.specs.Beside.{besideWords, threadCount};
-ghost use Rattle.seats.specs.Seats.{seatedChoice};
+ghost use Rattle.steps.specs.Beside.{besideWords};
 ghost use Rattle.seating.specs.SeatTables.{LineRows};
 ghost use Rattle.seated.specs.SeatedTables.{seatedIn};
-ghost use Rattle.certifying.specs.Rows.{seatedAt};
-ghost use Rattle.certifying.specs.Certificate.{certificateOf, arrives, choiceTried, partnersTried, rowTried};
-ghost use Rattle.certifying.specs.Certificate.{rowsTried, isDone, KnownRows, Trying, Tries};
+ghost use Rattle.certifying.specs.Certificate.{arrives, choiceTried, partnersTried, rowTried, rowsTried};
+ghost use Rattle.certifying.specs.Kept.{isDone, certificateAt, Prepared, KnownRows, Trying, Tries};
 
 // A choice is done where it is a step or has to wait.
 fn is_done(sat: Sat) -> bool
@@ -83,7 +76,6 @@ fn try_choice(
     head: Head,
     sends: &[u16],
     receives: &[u16],
-    table: &[u64],
     seats: &[u16],
     states: &[u16],
     places: &[u32],
@@ -97,24 +89,20 @@ fn try_choice(
     p: u16,
     search: Search,
 ) -> Trial
-    requires { ⌜ Laid (now file) head × Granting (schemaOf (contentsAt (now file) head)) Sends (now sends)
-        × Granting (schemaOf (contentsAt (now file) head)) Receives (now receives)
-        × (length (now seats) ≤ 16)
-        × Trying (certificateOf (contentsAt (now file) head) (now seats) (now states) (now places) (now next)) at
-        (search .known) (now threads) (now beside) (now owners) (now lines) ⌝ }
-    ensures { λ r. ⌜ Tries (certificateOf (contentsAt (now (file .entry)) head) (now (seats .entry))
-        (now (states .entry)) (now (places .entry)) (now (next .entry))) at
-        (choiceTried (certificateOf (contentsAt (now (file .entry)) head) (now (seats .entry)) (now (states .entry))
-        (now (places .entry)) (now (next .entry)))
-        (seatedAt (length (now (seats .entry))) (now (states .entry)) at) i p search) r
+    requires { ⌜ Prepared (now file) head (now sends) (now receives) (now seats)
+        × Trying (certificateAt (now file) head (now seats) (now states) (now places) (now next)) at
+        (now threads) (now beside) (now owners) (now lines) ⌝ }
+    ensures { λ r. ⌜ Tries (certificateAt (now (file .entry)) head (now (seats .entry)) (now (states .entry))
+        (now (places .entry)) (now (next .entry))) at (λ K S. choiceTried K S i p search) r
         (now (threads .exit)) (now (beside .exit)) (now (owners .exit)) (now (lines .exit)) ⌝ }
 {
+    let table = [0u64; 0];
     let sat = choose_one(
         file,
         head,
         sends,
         receives,
-        table,
+        &table,
         seats,
         threads,
         beside,
@@ -147,7 +135,6 @@ fn try_partners(
     head: Head,
     sends: &[u16],
     receives: &[u16],
-    table: &[u64],
     seats: &[u16],
     states: &[u16],
     places: &[u32],
@@ -161,16 +148,11 @@ fn try_partners(
     count: u16,
     search: Search,
 ) -> Trial
-    requires { ⌜ Laid (now file) head × Granting (schemaOf (contentsAt (now file) head)) Sends (now sends)
-        × Granting (schemaOf (contentsAt (now file) head)) Receives (now receives)
-        × (length (now seats) ≤ 16) × (count ≤ 64)
-        × Trying (certificateOf (contentsAt (now file) head) (now seats) (now states) (now places) (now next)) at
-        (search .known) (now threads) (now beside) (now owners) (now lines) ⌝ }
-    ensures { λ r. ⌜ Tries (certificateOf (contentsAt (now (file .entry)) head) (now (seats .entry))
-        (now (states .entry)) (now (places .entry)) (now (next .entry))) at
-        (partnersTried (certificateOf (contentsAt (now (file .entry)) head) (now (seats .entry))
-        (now (states .entry)) (now (places .entry)) (now (next .entry)))
-        (seatedAt (length (now (seats .entry))) (now (states .entry)) at) i 0 (count + 1) search) r
+    requires { ⌜ Prepared (now file) head (now sends) (now receives) (now seats) × (count ≤ 64)
+        × Trying (certificateAt (now file) head (now seats) (now states) (now places) (now next)) at
+        (now threads) (now beside) (now owners) (now lines) ⌝ }
+    ensures { λ r. ⌜ Tries (certificateAt (now (file .entry)) head (now (seats .entry)) (now (states .entry))
+        (now (places .entry)) (now (next .entry))) at (λ K S. partnersTried K S i 0 (count + 1) search) r
         (now (threads .exit)) (now (beside .exit)) (now (owners .exit)) (now (lines .exit)) ⌝ }
 {
     let mut on = search;
@@ -181,7 +163,6 @@ fn try_partners(
             head,
             sends,
             receives,
-            table,
             seats,
             states,
             places,
@@ -209,12 +190,11 @@ fn try_partners(
 }
 
 // The choices of all threads.
-fn try_threads(
+pub fn try_threads(
     file: &[u8],
     head: Head,
     sends: &[u16],
     receives: &[u16],
-    table: &[u64],
     seats: &[u16],
     states: &[u16],
     places: &[u32],
@@ -226,16 +206,11 @@ fn try_threads(
     at: usize,
     search: Search,
 ) -> Trial
-    requires { ⌜ Laid (now file) head × Granting (schemaOf (contentsAt (now file) head)) Sends (now sends)
-        × Granting (schemaOf (contentsAt (now file) head)) Receives (now receives)
-        × (length (now seats) ≤ 16)
-        × Trying (certificateOf (contentsAt (now file) head) (now seats) (now states) (now places) (now next)) at
-        (search .known) (now threads) (now beside) (now owners) (now lines) ⌝ }
-    ensures { λ r. ⌜ Tries (certificateOf (contentsAt (now (file .entry)) head) (now (seats .entry))
-        (now (states .entry)) (now (places .entry)) (now (next .entry))) at
-        (rowTried (certificateOf (contentsAt (now (file .entry)) head) (now (seats .entry)) (now (states .entry))
-        (now (places .entry)) (now (next .entry)))
-        (seatedAt (length (now (seats .entry))) (now (states .entry)) at) search) r
+    requires { ⌜ Prepared (now file) head (now sends) (now receives) (now seats)
+        × Trying (certificateAt (now file) head (now seats) (now states) (now places) (now next)) at
+        (now threads) (now beside) (now owners) (now lines) ⌝ }
+    ensures { λ r. ⌜ Tries (certificateAt (now (file .entry)) head (now (seats .entry)) (now (states .entry))
+        (now (places .entry)) (now (next .entry))) at (λ K S. rowTried K S search) r
         (now (threads .exit)) (now (beside .exit)) (now (owners .exit)) (now (lines .exit)) ⌝ }
 {
     let count = thread_count(&*beside);
@@ -248,7 +223,6 @@ fn try_threads(
             head,
             sends,
             receives,
-            table,
             seats,
             states,
             places,
@@ -281,7 +255,6 @@ pub fn try_rows(
     head: Head,
     sends: &[u16],
     receives: &[u16],
-    table: &[u64],
     seats: &[u16],
     states: &[u16],
     places: &[u32],
@@ -292,15 +265,13 @@ pub fn try_rows(
     lines: &mut [u16],
     search: Search,
 ) -> usize
-    requires { ⌜ Laid (now file) head × Granting (schemaOf (contentsAt (now file) head)) Sends (now sends)
-        × Granting (schemaOf (contentsAt (now file) head)) Receives (now receives)
-        × (length (now seats) ≤ 16) × (length (now threads) ≡ threadTableWords) × (length
-        (now beside) ≡ besideWords) × (length (now owners) ≡ 64) × (length (now lines) ≡ 528)
-        × (length (now places) < 4294967295) × KnownRows (certificateOf (contentsAt (now file) head) (now seats)
-        (now states) (now places) (now next)) (search .known) ⌝ }
-    ensures { λ r. ⌜ (r ≡ rowsTried (certificateOf (contentsAt (now (file .entry)) head) (now (seats .entry))
-        (now (states .entry)) (now (places .entry)) (now (next .entry)))
-        0 (length (now (places .entry))) search) × (r < 4294967296) ⌝ }
+    requires { ⌜ Prepared (now file) head (now sends) (now receives) (now seats)
+        × (length (now threads) ≡ threadTableWords) × (length (now beside) ≡ besideWords) × (length (now owners) ≡ 64)
+        × (length (now lines) ≡ 528) × (length (now places) < 4294967295)
+        × KnownRows (certificateAt (now file) head (now seats) (now states) (now places) (now next)) (search .known) ⌝ }
+    ensures { λ r. ⌜ (r ≡ rowsTried (certificateAt (now (file .entry)) head (now (seats .entry))
+        (now (states .entry)) (now (places .entry)) (now (next .entry))) 0 (length (now (places .entry))) search)
+        × (r < 4294967296) ⌝ }
 {
     let mut on = search;
     let mut j: usize = 0;
@@ -312,7 +283,6 @@ pub fn try_rows(
             head,
             sends,
             receives,
-            table,
             seats,
             states,
             places,

@@ -1,15 +1,14 @@
 // A certificate for all schedules: a table of states is checked to have every state that a run can come to, and no
 // other.
-pub mod compare;
 pub mod explore;
-pub mod load;
+pub mod parts;
 pub mod words;
 
 use checking::enter;
-use compare::same_row;
-use explore::try_rows;
 use format::Head;
+use parts::try_asked;
 use reading::Opened;
+use rows::compare::same_row;
 use seated::runs::run_seated_by;
 use seated::table::seats_bar;
 use steps::beside::BESIDE;
@@ -17,12 +16,21 @@ use steps::records::TABLE;
 use words::number_at;
 use words::short;
 ghost use mathlib.Core.Path.{_≡_};
+ghost use mathlib.Core.Bool.{true, _||_};
 ghost use Prim.Native.Nat.{_≤_, _<_};
-ghost use lib.ListN.{length};
+ghost use lib.Dec.{ltb};
+ghost use lib.ListN.{length, getD};
 ghost use Rattle.format.specs.Header.{Laid};
 ghost use Rattle.format.specs.Contents.{contentsAt};
+ghost use Rattle.steps.specs.Kept.{Sized};
 ghost use Rattle.seats.specs.Seats.{limitedOf, seatedStart, overfilledAt};
-ghost use Rattle.certifying.specs.Certificate.{certificateOf, rowAtFault, closingBy, closing, faultAt, someRows};
+ghost use Rattle.seating.specs.SeatTables.{LineRows};
+ghost use Rattle.seated.specs.SeatedTables.{seatedIn};
+ghost use Rattle.rows.specs.Rows.{rowWords, standsAt};
+ghost use Rattle.certifying.specs.Certificate.{closing, faultAt, someRows};
+ghost use Rattle.certifying.specs.Kept.{certificateAt};
+ghost use Rattle.certifying.specs.Parts.{somePart, closingPart, askedFits, askedFrom, askedFault};
+ghost use Rattle.certifying.specs.Parts.{closingAskedBy, closingAsked};
 
 // How many rows are known to be reached, and the next word of the list of targets.
 pub struct Search {
@@ -34,6 +42,20 @@ pub struct Search {
 pub enum Trial {
     Fails,
     Passes(Search),
+}
+
+// The rows from one to another, which is not one of them, and the words of the list of targets that their choices have.
+pub struct Part {
+    pub from: usize,
+    pub to: usize,
+    pub begin: usize,
+    pub end: usize,
+}
+
+// All rows, or only a part of them.
+pub enum Asked {
+    All,
+    Only(Part),
 }
 
 // The refusal, 0 if none, its place in the file, and with 18 the row at fault, from 1 on.
@@ -72,6 +94,58 @@ fn has_rows(n: usize) -> bool
     false
 }
 
+fn has_part(rows: usize, words: usize, part: Part) -> bool
+    ensures { λ r. ⌜ r ≡ somePart rows words part ⌝ }
+{
+    has_rows(rows)
+        & (part.from < part.to)
+        & (part.to <= rows)
+        & (part.begin <= part.end)
+        & (part.end <= words)
+}
+
+// Whether a part begins later, or the first row is the state that the tables hold.
+fn begins_fine(
+    from: usize,
+    states: &[u16],
+    places: &[u32],
+    roles: usize,
+    threads: &[u16],
+    beside: &[u16],
+    owners: &[u16],
+    lines: &[u16],
+) -> bool
+    requires { ⌜ (0 < length (now places)) × (roles ≤ 16) × Sized (now threads) (now beside)
+        × (length (now owners) ≡ 64) × LineRows (now lines) ⌝ }
+    ensures { λ r. ⌜ r ≡ (ltb 0 from || standsAt (now (states .entry)) (getD (now (places .entry)) 0 0)
+        (rowWords roles (seatedIn (now (threads .entry)) (now (beside .entry)) (now (owners .entry))
+        (now (lines .entry))))) ⌝ }
+{
+    if 0 < from {
+        return true;
+    }
+    let at = number_at(places, 0);
+    same_row(states, at, roles, threads, beside, owners, lines)
+}
+
+fn fits_asked(rows: usize, words: usize, asked: Asked) -> bool
+    ensures { λ r. ⌜ r ≡ askedFits rows words asked ⌝ }
+{
+    match asked {
+        Asked::All => has_rows(rows),
+        Asked::Only(part) => has_part(rows, words, part),
+    }
+}
+
+fn from_asked(asked: Asked) -> usize
+    ensures { λ r. ⌜ r ≡ askedFrom asked ⌝ }
+{
+    match asked {
+        Asked::All => 0,
+        Asked::Only(part) => part.from,
+    }
+}
+
 // The rows against the runs of a file that neither 1 to 10 nor the table of seats refuse: 0, or the number of the row
 // at fault.
 fn row_at_fault(
@@ -81,14 +155,15 @@ fn row_at_fault(
     states: &[u16],
     places: &[u32],
     next: &[u32],
+    asked: Asked,
 ) -> usize
-    requires { ⌜ Laid (now file) head × (length (now seats) ≤ 16) × (0 < length (now places)) × (length
-        (now places) < 4294967295)
+    requires { ⌜ Laid (now file) head × (length (now seats) ≤ 16)
+        × (askedFits (length (now places)) (length (now next)) asked ≡ true)
         × (overfilledAt (limitedOf (contentsAt (now file) head) (now seats)) (seatedStart (contentsAt
         (now file) head)) (length (now seats)) ≡ 0) ⌝ }
-    ensures { λ r. ⌜ (r ≡ rowAtFault (certificateOf (contentsAt (now (file .entry)) head) (now (seats .entry))
+    ensures { λ r. ⌜ (r ≡ askedFault (certificateAt (now (file .entry)) head (now (seats .entry))
         (now (states .entry)) (now (places .entry)) (now (next .entry)))
-        (seatedStart (contentsAt (now (file .entry)) head))) × (r < 4294967296) ⌝ }
+        (seatedStart (contentsAt (now (file .entry)) head)) asked) × (r < 4294967296) ⌝ }
 {
     let mut sends = [0u16; 33];
     let mut receives = [0u16; 33];
@@ -111,16 +186,24 @@ fn row_at_fault(
         &mut owners,
         &mut lines,
     );
-    let at = number_at(places, 0);
-    if !same_row(states, at, seats.len(), &threads, &beside, &owners, &lines) {
+    let from = from_asked(asked);
+    if !begins_fine(
+        from,
+        states,
+        places,
+        seats.len(),
+        &threads,
+        &beside,
+        &owners,
+        &lines,
+    ) {
         return 1;
     }
-    try_rows(
+    try_asked(
         file,
         head,
         &sends,
         &receives,
-        &table,
         seats,
         states,
         places,
@@ -129,10 +212,7 @@ fn row_at_fault(
         &mut beside,
         &mut owners,
         &mut lines,
-        Search {
-            known: 1,
-            cursor: 0,
-        },
+        asked,
     )
 }
 
@@ -144,10 +224,11 @@ fn closed_in(
     states: &[u16],
     places: &[u32],
     next: &[u32],
+    asked: Asked,
 ) -> Closing
-    requires { ⌜ Laid (now file) head × (0 < length (now places)) × (length (now places) < 4294967295) ⌝ }
-    ensures { λ r. ⌜ r ≡ closingBy (contentsAt (now (file .entry)) head) (now (seats .entry)) (now (states .entry))
-        (now (places .entry)) (now (next .entry)) ⌝ }
+    requires { ⌜ Laid (now file) head × (askedFits (length (now places)) (length (now next)) asked ≡ true) ⌝ }
+    ensures { λ r. ⌜ r ≡ closingAskedBy (contentsAt (now (file .entry)) head) (now (seats .entry))
+        (now (states .entry)) (now (places .entry)) (now (next .entry)) asked ⌝ }
 {
     let bar = seats_bar(file, head, seats);
     if bar.number != 0 {
@@ -157,21 +238,21 @@ fn closed_in(
             row: 0,
         };
     }
-    fault_at(row_at_fault(file, head, seats, states, places, next))
+    fault_at(row_at_fault(file, head, seats, states, places, next, asked))
 }
 
-// Whether a table has every state of every run of the file with this table of seats, and no other.
-pub fn check_closed(
+fn check_asked(
     file: &[u8],
     seats: &[u16],
     states: &[u16],
     places: &[u32],
     next: &[u32],
+    asked: Asked,
 ) -> Closing
-    ensures { λ r. ⌜ r ≡ closing (now (file .entry)) (now (seats .entry)) (now (states .entry))
-        (now (places .entry)) (now (next .entry)) ⌝ }
+    ensures { λ r. ⌜ r ≡ closingAsked (now (file .entry)) (now (seats .entry)) (now (states .entry))
+        (now (places .entry)) (now (next .entry)) asked ⌝ }
 {
-    if !has_rows(places.len()) {
+    if !fits_asked(places.len(), next.len(), asked) {
         return Closing {
             number: 17,
             place: 0,
@@ -185,6 +266,35 @@ pub fn check_closed(
             place: first.place,
             row: 0,
         },
-        Opened::Fine(head) => closed_in(file, head, seats, states, places, next),
+        Opened::Fine(head) => closed_in(file, head, seats, states, places, next, asked),
     }
+}
+
+// Whether a table has every state of every run of the file with this table of seats, and no other.
+pub fn check_closed(
+    file: &[u8],
+    seats: &[u16],
+    states: &[u16],
+    places: &[u32],
+    next: &[u32],
+) -> Closing
+    ensures { λ r. ⌜ r ≡ closing (now (file .entry)) (now (seats .entry)) (now (states .entry))
+        (now (places .entry)) (now (next .entry)) ⌝ }
+{
+    check_asked(file, seats, states, places, next, Asked::All)
+}
+
+// Whether a part of such a table is right: where the parts of a chain are, the whole is.
+pub fn check_closed_part(
+    file: &[u8],
+    seats: &[u16],
+    states: &[u16],
+    places: &[u32],
+    next: &[u32],
+    part: Part,
+) -> Closing
+    ensures { λ r. ⌜ r ≡ closingPart (now (file .entry)) (now (seats .entry)) (now (states .entry))
+        (now (places .entry)) (now (next .entry)) part ⌝ }
+{
+    check_asked(file, seats, states, places, next, Asked::Only(part))
 }

@@ -1,9 +1,7 @@
-// Words of one table against those of another.
+// Numbers in lists of places and targets.
 ghost use mathlib.Core.Path.{_≡_};
-ghost use Prim.Native.Nat.{_+_, _≤_, _<_};
-ghost use lib.ListN.{length, getD, take, drop};
-ghost use lib.Seq.{paste};
-ghost use Rattle.certifying.specs.Rows.{standsAt};
+ghost use Prim.Native.Nat.{_+_, _<_};
+ghost use lib.ListN.{length, getD};
 
 fn long(x: u32) -> usize
     ensures { λ r. ⌜ (r ≡ x) × (r < 4294967296) ⌝ }
@@ -32,34 +30,4 @@ pub fn short(k: usize) -> u32
     ensures { λ r. ⌜ r ≡ k ⌝ }
 {
     k as u32
-}
-
-// Whether so many words of a table, from a place on, stand in the states from another on.
-pub fn same_words(states: &[u16], at: usize, table: &[u16], from: usize, n: usize) -> bool
-    requires { ⌜ (from + n ≤ length (now table)) × (at < 8589934592) ⌝ }
-    ensures { λ r. ⌜ r ≡ standsAt (now (states .entry)) at (take n (drop from (now (table .entry)))) ⌝ }
-{
-    let mut k: usize = 0;
-    while k < n {
-        if states.len() <= at + k {
-            return false;
-        }
-        if states[at + k] != table[from + k] {
-            return false;
-        }
-        k += 1;
-    }
-    true
-}
-
-// So many words of the states, from a place on, put into a table from another on.
-pub fn copy_words(states: &[u16], at: usize, table: &mut [u16], to: usize, n: usize)
-    requires { ⌜ (at + n ≤ length (now states)) × (to + n ≤ length (now table)) ⌝ }
-    ensures { λ r. ⌜ now (table .exit) ≡ paste (now (table .entry)) to (drop at (now (states .entry))) n ⌝ }
-{
-    let mut k: usize = 0;
-    while k < n {
-        table[to + k] = states[at + k];
-        k += 1;
-    }
 }

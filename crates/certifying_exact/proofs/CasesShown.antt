@@ -30,7 +30,7 @@ use Rattle.rounds.specs.Rounds.{numbers}
 use Rattle.seats.specs.Seats.{occupies, countTo, asksSeat, isNext, getsSeat, lineWith, ownersBy, seatedChoice, seatedRun, stepsOnly, waitsIn, lastIn, overfills, lowestTo}
 use Rattle.seating.specs.SeatedRunning.{smallSeats, seatTableAnswer, seatStartAnswer}
 use Rattle.steps.specs.Beside.{madeIn}
-use Rattle.certifying.specs.Rows.{lineWords, rowWords, standsAt, rowThreads, rowLines}
+use Rattle.rows.specs.Rows.{lineWords, rowWords, standsAt, rowThreads, rowLines}
 use Rattle.certifying.specs.Certificate.{arrives, partnersTried, threadsTried, rowsTried, rowAtFault, closing}
 use Rattle.certifying_exact.specs.CertificateCases.{CertificateShown, certificateCases}
 

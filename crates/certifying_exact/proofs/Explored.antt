@@ -20,12 +20,12 @@ use Rattle.schedules.proofs.AllSchedules.{new-row-generated}
 use Rattle.certifying.specs.declared.Search.{Search}
 use Rattle.certifying.specs.declared.Trial.{Trial}
 use Rattle.certifying.specs.declared.Trial.the-variants.{Fails, Passes}
-use Rattle.certifying.specs.Rows.{rowWords, standsAt}
+use Rattle.rows.specs.Rows.{rowWords, standsAt}
 use Rattle.certifying.specs.Certificate.{Certificate, certificateOf, rowPlace, rowState, isRow, arrives, takenTried, choiceTried, onward, partnersTried, threadsTried, rowTried, rowOnward, rowsTried, IfPasses}
-use Rattle.certifying.proofs.ReadLaws.{Readable, state-read}
-use Rattle.certifying.proofs.ExploreLaws.{ordered-readable}
+use Rattle.certifying.proofs.ChoiceFits.{choice-eight}
+use Rattle.rows.proofs.ReadLaws.{Readable, state-read}
+use Rattle.certifying.proofs.KnownLaws.{ordered-readable}
 use Rattle.certifying_exact.proofs.ChoiceBounds.{seatedThreads}
-use Rattle.certifying_exact.proofs.ChoiceEight.{choice-eight}
 
 module _ (C : Contents) (seats states places next : List ℕ) where
   abbrev K : Certificate

@@ -1,5 +1,4 @@
 pub mod ChoiceBounds
-pub mod ChoiceEight
 pub mod Explored
 pub mod Certified
 pub mod CasesShown

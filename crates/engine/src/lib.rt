@@ -5,6 +5,7 @@ mod starting;
 mod walk;
 
 use certifying::Closing;
+use certifying::Part;
 use choosing::choose_by;
 use dispatching::Round;
 use format::Verdict;
@@ -38,6 +39,7 @@ ghost use Rattle.seating.specs.SeatsRead.{seatsAfter};
 ghost use Rattle.seating.specs.SeatedRound.{seatedRounding, seatedRoundOver};
 ghost use Rattle.seated.specs.SeatedEntry.{seatedWritten};
 ghost use Rattle.certifying.specs.Certificate.{closing};
+ghost use Rattle.certifying.specs.Parts.{closingPart};
 ghost use Rattle.reasons.specs.Reasons.{reasonOf, understood, reasonLength, reasonOver, meaningLength, meaningOver};
 ghost use Rattle.lending.specs.Lent.{choosing, recordsOver, besideOver};
 ghost use Rattle.lending.specs.Starting.{starting, recordsStarted, besideStarted};
@@ -261,6 +263,33 @@ pub extern "C" fn pilzdamo_closed(
     ensures { λ r. ⌜ r ≡ closing (now (file .entry)) (now (seats .entry)) (now (states .entry)) (now (places .entry)) (now (next .entry)) ⌝ }
 {
     certifying::check_closed(file, seats, states, places, next)
+}
+
+// The same of a part of the rows: `from` to `to`, which is not one of them, counted from 0 on, whose choices that are done have the words `begin` to `end` of `next`.
+// How many rows are known at its beginning is told by the words before it. 17 too where there is no such part; 18 also at a row that is no state in order, and at the last where its words end elsewhere.
+// Where the parts of a chain from row 0 and word 0 to the last row all answer 0, 0, 0, so does the whole.
+#[no_mangle]
+pub extern "C" fn pilzdamo_closed_part(
+    file: &[u8],
+    seats: &[u16],
+    states: &[u16],
+    places: &[u32],
+    next: &[u32],
+    from: usize,
+    to: usize,
+    begin: usize,
+    end: usize,
+) -> Closing
+    ensures { λ r. ⌜ r ≡ closingPart (now (file .entry)) (now (seats .entry)) (now (states .entry)) (now (places .entry)) (now (next .entry))
+        (record { from = from; to = to; begin = begin; end = end }) ⌝ }
+{
+    let part = Part {
+        from,
+        to,
+        begin,
+        end,
+    };
+    certifying::check_closed_part(file, seats, states, places, next, part)
 }
 
 // Carries out one choice in the list that the live desk lends: 64 records of threads, and beside them 162 words: the thread count, the number of made

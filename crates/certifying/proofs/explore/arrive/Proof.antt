@@ -1,8 +1,8 @@
 use Prim.Native.Nat.{ℕ, _+_}
 use mathlib.Core.Path.{_≡_, refl, sym, ap, _∙_}
 use Rattle.seated.specs.SeatedTables.{seatedIn}
-use Rattle.certifying.specs.Rows.{rowWords, standsAt}
-use Rattle.certifying.proofs.StandLaws.{not-true, not-false}
+use Rattle.rows.specs.Rows.{rowWords, standsAt}
+use Rattle.rows.proofs.StandLaws.{not-true, not-false}
 use Rattle.certifying.proofs.ExploreLaws.{no-word, not-known, no-such-row, other-words, has-arrived, now-known, still-known}
 use native.Mathlib.Omega.{arith}
 use borrow.Author.Needs.{needs}
@@ -11,7 +11,7 @@ use Rattle.certifying.proofs.explore.arrive.Statement.{statement}
 use Rattle.certifying.proofs.explore.arrive.Tie as tie
 use Rattle.certifying.proofs.explore.arrive.Reads as reads
 use Rattle.certifying.proofs.explore.arrive.Lts as lts
-use Rattle.certifying.proofs.compare.same_row.Reads as same-row-reads
+use Rattle.rows.proofs.compare.same_row.Reads as same-row-reads
 use Rattle.certifying.proofs.words.index_after.Reads as index-after-reads
 use Rattle.certifying.proofs.words.number_at.Reads as number-at-reads
 

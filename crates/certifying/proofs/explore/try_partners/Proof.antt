@@ -2,121 +2,96 @@
 use Prim.Native.Nat.{ℕ, _+_, _-_, _≤_, _<_}
 use mathlib.Core.Path.{_≡_, refl, sym, ap, _∙_}
 use lib.ListN.{length}
-use Rattle.format.specs.Contents.{contentsAt}
 use Rattle.seats.specs.Seats.{SeatedState}
-use Rattle.certifying.specs.Rows.{seatedAt}
-use Rattle.certifying.specs.Certificate.{Certificate, certificateOf, partnersTried, Trying}
-use Rattle.certifying.proofs.ExploreLaws.{partner-fails, partner-passes, partners-end, passed-trying}
+use Rattle.rows.specs.Rows.{seatedAt}
+use Rattle.certifying.specs.Certificate.{Certificate, partnersTried}
+use Rattle.certifying.specs.Kept.{certificateAt, Trying}
+use Rattle.certifying.proofs.ExploreLaws.{partner-fails, partner-passes, partners-end}
 use native.Mathlib.Omega.{arith}
 use borrow.Author.Needs.{needs}
 use Rattle.certifying.proofs.explore.try_partners.Statement.{statement}
 use Rattle.certifying.proofs.explore.try_partners.Tie as tie
-use Rattle.certifying.proofs.explore.try_partners.Reads as reads
-use Rattle.certifying.proofs.explore.try_partners.Lts as lts
-use Rattle.certifying.proofs.explore.try_choice.Reads as try-choice-reads
 
 abbrev Inv-loop : tie.InvT-loop
-Inv-loop file head sends receives table seats states places next threads₀ beside₀ owners₀ lines₀ at i count on₀ p₀ threads beside owners lines on p =
-    let K : Certificate = certificateOf (contentsAt file head) seats states places next in
+Inv-loop file head sends receives seats states places next threads₀ beside₀ owners₀ lines₀ at i count on₀ p₀ threads beside owners lines on p =
+    let K : Certificate = certificateAt file head seats states places next in
     let S : SeatedState = seatedAt (length seats) states at in
-    (p ≤ count + 1) × (count ≤ 64) × Trying K at (on .known) threads beside owners lines × (partnersTried K S i 0 (count + 1) on₀ ≡ partnersTried K S i p (count + 1 - p) on)
+    (p ≤ count + 1) × (count ≤ 64) × Trying K at threads beside owners lines × (partnersTried K S i 0 (count + 1) on₀ ≡ partnersTried K S i p (count + 1 - p) on)
 
 abbrev μ-loop : tie.MeasureT-loop
-μ-loop file head sends receives table seats states places next threads₀ beside₀ owners₀ lines₀ at i count on₀ p₀ threads beside owners lines on p = count + 1 - p
+μ-loop file head sends receives seats states places next threads₀ beside₀ owners₀ lines₀ at i count on₀ p₀ threads beside owners lines on p = count + 1 - p
 
--- src/explore.rt:158:5
 loop-holds : tie.Need-loop-holds Inv-loop μ-loop
 loop-holds c =
-    let a = c .before .before .before .before .before .before .before .before .before .before .before .before .args in
+    let a = c .before .before .before .before .before .before .before .before .before .before .before .args in
     let all : a .count + 1 ≡ a .count + 1 - 0 = omega arith in
-    (omega arith, c .before .before .before .before .before .before .before .before .before .before .before .before .pre .4, c .before .before .before .before .before .before .before .before .before .before .before .before .pre .5, ap (λ (x : ℕ). partnersTried (certificateOf (contentsAt (a .file .now) (a .head)) (a .seats .now) (a .states .now) (a .places .now) (a .next .now)) (seatedAt (length (a .seats .now)) (a .states .now) (a .at)) (a .i) 0 x (a .search)) all)
+    (omega arith, c .before .before .before .before .before .before .before .before .before .before .before .pre .1, c .before .before .before .before .before .before .before .before .before .before .before .pre .2, ap (λ (x : ℕ). partnersTried (certificateAt (a .file .now) (a .head) (a .seats .now) (a .states .now) (a .places .now) (a .next .now)) (seatedAt (length (a .seats .now)) (a .states .now) (a .at)) (a .i) 0 x (a .search)) all)
 
--- src/explore.rt:159:13
 try-choice-requires : tie.Need-try-choice-requires Inv-loop μ-loop
-try-choice-requires c κs =
-    let q = c .before .before .before .before .before .before .before .before .before .before .before .before .before .before .before .before .before .before .pre in
-    (q .0, q .1, q .2, q .3, c .before .before .before .before .before .loop .inv .2)
+try-choice-requires c κs = (c .before .before .before .before .before .before .before .before .before .before .before .before .before .before .before .before .before .pre .0, c .before .before .before .before .before .loop .inv .2)
 
--- src/explore.rt:163:9
 add-p : tie.Need-add-p Inv-loop μ-loop
 add-p c = omega arith
 
--- src/explore.rt:166:17
 enum-told : tie.Need-enum-told Inv-loop μ-loop
 enum-told c = search needs
 
--- src/explore.rt:166:17
 same-length : tie.Need-same-length Inv-loop μ-loop
-same-length c = omega (arith, c .before .before .before .before .before .before .before .before .before .threads .given, c .before .before .before .before .before .before .before .before .before .before .before .before .before .before .before .before .loop .inv .2 .holds .seated .sized .words, c .before .before .before .before .before .before .before .before .before .before .before .before .before .before .before .before .before .before .before .before .before .before .before .before .before .before .before .before .before .pre .5 .holds .seated .sized .words)
+same-length c = omega (arith, c .before .before .before .before .before .before .before .before .before .threads .given, c .before .before .before .before .before .before .before .before .before .before .before .before .before .before .before .before .loop .inv .2 .seated .sized .words, c .before .before .before .before .before .before .before .before .before .before .before .before .before .before .before .before .before .before .before .before .before .before .before .before .before .before .before .before .pre .2 .seated .sized .words)
 
--- src/explore.rt:166:17
 same-length-2 : tie.Need-same-length-2 Inv-loop μ-loop
-same-length-2 c = omega (arith, c .before .before .before .before .before .before .before .beside .given, c .before .before .before .before .before .before .before .before .before .before .before .before .before .before .before .before .loop .inv .2 .holds .seated .sized .beside, c .before .before .before .before .before .before .before .before .before .before .before .before .before .before .before .before .before .before .before .before .before .before .before .before .before .before .before .before .before .pre .5 .holds .seated .sized .beside)
+same-length-2 c = omega (arith, c .before .before .before .before .before .before .before .beside .given, c .before .before .before .before .before .before .before .before .before .before .before .before .before .before .before .before .loop .inv .2 .seated .sized .beside, c .before .before .before .before .before .before .before .before .before .before .before .before .before .before .before .before .before .before .before .before .before .before .before .before .before .before .before .before .pre .2 .seated .sized .beside)
 
--- src/explore.rt:166:17
 same-length-3 : tie.Need-same-length-3 Inv-loop μ-loop
-same-length-3 c = omega (arith, c .before .before .before .before .before .owners .given, c .before .before .before .before .before .before .before .before .before .before .before .before .before .before .before .before .loop .inv .2 .holds .seated .owners, c .before .before .before .before .before .before .before .before .before .before .before .before .before .before .before .before .before .before .before .before .before .before .before .before .before .before .before .before .before .pre .5 .holds .seated .owners)
+same-length-3 c = omega (arith, c .before .before .before .before .before .owners .given, c .before .before .before .before .before .before .before .before .before .before .before .before .before .before .before .before .loop .inv .2 .seated .owners, c .before .before .before .before .before .before .before .before .before .before .before .before .before .before .before .before .before .before .before .before .before .before .before .before .before .before .before .before .pre .2 .seated .owners)
 
--- src/explore.rt:166:17
 same-length-4 : tie.Need-same-length-4 Inv-loop μ-loop
-same-length-4 c = omega (arith, c .before .before .before .lines .given, c .before .before .before .before .before .before .before .before .before .before .before .before .before .before .before .before .loop .inv .2 .holds .seated .rows .words, c .before .before .before .before .before .before .before .before .before .before .before .before .before .before .before .before .before .before .before .before .before .before .before .before .before .before .before .before .before .pre .5 .holds .seated .rows .words)
+same-length-4 c = omega (arith, c .before .before .before .lines .given, c .before .before .before .before .before .before .before .before .before .before .before .before .before .before .before .before .loop .inv .2 .seated .rows .words, c .before .before .before .before .before .before .before .before .before .before .before .before .before .before .before .before .before .before .before .before .before .before .before .before .before .before .before .before .pre .2 .seated .rows .words)
 
--- src/explore.rt:166:17
 returns : tie.Need-returns Inv-loop μ-loop
 returns c =
-    let a = c .before .before .before .before .before .before .before .before .before .before .before .before .before .before .before .before .before .before .before .before .before .before .before .before .before .before .before .before .before .args in
+    let a = c .before .before .before .before .before .before .before .before .before .before .before .before .before .before .before .before .before .before .before .before .before .before .before .before .before .before .before .before .args in
     let l = c .before .before .before .before .before .before .before .before .before .before .before .before .before .before .before .before .loop in
     let t = c .before .before .before .before .before .before .before .before .before .before .try-choice in
     record {
-      answered = partner-fails (certificateOf (contentsAt (a .file .now) (a .head)) (a .seats .now) (a .states .now) (a .places .now) (a .next .now)) (seatedAt (length (a .seats .now)) (a .states .now) (a .at)) (a .i) (l .p) (a .count + 1) (l .on) (omega (arith, c .before .before .before .before .before .before .before .before .before .before .before .before .before .before .before .loop-test .taken)) (t .result) (t .ensures .answered) (c .enum-told .given .1) ∙ sym (l .inv .3);
-      trying = tt;
+      answered = partner-fails (certificateAt (a .file .now) (a .head) (a .seats .now) (a .states .now) (a .places .now) (a .next .now)) (seatedAt (length (a .seats .now)) (a .states .now) (a .at)) (a .i) (l .p) (a .count + 1) (l .on) (omega (arith, c .before .before .before .before .before .before .before .before .before .before .before .before .before .before .before .loop-test .taken)) (t .result) (t .ensures .answered) (c .enum-told .given .1) ∙ sym (l .inv .3);
+      trying = t .ensures .trying;
     }
 
--- src/explore.rt:168:27
 enum-known-trial : tie.Need-enum-known-trial Inv-loop μ-loop
 enum-known-trial c = search needs
 
--- src/explore.rt:158:5
 loop-less : tie.Need-loop-less Inv-loop μ-loop
 loop-less c = omega arith
 
--- src/explore.rt:158:5
 loop-again : tie.Need-loop-again Inv-loop μ-loop
 loop-again c =
-    let a = c .before .before .before .before .before .before .before .before .before .before .before .before .before .before .before .before .before .before .before .before .before .before .before .before .before .before .before .before .before .before .args in
+    let a = c .before .before .before .before .before .before .before .before .before .before .before .before .before .before .before .before .before .before .before .before .before .before .before .before .before .before .before .before .before .args in
     let l = c .before .before .before .before .before .before .before .before .before .before .before .before .before .before .before .before .before .loop in
     let t = c .before .before .before .before .before .before .before .before .before .before .before .try-choice in (
       omega (arith, c .before .before .before .before .before .before .before .before .before .before .before .before .before .before .before .before .loop-test .taken),
       l .inv .1,
-      passed-trying (t .result) _ (t .ensures .trying) _ (c .before .trial .given .1),
-      l .inv .3 ∙ partner-passes (certificateOf (contentsAt (a .file .now) (a .head)) (a .seats .now) (a .states .now) (a .places .now) (a .next .now)) (seatedAt (length (a .seats .now)) (a .states .now) (a .at)) (a .i) (l .p) (a .count + 1) (l .on) (omega (arith, c .before .before .before .before .before .before .before .before .before .before .before .before .before .before .before .before .loop-test .taken)) (t .result) _ (t .ensures .answered) (c .before .trial .given .1),
+      t .ensures .trying,
+      l .inv .3 ∙ partner-passes (certificateAt (a .file .now) (a .head) (a .seats .now) (a .states .now) (a .places .now) (a .next .now)) (seatedAt (length (a .seats .now)) (a .states .now) (a .at)) (a .i) (l .p) (a .count + 1) (l .on) (omega (arith, c .before .before .before .before .before .before .before .before .before .before .before .before .before .before .before .before .loop-test .taken)) (t .result) _ (t .ensures .answered) (c .before .trial .given .1),
     )
 
--- src/explore.rt:129:1
 same-length-5 : tie.Need-same-length-5 Inv-loop μ-loop
 same-length-5 c = search needs
 
--- src/explore.rt:129:1
 same-length-6 : tie.Need-same-length-6 Inv-loop μ-loop
 same-length-6 c = search needs
 
--- src/explore.rt:129:1
 same-length-7 : tie.Need-same-length-7 Inv-loop μ-loop
 same-length-7 c = search needs
 
--- src/explore.rt:129:1
 same-length-8 : tie.Need-same-length-8 Inv-loop μ-loop
 same-length-8 c = search needs
 
--- src/explore.rt:129:1
 returns-2 : tie.Need-returns-2 Inv-loop μ-loop
 returns-2 c =
-    let a = c .before .before .before .before .before .before .before .before .before .before .before .before .before .before .args in
+    let a = c .before .before .before .before .before .before .before .before .before .before .before .before .before .args in
     let l = c .before .loop in
-    record {
-      answered = partners-end (certificateOf (contentsAt (a .file .now) (a .head)) (a .seats .now) (a .states .now) (a .places .now) (a .next .now)) (seatedAt (length (a .seats .now)) (a .states .now) (a .at)) (a .i) (l .p) (a .count + 1) (l .on) (omega arith) ∙ sym (l .inv .3);
-      trying = l .inv .2;
-    }
+    record { answered = partners-end (certificateAt (a .file .now) (a .head) (a .seats .now) (a .states .now) (a .places .now) (a .next .now)) (seatedAt (length (a .seats .now)) (a .states .now) (a .at)) (a .i) (l .p) (a .count + 1) (l .on) (omega arith) ∙ sym (l .inv .3); trying = l .inv .2 }
 
 pub try-partners-spec : {M : Type 1} → statement M
 try-partners-spec =

@@ -2,134 +2,102 @@
 use Prim.Native.Nat.{ℕ, _+_, _-_, _≤_, _<_}
 use mathlib.Core.Path.{_≡_, refl, sym, ap, _∙_}
 use lib.ListN.{length}
-use Rattle.format.specs.Contents.{contentsAt}
 use Rattle.seats.specs.Seats.{SeatedState}
-use Rattle.certifying.specs.Rows.{seatedAt}
-use Rattle.certifying.specs.Certificate.{Certificate, certificateOf, threadsTried, rowTried, Trying}
-use Rattle.certifying.proofs.ExploreLaws.{held-count, thread-fails, thread-passes, threads-end, passed-trying}
+use Rattle.rows.specs.Rows.{seatedAt}
+use Rattle.certifying.specs.Certificate.{Certificate, threadsTried, rowTried}
+use Rattle.certifying.specs.Kept.{certificateAt, Trying}
+use Rattle.certifying.proofs.ExploreLaws.{held-count, thread-fails, thread-passes, threads-end}
 use native.Mathlib.Omega.{arith}
 use borrow.Author.Needs.{needs}
 use Rattle.certifying.proofs.explore.try_threads.Statement.{statement}
 use Rattle.certifying.proofs.explore.try_threads.Tie as tie
-use Rattle.certifying.proofs.explore.try_threads.Reads as reads
-use Rattle.certifying.proofs.explore.try_threads.Lts as lts
-use Rattle.certifying.proofs.explore.try_partners.Reads as try-partners-reads
-use Rattle.steps.proofs.beside.thread_count.Reads as thread-count-reads
 
 abbrev Inv-loop : tie.InvT-loop
-Inv-loop file head sends receives table seats states places next threads₀ beside₀ owners₀ lines₀ at count on₀ i₀ threads beside owners lines on i =
-    let K : Certificate = certificateOf (contentsAt file head) seats states places next in
+Inv-loop file head sends receives seats states places next threads₀ beside₀ owners₀ lines₀ at count on₀ i₀ threads beside owners lines on i =
+    let K : Certificate = certificateAt file head seats states places next in
     let S : SeatedState = seatedAt (length seats) states at in
-    (i ≤ count) × (count ≤ 64) × Trying K at (on .known) threads beside owners lines × (rowTried K S on₀ ≡ threadsTried K S (i + 1) (count - i) on) × (count ≡ length (S .state .threads))
+    (i ≤ count) × (count ≤ 64) × Trying K at threads beside owners lines × (rowTried K S on₀ ≡ threadsTried K S (i + 1) (count - i) on) × (count ≡ length (S .state .threads))
 
 abbrev μ-loop : tie.MeasureT-loop
-μ-loop file head sends receives table seats states places next threads₀ beside₀ owners₀ lines₀ at count on₀ i₀ threads beside owners lines on i = count - i
+μ-loop file head sends receives seats states places next threads₀ beside₀ owners₀ lines₀ at count on₀ i₀ threads beside owners lines on i = count - i
 
--- src/explore.rt:202:9
 thread-count-requires : tie.Need-thread-count-requires Inv-loop μ-loop
 thread-count-requires c κs = search needs
 
--- src/explore.rt:205:5
 loop-holds : tie.Need-loop-holds Inv-loop μ-loop
 loop-holds c =
-    let a = c .before .before .before .before .before .before .before .before .before .before .before .before .before .before .args in
-    let T = c .before .before .before .before .before .before .before .before .before .before .before .before .before .before .pre .4 in
-    let count = c .thread-count .ensures ∙ held-count (certificateOf (contentsAt (a .file .now) (a .head)) (a .seats .now) (a .states .now) (a .places .now) (a .next .now)) (a .at) _ _ _ _ (T .holds) in
-    let all : length (seatedAt (length (a .seats .now)) (a .states .now) (a .at) .state .threads) ≡ c .thread-count .result - 0 = omega (arith, count) in (
-      omega arith,
-      omega (arith, c .thread-count .ensures, T .holds .seated .sized .threads),
-      T,
-      ap (λ (x : ℕ). threadsTried (certificateOf (contentsAt (a .file .now) (a .head)) (a .seats .now) (a .states .now) (a .places .now) (a .next .now)) (seatedAt (length (a .seats .now)) (a .states .now) (a .at)) 1 x (a .search)) all,
-      count,
-    )
+    let a = c .before .before .before .before .before .before .before .before .before .before .before .before .before .args in
+    let T = c .before .before .before .before .before .before .before .before .before .before .before .before .before .pre .1 in
+    let count = c .thread-count .ensures ∙ held-count (certificateAt (a .file .now) (a .head) (a .seats .now) (a .states .now) (a .places .now) (a .next .now)) (a .at) _ _ _ _ T in
+    let all : length (seatedAt (length (a .seats .now)) (a .states .now) (a .at) .state .threads) ≡ c .thread-count .result - 0 = omega (arith, count) in
+    (omega arith, omega (arith, c .thread-count .ensures, T .seated .sized .threads), T, ap (λ (x : ℕ). threadsTried (certificateAt (a .file .now) (a .head) (a .seats .now) (a .states .now) (a .places .now) (a .next .now)) (seatedAt (length (a .seats .now)) (a .states .now) (a .at)) 1 x (a .search)) all, count)
 
--- src/explore.rt:206:9
 add-i : tie.Need-add-i Inv-loop μ-loop
 add-i c = omega arith
 
--- src/explore.rt:207:13
 try-partners-requires : tie.Need-try-partners-requires Inv-loop μ-loop
-try-partners-requires c κs =
-    let q = c .before .before .before .before .before .before .before .before .before .before .before .before .before .before .before .before .before .before .before .before .pre in
-    (q .0, q .1, q .2, q .3, c .before .before .before .before .before .loop .inv .1, c .before .before .before .before .before .loop .inv .2)
+try-partners-requires c κs = (c .before .before .before .before .before .before .before .before .before .before .before .before .before .before .before .before .before .before .before .pre .0, c .before .before .before .before .before .loop .inv .1, c .before .before .before .before .before .loop .inv .2)
 
--- src/explore.rt:213:17
 enum-told : tie.Need-enum-told Inv-loop μ-loop
 enum-told c = search needs
 
--- src/explore.rt:213:17
 same-length : tie.Need-same-length Inv-loop μ-loop
-same-length c = omega (arith, c .before .before .before .before .before .before .before .before .before .threads .given, c .before .before .before .before .before .before .before .before .before .before .before .before .before .before .before .before .loop .inv .2 .holds .seated .sized .words, c .before .before .before .before .before .before .before .before .before .before .before .before .before .before .before .before .before .before .before .before .before .before .before .before .before .before .before .before .before .before .before .pre .4 .holds .seated .sized .words)
+same-length c = omega (arith, c .before .before .before .before .before .before .before .before .before .threads .given, c .before .before .before .before .before .before .before .before .before .before .before .before .before .before .before .before .loop .inv .2 .seated .sized .words, c .before .before .before .before .before .before .before .before .before .before .before .before .before .before .before .before .before .before .before .before .before .before .before .before .before .before .before .before .before .before .pre .1 .seated .sized .words)
 
--- src/explore.rt:213:17
 same-length-2 : tie.Need-same-length-2 Inv-loop μ-loop
-same-length-2 c = omega (arith, c .before .before .before .before .before .before .before .beside .given, c .before .before .before .before .before .before .before .before .before .before .before .before .before .before .before .before .loop .inv .2 .holds .seated .sized .beside, c .before .before .before .before .before .before .before .before .before .before .before .before .before .before .before .before .before .before .before .before .before .before .before .before .before .before .before .before .before .before .before .pre .4 .holds .seated .sized .beside)
+same-length-2 c = omega (arith, c .before .before .before .before .before .before .before .beside .given, c .before .before .before .before .before .before .before .before .before .before .before .before .before .before .before .before .loop .inv .2 .seated .sized .beside, c .before .before .before .before .before .before .before .before .before .before .before .before .before .before .before .before .before .before .before .before .before .before .before .before .before .before .before .before .before .before .pre .1 .seated .sized .beside)
 
--- src/explore.rt:213:17
 same-length-3 : tie.Need-same-length-3 Inv-loop μ-loop
-same-length-3 c = omega (arith, c .before .before .before .before .before .owners .given, c .before .before .before .before .before .before .before .before .before .before .before .before .before .before .before .before .loop .inv .2 .holds .seated .owners, c .before .before .before .before .before .before .before .before .before .before .before .before .before .before .before .before .before .before .before .before .before .before .before .before .before .before .before .before .before .before .before .pre .4 .holds .seated .owners)
+same-length-3 c = omega (arith, c .before .before .before .before .before .owners .given, c .before .before .before .before .before .before .before .before .before .before .before .before .before .before .before .before .loop .inv .2 .seated .owners, c .before .before .before .before .before .before .before .before .before .before .before .before .before .before .before .before .before .before .before .before .before .before .before .before .before .before .before .before .before .before .pre .1 .seated .owners)
 
--- src/explore.rt:213:17
 same-length-4 : tie.Need-same-length-4 Inv-loop μ-loop
-same-length-4 c = omega (arith, c .before .before .before .lines .given, c .before .before .before .before .before .before .before .before .before .before .before .before .before .before .before .before .loop .inv .2 .holds .seated .rows .words, c .before .before .before .before .before .before .before .before .before .before .before .before .before .before .before .before .before .before .before .before .before .before .before .before .before .before .before .before .before .before .before .pre .4 .holds .seated .rows .words)
+same-length-4 c = omega (arith, c .before .before .before .lines .given, c .before .before .before .before .before .before .before .before .before .before .before .before .before .before .before .before .loop .inv .2 .seated .rows .words, c .before .before .before .before .before .before .before .before .before .before .before .before .before .before .before .before .before .before .before .before .before .before .before .before .before .before .before .before .before .before .pre .1 .seated .rows .words)
 
--- src/explore.rt:213:17
 returns : tie.Need-returns Inv-loop μ-loop
 returns c =
-    let a = c .before .before .before .before .before .before .before .before .before .before .before .before .before .before .before .before .before .before .before .before .before .before .before .before .before .before .before .before .before .before .before .args in
+    let a = c .before .before .before .before .before .before .before .before .before .before .before .before .before .before .before .before .before .before .before .before .before .before .before .before .before .before .before .before .before .before .args in
     let l = c .before .before .before .before .before .before .before .before .before .before .before .before .before .before .before .before .loop in
     let t = c .before .before .before .before .before .before .before .before .before .before .try-partners in
     record {
-      answered = thread-fails (certificateOf (contentsAt (a .file .now) (a .head)) (a .seats .now) (a .states .now) (a .places .now) (a .next .now)) (seatedAt (length (a .seats .now)) (a .states .now) (a .at)) (l .i) (c .before .before .before .before .before .before .before .before .before .before .before .before .before .before .before .before .before .thread-count .result) (l .on) (omega (arith, c .before .before .before .before .before .before .before .before .before .before .before .before .before .before .before .loop-test .taken)) (l .i + 1) refl (c .before .before .before .before .before .before .before .before .before .before .before .before .before .before .before .before .before .thread-count .result) (l .inv .4) (t .result) (t .ensures .answered) (c .enum-told .given .1) ∙ sym (l .inv .3);
-      trying = tt;
+      answered = thread-fails (certificateAt (a .file .now) (a .head) (a .seats .now) (a .states .now) (a .places .now) (a .next .now)) (seatedAt (length (a .seats .now)) (a .states .now) (a .at)) (l .i) (c .before .before .before .before .before .before .before .before .before .before .before .before .before .before .before .before .before .thread-count .result) (l .on) (omega (arith, c .before .before .before .before .before .before .before .before .before .before .before .before .before .before .before .loop-test .taken)) (l .i + 1) refl (c .before .before .before .before .before .before .before .before .before .before .before .before .before .before .before .before .before .thread-count .result) (l .inv .4) (t .result) (t .ensures .answered) (c .enum-told .given .1) ∙ sym (l .inv .3);
+      trying = t .ensures .trying;
     }
 
--- src/explore.rt:215:27
 enum-known-trial : tie.Need-enum-known-trial Inv-loop μ-loop
 enum-known-trial c = search needs
 
--- src/explore.rt:205:5
 loop-less : tie.Need-loop-less Inv-loop μ-loop
 loop-less c = omega arith
 
--- src/explore.rt:205:5
 loop-again : tie.Need-loop-again Inv-loop μ-loop
 loop-again c =
-    let a = c .before .before .before .before .before .before .before .before .before .before .before .before .before .before .before .before .before .before .before .before .before .before .before .before .before .before .before .before .before .before .before .before .args in
+    let a = c .before .before .before .before .before .before .before .before .before .before .before .before .before .before .before .before .before .before .before .before .before .before .before .before .before .before .before .before .before .before .before .args in
     let l = c .before .before .before .before .before .before .before .before .before .before .before .before .before .before .before .before .before .loop in
     let t = c .before .before .before .before .before .before .before .before .before .before .before .try-partners in (
       omega (arith, c .before .before .before .before .before .before .before .before .before .before .before .before .before .before .before .before .loop-test .taken),
       l .inv .1,
-      passed-trying (t .result) _ (t .ensures .trying) _ (c .before .trial .given .1),
-      l .inv .3 ∙ thread-passes (certificateOf (contentsAt (a .file .now) (a .head)) (a .seats .now) (a .states .now) (a .places .now) (a .next .now)) (seatedAt (length (a .seats .now)) (a .states .now) (a .at)) (l .i) (c .before .before .before .before .before .before .before .before .before .before .before .before .before .before .before .before .before .before .thread-count .result) (l .on) (omega (arith, c .before .before .before .before .before .before .before .before .before .before .before .before .before .before .before .before .loop-test .taken)) (l .i + 1) refl (c .before .before .before .before .before .before .before .before .before .before .before .before .before .before .before .before .before .before .thread-count .result) (l .inv .4) (t .result) _ (t .ensures .answered) (c .before .trial .given .1),
+      t .ensures .trying,
+      l .inv .3 ∙ thread-passes (certificateAt (a .file .now) (a .head) (a .seats .now) (a .states .now) (a .places .now) (a .next .now)) (seatedAt (length (a .seats .now)) (a .states .now) (a .at)) (l .i) (c .before .before .before .before .before .before .before .before .before .before .before .before .before .before .before .before .before .before .thread-count .result) (l .on) (omega (arith, c .before .before .before .before .before .before .before .before .before .before .before .before .before .before .before .before .loop-test .taken)) (l .i + 1) refl (c .before .before .before .before .before .before .before .before .before .before .before .before .before .before .before .before .before .before .thread-count .result) (l .inv .4) (t .result) _ (t .ensures .answered) (c .before .trial .given .1),
       l .inv .4,
     )
 
--- src/explore.rt:177:1
 same-length-5 : tie.Need-same-length-5 Inv-loop μ-loop
 same-length-5 c = search needs
 
--- src/explore.rt:177:1
 same-length-6 : tie.Need-same-length-6 Inv-loop μ-loop
 same-length-6 c = search needs
 
--- src/explore.rt:177:1
 same-length-7 : tie.Need-same-length-7 Inv-loop μ-loop
 same-length-7 c = search needs
 
--- src/explore.rt:177:1
 same-length-8 : tie.Need-same-length-8 Inv-loop μ-loop
 same-length-8 c = search needs
 
--- src/explore.rt:177:1
 returns-2 : tie.Need-returns-2 Inv-loop μ-loop
 returns-2 c =
-    let a = c .before .before .before .before .before .before .before .before .before .before .before .before .before .before .before .before .args in
+    let a = c .before .before .before .before .before .before .before .before .before .before .before .before .before .before .before .args in
     let l = c .before .loop in
-    record {
-      answered = threads-end (certificateOf (contentsAt (a .file .now) (a .head)) (a .seats .now) (a .states .now) (a .places .now) (a .next .now)) (seatedAt (length (a .seats .now)) (a .states .now) (a .at)) (l .i) (c .before .before .thread-count .result) (l .on) (omega arith) ∙ sym (l .inv .3);
-      trying = l .inv .2;
-    }
+    record { answered = threads-end (certificateAt (a .file .now) (a .head) (a .seats .now) (a .states .now) (a .places .now) (a .next .now)) (seatedAt (length (a .seats .now)) (a .states .now) (a .at)) (l .i) (c .before .before .thread-count .result) (l .on) (omega arith) ∙ sym (l .inv .3); trying = l .inv .2 }
 
 pub try-threads-spec : {M : Type 1} → statement M
 try-threads-spec =

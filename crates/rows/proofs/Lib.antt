@@ -1,0 +1,4 @@
+pub mod StandLaws
+pub mod ReadLaws
+pub mod LoadLaws
+pub mod FitLaws
