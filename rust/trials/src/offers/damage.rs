@@ -161,8 +161,10 @@ impl Damages<'_> {
     fn others(&mut self) {
         let seats = self.lending.seats.clone();
         for (at, &of_role) in seats.iter().enumerate() {
-            self.lending.seats[at] = *self.rng.of(&[0, 1, 2, 32, 33]);
-            self.ask("other seats");
+            for other in [0, 1, *self.rng.of(&[2, 32, 33])] {
+                self.lending.seats[at] = other;
+                self.ask("other seats");
+            }
             self.lending.seats[at] = of_role;
         }
         self.lending.seats.push(0);
