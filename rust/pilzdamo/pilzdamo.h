@@ -71,6 +71,10 @@ extern "C" {
 #define PILZDAMO_SESSIONS 32
 #define PILZDAMO_LINE_WORDS 512
 #define PILZDAMO_SEATS 32
+/* The most words of a row of a certificate, and words that are enough for an output of
+ * pilzdamo_offers in any state. */
+#define PILZDAMO_ROW_WORDS 1490
+#define PILZDAMO_OFFERS_ROOM 1529856
 /* The least length of an output of pilzdamo_reason and pilzdamo_phrase. No sentence is
  * longer. */
 #define PILZDAMO_SENTENCE 120
@@ -147,6 +151,14 @@ typedef struct {
     uint16_t place;
     uint32_t row; /* from 1, with 18; else 0 */
 } pilzdamo_closing;
+
+/* A refusal, or 0 and 0; and how much is written of what can be done in a state. */
+typedef struct {
+    uint16_t number;
+    uint16_t place;
+    uint16_t count;  /* offers written */
+    uint32_t length; /* their words */
+} pilzdamo_offered;
 
 /* A refusal as a sentence has it; all 0 for bytes that are no sentence. */
 typedef struct {
@@ -341,6 +353,54 @@ pilzdamo_closing pilzdamo_closed(const uint8_t *file, size_t file_len,
                                  const uint16_t *states, size_t words,
                                  const uint32_t *places, size_t rows,
                                  const uint32_t *next, size_t next_len);
+
+/*
+ * Judges a part of a certificate, which pilzdamo_closed judges whole: the rows from
+ * `from` to `to`, counted from 0, the last not included, whose choices that are done have
+ * the numbers from `begin` to `end` of next, the last not included. Parts may be judged
+ * apart. If every part of a chain is closed, the whole certificate is: the first part has
+ * from and begin 0, each begins where the one before ends, and the last has rows as to. If
+ * a certificate is closed, so is every part with the right numbers.
+ *
+ * The rows before the part aren't looked at. Known when it begins are row 0 and, of the
+ * rows that the numbers before begin name, the highest and all below. Each row of the part
+ * must be in order: it has all its words, with at most 64 threads, 64 made channels and
+ * PILZDAMO_SESSIONS sessions in a line; each thread's session is one of the file's; no
+ * role with a limit has more sessions than seats; a line has sessions of the file that
+ * aren't in the role, none twice, and a role without limit has no line.
+ *
+ * Refusals, in this order: 17 as in pilzdamo_closed, and unless from < to <= rows and
+ * begin <= end <= next_len; 1 to 10; 17 and 26 for the seats as in pilzdamo_run_seated; 18
+ * at place 0, with the lowest row at fault, counted from 1: row 1 if it is in the part and
+ * isn't the file's start; a row that isn't in order, isn't known yet, or has a choice at
+ * fault as in pilzdamo_closed; the last row of the part if its choices don't end at end.
+ */
+pilzdamo_closing pilzdamo_closed_part(const uint8_t *file, size_t file_len,
+                                      const uint16_t *seats, size_t seats_len,
+                                      const uint16_t *states, size_t words,
+                                      const uint32_t *places, size_t rows,
+                                      const uint32_t *next, size_t next_len,
+                                      size_t from, size_t to, size_t begin, size_t end);
+
+/*
+ * Writes all choices that can be done in a state, each with the state that follows, for a
+ * search over all lists of choices. state has the words of a row, as in pilzdamo_closed.
+ * The offers are written to the start of out, and nothing past them: threads from 1 on,
+ * with each thread the partners from 0 on. An offer has these words: thread, partner,
+ * answer (0, or 26 if it has to wait for a seat), the number of words of the state that
+ * follows, and these words, which are a row. PILZDAMO_OFFERS_ROOM words are enough for
+ * any state.
+ *
+ * Refusals, in this order: 1 to 10; 17 and 26 for the seats as in pilzdamo_run_seated; 18
+ * at place 0 if state isn't exactly the words of a state in order, as in
+ * pilzdamo_closed_part, with the right number of roles of each thread; 17 if an offer has
+ * no room in out. Then the offers before it are written; any other refusal writes nothing,
+ * and count and length are 0.
+ */
+pilzdamo_offered pilzdamo_offers(const uint8_t *file, size_t file_len,
+                                 const uint16_t *seats, size_t seats_len,
+                                 const uint16_t *state, size_t words,
+                                 uint16_t *out, size_t out_len);
 
 /*
  * The total of a kind, from the words that pilzdamo_start and pilzdamo_choose keep beside

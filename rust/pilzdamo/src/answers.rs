@@ -20,7 +20,7 @@ use std::fmt;
 /// | 14 | the node, or 0 for a starting mask |
 /// | 15 | the node |
 /// | 16 | 0: the placed file would have over 1,024 nodes |
-/// | 17 | 0: an output that is too short, or a bad list of choices, table of seats or list of rows |
+/// | 17 | 0: an output that is too short, or a bad list of choices, table of seats, list of rows or part of it |
 /// | 22 | 0: a minute past the week, or a bad table of hours |
 /// | 23 | the row of the table of hours, from 1 |
 /// | 24 | the node |
@@ -28,7 +28,7 @@ use std::fmt;
 /// | 26 | the session, from 1, whose starting mask overfills a role |
 /// | 27 | the notice, 1 or 2 |
 /// | 28 | 0: neither notice has begun |
-/// | 18 to 20 | the choice, from 1; 18 at 0 for a lent list that isn't one of the file's threads with their totals, and for a certificate, with the row |
+/// | 18 to 20 | the choice, from 1; 18 at 0 for a lent list that isn't one of the file's threads with their totals, for a lent state, and for a certificate, with the row |
 ///
 /// In [`choose`](crate::choose) the choice has number 1. A [`Reason`] puts all of this
 /// into a sentence.
@@ -480,8 +480,8 @@ impl fmt::Display for Seats {
     }
 }
 
-/// What [`closed`](crate::closed) answers: a refusal's number and place, and the row of the
-/// certificate that is at fault.
+/// What [`closed`](crate::closed) and [`closed_part`](crate::closed_part) answer: a refusal's
+/// number and place, and the row of the certificate that is at fault.
 #[repr(C)]
 #[must_use]
 #[derive(Clone, Copy, Debug, PartialEq, Eq, Hash)]
@@ -535,6 +535,116 @@ impl fmt::Display for Closing {
         }
         write!(out, ", row {}", self.row)
     }
+}
+
+/// What [`offers`](crate::offers) answers: a refusal's number and place, and how much is
+/// written. With 17 for want of room this is what had room; with any other refusal nothing
+/// is written.
+#[repr(C)]
+#[must_use]
+#[derive(Clone, Copy, Debug, PartialEq, Eq, Hash)]
+pub struct Offers {
+    /// The refusal's number, 0 if there is none.
+    pub number: u16,
+    /// The place: a word, a session or a node, by the number; 0 for 17 and 18.
+    pub place: u16,
+    /// How many offers are written.
+    pub count: u16,
+    /// How many words they have together.
+    pub length: u32,
+}
+
+impl Offers {
+    /// Whether nothing is refused, so that every choice that can be done is an offer.
+    ///
+    /// ```
+    /// // Nothing planned has one state, in which there is nothing to choose.
+    /// let told = pilzdamo::offers(&[], &[], &[0, 0], &mut []);
+    /// assert!(told.is_whole() && told.count == 0);
+    /// ```
+    pub fn is_whole(self) -> bool {
+        self.number == 0
+    }
+
+    /// The refusal's number and place alone.
+    ///
+    /// ```
+    /// let told = pilzdamo::offers(&[1], &[], &[0, 0], &mut []);
+    /// assert_eq!(told.verdict(), pilzdamo::read(&[1]));
+    /// ```
+    pub fn verdict(self) -> Verdict {
+        let Offers { number, place, .. } = self;
+        Verdict { number, place }
+    }
+
+    /// The offers that stand in the output, in order. Other words than those written end
+    /// them early at worst.
+    ///
+    /// ```
+    /// use pilzdamo::{offers, start_row, OFFERS_ROOM};
+    ///
+    /// // Both schedulers of spring want role 1, which has one seat.
+    /// let file = std::fs::read("../../examples/spring/cut.clinic")?;
+    /// let (seats, mut out) = ([1, 0, 0], vec![0; OFFERS_ROOM]);
+    /// let start = start_row(&file, &seats)?;
+    /// let told = offers(&file, &seats, &start, &mut out);
+    /// let first = told.each(&out).next().unwrap().words.to_vec();
+    ///
+    /// // Session 1 has it: session 2 has to wait.
+    /// let told = offers(&file, &seats, &first, &mut out);
+    /// let second = told.each(&out).find(|offer| offer.thread == 2).unwrap();
+    /// assert_eq!((second.partner, second.waits), (0, true));
+    /// assert_eq!(second.words[second.words.len() - 4..], [1, 2, 0, 0]);
+    /// # Ok::<(), Box<dyn std::error::Error>>(())
+    /// ```
+    pub fn each(self, out: &[u16]) -> impl Iterator<Item = Offer<'_>> {
+        let mut words = out.get(..self.length as usize).unwrap_or(out);
+        let next = move || {
+            let (&[thread, partner, answer, count], rest) = words.split_first_chunk()?;
+            let state;
+            (state, words) = rest.split_at_checked(count.into())?;
+            Some(Offer {
+                thread,
+                partner,
+                waits: answer != 0,
+                words: state,
+            })
+        };
+        std::iter::from_fn(next).take(self.count.into())
+    }
+}
+
+/// `offers: C in L words`, `refused N P`, or `refused 17 0, offers: C in L words`.
+///
+/// ```
+/// let offers = |file: &[u8]| pilzdamo::offers(file, &[], &[0, 0], &mut []).to_string();
+/// assert_eq!((offers(&[]), offers(&[1])), ("offers: 0 in 0 words".into(), "refused 1 0".into()));
+/// ```
+impl fmt::Display for Offers {
+    fn fmt(&self, out: &mut fmt::Formatter<'_>) -> fmt::Result {
+        let Offers { count, length, .. } = self;
+        if !self.is_whole() {
+            self.verdict().fmt(out)?;
+            if *count == 0 {
+                return Ok(());
+            }
+            out.write_str(", ")?;
+        }
+        write!(out, "offers: {count} in {length} words")
+    }
+}
+
+/// A choice that can be done, and the state that follows; see [`Offers::each`].
+#[derive(Clone, Copy, Debug, PartialEq, Eq, Hash)]
+pub struct Offer<'a> {
+    /// The thread's number.
+    pub thread: u16,
+    /// Its partner's, 0 if it steps alone.
+    pub partner: u16,
+    /// Whether the choice is answered 26: its session has to wait for a seat.
+    pub waits: bool,
+    /// The words of the state that follows, which are a row of a certificate.
+    pub words: &'a [u16],
 }
 
 /// What a place counts.

@@ -2,8 +2,10 @@
 
 use crate::raw;
 use crate::{
-    Closing, InForce, Placed, Ready, Reason, Round, Seats, Sheet, Thread, Totals, Verdict, Written,
+    Closing, InForce, Offers, Placed, Ready, Reason, Round, Seats, Sheet, Thread, Totals, Verdict,
+    Written,
 };
+use std::ops::Range;
 
 /// The least length in bytes of an output of [`place`] for any file, and of
 /// [`to_columns`] and [`to_rows`]: that of the largest file of versions 2 and 3. For one
@@ -42,6 +44,14 @@ pub const LINE_WORDS: usize = ROLES * SESSIONS;
 
 /// The most seats of a role.
 pub const SEATS: u16 = 32;
+
+/// The most words of a row: 64 threads, 64 made channels, and [`SESSIONS`] in each of
+/// [`ROLES`] lines.
+pub const ROW_WORDS: usize = 2 + 2 * 64 + 13 * 64 + ROLES * (1 + SESSIONS);
+
+/// Words that are enough for the output of [`offers`] in any state: of 64 threads at most 32
+/// can send to 32 others each.
+pub const OFFERS_ROOM: usize = 32 * 32 * (4 + ROW_WORDS);
 
 /// The records of the list that [`start`] and [`choose`] take.
 pub const RECORDS: usize = 64;
@@ -551,7 +561,8 @@ pub fn seats(file: &[u8], choices: &[u16], seats: &[u16]) -> Seats {
 /// [`run_seated`]. A table of zeros stands for runs without seats, as in [`run`].
 ///
 /// A certificate is what a search found: the states, and for each choice that is done the
-/// state that follows. If it holds, every list of choices leads to a state that is a row,
+/// state that follows. [`offers`] has them, state by state, and [`closed_part`] judges a part.
+/// If it holds, every list of choices leads to a state that is a row,
 /// and every row is a state that some list leads to. What no row has can't happen, whatever
 /// is chosen.
 ///
@@ -605,6 +616,151 @@ pub fn seats(file: &[u8], choices: &[u16], seats: &[u16]) -> Seats {
 #[inline]
 pub fn closed(file: &[u8], seats: &[u16], states: &[u16], places: &[u32], next: &[u32]) -> Closing {
     raw::closed(file, seats, states, places, next)
+}
+
+/// Judges a part of a certificate, which [`closed`] judges whole: the rows of `rows`, counted
+/// from 0, whose choices that are done have the numbers of `numbers` in `next`. Parts can be
+/// judged apart, also at once by several threads or computers.
+///
+/// If every part of a chain is closed, the whole certificate is: the first part begins with
+/// row 0 and number 0, each begins where the one before ends, and the last ends with the last
+/// row. And if a certificate is closed, so is every part with the right numbers.
+///
+/// The rows before the part aren't looked at. Known when it begins are row 0 and, of the rows
+/// that the numbers before it name, the highest and all below. Each row of the part has to be
+/// in order: it has all its words, with at most 64 threads, 64 made channels and [`SESSIONS`]
+/// sessions in a line; each thread's session is one of the file's; no role with a limit has
+/// more sessions than seats; a line has sessions of the file that aren't in the role, none
+/// twice, and a role without limit has no line.
+///
+/// Accepts any input; never panics. Refusals, in this order: 17 as in [`closed`], and for no
+/// row in `rows`, a row or number past the last, or `numbers` that end before they begin; 1 to
+/// 10; 17 and 26 for the seats as in [`run_seated`]; 18 at place 0, with the lowest row at
+/// fault, counted from 1: row 1 if it is in the part and isn't the file's start; a row that
+/// isn't in order, isn't known yet, or has a choice at fault as in [`closed`]; the last row of
+/// the part if its choices don't end with `numbers`.
+///
+/// ```
+/// # let words = [
+/// #     1, 2, 2, 1, 1, 2, 4, 13, 15, 23, 24, 26, 32, 1, 2, 1, 0, 0, 0, 0, 0, 1, 0, 0, 2, 1,
+/// #     1, 1, 1, 2, 2, 3, 6, 257, 1, 0, 0, 0, 5, 257, 0, 0, 0, 0u16,
+/// # ];
+/// # let file: Vec<u8> = words.into_iter().flat_map(u16::to_le_bytes).collect();
+/// # let thread = |user, node, role, value| [user, node, role, 1, value, 0, 0, 0, 0, 0, 0, 0];
+/// # let (sends, receives) = (thread(1, 1, 1, 0), thread(2, 3, 2, 0));
+/// # let (sent, received) = (thread(1, 2, 1, 0), thread(2, 4, 2, 1));
+/// # let row = |threads: &[[u16; 12]], sessions: &[u16]| {
+/// #     let counts = [threads.len() as u16, 0];
+/// #     [&counts, threads.as_flattened(), sessions, &[0, 0]].concat()
+/// # };
+/// # let rows = [
+/// #     row(&[sends, receives], &[1, 2]),
+/// #     row(&[sent, received], &[1, 2]),
+/// #     row(&[received], &[2]),
+/// #     row(&[sent], &[1]),
+/// #     row(&[], &[]),
+/// # ];
+/// // The certificate of `closed`'s example, with five rows, in two parts.
+/// let (states, places) = (rows.concat(), [0, 30, 60, 77, 94]);
+/// let part = |rows, numbers, next: &[u32; 5]| {
+///     pilzdamo::closed_part(&file, &[0, 0], &states, &places, next, rows, numbers).to_string()
+/// };
+/// let next = [1, 2, 3, 4, 4];
+/// assert_eq!(part(0..2, 0..3, &next), "closed");
+/// assert_eq!(part(2..5, 3..5, &next), "closed");
+///
+/// // A wrong number is seen by the part that has it. The other one counts its rows otherwise.
+/// let wrong = [1, 2, 3, 2, 4];
+/// assert_eq!(part(0..2, 0..3, &wrong), "closed");
+/// assert_eq!(part(2..5, 3..5, &wrong), "refused 18 0, row 3");
+///
+/// // The choices of these rows end earlier; and there is no row 6.
+/// assert_eq!(part(0..2, 0..4, &next), "refused 18 0, row 2");
+/// assert_eq!(part(2..6, 3..5, &next), "refused 17 0");
+/// ```
+#[inline]
+pub fn closed_part(
+    file: &[u8],
+    seats: &[u16],
+    states: &[u16],
+    places: &[u32],
+    next: &[u32],
+    rows: Range<usize>,
+    numbers: Range<usize>,
+) -> Closing {
+    raw::closed_part(file, seats, states, places, next, rows, numbers)
+}
+
+/// Writes all choices that can be done in a state, each with the state that follows: for a
+/// search over all lists of choices. The file is judged once for all of them.
+///
+/// `state` has the words of a row, as in [`closed`]; [`start_row`] has the file's start. The
+/// offers are written to the start of `out`, threads from 1 on, with each thread the partners
+/// from 0 on. An offer has these words: thread, partner, answer (0, or 26 if it has to wait
+/// for a seat), the number of words of the state that follows, and these words, which are a
+/// row. [`Offers::each`] reads them. No choice with other numbers can be done.
+///
+/// Accepts any input; never panics. Refusals, in this order: 1 to 10; 17 and 26 for the seats
+/// as in [`run_seated`]; 18 at place 0 if `state` isn't exactly the words of a state in order,
+/// as in [`closed_part`], with the right number of roles of each thread; 17 if an offer has no
+/// room in `out`. Then the offers before it are written; any other refusal writes nothing.
+/// [`OFFERS_ROOM`] words are enough for any state.
+///
+/// A state in order need be no state of the run. What the file doesn't have can't be done
+/// there: a step at no node, an on by no user, a send on no channel.
+///
+/// ```
+/// # let words = [
+/// #     1, 2, 2, 1, 1, 2, 4, 13, 15, 23, 24, 26, 32, 1, 2, 1, 0, 0, 0, 0, 0, 1, 0, 0, 2, 1,
+/// #     1, 1, 1, 2, 2, 3, 6, 257, 1, 0, 0, 0, 5, 257, 0, 0, 0, 0u16,
+/// # ];
+/// # let file: Vec<u8> = words.into_iter().flat_map(u16::to_le_bytes).collect();
+/// use pilzdamo::{offers, start_row};
+///
+/// // The file of `run`'s example: thread 1 can send to thread 2, and nothing else.
+/// let start = start_row(&file, &[0, 0])?;
+/// let mut out = [7; 40];
+/// let told = offers(&file, &[0, 0], &start, &mut out);
+/// assert_eq!(told.to_string(), "offers: 1 in 34 words");
+/// assert_eq!((&out[..4], out[34]), (&[1, 2, 0, 30][..], 7));
+///
+/// // Then both can end.
+/// let met = out[4..34].to_vec();
+/// let told = offers(&file, &[0, 0], &met, &mut out);
+/// assert_eq!(told.to_string(), "refused 17 0, offers: 1 in 21 words");
+/// let mut out = [0; 42];
+/// let told = offers(&file, &[0, 0], &met, &mut out);
+/// let choices: Vec<_> = told.each(&out).map(|it| (it.thread, it.partner, it.waits)).collect();
+/// assert_eq!(choices, [(1, 0, false), (2, 0, false)]);
+///
+/// // A word more is no state.
+/// let told = offers(&file, &[0, 0], &[&met[..], &[0]].concat(), &mut out);
+/// assert_eq!(told.to_string(), "refused 18 0");
+/// # Ok::<(), pilzdamo::Verdict>(())
+/// ```
+#[inline]
+pub fn offers(file: &[u8], seats: &[u16], state: &[u16], out: &mut [u16]) -> Offers {
+    raw::offers(file, seats, state, out)
+}
+
+/// The words of the file's start as a row, as in [`closed`]: what a search begins with. The
+/// refusals are those of [`run_seated`] without choices.
+///
+/// ```
+/// assert_eq!(pilzdamo::start_row(&[], &[]), Ok(vec![0, 0]));
+/// assert_eq!(pilzdamo::start_row(&[], &[1]).unwrap_err().to_string(), "refused 17 0");
+/// ```
+pub fn start_row(file: &[u8], seats: &[u16]) -> Result<Vec<u16>, Verdict> {
+    let mut out = [0; RUN_ROOM];
+    let written = run_seated(file, &[], seats, &mut out);
+    written.verdict().result()?;
+    let state = out[..written.length.into()].as_chunks().0;
+    let words = state.iter().map(|word| u16::from_le_bytes(*word));
+    let mut row: Vec<u16> = words.skip(2).collect();
+    let sessions = 1..=row[0];
+    row.extend(sessions);
+    row.extend(seats.iter().map(|_| 0));
+    Ok(row)
 }
 
 /// How many threads wait on a kind, from the words beside a list of threads that

@@ -21,7 +21,8 @@
 //! | let a dispatcher choose, round by round | [`round`] |
 //! | count the threads that wait on each kind | [`totals`]; [`Desk::total`], and [`total`] for a list of your own |
 //! | limit the seats of a role, and queue who waits | [`run_seated`], [`round_seated`], [`seats`] |
-//! | judge a certificate for all lists of choices | [`closed`] |
+//! | search all lists of choices, state by state | [`start_row`], [`offers`] |
+//! | judge a certificate for all lists of choices, whole or in parts | [`closed`], [`closed_part`] |
 //! | turn a refusal into a sentence, and back | [`reason`], [`Reason::sentence`], [`read_reason`]; [`phrase`], [`meaning`] for a number alone |
 //! | run choice by choice, and list what can be done next | [`Desk`]; [`start`] and [`choose`] for a list of your own |
 //! | merge two files | [`merge`], [`merged`] |
@@ -305,6 +306,43 @@
 //! A search goes over all states that lists of choices lead to, and [`closed`] judges the
 //! table that it leaves: where it holds, no list leads to a state that isn't in it.
 //!
+//! ```
+//! use pilzdamo::{closed, offers, start_row, OFFERS_ROOM};
+//!
+//! // Two bookings, and the desk that takes them; no role has a limit.
+//! let file = std::fs::read("../../examples/desks.clinic")?;
+//! let (file, _) = pilzdamo::placed(&file)?;
+//! let seats = [0; 3];
+//! let mut out = vec![0; OFFERS_ROOM];
+//! let (mut rows, mut next) = (vec![start_row(&file, &seats)?], Vec::new());
+//! let (mut done, mut stuck) = (0, Vec::new());
+//! while done < rows.len() {
+//!     let told = offers(&file, &seats, &rows[done], &mut out);
+//!     told.verdict().result()?;
+//!     for offer in told.each(&out) {
+//!         let known = rows.iter().position(|row| row == offer.words);
+//!         next.push(known.unwrap_or(rows.len()) as u32);
+//!         if known.is_none() {
+//!             rows.push(offer.words.to_vec());
+//!         }
+//!     }
+//!     if told.count == 0 {
+//!         stuck.push(done);
+//!     }
+//!     done += 1;
+//! }
+//!
+//! // Nothing is stuck but the state in which all threads have ended.
+//! assert_eq!((rows.len(), stuck.len()), (57, 1));
+//! assert_eq!(rows[stuck[0]], [0, 0, 0, 0, 0]);
+//!
+//! // That was the search's word. The engine says that no list leads elsewhere.
+//! let places = rows.iter().scan(0, |end, row| Some(std::mem::replace(end, *end + row.len() as u32)));
+//! let places: Vec<u32> = places.collect();
+//! assert!(closed(&file, &seats, &rows.concat(), &places, &next).is_closed());
+//! # Ok::<(), Box<dyn std::error::Error>>(())
+//! ```
+//!
 //! # Run choice by choice
 //!
 //! A [`Desk`] owns a copy of the file and the threads. It lists the choices that can be
@@ -388,8 +426,8 @@
 //! The engine's functions are proved: what they answer, every byte that they write, and
 //! that they need nothing from their caller but valid memory. This crate is plain Rust
 //! around them. It passes each slice with its length, [`State`] names the words of a
-//! run's output, a [`Desk`] holds what the engine wrote, and [`in_force`] slices the
-//! notice where the engine says. Only these calls use unsafe code.
+//! run's output, [`Offers`] those of offers, a [`Desk`] holds what the engine wrote, and
+//! [`in_force`] slices the notice where the engine says. Only these calls use unsafe code.
 //!
 //! C programs use the header `pilzdamo.h`, which stands beside this crate's `Cargo.toml`.
 
@@ -402,14 +440,15 @@ mod desk;
 mod raw;
 mod state;
 
-pub use answers::{Closing, Counts, InForce, Placed, Ready, Reason, Round, Seats, Sheet};
-pub use answers::{Totals, Verdict, Written, NO_TAG};
-pub use calls::{check, check_at, choose, closed, measure, measure_at, merge, merged};
+pub use answers::{Closing, Counts, InForce, Offer, Offers, Placed, Ready, Reason, Round, Seats};
+pub use answers::{Sheet, Totals, Verdict, Written, NO_TAG};
+pub use calls::{check, check_at, choose, closed, closed_part, measure, measure_at, merge, merged};
 pub use calls::{
     file_in_force, in_columns, in_force, in_rows, records, sheet, to_columns, to_rows, NUMBERS,
     SHEET_FILES,
 };
 pub use calls::{meaning, phrase, read_reason, reason};
+pub use calls::{offers, start_row, OFFERS_ROOM, ROW_WORDS};
 pub use calls::{place, place_at, placed, placed_at, read, ready, room, round, run, start};
 pub use calls::{round_seated, run_seated, seats, total, totals};
 pub use calls::{BEFORE_ROUND, BESIDE, RECORDS, ROOM, ROOM_1, ROUND_WORDS, ROWS, RUN_ROOM};

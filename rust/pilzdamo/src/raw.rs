@@ -4,8 +4,10 @@
 //! only through pointers to `mut`, and to end. It keeps no pointer.
 
 use crate::{
-    Closing, InForce, Placed, Ready, Reason, Round, Seats, Sheet, Thread, Totals, Verdict, Written,
+    Closing, InForce, Offers, Placed, Ready, Reason, Round, Seats, Sheet, Thread, Totals, Verdict,
+    Written,
 };
+use std::ops::Range;
 
 extern "C" {
     fn pilzdamo_read(file: *const u8, len: usize) -> Verdict;
@@ -93,6 +95,32 @@ extern "C" {
         next: *const u32,
         next_len: usize,
     ) -> Closing;
+    fn pilzdamo_closed_part(
+        file: *const u8,
+        len: usize,
+        seats: *const u16,
+        seats_len: usize,
+        states: *const u16,
+        words: usize,
+        places: *const u32,
+        rows: usize,
+        next: *const u32,
+        next_len: usize,
+        from: usize,
+        to: usize,
+        begin: usize,
+        end: usize,
+    ) -> Closing;
+    fn pilzdamo_offers(
+        file: *const u8,
+        len: usize,
+        seats: *const u16,
+        seats_len: usize,
+        state: *const u16,
+        words: usize,
+        out: *mut u16,
+        out_len: usize,
+    ) -> Offers;
     fn pilzdamo_total(beside: *const u16, words: usize, kind: u16) -> u16;
     fn pilzdamo_reason(
         number: u16,
@@ -142,7 +170,8 @@ extern "C" {
     fn pilzdamo_sheet(input: *const u8, len: usize) -> Sheet;
 }
 
-// Words and nothing between them: what is answered, and a record that is lent.
+// What is answered, and a record that is lent: words and nothing between them, but for a
+// word before the length of `Offers`.
 const _: () = {
     assert!(size_of::<Verdict>() == 2 * 2);
     assert!(size_of::<Placed>() == 2 * 4);
@@ -153,6 +182,7 @@ const _: () = {
     assert!(size_of::<Written>() == 2 * 3);
     assert!(size_of::<Seats>() == 2 * 580);
     assert!(size_of::<Closing>() == 2 * 2 + 4);
+    assert!(size_of::<Offers>() == 2 * 4 + 4);
     assert!(size_of::<InForce>() == 2 * 5);
     assert!(size_of::<Sheet>() == 4 * 34);
     assert!(size_of::<Thread>() == 2 * 11);
@@ -352,6 +382,57 @@ pub fn closed(file: &[u8], seats: &[u16], states: &[u16], places: &[u32], next: 
             places.len(),
             next.as_ptr(),
             next.len(),
+        )
+    }
+}
+
+#[inline]
+pub fn closed_part(
+    file: &[u8],
+    seats: &[u16],
+    states: &[u16],
+    places: &[u32],
+    next: &[u32],
+    rows: Range<usize>,
+    numbers: Range<usize>,
+) -> Closing {
+    // SAFETY: as in `closed`. Rows and numbers may be any, also such as aren't there.
+    unsafe {
+        pilzdamo_closed_part(
+            file.as_ptr(),
+            file.len(),
+            seats.as_ptr(),
+            seats.len(),
+            states.as_ptr(),
+            states.len(),
+            places.as_ptr(),
+            places.len(),
+            next.as_ptr(),
+            next.len(),
+            rows.start,
+            rows.end,
+            numbers.start,
+            numbers.end,
+        )
+    }
+}
+
+#[inline]
+pub fn offers(file: &[u8], seats: &[u16], state: &[u16], out: &mut [u16]) -> Offers {
+    // SAFETY: the engine only reads the `len` bytes from `file` on, the `seats_len` words
+    // from `seats` on and the `words` words from `state` on, and only reads and writes the
+    // `out_len` words from `out` on, during the call. The slices vouch for them, and that
+    // nothing of `out` is in the other three.
+    unsafe {
+        pilzdamo_offers(
+            file.as_ptr(),
+            file.len(),
+            seats.as_ptr(),
+            seats.len(),
+            state.as_ptr(),
+            state.len(),
+            out.as_mut_ptr(),
+            out.len(),
         )
     }
 }

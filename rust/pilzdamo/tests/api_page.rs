@@ -71,5 +71,5 @@ fn every_function_of_the_header_is_listed() {
             assert!(listed.contains(&&format!("pilzdamo_{name}")[..]), "{name}");
         }
     }
-    assert_eq!(functions, 26);
+    assert_eq!(functions, 28);
 }

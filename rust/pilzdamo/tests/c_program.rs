@@ -1,9 +1,10 @@
 //! The header, tried by a C program: what it prints.
 
-use pilzdamo::{Closing, Counts, InForce, Placed, Ready, Reason, Round, Seats, Sheet};
+use pilzdamo::{Closing, Counts, InForce, Offers, Placed, Ready, Reason, Round, Seats, Sheet};
 use pilzdamo::{Thread, Totals, Verdict, Written, NUMBERS, SHEET_FILES};
 use pilzdamo::{BEFORE_ROUND, BESIDE, RECORDS, ROOM, ROOM_1, ROUND_WORDS, ROWS, RUN_ROOM};
 use pilzdamo::{LINE_WORDS, NO_TAG, ROLES, SEATS, SENTENCE, SESSIONS, TOTALS, WEEK};
+use pilzdamo::{OFFERS_ROOM, ROW_WORDS};
 use std::process::{Command, Output};
 
 const FOLDER: &str = env!("CARGO_MANIFEST_DIR");
@@ -112,6 +113,20 @@ a word less: refusal 18 0, row 1
 no row: refusal 17 0, row 0
 one byte: refusal 1 0, row 0
 a seat: refusal 17 0, row 0
+all of it: refusal 0 0, row 0
+none of it: refusal 17 0, row 0
+a row of two: refusal 18 0, row 2
+after a number: refusal 0 0, row 0
+a number too few: refusal 18 0, row 1
+offers: refusal 0 0, offers 2, words 64
+thread 1, partner 0, answer 0: 2 0 1 2 0 0 0 0 0 0 0 0 0 0 1 3 0 0 0 0 0 0 0 0 0 0 1 2
+thread 2, partner 0, answer 0: 2 0 1 1 0 0 0 0 0 0 0 0 0 0 1 4 0 0 0 0 0 0 0 0 0 0 1 2
+behind them: abab
+in less: refusal 17 0, offers 1, words 32
+thread 1, partner 0, answer 0: 2 0 1 2 0 0 0 0 0 0 0 0 0 0 1 3 0 0 0 0 0 0 0 0 0 0 1 2
+a word less: refusal 18 0, offers 0, words 0
+a seat: refusal 17 0, offers 0, words 0
+one byte: refusal 1 0, offers 0, words 0
 merge: refusal 0 0, 266 bytes
 its counts: 7 2 2 2 5 28
 behind it: ab
@@ -199,6 +214,7 @@ fn a_c_program_calls_the_engine() {
         size_of::<InForce>(),
         size_of::<Sheet>(),
         size_of::<Closing>(),
+        size_of::<Offers>(),
     ];
     let line = |name: &str, numbers: &[usize]| {
         let numbers: Vec<String> = numbers.iter().map(usize::to_string).collect();
@@ -210,11 +226,13 @@ fn a_c_program_calls_the_engine() {
     let rounds = line("rounds", &[ROUND_WORDS, BEFORE_ROUND]);
     let totals = line("totals", &[TOTALS]);
     let seats = line("seats", &[ROLES, SESSIONS, LINE_WORDS, SEATS.into()]);
+    let offers = line("offers", &[ROW_WORDS, OFFERS_ROOM]);
     let sheets = line("sheets", &[NUMBERS, SHEET_FILES]);
     let counts = Counts::ALL.map(|counts| usize::from(counts.number()));
     let reasons = [&[SENTENCE, NO_TAG.into()][..], &counts].concat();
     let reasons = line("reasons", &reasons);
     let printed = String::from_utf8_lossy(&output.stdout);
-    let lines = sizes + &rooms + &hours + &rounds + &totals + &seats + &sheets + &reasons;
+    let lines = sizes + &rooms + &hours + &rounds + &totals + &seats + &offers;
+    let lines = lines + &sheets + &reasons;
     assert_eq!(printed, lines + PRINTED);
 }

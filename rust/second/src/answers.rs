@@ -259,6 +259,29 @@ impl Closing {
     }
 }
 
+/// What is offered in a state: how many choices there are that aren't refused, and how many
+/// words they have together. With 17 for want of room these are the ones written; with
+/// another refusal both are 0.
+#[derive(Clone, Copy, Debug, PartialEq, Eq)]
+pub struct Offers {
+    pub number: u16,
+    pub place: u16,
+    pub count: u16,
+    pub length: u32,
+}
+
+impl Offers {
+    /// The answer where nothing is written.
+    pub const fn refused(number: u16, place: u16) -> Offers {
+        Offers {
+            number,
+            place,
+            count: 0,
+            length: 0,
+        }
+    }
+}
+
 /// Which of two notices is in force: 1 or 2, and where its file stands in it, in bytes.
 /// Refused, it is the first notice's empty part at 0.
 #[derive(Clone, Copy, Debug, PartialEq, Eq)]

@@ -22,9 +22,10 @@ pub use notices::{notice, notice_cases, NoticeCase};
 pub use placing::{Due, PlaceCase};
 pub use reasons::{cases as reason_cases, ReasonCase, NO_SENTENCES};
 pub use running::{booking, choose_cases, placed_booking, round_cases, start_cases};
-pub use running::{closing_cases, ClosingCase};
+pub use running::{closing_cases, closing_part_cases, offers_cases};
 pub use running::{seat_cases, seated_round_cases, SeatCase, SeatedRoundCase};
 pub use running::{totals_cases, ChooseCase, Lent, RoundCase, RunCase, StartCase, TotalsCase};
+pub use running::{ClosingCase, ClosingPartCase, OffersCase};
 pub use sheets::{records, sheet_cases, SheetCase};
 
 use crate::draft::Draft;

@@ -2,12 +2,12 @@
 //!
 //! It is written from the paper and the requests alone and shares nothing with the
 //! engine, so that the two can be compared. "1 to 8" and "1 to 10" include 21. The timed
-//! functions, [`read`], [`read_names`],
-//! [`check`], [`check_at`], [`place`], [`place_at`], [`measure`], [`measure_at`],
-//! [`run`], [`round`], [`ready`], [`totals`], [`run_seated`], [`round_seated`],
-//! [`seats`], [`closing`], [`start`], [`choose`], [`merge`], [`to_columns`], [`to_rows`],
-//! [`in_force`] and [`sheet`], go over the file a few times, in place, and allocate
-//! nothing; nor do [`reason`], [`read_reason`] and [`phrase`].
+//! functions, [`read`], [`read_names`], [`check`], [`check_at`], [`place`], [`place_at`],
+//! [`measure`], [`measure_at`], [`run`], [`round`], [`ready`], [`totals`], [`run_seated`],
+//! [`round_seated`], [`seats`], [`closing`], [`closing_part`], [`offers`], [`start`],
+//! [`choose`], [`merge`], [`to_columns`], [`to_rows`], [`in_force`] and [`sheet`], go over
+//! the file a few times, in place, and allocate nothing; nor do [`reason`], [`read_reason`]
+//! and [`phrase`].
 
 #![forbid(unsafe_code)]
 
@@ -33,7 +33,7 @@ mod turning;
 
 pub use answers::NUMBERS;
 pub use answers::{
-    Closing, InForce, Placed, Ready, Reason, Round, Seats, Sheet, Totals, Verdict, Written,
+    Closing, InForce, Offers, Placed, Ready, Reason, Round, Seats, Sheet, Totals, Verdict, Written,
 };
 pub use cause::{is_of_file, is_of_reading, Cause, Refusal};
 pub use certificate::Certificate;
@@ -53,6 +53,7 @@ use notices::Notice;
 use placing::Plan;
 use roles::Grants;
 use running::{Choices, Lent, Scopes, State};
+use std::ops::Range;
 
 /// Refusals 1 to 8.
 pub fn read(file: &[u8]) -> Verdict {
@@ -288,6 +289,72 @@ pub fn closing(
         Err(refusal) => {
             let Verdict { number, place } = refusal.verdict();
             Closing::refused(number, place)
+        }
+    }
+}
+
+/// What [`closing`] says of a part of a certificate: of some of its rows, from 0 on, whose
+/// choices that aren't refused have these numbers in `next`. The rows before aren't looked
+/// at. Known at first are row 0 and, of the rows that the numbers before these name, the one
+/// with the highest number and all below it.
+///
+/// 17 as in [`closing`], and without a row in the part, or for a row or a number past the
+/// last, or numbers that end before they begin. Then 1 to 10, 17 for the table, 26 at a
+/// session, and 18 at the lowest row at fault, from 1 on: row 1, if it is in the part and
+/// isn't the start; one that isn't known, or isn't in order, or of which a choice is at fault
+/// as in [`closing`]; and the last of the part, if its numbers don't end where they should.
+///
+/// A row is in order if it has all its words, with at most 64 threads and made channels and
+/// 32 sessions in a line; each thread's session is one of the file's; no role with a limit
+/// has more sessions than seats; and a line has sessions of the file that aren't in the role,
+/// none twice, and none at all for a role without limit.
+pub fn closing_part(
+    file: &[u8],
+    seats: &[u16],
+    states: &[u16],
+    places: &[u32],
+    next: &[u32],
+    rows: Range<usize>,
+    numbers: Range<usize>,
+) -> Closing {
+    let some = !places.is_empty() && places.len() < u32::MAX as usize;
+    let of_rows = rows.start < rows.end && rows.end <= places.len();
+    let of_next = numbers.start <= numbers.end && numbers.end <= next.len();
+    if !(some && of_rows && of_next) {
+        return Closing::refused(17, 0);
+    }
+    match begin_seated(file, seats) {
+        Ok(start) => {
+            let row = certificate::row_at_fault_in(start, states, places, next, rows, numbers);
+            row.map_or(Closing::CLEAN, |row| Closing::at(row as u32 + 1))
+        }
+        Err(refusal) => {
+            let Verdict { number, place } = refusal.verdict();
+            Closing::refused(number, place)
+        }
+    }
+}
+
+/// All choices of a state that aren't refused, the state being lent as the words of a row.
+/// They are written one behind the other, threads in order, then partners: thread, partner,
+/// what the choice is answered (26 or 0), how many words the next state has, and these words,
+/// which are a row too.
+///
+/// 1 to 10, 17 for the table and 26 at a session, as in [`run_seated`]; 18 at place 0 where
+/// these aren't all the words of a row that is in order, as in [`closing_part`], or where
+/// they have another number of roles in a thread than it has; and 17 where an offer has no
+/// room: those before it are written then. Otherwise a refusal writes nothing.
+pub fn offers(file: &[u8], seats: &[u16], state: &[u16], out: &mut [u16]) -> Offers {
+    match begin_seated(file, seats) {
+        Ok(mut run) => {
+            if !run.stand_exactly(state) {
+                return Offers::refused(18, 0);
+            }
+            certificate::offer(&run, out)
+        }
+        Err(refusal) => {
+            let Verdict { number, place } = refusal.verdict();
+            Offers::refused(number, place)
         }
     }
 }

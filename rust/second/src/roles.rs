@@ -129,12 +129,18 @@ impl Permitted {
 
 impl Rights for Permitted {
     fn may_send(&self, active: u16, kind: u16) -> bool {
-        self.to_send[usize::from(kind) - 1] & active != 0
+        roles_for(&self.to_send, kind) & active != 0
     }
 
     fn may_receive(&self, active: u16, kind: u16) -> bool {
-        self.to_receive[usize::from(kind) - 1] & active != 0
+        roles_for(&self.to_receive, kind) & active != 0
     }
+}
+
+/// The mask of a kind: no role for what is no kind.
+fn roles_for(masks: &[u16; MOST_KINDS], kind: u16) -> u16 {
+    let mask = masks.get(usize::from(kind).wrapping_sub(1));
+    mask.copied().unwrap_or(0)
 }
 
 /// Adds a role to the masks of the kinds that it is granted.

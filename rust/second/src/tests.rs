@@ -1,11 +1,11 @@
-use crate::cases::closing_cases;
 use crate::cases::{booking, cases, choose_cases, place_cases, placed_booking, run_cases};
 use crate::cases::{check_at_cases, place_at_cases, round_cases, start_cases, totals_cases};
+use crate::cases::{closing_cases, closing_part_cases, offers_cases};
 use crate::cases::{merge_cases, notice_cases, reason_cases, records, sheet_cases};
 use crate::cases::{seat_cases, seated_round_cases, turn_cases, Turn};
 use crate::cases::{Due, DueOfBoth, BOOKING, NO_SENTENCES};
 use crate::draft::{set_word, to_bytes, Draft};
-use crate::{begin, closing, merge, resume, search, total, totals};
+use crate::{begin, closing, closing_part, merge, offers, resume, search, total, totals};
 use crate::{cause, cause_in_choosing, cause_in_placing, cause_in_run, cause_in_starting};
 use crate::{cause_at, cause_in_merging, cause_in_placing_at, cause_in_round, check_at};
 use crate::{cause_in_notice, cause_in_notices, in_force, sheet, whole_files, Sheet};
@@ -14,7 +14,10 @@ use crate::{cause_in_seated_run, round_seated, run_seated, seats};
 use crate::{cause_in_turning, to_columns, to_rows, TURNED_ROOM};
 use crate::{check, choose, is_of_file, is_of_reading, measure, measure_at};
 use crate::{place, place_at, read, read_names, ready, round, run, start};
-use crate::{Cause, Placed, Reason, Run, Thread, Unsaid, Verdict, Version, Written, SENTENCE};
+use crate::{
+    Cause, Certificate, Closing, Placed, Reason, Run, Thread, Unsaid, Verdict, Version, Written,
+    SENTENCE,
+};
 use crate::{BEFORE_ROUND, BEFORE_TOTALS, BESIDE, MERGED_ROOM, RECORDS, ROOM, RUN_ROOM};
 use std::collections::BTreeSet;
 
@@ -183,6 +186,41 @@ fn named_cases_of_certificates() {
             );
             assert_eq!(found(states - 1), None, "{}", case.name);
         }
+    }
+}
+
+/// What holds whole holds in parts, row by row, each with the numbers that the search gave it.
+#[test]
+fn named_cases_of_parts_of_certificates() {
+    for case in closing_part_cases() {
+        case.demand("second", closing_part);
+    }
+    for case in closing_cases().into_iter().filter(|case| case.found) {
+        let Certificate {
+            states,
+            places,
+            next,
+        } = &case.certificate;
+        let mut read = 0;
+        for row in 0..places.len() {
+            let of_row = |end| {
+                let (rows, numbers) = (row..row + 1, read..end);
+                closing_part(&case.file, &case.seats, states, places, next, rows, numbers)
+            };
+            let holds = |end: &usize| of_row(*end) == Closing::CLEAN;
+            let mut ends = (read..=next.len()).filter(holds);
+            let end = ends.next().expect("it holds");
+            assert_eq!(ends.next(), None, "{}", case.name);
+            read = end;
+        }
+        assert_eq!(read, next.len(), "{}", case.name);
+    }
+}
+
+#[test]
+fn named_cases_of_offers() {
+    for case in offers_cases() {
+        case.demand("second", offers);
     }
 }
 

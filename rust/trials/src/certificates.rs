@@ -9,6 +9,9 @@ mod tally;
 pub use search::{search, Found};
 pub use tally::CertificateTally;
 
+pub(crate) use damage::anything;
+pub(crate) use promise::list_to;
+
 use crate::columns::row_file;
 use crate::rng::Rng;
 use crate::seats::{deal_seated, Seated};
@@ -76,7 +79,7 @@ pub fn agreed_closing(certified: &Certified, origin: impl Display) -> Closing {
 }
 
 /// The most rows of a search: few mostly, so that there are many searches.
-fn most_rows(rng: &mut Rng) -> usize {
+pub(crate) fn most_rows(rng: &mut Rng) -> usize {
     *rng.of(&[20, 20, 60, 60, 60, 60, 60, 60, 60, 200, 200, 200, 2_000])
 }
 
@@ -112,31 +115,46 @@ fn add_meetings(rng: &mut Rng, draft: &mut Draft) {
     }
 }
 
-/// Deals `inputs` files of a version and tables of seats, searches them, gives both the
-/// certificates, damaged too, and panics at the first difference. Files with too many states
-/// are searched again with two sessions, and all with one or none and some that meet.
-pub fn compare_certificates(version: Version, seed: u64, inputs: u64) -> CertificateTally {
-    let mut tally = CertificateTally::new(version);
+/// A file, a table of seats and a list of choices, as they are dealt.
+pub(crate) struct Routine<'a> {
+    pub rng: &'a mut Rng,
+    pub file: &'a [u8],
+    pub seats: &'a [u16],
+    pub choices: &'a [u16],
+    pub origin: &'a str,
+}
+
+/// Deals `inputs` files of a version and tables of seats, and has each visited. Those that
+/// can be run and have too many states, where the visit answers false, are visited again with
+/// two sessions, and all that can be run with one or none and some that meet.
+pub(crate) fn each_routine(
+    version: Version,
+    seed: u64,
+    inputs: u64,
+    mut visit: impl FnMut(Routine) -> bool,
+) {
     for index in 0..inputs {
         let rng = &mut Rng::new(seed.rotate_left(32), index);
         let Seated { dealt, seats } = deal_seated(version, seed, index);
         let (file, choices) = (dealt.file, dealt.choices);
         let origin = format!("trials::deal_seated(Version::{version:?}, {seed}, {index})");
-        if second::begin_seated(&file, &seats).is_err() {
-            let refused = Certified {
-                certificate: damage::anything(rng),
+        let mut visit_one = |rng: &mut Rng, file: &[u8], seats: &[u16], origin: &str| {
+            visit(Routine {
+                rng,
                 file,
                 seats,
-            };
-            let answer = agreed_closing(&refused, &origin);
-            assert!(answer.number != 0 && answer.row == 0, "{origin}");
-            tally.count("refused before the rows", answer);
+                choices: &choices,
+                origin,
+            })
+        };
+        let runs = |file: &[u8], seats: &[u16]| second::begin_seated(file, seats).is_ok();
+        let visited = visit_one(rng, &file, &seats, &origin);
+        if !runs(&file, &seats) {
             continue;
         }
-        if !compare_one(rng, &file, &seats, &choices, &origin, &mut tally) {
+        if !visited {
             let file = cut(&file, 2).bytes();
-            let origin = format!("two sessions of {origin}");
-            compare_one(rng, &file, &seats, &choices, &origin, &mut tally);
+            visit_one(rng, &file, &seats, &format!("two sessions of {origin}"));
         }
         let mut draft = cut(&file, rng.below(2));
         if draft.channels.is_empty() {
@@ -145,16 +163,38 @@ pub fn compare_certificates(version: Version, seed: u64, inputs: u64) -> Certifi
         add_meetings(rng, &mut draft);
         let file = draft.bytes();
         let free = vec![0; seats.len()];
-        let seats = if second::begin_seated(&file, &seats).is_ok() {
-            seats
-        } else {
-            free
-        };
-        if second::begin_seated(&file, &seats).is_ok() {
-            let origin = format!("meetings of {origin}");
-            compare_one(rng, &file, &seats, &choices, &origin, &mut tally);
+        let seats = if runs(&file, &seats) { seats } else { free };
+        if runs(&file, &seats) {
+            visit_one(rng, &file, &seats, &format!("meetings of {origin}"));
         }
     }
+}
+
+/// Deals routines, searches them, gives both the certificates, damaged too, and panics at the
+/// first difference.
+pub fn compare_certificates(version: Version, seed: u64, inputs: u64) -> CertificateTally {
+    let mut tally = CertificateTally::new(version);
+    each_routine(version, seed, inputs, |routine| {
+        let Routine {
+            rng,
+            file,
+            seats,
+            choices,
+            origin,
+        } = routine;
+        if second::begin_seated(file, seats).is_err() {
+            let refused = Certified {
+                certificate: damage::anything(rng),
+                file: file.to_vec(),
+                seats: seats.to_vec(),
+            };
+            let answer = agreed_closing(&refused, origin);
+            assert!(answer.number != 0 && answer.row == 0, "{origin}");
+            tally.count("refused before the rows", answer);
+            return true;
+        }
+        compare_one(rng, file, seats, choices, origin, &mut tally)
+    });
     tally
 }
 

@@ -6,7 +6,8 @@
 //! calls nothing.
 #![cfg(all(target_os = "linux", target_arch = "x86_64"))]
 
-use pilzdamo::{Desk, Reason, Thread, BESIDE, NO_TAG, RECORDS, ROOM, RUN_ROOM, SENTENCE};
+use pilzdamo::{Desk, Reason, Thread, BESIDE, NO_TAG, RECORDS, ROOM, RUN_ROOM};
+use pilzdamo::{OFFERS_ROOM, SENTENCE};
 use second::Version;
 use std::ffi::{c_int, c_ulong, c_void};
 use std::hint::black_box;
@@ -178,6 +179,7 @@ fn every_call_in_64_kibibytes() {
     needs.call("sheet", || pilzdamo::sheet(&sheet));
 
     let mut out = vec![0; RUN_ROOM];
+    let mut offers = vec![0; OFFERS_ROOM];
     for (file, choices) in &runs {
         // A round follows at most so many choices.
         let fewer = &choices[..choices.len().min(2 * pilzdamo::BEFORE_ROUND)];
@@ -205,6 +207,15 @@ fn every_call_in_64_kibibytes() {
             };
             needs.call("closed", || {
                 pilzdamo::closed(file, seats, &found.states, &places, &found.next)
+            });
+            needs.call("closed_part", || {
+                let (rows, numbers) = (0..places.len(), 0..found.next.len());
+                let (states, next) = (&found.states, &found.next);
+                pilzdamo::closed_part(file, seats, states, &places, next, rows, numbers)
+            });
+            let state = pilzdamo::start_row(file, seats).unwrap_or_default();
+            needs.call("offers", || {
+                pilzdamo::offers(file, seats, &state, &mut offers)
             });
         }
         let mut threads = vec![Thread::default(); RECORDS];
@@ -239,7 +250,7 @@ fn every_call_in_64_kibibytes() {
     for (name, most) in &needs.most {
         println!("{name}: {most}");
     }
-    assert_eq!(needs.most.len(), 26, "not every call was tried");
+    assert_eq!(needs.most.len(), 28, "not every call was tried");
     for (name, most) in needs.most {
         assert!(most <= MOST, "{name} needs {most} bytes of stack");
     }

@@ -471,13 +471,64 @@ static void print_closing(const char *call, pilzdamo_closing closing) {
 static void certificates(void) {
     uint8_t file[1] = {0};
     uint16_t seats[1] = {0}, states[2] = {0, 0};
-    uint32_t places[2] = {0, 0}, next[1] = {0};
+    uint32_t places[2] = {0, 0}, next[1] = {0}, one[1] = {1};
     print_closing("one state", pilzdamo_closed(file, 0, seats, 0, states, 2, places, 1, next, 0));
     print_closing("two rows", pilzdamo_closed(file, 0, seats, 0, states, 2, places, 2, next, 1));
     print_closing("a word less", pilzdamo_closed(file, 0, seats, 0, states, 1, places, 1, next, 0));
     print_closing("no row", pilzdamo_closed(file, 1, seats, 0, states, 2, places, 0, next, 0));
     print_closing("one byte", pilzdamo_closed(file, 1, seats, 1, states, 2, places, 1, next, 0));
     print_closing("a seat", pilzdamo_closed(file, 0, seats, 1, states, 2, places, 1, next, 0));
+    print_closing("all of it", pilzdamo_closed_part(file, 0, seats, 0, states, 2, places, 1, next,
+                                                    0, 0, 1, 0, 0));
+    print_closing("none of it", pilzdamo_closed_part(file, 0, seats, 0, states, 2, places, 1,
+                                                     next, 0, 0, 0, 0, 0));
+    print_closing("a row of two", pilzdamo_closed_part(file, 0, seats, 0, states, 2, places, 2,
+                                                       next, 1, 1, 2, 0, 0));
+    print_closing("after a number", pilzdamo_closed_part(file, 0, seats, 0, states, 2, places, 2,
+                                                         one, 1, 1, 2, 1, 1));
+    print_closing("a number too few", pilzdamo_closed_part(file, 0, seats, 0, states, 2, places,
+                                                           2, one, 1, 0, 1, 0, 1));
+}
+
+static void print_offers(const char *call, pilzdamo_offered told, const uint16_t *out) {
+    size_t at = 0, word;
+    printf("%s: refusal %d %d, offers %d, words %lu\n", call, told.number, told.place,
+           told.count, (unsigned long)told.length);
+    while (at < told.length) {
+        printf("thread %d, partner %d, answer %d:", out[at], out[at + 1], out[at + 2]);
+        for (word = 0; word < out[at + 3]; word++) {
+            printf(" %d", out[at + 4 + word]);
+        }
+        printf("\n");
+        at += 4 + out[at + 3];
+    }
+}
+
+/* Two compares of equal users, side by side: either can be done. */
+static void offers(void) {
+    static const uint16_t words[] = {1, 1, 0, 0, 0, 2, 4, 13, 14, 14, 14, 14, 20, 0, 1, 0,
+                                     1, 1, 0, 3, 4, 1, 1, 0,  0,  0,  4,  1,  1,  0, 0, 0};
+    static const uint16_t state[] = {2, 0, 1, 1, 0, 0, 0, 0, 0, 0, 0, 0, 0, 0,
+                                     1, 3, 0, 0, 0, 0, 0, 0, 0, 0, 0, 0, 1, 2};
+    const size_t count = sizeof state / sizeof *state;
+    uint8_t file[sizeof words];
+    uint16_t out[70], seats[1] = {0};
+    size_t at;
+    for (at = 0; at < sizeof words / sizeof *words; at++) {
+        file[2 * at] = (uint8_t)(words[at] & 0xff);
+        file[2 * at + 1] = (uint8_t)(words[at] >> 8);
+    }
+    memset(out, 0xab, sizeof out);
+    print_offers("offers", pilzdamo_offers(file, sizeof file, seats, 0, state, count, out, 70),
+                 out);
+    printf("behind them: %x\n", out[64]);
+    print_offers("in less", pilzdamo_offers(file, sizeof file, seats, 0, state, count, out, 63),
+                 out);
+    print_offers("a word less",
+                 pilzdamo_offers(file, sizeof file, seats, 0, state, count - 1, out, 70), out);
+    print_offers("a seat", pilzdamo_offers(file, sizeof file, seats, 1, state, count, out, 70),
+                 out);
+    print_offers("one byte", pilzdamo_offers(file, 1, seats, 1, state, count, out, 70), out);
 }
 
 int main(int argc, char **argv) {
@@ -485,13 +536,13 @@ int main(int argc, char **argv) {
         fprintf(stderr, "the folder of the examples is wanted\n");
         return 2;
     }
-    printf("sizes: %d %d %d %d %d %d %d %d %d %d %d %d\n", (int)sizeof(pilzdamo_verdict),
+    printf("sizes: %d %d %d %d %d %d %d %d %d %d %d %d %d\n", (int)sizeof(pilzdamo_verdict),
            (int)sizeof(pilzdamo_placed), (int)sizeof(pilzdamo_ready_pair),
            (int)sizeof(pilzdamo_round_choices), (int)sizeof(pilzdamo_kind_totals),
            (int)sizeof(pilzdamo_said), (int)sizeof(pilzdamo_written),
            (int)sizeof(pilzdamo_role_seats), (int)sizeof(pilzdamo_thread),
            (int)sizeof(pilzdamo_notice_in_force), (int)sizeof(pilzdamo_figures),
-           (int)sizeof(pilzdamo_closing));
+           (int)sizeof(pilzdamo_closing), (int)sizeof(pilzdamo_offered));
     printf("rooms: %d %d %d %d %d\n", PILZDAMO_ROOM, PILZDAMO_ROOM_1, PILZDAMO_RUN_ROOM,
            PILZDAMO_RECORDS, PILZDAMO_BESIDE);
     printf("hours: %d %d\n", PILZDAMO_WEEK, PILZDAMO_ROWS);
@@ -499,6 +550,7 @@ int main(int argc, char **argv) {
     printf("totals: %d\n", PILZDAMO_TOTALS);
     printf("seats: %d %d %d %d\n", PILZDAMO_ROLES, PILZDAMO_SESSIONS, PILZDAMO_LINE_WORDS,
            PILZDAMO_SEATS);
+    printf("offers: %d %d\n", PILZDAMO_ROW_WORDS, PILZDAMO_OFFERS_ROOM);
     printf("sheets: %d %d\n", PILZDAMO_NUMBERS, PILZDAMO_SHEET_FILES);
     printf("reasons: %d %d %d %d %d %d %d %d %d\n", PILZDAMO_SENTENCE, PILZDAMO_NO_TAG,
            PILZDAMO_COUNTS_NOTHING, PILZDAMO_COUNTS_WORDS, PILZDAMO_COUNTS_SESSIONS,
@@ -512,6 +564,7 @@ int main(int argc, char **argv) {
     dispatch(argv[1]);
     seats(argv[1]);
     certificates();
+    offers();
     house(argv[1]);
     turns(argv[1]);
     notices(argv[1]);

@@ -17,6 +17,8 @@ pub enum Halt {
     ReceiverNotAllowed,
     ThreadZero,
     ThreadAbove,
+    /// The thread stands at no node of the file, as one of a lent row may.
+    Nowhere,
     PartnerOfLone {
         tag: u16,
     },
@@ -43,6 +45,7 @@ impl Halt {
             SenderNotAllowed | ReceiverNotAllowed => 13,
             ThreadZero
             | ThreadAbove
+            | Nowhere
             | PartnerOfLone { .. }
             | SendAlone
             | SendPartnerAbove
@@ -53,7 +56,7 @@ impl Halt {
         }
     }
 
-    /// All of them, in the order of the numbers.
+    /// All that a run can come to, in the order of the numbers.
     pub fn all() -> Vec<Halt> {
         use Halt::*;
         let mut all = vec![

@@ -3,10 +3,10 @@
 mod row;
 
 use super::round::{go_round, Choices, Visited};
-use super::state::{node_of, State, ON, RECORDS, TOTALS};
+use super::state::{assigned_to, node_of, State, ON, RECORDS, TOTALS};
 use super::{refuse_if, Halt, Run, Thread};
 use crate::cause::{Cause, Refusal};
-use crate::file::{three, word, File, Section};
+use crate::file::{three, File, Section};
 use crate::roles::{has, Permitted};
 use crate::Verdict;
 
@@ -269,7 +269,7 @@ impl Seated<'_> {
         if tag != ON || self.seats.limits[usize::from(role) - 1] == 0 {
             return None;
         }
-        let assigned = word(&self.state.file.users[usize::from(own.user) - 1], 0);
+        let assigned = assigned_to(self.state.file, own.user);
         let session = self.seats.owners[at];
         let asks = has(assigned.into(), role) && !has(self.seated(role), session);
         asks.then_some((role, session))

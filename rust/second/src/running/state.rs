@@ -7,7 +7,8 @@ use crate::roles::Rights;
 /// The most threads that there can be.
 pub const RECORDS: usize = 64;
 
-const MOST_MADE: usize = 64;
+/// The most made channels that there can be.
+pub const MOST_MADE: usize = 64;
 
 /// The kinds that there can be, for each of which a total is kept.
 pub const TOTALS: usize = 32;
@@ -29,6 +30,10 @@ pub const RECEIVE: u16 = 5;
 pub const SEND: u16 = 6;
 pub const ON: u16 = 7;
 
+/// The tag for a thread that stands at no node of the file: only a row that is lent has
+/// such a one.
+const NOWHERE: u16 = 9;
+
 /// The values of the file's first channel and of the first that is made.
 pub const NAMED: u16 = 257;
 pub const MADE: u16 = 385;
@@ -46,21 +51,39 @@ pub fn made(beside: &[u16; BESIDE]) -> &[[u16; 2]] {
 
 /// The node at which a thread stands.
 pub fn node_of(file: &File, thread: &Thread) -> [u16; 3] {
-    file.nodes.at(usize::from(thread.node) - 1)
-}
-
-/// The kind of a channel, by its value.
-pub fn kind_of(file: &File, beside: &[u16; BESIDE], channel: u16) -> u16 {
-    match channel {
-        MADE.. => made(beside)[usize::from(channel - MADE)][1],
-        _ => word(&file.channels[usize::from(channel - NAMED)], 1),
+    match usize::from(thread.node) {
+        node if node == 0 || node > file.nodes.len() => [NOWHERE, 0, 0],
+        node => file.nodes.at(node - 1),
     }
 }
 
-/// The kind of the channel that a thread waits on; none if it isn't at a receive.
+/// The roles assigned to a user: none for what is no user.
+pub fn assigned_to(file: &File, user: u16) -> u16 {
+    let record = file.users.get(usize::from(user).wrapping_sub(1));
+    record.map_or(0, |record| word(record, 0))
+}
+
+/// The kind of a channel, by its value; 0 for what is no channel.
+pub fn kind_of(file: &File, beside: &[u16; BESIDE], channel: u16) -> u16 {
+    match channel {
+        MADE.. => {
+            let made = made(beside).get(usize::from(channel - MADE));
+            made.map_or(0, |[_, kind]| *kind)
+        }
+        NAMED.. => {
+            let named = file.channels.get(usize::from(channel - NAMED));
+            named.map_or(0, |channel| word(channel, 1))
+        }
+        _ => 0,
+    }
+}
+
+/// The kind of the channel that a thread waits on; none if it isn't at a receive, or on
+/// what is no channel.
 pub fn waits_on(file: &File, beside: &[u16; BESIDE], thread: &Thread) -> Option<u16> {
     let [tag, operand, _] = node_of(file, thread);
-    (tag == RECEIVE).then(|| kind_of(file, beside, thread.value_of(operand)))
+    let waits = (tag == RECEIVE).then(|| kind_of(file, beside, thread.value_of(operand)));
+    waits.filter(|kind| (1..=TOTALS).contains(&usize::from(*kind)))
 }
 
 /// The totals as they are kept.
@@ -100,6 +123,7 @@ impl<R: Rights> State<'_, R> {
         match tag {
             SEND => self.send(at, partner, f1, f2)?,
             RECEIVE => return Err(Halt::ReceiveFirst),
+            NOWHERE => return Err(Halt::Nowhere),
             _ if partner != 0 => return Err(Halt::PartnerOfLone { tag }),
             END => {
                 self.remove(at);
@@ -116,8 +140,7 @@ impl<R: Rights> State<'_, R> {
             NEW => self.make(at, f1)?,
             COMPARE => self.threads[at].compare(f1, f2)?,
             ON => {
-                let user = usize::from(self.threads[at].user);
-                let assigned = word(&self.file.users[user - 1], 0);
+                let assigned = assigned_to(self.file, self.threads[at].user);
                 self.threads[at].put_on(f1, assigned)?;
             }
             _ => self.threads[at].put_off(f1)?,

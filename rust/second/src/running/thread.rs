@@ -47,11 +47,13 @@ impl Thread {
         self.node += 1;
     }
 
-    /// Gives the next variable on the path its value. All that are bound have
-    /// one, and no value is 0.
+    /// Gives the next variable on the path its value: the first that is 0. In a run all
+    /// that are bound have a value, and none is 0; in a lent row all eight may have one,
+    /// and then stay.
     pub(super) fn bind(&mut self, value: u16) {
-        let bound = self.variables.iter().filter(|value| **value != 0);
-        self.variables[bound.count()] = value;
+        if let Some(free) = self.variables.iter_mut().find(|value| **value == 0) {
+            *free = value;
+        }
         self.advance();
     }
 

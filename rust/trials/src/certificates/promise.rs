@@ -29,19 +29,24 @@ fn row_after(certified: &Certified, choices: &[u16]) -> Vec<u16> {
     row
 }
 
+/// The list of choices with which the search came to a row.
+pub(crate) fn list_to(found: &Found, row: usize) -> Vec<u16> {
+    let firsts = found.firsts();
+    let (mut at, mut list) = (row, Vec::new());
+    while at > 0 {
+        let (from, choice) = found.steps[firsts[at - 1]];
+        list.push(choice);
+        at = from as usize;
+    }
+    list.reverse();
+    list.into_flattened()
+}
+
 /// Some rows are the states to which the search's own choices lead.
 pub fn assert_rows_are_reached(rng: &mut Rng, certified: &Certified, found: &Found, origin: &str) {
-    let firsts = found.firsts();
     for _ in 0..4 {
-        let row = rng.index(firsts.len() + 1);
-        let (mut at, mut list) = (row, Vec::new());
-        while at > 0 {
-            let (from, choice) = found.steps[firsts[at - 1]];
-            list.push(choice);
-            at = from as usize;
-        }
-        list.reverse();
-        let words = row_after(certified, list.as_flattened());
+        let row = rng.index(found.certificate.places.len());
+        let words = row_after(certified, &list_to(found, row));
         assert_eq!(words, found.row(row), "row {row}: {origin}");
     }
 }

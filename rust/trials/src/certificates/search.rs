@@ -1,6 +1,6 @@
 //! A search that keeps a run for each row, beside that of the second implementation.
 
-use second::{Certificate, SeatedRun};
+use second::{Answer, Certificate, SeatedRun};
 use std::collections::HashMap;
 
 /// What a search came to.
@@ -8,8 +8,10 @@ pub struct Found {
     pub certificate: Certificate,
     /// For each number in `next` its row, from 0 on, and its choice.
     pub steps: Vec<(u32, [u16; 2])>,
+    /// What each of these choices is answered: 0, or 26 where it has to wait.
+    pub answers: Vec<u16>,
     /// How many rows were gone on from.
-    done: usize,
+    pub done: usize,
 }
 
 /// The words of a run's row.
@@ -44,6 +46,7 @@ pub fn search(start: SeatedRun, most: usize, mut twin: impl FnMut(usize) -> bool
     let mut found = Found {
         certificate: Certificate::default(),
         steps: Vec::new(),
+        answers: Vec::new(),
         done: 0,
     };
     let Certificate {
@@ -59,9 +62,11 @@ pub fn search(start: SeatedRun, most: usize, mut twin: impl FnMut(usize) -> bool
         for thread in 1..=threads {
             for partner in 0..=threads {
                 let mut run = runs[found.done].clone();
-                if run.choose(thread, partner).is_err() {
-                    continue;
-                }
+                let answer = match run.choose(thread, partner) {
+                    Ok(Answer::Done) => 0,
+                    Ok(Answer::NoSeat) => 26,
+                    Err(_) => continue,
+                };
                 let words = row_of(&run, roles);
                 let known = numbers.get(&words).copied();
                 let number = known.filter(|_| !twin(runs.len())).unwrap_or_else(|| {
@@ -73,6 +78,7 @@ pub fn search(start: SeatedRun, most: usize, mut twin: impl FnMut(usize) -> bool
                 numbers.insert(words, number);
                 next.push(number);
                 found.steps.push((found.done as u32, [thread, partner]));
+                found.answers.push(answer);
             }
         }
         found.done += 1;
@@ -93,6 +99,12 @@ impl Found {
             .get(row + 1)
             .map_or(states.len(), |&end| end as usize);
         &states[places[row] as usize..end]
+    }
+
+    /// How many numbers of `next` belong to the rows before this one.
+    pub fn numbers_before(&self, row: usize) -> usize {
+        self.steps
+            .partition_point(|(from, _)| (*from as usize) < row)
     }
 
     /// For each row but the first the number in `next` that comes to it first, by index.

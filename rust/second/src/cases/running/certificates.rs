@@ -84,7 +84,7 @@ fn certificate(rows: &[Vec<u16>], next: &[u32]) -> Certificate {
 
 /// The state of these threads, with no made channel, their sessions, and the line of role
 /// 1 of three.
-fn row(threads: &[Vec<u16>], sessions: &[u16], line: &[u16]) -> Vec<u16> {
+pub(super) fn row(threads: &[Vec<u16>], sessions: &[u16], line: &[u16]) -> Vec<u16> {
     let mut words = vec![threads.len() as u16, 0];
     words.extend(threads.concat());
     words.extend(sessions);
@@ -174,7 +174,7 @@ fn one() -> Vec<ClosingCase> {
 }
 
 /// Two threads that end, one before the other or behind it.
-fn two() -> Vec<ClosingCase> {
+pub(super) fn two_that_end() -> ClosingCase {
     let [one, other] = [1, 2].map(|node| thread(1, node, 0, 0, &[]));
     let rows = [
         row(&[one.clone(), other.clone()], &[1, 2], &[]),
@@ -184,7 +184,11 @@ fn two() -> Vec<ClosingCase> {
     ];
     let file = desk(&[(1, 0, &[END]), (1, 0, &[END])]).bytes();
     let next = [1, 2, 3, 3];
-    let all = found("two threads that end", file, &[0; 3], &rows, &next);
+    found("two threads that end", file, &[0; 3], &rows, &next)
+}
+
+fn two() -> Vec<ClosingCase> {
+    let all = two_that_end();
     let (fine, at) = (Closing::CLEAN, Closing::at);
     let renumbered = |it: &mut Certificate| {
         it.places.swap(1, 2);
@@ -286,7 +290,7 @@ fn meetings() -> Vec<ClosingCase> {
 }
 
 /// Two sessions want one seat.
-fn seats() -> Vec<ClosingCase> {
+pub(super) fn one_seat() -> ClosingCase {
     let one = |node, mask| thread(1, node, mask, mask, &[]);
     let (first, second) = ([1, 2], [3, 4]);
     let both = |at: usize, to: usize, line: &[u16]| {
@@ -314,7 +318,11 @@ fn seats() -> Vec<ClosingCase> {
     let next = [1, 2, 3, 4, 5, 6, 7, 8, 4, 5, 9, 10, 11, 7, 10, 11];
     let tree = &[on(1), END];
     let file = desk(&[(1, 0, tree), (1, 0, tree)]).bytes();
-    let all = found("one seat for two", file.clone(), &[1, 0, 0], &rows, &next);
+    found("one seat for two", file, &[1, 0, 0], &rows, &next)
+}
+
+fn seats() -> Vec<ClosingCase> {
+    let all = one_seat();
     let waits = all.certificate.places[4] as usize;
     let count = waits + 2 + 2 * 12 + 2;
     assert_eq!(all.certificate.states[count..count + 2], [1, 2]);

@@ -2,10 +2,11 @@
 
 use crate::timing::{Samples, Times, ROUNDS};
 use second::cases::Turn;
-use second::{Closing, Ready, Reason, Verdict, SENTENCE};
+use second::{Certificate, Closing, Ready, Reason, Verdict, SENTENCE};
 use second::{BEFORE_TOTALS, MERGED_ROOM, ROOM, RUN_ROOM};
 use std::hint::black_box;
-use trials::{At, Certified, Dealt, Lent, Lists, Notices, Pair, Seated, Turned};
+use std::ops::Range;
+use trials::{At, Certified, Dealt, Lending, Lent, Lists, Notices, Pair, Part, Seated, Turned};
 
 /// A question and what it is asked of.
 #[derive(Clone)]
@@ -39,8 +40,11 @@ pub enum Input {
     RunSeated(Seated),
     RoundSeated(Seated),
     Seats(Seated),
-    /// A certificate that holds.
+    /// A certificate that holds, and parts of it.
     Closed(Certified),
+    ClosedParts(Certified, Vec<Part>),
+    /// A certificate that holds, for what is offered in each of its states.
+    Offers(Certified),
     /// A ready pair that isn't there.
     Ready {
         file: Vec<u8>,
@@ -104,7 +108,8 @@ impl Case {
             Input::Merge([file, _]) | Input::Turn { file, .. } => file,
             Input::RunSeated(seated) | Input::RoundSeated(seated) => &seated.dealt.file,
             Input::Seats(seated) => &seated.dealt.file,
-            Input::Closed(certified) => &certified.file,
+            Input::Closed(certified) | Input::ClosedParts(certified, _) => &certified.file,
+            Input::Offers(certified) => &certified.file,
             Input::InForce(Notices { first, .. }) => first,
             Input::Sheet(input) => input,
             Input::MeasureEach(files) => &files[0],
@@ -124,7 +129,10 @@ impl Case {
     /// How many states it goes through, of a certificate.
     pub fn states(&self) -> Option<usize> {
         match &self.input {
-            Input::Closed(certified) => Some(certified.certificate.places.len()),
+            Input::Closed(certified) | Input::ClosedParts(certified, _) => {
+                Some(certified.certificate.places.len())
+            }
+            Input::Offers(certified) => Some(certified.certificate.places.len()),
             _ => None,
         }
     }
@@ -181,6 +189,25 @@ impl Case {
             Input::Closed(certified) => {
                 let closing = trials::agreed_closing(certified, name);
                 assert_eq!(closing, Closing::CLEAN, "{name}");
+                Vec::new()
+            }
+            Input::ClosedParts(certified, parts) => {
+                for part in parts {
+                    let closing = trials::agreed_part(certified, part, name);
+                    assert_eq!(closing, Closing::CLEAN, "{name}");
+                }
+                Vec::new()
+            }
+            Input::Offers(certified) => {
+                for state in rows(certified) {
+                    let lending = Lending {
+                        file: certified.file.clone(),
+                        seats: certified.seats.clone(),
+                        state: state.to_vec(),
+                        before: vec![0; OFFERS],
+                    };
+                    assert_eq!(trials::agreed_offers(&lending, name).0.number, 0, "{name}");
+                }
                 Vec::new()
             }
             Input::Ready { file, choices } => {
@@ -333,6 +360,19 @@ impl Case {
                 || black_box(certified).asked(trials::engine_closing),
                 || black_box(certified).asked(second::closing),
             ),
+            Input::ClosedParts(certified, parts) => samples.take(
+                self.calls,
+                || closed_parts(certified, parts, trials::engine_closing_part),
+                || closed_parts(certified, parts, second::closing_part),
+            ),
+            Input::Offers(certified) => {
+                let (mut out, mut of_second) = (vec![0; OFFERS], vec![0; OFFERS]);
+                samples.take(
+                    self.calls,
+                    || offers(certified, &mut out, pilzdamo::offers),
+                    || offers(certified, &mut of_second, second::offers),
+                );
+            }
             Input::Ready { file, choices } => samples.take(
                 self.calls,
                 || pilzdamo::ready(black_box(file), black_box(choices)),
@@ -379,6 +419,46 @@ impl Case {
             ),
             Input::MeasureEach(files) => measure_each(files, self.calls, samples),
         }
+    }
+}
+
+/// Words of an output that are enough for the offers in spring's states.
+pub const OFFERS: usize = 4_000;
+
+/// The words of each row.
+pub fn rows(certified: &Certified) -> impl Iterator<Item = &[u16]> {
+    let Certificate { states, places, .. } = &certified.certificate;
+    let ends = places[1..].iter().map(|end| *end as usize);
+    let ends = ends.chain([states.len()]);
+    let rows = places.iter().zip(ends);
+    rows.map(|(begin, end)| &states[*begin as usize..end])
+}
+
+/// All parts, one after the other.
+fn closed_parts(
+    certified: &Certified,
+    parts: &[Part],
+    closing: impl Fn(&[u8], &[u16], &[u16], &[u32], &[u32], Range<usize>, Range<usize>) -> Closing,
+) {
+    for part in parts {
+        black_box(black_box(part).asked(black_box(certified), &closing));
+    }
+}
+
+/// What is offered in each state.
+fn offers<V>(
+    certified: &Certified,
+    out: &mut [u16],
+    offers: impl Fn(&[u8], &[u16], &[u16], &mut [u16]) -> V,
+) {
+    let Certified { file, seats, .. } = certified;
+    for state in rows(certified) {
+        let _ = black_box(offers(
+            black_box(file),
+            seats,
+            black_box(state),
+            black_box(out),
+        ));
     }
 }
 

@@ -1,10 +1,10 @@
 //! The inputs of the main table.
 
-use crate::case::{dealt, Case, Input};
+use crate::case::{dealt, rows, Case, Input, OFFERS};
 use second::cases::{run_cases, Turn};
 use second::draft::Draft;
 use second::{Version, ROOM, RUN_ROOM};
-use trials::{juniors, At, Certified, Lent, Notices, Seated};
+use trials::{juniors, At, Certified, Lent, Notices, Part, Seated};
 
 /// A file, and a list of choices.
 pub type Run = (Vec<u8>, Vec<u16>);
@@ -204,6 +204,8 @@ impl Inputs {
             Case::new("seated round", round_seated(&self.typical_seated), 300),
             Case::new("seats typical", seats(&self.typical_seated), 300),
             Case::new("closed spring", Input::Closed(self.spring.clone()), 1),
+            Case::new("closed parts", halves(&self.spring), 1),
+            Case::new("offers spring", Input::Offers(self.spring.clone()), 1),
             Case::new("run typical 2", run_2, 300),
             Case::new("choose largest 2", choose_2, 50),
             Case::new("read largest 3", read(&self.largest_3), 50),
@@ -275,7 +277,8 @@ impl Inputs {
              that every on of a session without a seat gets one; largest has {};\n\
              typical has {}. Its round, and what is read of its seats.\n\
              Closed, a certificate for all lists of choices: the {} states of spring's routine,\n\
-             placed, and {} choices that are done in them.\n\
+             placed, and {} choices that are done in them; the same in two parts, one after the\n\
+             other. Offers: all choices of each of these states, each state in a call of its own.\n\
              In force, of two notices; the bytes are those of both, whose files have 40 nodes each.\n\
              Sheet: the records of 1,000 files of 40 nodes, half of them in version 2. Measure each:\n\
              1,000 calls of measure for the same files. Sheet full, and each full: of 1,000 files\n\
@@ -361,6 +364,28 @@ fn free_seated((file, choices): Run) -> Seated {
 fn seated((file, choices, seats): (Vec<u8>, Vec<u16>, Vec<u16>)) -> Seated {
     let dealt = dealt(&file, &choices);
     Seated { dealt, seats }
+}
+
+/// A certificate in two parts, of as many rows but for one.
+fn halves(certified: &Certified) -> Input {
+    let Certified {
+        file,
+        seats,
+        certificate,
+    } = certified;
+    let half = certificate.places.len() / 2;
+    let mut out = vec![0; OFFERS];
+    let offers = |state: &[u16]| usize::from(second::offers(file, seats, state, &mut out).count);
+    let cut = rows(certified).take(half).map(offers).sum();
+    let first = Part {
+        rows: 0..half,
+        numbers: 0..cut,
+    };
+    let other = Part {
+        rows: half..certificate.places.len(),
+        numbers: cut..certificate.next.len(),
+    };
+    Input::ClosedParts(certified.clone(), vec![first, other])
 }
 
 /// The example of spring, placed, and the certificate of its states.

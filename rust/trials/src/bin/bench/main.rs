@@ -4,6 +4,7 @@
 mod case;
 mod growth;
 mod inputs;
+mod searches;
 mod timing;
 
 #[cfg(test)]
@@ -28,6 +29,11 @@ factor between them.
 
 const STATES: &str = "
 Certificates. Best nanoseconds a state.
+";
+
+const SEARCHES: &str = "
+Searches for spring's states, without seats. Best nanoseconds a state: by offers, by choose,
+which judges the file for each choice anew, and by the second implementation.
 ";
 
 const GROWTH: &str = "
@@ -57,6 +63,10 @@ fn main() {
     print_columns(&cases, of_cases);
     println!("{STATES}");
     print_states(&cases, of_cases);
+    println!("{SEARCHES}");
+    for (call, nanoseconds) in searches::times(&inputs.spring) {
+        println!("{call:<16} {nanoseconds:>9.0}");
+    }
     println!("{GROWTH}");
     print_growth(&by_nodes, of_nodes);
     println!();
