@@ -18,6 +18,7 @@ mod hours;
 mod input;
 mod interactive;
 mod jobs;
+mod joining;
 mod json;
 mod length;
 mod lines;

@@ -99,7 +99,7 @@ pub fn deliver_placed(from: &Text, placed: &[u8], out: &Out) -> Result<(), Wrong
 }
 
 /// The text of a file without records, for that of zero bytes, which placing makes it.
-fn without_records(text: &str, clinic: At) -> String {
+pub fn without_records(text: &str, clinic: At) -> String {
     let mut lines: Vec<String> = text.split('\n').map(str::to_string).collect();
     if let Some(line) = lines.get_mut(clinic.line.saturating_sub(1)) {
         *line = line.replacen(&words_at(line, clinic), "clinic 1", 1);

@@ -39,6 +39,8 @@ pub enum Job {
         first: Source,
         second: Source,
         out: Out,
+        /// Whether to answer two texts with bytes.
+        bytes: bool,
     },
     Turn {
         turn: Turn,

@@ -49,8 +49,12 @@ pub fn measure(mut given: Given) -> Result<Job, WrongUse> {
 
 pub fn merge(mut given: Given) -> Result<Job, WrongUse> {
     let [first, second] = given.exactly()?.map(Source::named);
-    let out = given.out();
-    Ok(Job::Merge { first, second, out })
+    Ok(Job::Merge {
+        first,
+        second,
+        out: given.out(),
+        bytes: given.has(Opt::Bytes),
+    })
 }
 
 pub fn columns(given: Given) -> Result<Job, WrongUse> {

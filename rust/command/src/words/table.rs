@@ -47,7 +47,7 @@ pub const ALL: [Word; 23] = [
     word!("check", ["FILE..."], [At, Hours, Names, Json], jobs::check),
     word!("place", ["FILE"], [Out, Force, At, Hours, Names, Bytes, Json], jobs::place),
     word!("measure", ["FILE"], [At, Hours, Names, Json], jobs::measure),
-    word!("merge", ["A", "B"], [Out, Force], jobs::merge),
+    word!("merge", ["A", "B"], [Out, Bytes, Force], jobs::merge),
     word!("columns", ["FILE"], [Out, Force], jobs::columns),
     word!("rows", ["FILE"], [Out, Force], jobs::rows),
     word!("notice", ["DATE", "FILE"], [Out, Force], jobs::notice),
