@@ -86,7 +86,11 @@ pub fn carry_out(job: Job) -> Result<Outcome, WrongUse> {
             choices,
             seats,
         } => scheduling::round(&file, &choices, seats.as_ref()),
-        Job::Dispatch { file, rounds } => scheduling::dispatch(&file, rounds),
+        Job::Dispatch {
+            file,
+            rounds,
+            sparing,
+        } => scheduling::dispatch(&file, rounds, sparing),
     }
 }
 

@@ -193,13 +193,18 @@ pub fn round(mut given: Given) -> Result<Job, WrongUse> {
 
 /// ROUNDS may be left out.
 pub fn dispatch(mut given: Given) -> Result<Job, WrongUse> {
-    if given.plain.len() < 2 {
-        let (file, rounds) = (named_file(&mut given)?, None);
-        return Ok(Job::Dispatch { file, rounds });
-    }
-    let [file, word] = given.exactly()?;
-    let (file, rounds) = (given.named(file), Some(rounds(word)?));
-    Ok(Job::Dispatch { file, rounds })
+    let (file, rounds) = match given.plain.len() {
+        0 | 1 => (named_file(&mut given)?, None),
+        _ => {
+            let [file, word] = given.exactly()?;
+            (given.named(file), Some(rounds(word)?))
+        }
+    };
+    Ok(Job::Dispatch {
+        file,
+        rounds,
+        sparing: given.has(Opt::Sparing),
+    })
 }
 
 pub fn show(mut given: Given) -> Result<Job, WrongUse> {

@@ -59,7 +59,7 @@ pub const ALL: [Word; 23] = [
     word!("waiting", ["FILE", "CHOICES"], [Names], jobs::waiting),
     word!("seats", ["FILE", "CHOICES", "SEATS"], [Names], jobs::seats),
     word!("round", ["FILE", "CHOICES"], [Seats, Names], jobs::round),
-    word!("dispatch", ["FILE", "[ROUNDS]"], [Names], jobs::dispatch),
+    word!("dispatch", ["FILE", "[ROUNDS]"], [Names, Sparing], jobs::dispatch),
     word!("show", ["FILE"], [Names, Svg, Json, Out, Force], jobs::show),
     word!("pack", ["TEXT"], [Out, NamesOut, Force], jobs::pack),
     word!("unpack", ["FILE"], [Out, Names, Force], jobs::unpack),
