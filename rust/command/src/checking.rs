@@ -6,6 +6,7 @@ use crate::json::Json;
 use crate::names;
 use crate::objects::{self, Asked};
 use crate::output;
+use crate::report;
 use crate::source::NamedFile;
 use crate::words::At;
 use crate::{Outcome, WrongUse};
@@ -60,7 +61,7 @@ fn told(file: &NamedFile, hours: Option<&Hours>, json: bool) -> Result<Told, Wro
     }
     let mut message = refused(&bytes, hours, verdict);
     if verdict.number == 13 && Clinic::of(&bytes).is_bare() {
-        message += "\n  the routine has no on or off yet: pilzdamo place adds them";
+        message += &format!("\n  {}", report::UNPLACED);
     }
     Ok(Told::Refused(message))
 }

@@ -5,13 +5,13 @@ use crate::input::Input;
 use crate::lines::Lines;
 use crate::roll::Roll;
 use crate::seats::Table;
-use pilzdamo::Desk;
+use pilzdamo::{Desk, Verdict};
 
 /// A run as it stands, with the names of its threads.
 pub struct Follower<'a> {
     input: &'a Input,
-    clinic: Clinic,
-    desk: Desk,
+    pub clinic: Clinic,
+    pub desk: Desk,
     seating: Seating<'a>,
     pub roll: Roll,
     /// The choices so far, two words for each.
@@ -31,10 +31,10 @@ pub enum Seating<'a> {
 }
 
 impl<'a> Follower<'a> {
-    /// The start of a run; none where the engine refuses the file.
-    pub fn start(input: &'a Input, seating: Seating<'a>) -> Option<Follower<'a>> {
-        let desk = Desk::start(input).ok()?;
-        Some(Follower {
+    /// The start of a run, unless the engine refuses the file.
+    pub fn start(input: &'a Input, seating: Seating<'a>) -> Result<Follower<'a>, Verdict> {
+        let desk = Desk::start(input)?;
+        Ok(Follower {
             input,
             clinic: Clinic::of(input),
             roll: Roll::start(desk.threads().len()),
@@ -45,19 +45,33 @@ impl<'a> Follower<'a> {
         })
     }
 
-    /// Carries out a choice; says whether it isn't refused. One that gets no seat is no
-    /// step.
+    /// Carries out a choice; says whether it isn't refused. The list ends with it either
+    /// way.
     pub fn choose(&mut self, thread: u16, partner: u16) -> bool {
-        self.words.extend([thread, partner]);
-        if self.waits(thread, partner) {
-            self.waited.push(self.words.len() / 2 - 1);
-            return true;
-        }
-        let done = self.desk.choose(thread, partner).is_ok();
-        if done {
-            self.roll.step(thread, self.desk.threads().len());
+        let done = self.tries(thread, partner).is_ok();
+        if !done {
+            self.words.extend([thread, partner]);
         }
         done
+    }
+
+    /// Carries out a choice, and changes nothing if it is refused. One that gets no seat is
+    /// no step.
+    pub fn tries(&mut self, thread: u16, partner: u16) -> Result<(), Verdict> {
+        let before = self.words.len();
+        self.words.extend([thread, partner]);
+        if self.waits(thread, partner) {
+            self.waited.push(before / 2);
+            return Ok(());
+        }
+        match self.desk.choose(thread, partner) {
+            Ok(()) => self.roll.step(thread, self.desk.threads().len()),
+            Err(refusal) => {
+                self.words.truncate(before);
+                return Err(refusal);
+            }
+        }
+        Ok(())
     }
 
     /// Whether a choice is an on that gets no seat.

@@ -10,7 +10,7 @@ use crate::source::{too_long, Source};
 use crate::WrongUse;
 use pilzdamo::{Counts, Verdict};
 use std::ops::Deref;
-use text::{At, Flaw, Names, Packed};
+use text::{At, Flaw, Lent, Packed, Records};
 
 /// A file's bytes, and the text that says them, if it came as one.
 pub struct Input {
@@ -134,15 +134,23 @@ impl Input {
     }
 
     /// The canonical text with these names; none where the file has no text.
-    pub fn named_text(&self, from: &str, names: &Names) -> Result<Option<String>, WrongUse> {
-        if let Some(what) = text::misfit(self, names) {
-            let name = &self.name;
-            let why = "there is one for each kind, role, user, channel, session and variable, in the file's order";
-            return Err(WrongUse(format!(
+    pub fn named_text(&self, from: &str, lent: &Lent) -> Result<Option<String>, WrongUse> {
+        let name = &self.name;
+        let unfit = |what: String, why: &str| {
+            Err(WrongUse(format!(
                 "{from}: these names don't fit {name}: {what}\n  {why}"
-            )));
+            )))
+        };
+        if let Some(what) = text::misfit(self, &lent.names) {
+            let why = "there is one for each kind, role, user, channel, session and variable, in the file's order";
+            return unfit(what, why);
         }
-        Ok(text::unpack_named(self, names))
+        let text = text::unpack_named(self, &lent.names);
+        let records = Records::of(self).filter(|_| text.is_some());
+        match records.and_then(|records| lent.other(&records)) {
+            Some(what) => unfit(what, OTHER),
+            None => Ok(text),
+        }
     }
 
     /// The text that the file came as.
@@ -242,15 +250,22 @@ pub fn words_at(line: &str, at: At) -> String {
     line.chars().skip(at.column - 1).take(at.width).collect()
 }
 
+/// Said of names whose sum isn't the file's.
+const OTHER: &str =
+    "they name other records or steps than the file has, or the same in another order; \
+    give the names or the text that the file was packed from";
+
 /// Names from a file of their own, or from a text.
-pub fn read_names(source: &Source) -> Result<Names, WrongUse> {
+pub fn read_names(source: &Source) -> Result<Lent, WrongUse> {
     let (name, bytes) = (source.name(), source.read()?);
     if text::is_text(&bytes) {
         let input = Input::of_text(name, &bytes)?;
-        return Ok(input.text.map(|text| text.packed.names).unwrap_or_default());
+        return Ok(input
+            .text
+            .map_or(Lent::default(), |text| Lent::of(&text.packed)));
     }
     let text = decoded(&name, &bytes)?;
-    Names::read(text).map_err(|flaws| flawed(&name, text, &flaws))
+    Lent::read(text).map_err(|flaws| flawed(&name, text, &flaws))
 }
 
 /// The characters of a text.

@@ -1,6 +1,7 @@
 //! A file with a list of choices for it, and a table of seats if there is one: what every
 //! word about runs begins with.
 
+use crate::clinic::Clinic;
 use crate::input::Input;
 use crate::jobs::{answer, refusal};
 use crate::lists::{self, List};
@@ -64,6 +65,14 @@ impl Listed {
 
     /// The message for a refusal of the file, the list or the table.
     pub fn refused(&self, verdict: Verdict) -> String {
+        let message = self.message(verdict);
+        match verdict.number == 13 && Clinic::of(&self.input).is_bare() {
+            true => format!("{message}\n  {}", report::UNPLACED),
+            false => message,
+        }
+    }
+
+    fn message(&self, verdict: Verdict) -> String {
         let Listed { input, list, table } = self;
         if let Some(wrong) = self.wrong_table(verdict) {
             return wrong.refused(input, verdict);

@@ -173,7 +173,7 @@ fn follow(input: &Input, choices: &[Choice], table: Option<&Table>) -> Followed 
 fn walk(input: &Input, choices: &[Choice], seating: Seating) -> Option<Followed> {
     let mut followed = Followed::default();
     let start = Follower::start(input, seating);
-    let (Some(mut run), true) = (start, choices.len() <= MOST) else {
+    let (Ok(mut run), true) = (start, choices.len() <= MOST) else {
         // The engine refuses the file, or the length of the list.
         followed.words = vec![0; 2 * choices.len()];
         return Some(followed);

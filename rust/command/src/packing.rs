@@ -5,7 +5,7 @@ use crate::names;
 use crate::output::{self, Out, Ready};
 use crate::source::Source;
 use crate::{Outcome, WrongUse};
-use text::{At, Records};
+use text::{At, Lent, Records};
 
 /// `pack TEXT`: writes the file that a text says, and its names if that is wanted.
 pub fn pack(source: &Source, out: &Out, names: Option<&Out>) -> Result<Outcome, WrongUse> {
@@ -22,7 +22,8 @@ pub fn pack(source: &Source, out: &Out, names: Option<&Out>) -> Result<Outcome, 
         return Err(WrongUse(format!("{name}: can't be packed: {why}")));
     }
     let input = Input::of_text(source.name(), &bytes)?;
-    let kept = input.text.as_ref().map(|text| text.packed.names.text());
+    let text = input.text.as_ref();
+    let kept = text.map(|text| Lent::of(&text.packed).text());
     let kept = kept.as_ref().zip(names);
     // Neither is put in its place before both are written.
     let kept = kept.map(|(kept, names)| Ready::text(kept.as_bytes(), names));
@@ -46,7 +47,7 @@ pub fn unpack(source: &Source, out: &Out, names: Option<&Source>) -> Result<Outc
     }
     let names = match (names, &input.text) {
         (Some(names), _) => Some((names.name(), read_names(names)?)),
-        (None, Some(Text { packed, .. })) => Some((input.name.clone(), packed.names.clone())),
+        (None, Some(Text { packed, .. })) => Some((input.name.clone(), Lent::of(packed))),
         (None, None) => None,
     };
     let text = match &names {
@@ -98,7 +99,7 @@ pub fn deliver_placed(from: &Text, placed: &[u8], out: &Out) -> Result<(), Wrong
 }
 
 /// The text of a file without records, for that of zero bytes, which placing makes it.
-fn without_records(text: &str, clinic: At) -> String {
+pub fn without_records(text: &str, clinic: At) -> String {
     let mut lines: Vec<String> = text.split('\n').map(str::to_string).collect();
     if let Some(line) = lines.get_mut(clinic.line.saturating_sub(1)) {
         *line = line.replacen(&words_at(line, clinic), "clinic 1", 1);

@@ -1,6 +1,9 @@
 //! What each word that takes a list of choices, or makes one, does.
 
+use crate::called::Called;
 use crate::clinic::{Clinic, KINDS};
+use crate::course::Course;
+use crate::follow::Seating;
 use crate::following;
 use crate::input::Input;
 use crate::jobs::{answer, refusal};
@@ -9,13 +12,14 @@ use crate::lists;
 use crate::names;
 use crate::objects::{self, Ran};
 use crate::output;
+use crate::report;
+use crate::rounds::Rounds;
 use crate::runs;
 use crate::seats;
 use crate::source::{NamedFile, Source};
-use crate::state::State;
+use crate::standing;
 use crate::{Outcome, WrongUse};
 use pilzdamo::{Totals, BEFORE_ROUND, RUN_ROOM};
-use std::ops::Range;
 
 pub fn run(
     file: &NamedFile,
@@ -136,36 +140,55 @@ pub fn round(file: &NamedFile, list: &Source, table: Option<&Source>) -> Result<
     })
 }
 
-pub fn dispatch(file: &NamedFile, most: Option<u16>) -> Result<Outcome, WrongUse> {
-    let bytes = file.clinic()?;
-    let mut room = [0; RUN_ROOM];
-    let (mut choices, mut rounds) = (Vec::new(), Vec::new());
+/// Rounds from the start, each from where the one before it left the run.
+pub fn dispatch(file: &NamedFile, most: Option<u16>, sparing: bool) -> Result<Outcome, WrongUse> {
+    let input = file.clinic()?;
+    let mut rounds = match Rounds::start(&input, Seating::Unlimited, sparing) {
+        Ok(rounds) => rounds,
+        Err(refusal_of_file) => return refusal(&input.refused(refusal_of_file)),
+    };
+    let mut lines = Vec::new();
     let why = loop {
-        if most.is_some_and(|most| rounds.len() == usize::from(most)) {
+        if most.is_some_and(|most| lines.len() == usize::from(most)) {
             break "all rounds are done".to_string();
         }
-        if choices.len() > 2 * BEFORE_ROUND {
+        if rounds.run.words.len() > 2 * BEFORE_ROUND {
             break "no round follows over 65,471 choices".to_string();
         }
-        let round = pilzdamo::round(&bytes, &choices, &mut room);
-        if !round.verdict().is_clean() {
-            return refusal(&bytes.refused(round.verdict()));
-        }
-        if round.choices().is_empty() {
-            let threads = names::several(State::of(&room).threads(), "thread");
-            break format!("then no choice can be done, {threads} left");
-        }
-        let start = choices.len() / 2;
-        choices.extend(round.choices());
-        rounds.push(start..choices.len() / 2);
+        let Some(line) = rounds.go() else {
+            let threads = names::several(rounds.run.desk.threads().len(), "thread");
+            let what = match sparing {
+                true => "nothing is left to do",
+                false => "no choice can be done",
+            };
+            break format!("then {what}, {threads} left");
+        };
+        lines.push(line + "\n");
     };
-    let followed = lists::followed(&bytes, &choices, None);
-    let line =
-        |round: &Range<usize>| lists::line(&bytes, &followed, &choices, round.clone()) + "\n";
-    let lines: String = rounds.iter().map(line).collect();
-    output::print(lines.as_bytes())?;
-    let rounds = names::several(rounds.len(), "round");
-    let count = names::several(choices.len() / 2, "choice");
-    output::say(&format!("{}: {rounds}, {count}; {why}", file.name()));
+    output::print(lines.concat().as_bytes())?;
+    let count = names::several(rounds.run.words.len() / 2, "choice");
+    let (name, done) = (file.name(), names::several(lines.len(), "round"));
+    let mut told = vec![format!("{name}: {done}, {count}; {why}")];
+    told.extend(stopped(&input, &rounds));
+    output::say(&told.join("\n  "));
     Ok(Outcome::Answer)
+}
+
+/// What there is to say of rounds that have stopped: what kind of rounds they are if they
+/// aren't those of `round`, where each thread stands, and a hint where no role is ever on.
+fn stopped(input: &Input, rounds: &Rounds) -> Vec<String> {
+    let called = Called::of(input);
+    let course = Course {
+        called: &called,
+        desk: rounds.run.desk.clone(),
+        roll: rounds.run.roll.clone(),
+    };
+    let spared = rounds.spared().map(|spared| {
+        let times = names::several(spared.left_out, "time");
+        format!("with --sparing these are not the rounds of `round` (K5): a repeat was left out {times}")
+    });
+    let mut told: Vec<String> = spared.into_iter().collect();
+    told.extend(standing::lines(&course, rounds.spared()));
+    told.extend(course.is_unplaced().then(|| report::UNPLACED.to_string()));
+    told
 }

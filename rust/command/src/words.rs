@@ -39,6 +39,8 @@ pub enum Job {
         first: Source,
         second: Source,
         out: Out,
+        /// Whether to answer two texts with bytes.
+        bytes: bool,
     },
     Turn {
         turn: Turn,
@@ -103,6 +105,8 @@ pub enum Job {
         file: NamedFile,
         /// The most rounds, if that is said.
         rounds: Option<u16>,
+        /// Whether a repeat is left out while the thread that it made last waits.
+        sparing: bool,
     },
     Show {
         file: NamedFile,

@@ -18,6 +18,8 @@
 mod blocks;
 mod edit;
 mod fit;
+mod join;
+mod lent;
 mod line;
 mod mark;
 mod names;
@@ -32,6 +34,8 @@ mod words;
 
 pub use edit::{placed, stripped};
 pub use fit::{misfit, several};
+pub use join::{differences, joined, ordered, Apart, Difference};
+pub use lent::{sum, Lent};
 pub use line::{shown, tokens, At, Flaw, Token};
 pub use mark::{decoded, is_text, told, undecoded};
 pub use names::{Names, SessionNames};

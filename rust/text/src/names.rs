@@ -1,6 +1,6 @@
 //! The names in a text, which bytes don't have.
 
-use crate::line::{self, Flaw, Line};
+use crate::line::{Flaw, Line};
 use crate::records::{Records, NEW, RECEIVE};
 use crate::tree::Spot;
 use crate::words::Cursor;
@@ -95,24 +95,8 @@ impl Names {
         }
     }
 
-    /// Reads such a text. Whether the names fit a file is seen when it is unpacked.
-    pub fn read(text: &str) -> Result<Names, Vec<Flaw>> {
-        let (lines, mut flaws) = line::lines(text);
-        let mut names = Names::default();
-        for (index, line) in lines.iter().enumerate() {
-            let read = match index {
-                0 => first(line),
-                _ => names.add(line),
-            };
-            flaws.extend(read.err());
-        }
-        match flaws.is_empty() {
-            true => Ok(names),
-            false => Err(flaws),
-        }
-    }
-
-    fn add(&mut self, line: &Line) -> Result<(), Flaw> {
+    /// Takes the names of a line of such a text.
+    pub(crate) fn add(&mut self, line: &Line) -> Result<(), Flaw> {
         let mut cursor = Cursor::new(line);
         let table = match cursor.peek() {
             Some("kinds") => &mut self.kinds,
@@ -129,18 +113,14 @@ impl Names {
                 self.sessions.push(SessionNames { name, variables });
                 return cursor.end_or(more);
             }
-            _ => return cursor.expected("'kinds', 'roles', 'users', 'channels' or 'session'"),
+            _ => {
+                return cursor.expected("'sum', 'kinds', 'roles', 'users', 'channels' or 'session'")
+            }
         };
         cursor.skip();
         table.extend(list(&mut cursor, "a name")?);
         cursor.end_or("',' or ")
     }
-}
-
-fn first(line: &Line) -> Result<(), Flaw> {
-    let mut cursor = Cursor::new(line);
-    cursor.word("names")?;
-    cursor.end()
 }
 
 /// Names with commas between.

@@ -1,6 +1,6 @@
 //! Texts whose lines end or begin otherwise than usual.
 
-use text::{pack, placed, stripped, undecoded, Names, Packed};
+use text::{pack, placed, stripped, undecoded, Lent, Packed};
 
 fn read(text: &str) -> Packed {
     pack(text).unwrap_or_else(|flaws| panic!("{flaws:#?}"))
@@ -112,7 +112,7 @@ fn a_sign_that_is_missing() {
 #[test]
 fn a_sign_that_is_missing_in_names() {
     let names = |line: &str| {
-        let flaws = Names::read(&format!("names\n{line}\n")).expect_err("they are wrong");
+        let flaws = Lent::read(&format!("names\n{line}\n")).expect_err("they are wrong");
         let [flaw] = &flaws[..] else {
             panic!("{flaws:#?}");
         };

@@ -49,8 +49,12 @@ pub fn measure(mut given: Given) -> Result<Job, WrongUse> {
 
 pub fn merge(mut given: Given) -> Result<Job, WrongUse> {
     let [first, second] = given.exactly()?.map(Source::named);
-    let out = given.out();
-    Ok(Job::Merge { first, second, out })
+    Ok(Job::Merge {
+        first,
+        second,
+        out: given.out(),
+        bytes: given.has(Opt::Bytes),
+    })
 }
 
 pub fn columns(given: Given) -> Result<Job, WrongUse> {
@@ -189,13 +193,18 @@ pub fn round(mut given: Given) -> Result<Job, WrongUse> {
 
 /// ROUNDS may be left out.
 pub fn dispatch(mut given: Given) -> Result<Job, WrongUse> {
-    if given.plain.len() < 2 {
-        let (file, rounds) = (named_file(&mut given)?, None);
-        return Ok(Job::Dispatch { file, rounds });
-    }
-    let [file, word] = given.exactly()?;
-    let (file, rounds) = (given.named(file), Some(rounds(word)?));
-    Ok(Job::Dispatch { file, rounds })
+    let (file, rounds) = match given.plain.len() {
+        0 | 1 => (named_file(&mut given)?, None),
+        _ => {
+            let [file, word] = given.exactly()?;
+            (given.named(file), Some(rounds(word)?))
+        }
+    };
+    Ok(Job::Dispatch {
+        file,
+        rounds,
+        sparing: given.has(Opt::Sparing),
+    })
 }
 
 pub fn show(mut given: Given) -> Result<Job, WrongUse> {

@@ -78,7 +78,10 @@ fn no_choice() {
     let file = example("booking.txt");
     let answer = choices(&file, "");
     assert_eq!((answer.status, answer.text()), (0, ""));
-    let due = format!("{file}: no choice can be done, 1 thread left\n");
+    let due = format!(
+        "{file}: no choice can be done, 1 thread left\n  \
+         the routine has no on or off yet: pilzdamo place adds them\n"
+    );
     assert_eq!(answer.err, due);
     let answer = choices(&example("nothing.clinic"), "");
     assert_eq!((answer.status, answer.text()), (0, ""));
