@@ -9,8 +9,9 @@ use crate::lists;
 use crate::names;
 use crate::objects::{self, Ran};
 use crate::output;
+use crate::refusals;
 use crate::runs;
-use crate::seats;
+use crate::seats::{self, Table};
 use crate::source::{NamedFile, Source};
 use crate::state::State;
 use crate::{Outcome, WrongUse};
@@ -58,10 +59,15 @@ pub fn choices(
 }
 
 /// The lowest sender and receiver that can meet after a list of choices.
-pub fn ready(file: &NamedFile, choices: &Source, json: bool) -> Result<Outcome, WrongUse> {
-    let listed = Listed::read(file, Some(choices), None)?;
-    let told = pilzdamo::ready(&listed.input, &listed.list.words);
-    let verdict = told.verdict();
+pub fn ready(
+    file: &NamedFile,
+    choices: &Source,
+    table: Option<&Source>,
+    json: bool,
+) -> Result<Outcome, WrongUse> {
+    let listed = Listed::read(file, Some(choices), table)?;
+    let verdict = listed.run(&mut [0; RUN_ROOM]);
+    let told = pilzdamo::ready(&listed.input, &listed.without_waits());
     if json {
         let ran = Ran {
             file: file.file.typed(),
@@ -89,17 +95,26 @@ fn thread(listed: &Listed, number: u16) -> String {
     }
 }
 
-pub fn seats(file: &NamedFile, list: &Source, table: &Source) -> Result<Outcome, WrongUse> {
-    let listed = Listed::read(file, Some(list), Some(table))?;
+pub fn seats(file: &NamedFile, list: &Source, table: Option<&Source>) -> Result<Outcome, WrongUse> {
+    let listed = Listed::read(file, Some(list), table)?;
     let Listed { input, list, table } = &listed;
     let verdict = listed.run(&mut [0; RUN_ROOM]);
+    if table.is_none() && (verdict.is_clean() || refusals::is_halt(verdict)) {
+        let why = "no role has seats of its own; name a table: SEATS";
+        return Err(WrongUse(format!("seats: {}: {why}", input.name)));
+    }
     listed.answered(verdict, || seats::after(table.as_ref(), input, &list.words))
 }
 
-pub fn waiting(file: &NamedFile, list: &Source) -> Result<Outcome, WrongUse> {
-    let listed = Listed::read(file, Some(list), None)?;
-    let totals = pilzdamo::totals(&listed.input, &listed.list.words);
-    listed.answered(totals.verdict(), || by_kind(&listed.input, &totals))
+pub fn waiting(
+    file: &NamedFile,
+    list: &Source,
+    table: Option<&Source>,
+) -> Result<Outcome, WrongUse> {
+    let listed = Listed::read(file, Some(list), table)?;
+    let verdict = listed.run(&mut [0; RUN_ROOM]);
+    let totals = pilzdamo::totals(&listed.input, &listed.without_waits());
+    listed.answered(verdict, || by_kind(&listed.input, &totals))
 }
 
 /// A line for each kind of a file.
@@ -114,10 +129,7 @@ pub fn round(file: &NamedFile, list: &Source, table: Option<&Source>) -> Result<
     let Listed { input, list, table } = &listed;
     let table = table.as_ref();
     let mut room = [0; RUN_ROOM];
-    let round = match table {
-        None => pilzdamo::round(input, &list.words, &mut room),
-        Some(table) => pilzdamo::round_seated(input, &list.words, &table.words, &mut room),
-    };
+    let round = seats::round(input, &list.words, table, &mut room);
     let both = [&list.words, round.choices()].concat();
     let followed = lists::followed(input, &both, table);
     let verdict = round.verdict();
@@ -136,10 +148,17 @@ pub fn round(file: &NamedFile, list: &Source, table: Option<&Source>) -> Result<
     })
 }
 
-pub fn dispatch(file: &NamedFile, most: Option<u16>) -> Result<Outcome, WrongUse> {
-    let bytes = file.clinic()?;
+pub fn dispatch(
+    file: &NamedFile,
+    most: Option<u16>,
+    table: Option<&Source>,
+) -> Result<Outcome, WrongUse> {
+    let listed = Listed::read(file, None, table)?;
+    let Listed { input, table, .. } = &listed;
+    let table = table.as_ref();
     let mut room = [0; RUN_ROOM];
     let (mut choices, mut rounds) = (Vec::new(), Vec::new());
+    let left = |room: &[u8]| names::several(State::of(room).threads(), "thread");
     let why = loop {
         if most.is_some_and(|most| rounds.len() == usize::from(most)) {
             break "all rounds are done".to_string();
@@ -147,21 +166,28 @@ pub fn dispatch(file: &NamedFile, most: Option<u16>) -> Result<Outcome, WrongUse
         if choices.len() > 2 * BEFORE_ROUND {
             break "no round follows over 65,471 choices".to_string();
         }
-        let round = pilzdamo::round(&bytes, &choices, &mut room);
+        let before = room;
+        let round = seats::round(input, &choices, table, &mut room);
         if !round.verdict().is_clean() {
-            return refusal(&bytes.refused(round.verdict()));
+            return refusal(&listed.refused(round.verdict()));
         }
         if round.choices().is_empty() {
-            let threads = names::several(State::of(&room).threads(), "thread");
-            break format!("then no choice can be done, {threads} left");
+            break format!("then no choice can be done, {} left", left(&room));
+        }
+        let stuck = |table: &Table| {
+            let rooms = [&before[..], &room];
+            table.is_stuck(input, &choices, round.choices(), rooms)
+        };
+        if table.is_some_and(stuck) {
+            let left = left(&room);
+            break format!("then every choice waits for a seat, {left} left");
         }
         let start = choices.len() / 2;
         choices.extend(round.choices());
         rounds.push(start..choices.len() / 2);
     };
-    let followed = lists::followed(&bytes, &choices, None);
-    let line =
-        |round: &Range<usize>| lists::line(&bytes, &followed, &choices, round.clone()) + "\n";
+    let followed = lists::followed(input, &choices, table);
+    let line = |round: &Range<usize>| lists::line(input, &followed, &choices, round.clone()) + "\n";
     let lines: String = rounds.iter().map(line).collect();
     output::print(lines.as_bytes())?;
     let rounds = names::several(rounds.len(), "round");

@@ -3,11 +3,14 @@
 use crate::choices;
 use crate::clinic::{Clinic, ROLES};
 use crate::input::{flawed, Input};
+use crate::named;
 use crate::names;
 use crate::report;
 use crate::source::Source;
+use crate::spaced;
 use crate::WrongUse;
-use pilzdamo::{Seats, Verdict, SEATS};
+use pilzdamo::{Round, Seats, State, Verdict, SEATS};
+use text::{shown, At, Flaw};
 
 /// A table of seats with the name of its source.
 pub struct Table {
@@ -16,14 +19,35 @@ pub struct Table {
 }
 
 impl Table {
-    pub fn read(seats: &Source) -> Result<Table, WrongUse> {
+    /// The table that a source has for a file: by the names of the roles, or for bytes without
+    /// names a number for each role.
+    pub fn read(seats: &Source, input: &Input) -> Result<Table, WrongUse> {
         let (name, bytes) = (seats.name(), seats.read()?);
-        let words = choices::numbers(&bytes).map_err(|flaws| {
-            let WrongUse(why) = flawed(&name, &bytes, &flaws);
-            let form = "seats are text, a number for each role: 0 for no limit, else 1 to 32";
-            WrongUse(format!("{why}\n  {form}"))
-        })?;
-        Ok(Table { name, words })
+        let (read, form) = match named::roles(input) {
+            Some(roles) => (by_name(&bytes, roles), by_name_form(roles)),
+            None => (choices::numbers(&bytes), BY_NUMBER.to_string()),
+        };
+        match read {
+            Ok(words) => Ok(Table { name, words }),
+            // A refused file is reported first, whatever names the table has.
+            Err(_) if input.text.is_none() && !pilzdamo::read(input).is_clean() => {
+                let words = vec![0; Clinic::of(input).count(ROLES)];
+                Ok(Table { name, words })
+            }
+            Err(flaws) => {
+                let WrongUse(why) = flawed(&name, &bytes, &flaws);
+                Err(WrongUse(format!("{why}\n  {form}")))
+            }
+        }
+    }
+
+    /// The seats that a file's own text says, or the text that its names are from; none if
+    /// no role has a limit.
+    pub fn own(input: &Input) -> Option<Table> {
+        let words = input.text.as_ref()?.packed.names.seats();
+        let limited = words.iter().any(|&seats| seats != 0);
+        let name = input.name.clone();
+        limited.then_some(Table { name, words })
     }
 
     #[cfg(test)]
@@ -83,10 +107,106 @@ impl Table {
         self.seats(role) != 0
     }
 
+    /// Whether all choices of a round wait for a seat and leave every line as it was, so that
+    /// each later round would be the same. The outputs of the round before and of this one say
+    /// at little cost that most are not so.
+    pub fn is_stuck(
+        &self,
+        input: &Input,
+        before: &[u16],
+        round: &[u16],
+        rooms: [&[u8]; 2],
+    ) -> bool {
+        // The first word is the number of choices done.
+        let [threads, now] = rooms.map(|room| &room[2..]);
+        if threads != now || !asks(input, rooms[1], round) {
+            return false;
+        }
+        let after = [before, round].concat();
+        let [before, after] =
+            [before, &after].map(|choices| pilzdamo::seats(input, choices, &self.words));
+        let mut roles = 1..=self.words.len() as u16;
+        usize::from(after.waited - before.waited) == round.len() / 2
+            && roles.all(|role| before.line_of(role) == after.line_of(role))
+    }
+
     /// Whether the last of these choices gets no seat.
     pub fn waits(&self, input: &Input, choices: &[u16]) -> bool {
         let told = pilzdamo::seats(input, choices, &self.words);
         told.verdict().is_clean() && told.last == 26
+    }
+}
+
+/// The form of a table for bytes without names.
+const BY_NUMBER: &str = "seats are text, a number for each role: 0 for no limit, else 1 to 32 \
+                         (by name with --names NAMES)";
+
+/// The form of a table for these roles.
+fn by_name_form(roles: &[String]) -> String {
+    let role = named::example(roles, 1);
+    format!("seats are text, a line for each role with a limit of 1 to 32: {role} 1")
+}
+
+/// The seats of each role, by lines such as `holder 1`. A role without a line has no limit.
+fn by_name(text: &[u8], roles: &[String]) -> Result<Vec<u16>, Vec<Flaw>> {
+    let mut lines: Vec<Vec<(At, &[u8])>> = (1..)
+        .zip(text.split(|&byte| byte == b'\n'))
+        .map(|(line, text)| spaced::words(line, text))
+        .collect();
+    lines.retain(|words| !words.is_empty());
+    if let (Some(words), Ok(numbers)) = (lines.first(), choices::numbers(text)) {
+        let at = spaced::over(words);
+        let what = by_position(&numbers, roles);
+        return Err(vec![Flaw { at, what }]);
+    }
+    let (mut seats, mut flaws) = (vec![None; roles.len()], Vec::new());
+    for words in &lines {
+        match role_and_seats(words, roles) {
+            Ok((at, role, _)) if seats[usize::from(role) - 1].is_some() => {
+                let what = format!("'{}' is there twice", roles[usize::from(role) - 1]);
+                flaws.push(Flaw { at, what });
+            }
+            Ok((_, role, found)) => seats[usize::from(role) - 1] = Some(found),
+            Err(flaw) => flaws.push(flaw),
+        }
+    }
+    match flaws.is_empty() {
+        true => Ok(seats.into_iter().map(Option::unwrap_or_default).collect()),
+        false => Err(flaws),
+    }
+}
+
+/// What is said of a table by position, with its first limit by name.
+fn by_position(numbers: &[u16], roles: &[String]) -> String {
+    let mut limited = (1..).zip(numbers).filter(|&(_, &seats)| seats != 0);
+    let (role, seats) = limited.next().unwrap_or((1, &1));
+    let role = named::example(roles, role);
+    format!("a table by position, and roles go by name here: {role} {seats}")
+}
+
+/// The role of a line, where its name stands, and its seats.
+fn role_and_seats(words: &[(At, &[u8])], roles: &[String]) -> Result<(At, u16, u16), Flaw> {
+    let flaw = |at, what| Flaw { at, what };
+    let &[(at, role), (seats_at, seats)] = words else {
+        let what = format!(
+            "a role and its seats, such as {} 1, are due",
+            named::example(roles, 1)
+        );
+        return Err(flaw(spaced::over(words), what));
+    };
+    let role = named::role(role, roles).map_err(|what| flaw(at, what))?;
+    let number = std::str::from_utf8(seats).ok();
+    let number = number.filter(|text| text.bytes().all(|byte| byte.is_ascii_digit()));
+    let number = number.and_then(|text| text.parse().ok());
+    match number.filter(|&number| number <= SEATS) {
+        Some(number) => Ok((at, role, number)),
+        None => {
+            let what = format!(
+                "'{}' isn't 0 for no limit, or 1 to {SEATS} seats",
+                shown(seats)
+            );
+            Err(flaw(seats_at, what))
+        }
     }
 }
 
@@ -98,12 +218,45 @@ pub fn run(input: &Input, choices: &[u16], table: Option<&Table>, out: &mut [u8]
     }
 }
 
+/// A round after these choices, with seats if there is a table of them.
+pub fn round(input: &Input, choices: &[u16], table: Option<&Table>, out: &mut [u8]) -> Round {
+    match table {
+        None => pilzdamo::round(input, choices, out),
+        Some(table) => pilzdamo::round_seated(input, choices, &table.words, out),
+    }
+}
+
+/// Whether all threads of a round still stand at an on after it.
+fn asks(input: &Input, room: &[u8], round: &[u16]) -> bool {
+    let (clinic, state) = (Clinic::of(input), State::of(room));
+    let tag = |thread: u16| {
+        let threads = &state.as_ref()?.threads;
+        let node = threads.get(usize::from(thread).checked_sub(1)?)?.node;
+        let &[tag, ..] = clinic.nodes.get(usize::from(node).checked_sub(1)?)?;
+        Some(tag)
+    };
+    let mut choices = round.as_chunks().0.iter();
+    choices.all(|&[thread, partner]| partner == 0 && tag(thread) == Some(7))
+}
+
 /// What there is to say of the seats after these choices, if there are any.
 pub fn after(table: Option<&Table>, input: &Input, choices: &[u16]) -> String {
     table.map_or(String::new(), |table| {
         let told = pilzdamo::seats(input, choices, &table.words);
         text(input, table, &told)
     })
+}
+
+/// A line for each role with a limit after these choices.
+pub fn limited(table: Option<&Table>, input: &Input, choices: &[u16]) -> Vec<String> {
+    let Some(table) = table else {
+        return Vec::new();
+    };
+    let told = pilzdamo::seats(input, choices, &table.words);
+    let roles = (1..).zip(&table.words).filter(|&(_, &seats)| seats != 0);
+    roles
+        .map(|(role, &seats)| of_role(input, role, seats, &told))
+        .collect()
 }
 
 /// A line for each role, and how many choices got no seat.

@@ -18,6 +18,7 @@
 mod blocks;
 mod edit;
 mod fit;
+mod limits;
 mod line;
 mod mark;
 mod names;
@@ -27,11 +28,13 @@ mod records;
 mod tables;
 mod tree;
 mod unpack;
+pub mod week;
 mod why;
 mod words;
 
 pub use edit::{placed, stripped};
 pub use fit::{misfit, several};
+pub use limits::Limits;
 pub use line::{shown, tokens, At, Flaw, Token};
 pub use mark::{decoded, is_text, told, undecoded};
 pub use names::{Names, SessionNames};
