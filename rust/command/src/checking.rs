@@ -1,6 +1,6 @@
 //! `check FILE...`.
 
-use crate::asked::{refused, Hours};
+use crate::asked::{self, refused};
 use crate::clinic::Clinic;
 use crate::json::Json;
 use crate::names;
@@ -21,7 +21,7 @@ enum Told {
 
 /// Answers for each file, also where another can't be read.
 pub fn check(files: &[NamedFile], at: Option<&At>, json: bool) -> Result<Outcome, WrongUse> {
-    let hours = at.map(Hours::read).transpose()?;
+    let hours = at.map(asked::Asked::read).transpose()?;
     let mut outcome = Outcome::Answer;
     for file in files {
         outcome = outcome.max(match told(file, hours.as_ref(), json) {
@@ -43,8 +43,10 @@ pub fn check(files: &[NamedFile], at: Option<&At>, json: bool) -> Result<Outcome
     Ok(outcome)
 }
 
-fn told(file: &NamedFile, hours: Option<&Hours>, json: bool) -> Result<Told, WrongUse> {
+fn told(file: &NamedFile, at: Option<&asked::Asked>, json: bool) -> Result<Told, WrongUse> {
     let bytes = file.clinic()?;
+    let hours = at.map(|at| at.of(&bytes)).transpose()?;
+    let hours = hours.as_ref();
     let verdict = match hours {
         None => pilzdamo::check(&bytes),
         Some(hours) => pilzdamo::check_at(&bytes, &hours.table.words, hours.minute),

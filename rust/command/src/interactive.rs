@@ -111,7 +111,8 @@ impl<'a> Driven<'a> {
         self.course.called.input
     }
 
-    /// The state in a line, and the choices that can be done, by number.
+    /// The state in a line, the roles with a limit, and the choices that can be done, by
+    /// number.
     fn tell(&mut self) {
         let threads = (1..)
             .zip(self.course.desk.threads())
@@ -127,6 +128,9 @@ impl<'a> Driven<'a> {
         output::say(&format!(
             "choices done: {done}; threads: {threads}; made channels: {made}"
         ));
+        for line in seats::limited(self.table, self.input(), &self.words) {
+            output::say(&line);
+        }
         let possible = possible(&self.course, self.table, &self.words);
         if possible.is_empty() {
             output::say("no choice can be done");

@@ -45,7 +45,7 @@ pub fn carry_out(job: Job) -> Result<Outcome, WrongUse> {
         } => in_force(day, [&first, &second], out.as_ref()),
         Job::Sheet { files, json } => sheet(&files, json),
         Job::Show { file, form, out } => show(&file, form, &out),
-        Job::Pack { text, out, names } => packing::pack(&text, &out, names.as_ref()),
+        Job::Pack { text, out, beside } => packing::pack(&text, &out, &beside),
         Job::Unpack { file, out, names } => packing::unpack(&file, &out, names.as_ref()),
         Job::Strip { file, out } => packing::strip(&file, &out),
         Job::Explain { number, json } => explain(number, json),
@@ -73,14 +73,19 @@ pub fn carry_out(job: Job) -> Result<Outcome, WrongUse> {
         Job::Ready {
             file,
             choices,
+            seats,
             json,
-        } => scheduling::ready(&file, &choices, json),
-        Job::Waiting { file, choices } => scheduling::waiting(&file, &choices),
+        } => scheduling::ready(&file, &choices, seats.as_ref(), json),
+        Job::Waiting {
+            file,
+            choices,
+            seats,
+        } => scheduling::waiting(&file, &choices, seats.as_ref()),
         Job::Seats {
             file,
             choices,
             seats,
-        } => scheduling::seats(&file, &choices, &seats),
+        } => scheduling::seats(&file, &choices, seats.as_ref()),
         Job::Round {
             file,
             choices,
@@ -89,8 +94,9 @@ pub fn carry_out(job: Job) -> Result<Outcome, WrongUse> {
         Job::Dispatch {
             file,
             rounds,
+            seats,
             sparing,
-        } => scheduling::dispatch(&file, rounds, sparing),
+        } => scheduling::dispatch(&file, rounds, seats.as_ref(), sparing),
     }
 }
 

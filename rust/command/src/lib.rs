@@ -25,6 +25,7 @@ mod lines;
 mod listed;
 mod lists;
 mod merging;
+mod named;
 mod names;
 mod notices;
 mod objects;

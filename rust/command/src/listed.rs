@@ -21,7 +21,8 @@ pub struct Listed {
 }
 
 impl Listed {
-    /// Reads all of them; without a source the list is empty.
+    /// Reads all of them. Without a source the list is empty, and the seats are those that the
+    /// file has of its own.
     pub fn read(
         file: &NamedFile,
         list: Option<&Source>,
@@ -32,7 +33,10 @@ impl Listed {
             Some(list) => (list.name(), list.choices()?),
             None => Default::default(),
         };
-        let table = table.map(Table::read).transpose()?;
+        let table = match table {
+            Some(table) => Some(Table::read(table, &input)?),
+            None => Table::own(&input),
+        };
         let list = List::of(name, &choices, &input, table.as_ref())?;
         Ok(Listed { input, list, table })
     }
@@ -45,6 +49,15 @@ impl Listed {
     /// The indices of the choices that get no seat.
     pub fn waited(&self) -> Vec<usize> {
         lists::waited(&self.input, &self.list.words, self.table.as_ref())
+    }
+
+    /// The list without the choices that get no seat. Without seats it leads to the same
+    /// threads as the list does with them.
+    pub fn without_waits(&self) -> Vec<u16> {
+        let mut waited = self.waited().into_iter().peekable();
+        let pairs = self.list.words.chunks(2).enumerate();
+        let done = pairs.filter(|(index, _)| waited.next_if_eq(index).is_none());
+        done.flat_map(|(_, choice)| choice).copied().collect()
     }
 
     /// What there is to say where the list leads, or after it the refusal: of a run that

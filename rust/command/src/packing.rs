@@ -4,17 +4,21 @@ use crate::input::{read_names, words_at, Input, Text};
 use crate::names;
 use crate::output::{self, Out, Ready};
 use crate::source::Source;
+use crate::words::Beside;
 use crate::{Outcome, WrongUse};
 use text::{At, Lent, Records};
 
-/// `pack TEXT`: writes the file that a text says, and its names if that is wanted.
-pub fn pack(source: &Source, out: &Out, names: Option<&Out>) -> Result<Outcome, WrongUse> {
-    for out in [Some(out), names].into_iter().flatten() {
+/// `pack TEXT`: writes the file that a text says, and what else it has if that is wanted: its
+/// names, and the tables of seats and hours that are lent to the engine.
+pub fn pack(source: &Source, out: &Out, beside: &Beside) -> Result<Outcome, WrongUse> {
+    let outs = beside.all(out);
+    for (at, (name, out)) in outs.iter().enumerate() {
         output::spare(&[source], out)?;
-    }
-    if names.is_some_and(|names| names.is_same(out)) {
-        let why = "FILE and NAMES are the same file";
-        return Err(WrongUse(format!("pack: {why}")));
+        let mut before = outs[..at].iter();
+        if let Some((other, _)) = before.find(|(_, before)| out.is_same(before)) {
+            let why = format!("{other} and {name} are the same file");
+            return Err(WrongUse(format!("pack: {why}")));
+        }
     }
     let bytes = source.read()?;
     if bytes.contains(&0) && !text::is_text(&bytes) {
@@ -22,18 +26,33 @@ pub fn pack(source: &Source, out: &Out, names: Option<&Out>) -> Result<Outcome, 
         return Err(WrongUse(format!("{name}: can't be packed: {why}")));
     }
     let input = Input::of_text(source.name(), &bytes)?;
-    let text = input.text.as_ref();
-    let kept = text.map(|text| Lent::of(&text.packed).text());
-    let kept = kept.as_ref().zip(names);
-    // Neither is put in its place before both are written.
-    let kept = kept.map(|(kept, names)| Ready::text(kept.as_bytes(), names));
-    let (kept, file) = (kept.transpose()?, Ready::bytes(&input, out)?);
-    kept.map_or(Ok(()), Ready::put)?;
-    file.put()?;
+    let lent = input.text.as_ref().map(|text| Lent::of(&text.packed));
+    let lent = lent.unwrap_or_default();
+    let names = &lent.names;
+    let seats = little_endian(names.seats());
+    let hours = names.hours().into_iter().flat_map(|(_, row)| row);
+    let (names, hours) = (lent.text(), little_endian(hours));
+    // Nothing is put in its place before all is written.
+    let mut ready = Vec::new();
+    for (name, out) in outs {
+        ready.push(match name {
+            "NAMES" => Ready::text(names.as_bytes(), out)?,
+            "SEATS" => Ready::bytes(&seats, out)?,
+            "HOURS" => Ready::bytes(&hours, out)?,
+            _ => Ready::bytes(&input, out)?,
+        });
+    }
+    // The file comes last: who finds it finds what belongs to it.
+    ready.into_iter().rev().try_for_each(Ready::put)?;
     let into = out.told(" in");
     let bytes = names::several(input.len(), "byte");
     output::say(&format!("{}: packed, {bytes}{into}", input.name));
     Ok(Outcome::Answer)
+}
+
+/// The bytes of words, the low byte first.
+fn little_endian(words: impl IntoIterator<Item = u16>) -> Vec<u8> {
+    words.into_iter().flat_map(u16::to_le_bytes).collect()
 }
 
 /// `unpack FILE`: writes the text of a file.

@@ -278,8 +278,8 @@ pub const ALL: [Refusal; 28] = [
             can't be put on then, though it is assigned, and also where it is on already. A role \
             with which a session starts, and the juniors of an open role, go on permitting.",
         mend:
-            "Place the routine for this minute (`pilzdamo place` with the same --at and --hours), \
-            put on a role that is open, or change the hours.",
+            "Place the routine for this minute (`pilzdamo place` with the same --at and hours), put on \
+            a role that is open, or change the hours.",
     },
     Refusal {
         place: NOTHING,

@@ -12,6 +12,7 @@ use crate::lists;
 use crate::names;
 use crate::objects::{self, Ran};
 use crate::output;
+use crate::refusals;
 use crate::report;
 use crate::rounds::Rounds;
 use crate::runs;
@@ -62,10 +63,15 @@ pub fn choices(
 }
 
 /// The lowest sender and receiver that can meet after a list of choices.
-pub fn ready(file: &NamedFile, choices: &Source, json: bool) -> Result<Outcome, WrongUse> {
-    let listed = Listed::read(file, Some(choices), None)?;
-    let told = pilzdamo::ready(&listed.input, &listed.list.words);
-    let verdict = told.verdict();
+pub fn ready(
+    file: &NamedFile,
+    choices: &Source,
+    table: Option<&Source>,
+    json: bool,
+) -> Result<Outcome, WrongUse> {
+    let listed = Listed::read(file, Some(choices), table)?;
+    let verdict = listed.run(&mut [0; RUN_ROOM]);
+    let told = pilzdamo::ready(&listed.input, &listed.without_waits());
     if json {
         let ran = Ran {
             file: file.file.typed(),
@@ -93,17 +99,26 @@ fn thread(listed: &Listed, number: u16) -> String {
     }
 }
 
-pub fn seats(file: &NamedFile, list: &Source, table: &Source) -> Result<Outcome, WrongUse> {
-    let listed = Listed::read(file, Some(list), Some(table))?;
+pub fn seats(file: &NamedFile, list: &Source, table: Option<&Source>) -> Result<Outcome, WrongUse> {
+    let listed = Listed::read(file, Some(list), table)?;
     let Listed { input, list, table } = &listed;
     let verdict = listed.run(&mut [0; RUN_ROOM]);
+    if table.is_none() && (verdict.is_clean() || refusals::is_halt(verdict)) {
+        let why = "no role has seats of its own; name a table: SEATS";
+        return Err(WrongUse(format!("seats: {}: {why}", input.name)));
+    }
     listed.answered(verdict, || seats::after(table.as_ref(), input, &list.words))
 }
 
-pub fn waiting(file: &NamedFile, list: &Source) -> Result<Outcome, WrongUse> {
-    let listed = Listed::read(file, Some(list), None)?;
-    let totals = pilzdamo::totals(&listed.input, &listed.list.words);
-    listed.answered(totals.verdict(), || by_kind(&listed.input, &totals))
+pub fn waiting(
+    file: &NamedFile,
+    list: &Source,
+    table: Option<&Source>,
+) -> Result<Outcome, WrongUse> {
+    let listed = Listed::read(file, Some(list), table)?;
+    let verdict = listed.run(&mut [0; RUN_ROOM]);
+    let totals = pilzdamo::totals(&listed.input, &listed.without_waits());
+    listed.answered(verdict, || by_kind(&listed.input, &totals))
 }
 
 /// A line for each kind of a file.
@@ -118,10 +133,7 @@ pub fn round(file: &NamedFile, list: &Source, table: Option<&Source>) -> Result<
     let Listed { input, list, table } = &listed;
     let table = table.as_ref();
     let mut room = [0; RUN_ROOM];
-    let round = match table {
-        None => pilzdamo::round(input, &list.words, &mut room),
-        Some(table) => pilzdamo::round_seated(input, &list.words, &table.words, &mut room),
-    };
+    let round = seats::round(input, &list.words, table, &mut room);
     let both = [&list.words, round.choices()].concat();
     let followed = lists::followed(input, &both, table);
     let verdict = round.verdict();
@@ -141,11 +153,19 @@ pub fn round(file: &NamedFile, list: &Source, table: Option<&Source>) -> Result<
 }
 
 /// Rounds from the start, each from where the one before it left the run.
-pub fn dispatch(file: &NamedFile, most: Option<u16>, sparing: bool) -> Result<Outcome, WrongUse> {
-    let input = file.clinic()?;
-    let mut rounds = match Rounds::start(&input, Seating::Unlimited, sparing) {
-        Ok(rounds) => rounds,
-        Err(refusal_of_file) => return refusal(&input.refused(refusal_of_file)),
+pub fn dispatch(
+    file: &NamedFile,
+    most: Option<u16>,
+    table: Option<&Source>,
+    sparing: bool,
+) -> Result<Outcome, WrongUse> {
+    let listed = Listed::read(file, None, table)?;
+    let verdict = listed.run(&mut [0; RUN_ROOM]);
+    let Listed { input, table, .. } = &listed;
+    let seating = Seating::by(table.as_ref());
+    let mut rounds = match Rounds::start(input, seating, sparing) {
+        Ok(rounds) if verdict.is_clean() => rounds,
+        _ => return refusal(&listed.refused(verdict)),
     };
     let mut lines = Vec::new();
     let why = loop {
@@ -155,21 +175,29 @@ pub fn dispatch(file: &NamedFile, most: Option<u16>, sparing: bool) -> Result<Ou
         if rounds.run.words.len() > 2 * BEFORE_ROUND {
             break "no round follows over 65,471 choices".to_string();
         }
-        let Some(line) = rounds.go() else {
-            let threads = names::several(rounds.run.desk.threads().len(), "thread");
-            let what = match sparing {
-                true => "nothing is left to do",
-                false => "no choice can be done",
-            };
-            break format!("then {what}, {threads} left");
+        let before = rounds.run.moment();
+        let line = rounds.go();
+        let what = match line {
+            None if sparing => "nothing is left to do",
+            None => "no choice can be done",
+            Some(_) if rounds.run.takes_waits_back(before) => "every choice waits for a seat",
+            Some(line) => {
+                lines.push(line + "\n");
+                continue;
+            }
         };
-        lines.push(line + "\n");
+        let threads = names::several(rounds.run.desk.threads().len(), "thread");
+        break format!("then {what}, {threads} left");
     };
+    if !rounds.run.agrees() {
+        let why = "the engine answers these rounds otherwise";
+        return Err(WrongUse(format!("dispatch: {why}")));
+    }
     output::print(lines.concat().as_bytes())?;
     let count = names::several(rounds.run.words.len() / 2, "choice");
     let (name, done) = (file.name(), names::several(lines.len(), "round"));
     let mut told = vec![format!("{name}: {done}, {count}; {why}")];
-    told.extend(stopped(&input, &rounds));
+    told.extend(stopped(input, &rounds));
     output::say(&told.join("\n  "));
     Ok(Outcome::Answer)
 }
@@ -188,7 +216,7 @@ fn stopped(input: &Input, rounds: &Rounds) -> Vec<String> {
         format!("with --sparing these are not the rounds of `round` (K5): a repeat was left out {times}")
     });
     let mut told: Vec<String> = spared.into_iter().collect();
-    told.extend(standing::lines(&course, rounds.spared()));
+    told.extend(standing::lines(&course, rounds));
     told.extend(course.is_unplaced().then(|| report::UNPLACED.to_string()));
     told
 }

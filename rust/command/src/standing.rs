@@ -1,7 +1,10 @@
 //! Where the threads stand when a dispatcher stops, and why they do nothing more.
 
 use crate::course::Course;
-use crate::rounds::Spared;
+use crate::follow::Wait;
+use crate::names;
+use crate::rounds::{Rounds, Spared};
+use crate::seats;
 use pilzdamo::Thread;
 use std::collections::HashSet;
 
@@ -9,16 +12,20 @@ use std::collections::HashSet;
 const NAMED: usize = 4;
 
 /// A line for all threads that stand alike.
-pub fn lines(course: &Course, spared: Option<&Spared>) -> Vec<String> {
+pub fn lines(course: &Course, rounds: &Rounds) -> Vec<String> {
     let possible = course.desk.choices().into_iter();
     let possible: HashSet<u16> = possible.flat_map(|(one, other)| [one, other]).collect();
     let mut groups: Vec<(String, Vec<String>)> = Vec::new();
     for (number, thread) in (1..).zip(course.desk.threads()) {
+        let spared = rounds.spared();
         let left_out = spared.and_then(|spared| left_out(course, spared, number));
-        let why = left_out.unwrap_or_else(|| match possible.contains(&number) {
-            true => "can go on".to_string(),
-            false => why(course, number, thread),
-        });
+        let waits = rounds.run.wait(number).map(|wait| waits(course, &wait));
+        let why = left_out
+            .or(waits)
+            .unwrap_or_else(|| match possible.contains(&number) {
+                true => "can go on".to_string(),
+                false => why(course, number, thread),
+            });
         let stands = format!("{}: {why}", course.called.stands(thread));
         let name = course.called.named(&course.roll, number);
         match groups.iter_mut().find(|(known, _)| *known == stands) {
@@ -48,6 +55,20 @@ fn left_out(course: &Course, spared: &Spared, number: u16) -> Option<String> {
     Some(format!(
         "left out until {name} meets another thread or ends"
     ))
+}
+
+/// That a thread gets no seat, its session's place in line, and who has the seats.
+fn waits(course: &Course, wait: &Wait) -> String {
+    let role = course.called.role(wait.role);
+    let waits = match wait.place {
+        Some(place) => format!("waits for a seat as {role}, number {place} in line"),
+        None => format!("would wait for a seat as {role}"),
+    };
+    let seats = names::several(usize::from(wait.seats), "seat");
+    let sessions: Vec<u16> = wait.seated.iter().map(|&index| index as u16 + 1).collect();
+    let taken = seats::sessions(course.called.input, &sessions);
+    let taken = taken.unwrap_or("no session".to_string());
+    format!("{waits}; {seats}, taken by {taken}")
 }
 
 /// Why a thread that stands so can do nothing.

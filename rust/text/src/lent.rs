@@ -1,5 +1,6 @@
 //! Names in a file of their own, with a sum of the routine that they were written for.
 
+use crate::limits::Limits;
 use crate::line::{self, Flaw, Line};
 use crate::names::Names;
 use crate::records::{Node, Records, FORK, OFF, ON};
@@ -36,13 +37,24 @@ impl Lent {
     pub fn read(text: &str) -> Result<Lent, Vec<Flaw>> {
         let (lines, mut flaws) = line::lines(text);
         let mut lent = Lent::default();
+        let mut limited = Vec::new();
         for (index, line) in lines.iter().enumerate() {
             let read = match index {
                 0 => first(line),
+                _ if Cursor::new(line).takes("role") => {
+                    limited.push(line);
+                    Ok(())
+                }
                 _ => lent.add(line),
             };
             flaws.extend(read.err());
         }
+        // A role's line may stand above that with its name.
+        let names = &mut lent.names;
+        names.limits = vec![Limits::default(); names.roles.len()];
+        let read = limited.into_iter().map(|line| names.limit(line));
+        flaws.extend(read.filter_map(Result::err));
+        flaws.sort_by_key(|flaw| (flaw.at.line, flaw.at.column));
         match flaws.is_empty() {
             true => Ok(lent),
             false => Err(flaws),

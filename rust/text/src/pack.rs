@@ -1,6 +1,7 @@
 //! Text to bytes.
 
 use crate::blocks::Blocks;
+use crate::limits::{self, Limits};
 use crate::line::{self, shown, At, Flaw, Line};
 use crate::names::{Names, SessionNames};
 use crate::records::{bit, Channel, Records, Role, Version};
@@ -60,6 +61,7 @@ pub fn pack(text: &str) -> Result<Packed, Vec<Flaw>> {
         names: Names {
             kinds: tables.kinds.only_names(),
             roles: tables.roles.only_names(),
+            limits: Vec::new(),
             users: tables.users.only_names(),
             channels: tables.channels.only_names(),
             sessions: Vec::new(),
@@ -181,15 +183,19 @@ impl Reader<'_> {
     fn role(&mut self, cursor: &mut Cursor) -> Result<(), Flaw> {
         self.records.roles.push(Role::default());
         self.source.juniors.push(Vec::new());
+        self.names.limits.push(Limits::default());
         cursor.name("a name for the role")?;
         if !cursor.takes(":") {
             return cursor.end_or("':' or ");
         }
         let role = last(&mut self.records.roles);
+        let limits = last(&mut self.names.limits);
         let mut said: Vec<&str> = Vec::new();
         loop {
             let at = cursor.token().map(|token| token.at);
+            let limit = cursor.peek().and_then(limits::begun);
             let word = match cursor.peek() {
+                _ if limit.is_some() => limit.unwrap_or_default(),
                 Some(word @ ("send" | "receive")) => word,
                 Some(word @ "juniors") if self.records.version.has_juniors() => word,
                 Some("juniors") if self.records.version == Version::One => {
@@ -197,13 +203,23 @@ impl Reader<'_> {
                     let what = "juniors take 'clinic 2': version 1 has none".to_string();
                     return Err(Flaw { at, what });
                 }
-                _ => return cursor.expected("'send', 'receive' or 'juniors'"),
+                _ => return cursor.expected(PARTS),
             };
             if let (true, Some(at)) = (said.contains(&word), at) {
                 let what = format!("'{word}' is there twice");
                 return Err(Flaw { at, what });
             }
             said.push(word);
+            if let Some(limit) = limit {
+                limits.read(limit, cursor)?;
+                if cursor.takes(";") {
+                    continue;
+                }
+                return cursor.end_or(match limit {
+                    "open" => "',' or ';' or ",
+                    _ => "';' or ",
+                });
+            }
             cursor.skip();
             match word {
                 "send" => role.sends = mask(cursor, &self.tables.kinds)?.0,
@@ -280,6 +296,9 @@ impl Reader<'_> {
         self.flaws.extend(grown.flaws);
     }
 }
+
+/// What a part of a role's line begins with.
+const PARTS: &str = "'send', 'receive', 'juniors', 'open' or a number of seats";
 
 /// The record that was begun last.
 fn last<T>(records: &mut [T]) -> &mut T {

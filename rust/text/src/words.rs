@@ -1,6 +1,6 @@
 //! A line read word by word.
 
-use crate::line::{shown, Flaw, Line, Token};
+use crate::line::{shown, At, Flaw, Line, Token};
 
 /// The words of the form, which are no names.
 const RESERVED: [&str; 21] = [
@@ -67,6 +67,27 @@ impl<'a> Cursor<'a> {
             }
             _ => self.expected(what),
         }
+    }
+
+    /// Goes past a word that white space, a comma or a semicolon ends, whatever signs are in
+    /// it.
+    pub fn spaced(&mut self, what: &str) -> Result<Token, Flaw> {
+        let is_sign = |token: &Token| matches!(&token.text[..], "," | ";");
+        let Some(first) = self.token().filter(|token| !is_sign(token)) else {
+            return self.expected(what);
+        };
+        let (mut text, mut end) = (String::new(), first.at.column);
+        while let Some(token) = self.token() {
+            if is_sign(token) || token.at.column != end {
+                break;
+            }
+            text += &token.text;
+            end += token.at.width;
+            self.skip();
+        }
+        let width = end - first.at.column;
+        let at = At { width, ..first.at };
+        Ok(Token { text, at })
     }
 
     /// Nothing more is due.

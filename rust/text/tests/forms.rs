@@ -296,7 +296,7 @@ session ask of nurse
             "2:20: expected a kind, but the line ends",
             "3:22: there is no kind 'anser' (kinds: answer, request)",
             "4:27: expected ',' or ';' or the end of the line, not 'receive'",
-            "5:14: expected 'send', 'receive' or 'juniors', not 'sends'",
+            "5:14: expected 'send', 'receive', 'juniors', 'open' or a number of seats, not 'sends'",
             "6:21: 'caller' is there twice",
             "7:6: 'nurse' is the name of a user already (line 6)",
             "8:1: expected 'kind', 'role', 'user', 'channel' or 'session', not 'usr'",

@@ -1,5 +1,4 @@
 use super::*;
-use crate::lines::Lines;
 use crate::lists::List;
 use crate::reading::Start;
 use crate::seats::Table;
@@ -142,10 +141,7 @@ fn compare(
     most: usize,
     came: &mut BTreeMap<&'static str, usize>,
 ) {
-    let seating = table.map_or(Seating::Unlimited, |table| {
-        Seating::Followed(Lines::of(table))
-    });
-    let mut rounds = Rounds::start(input, seating, false).expect("a run");
+    let mut rounds = Rounds::start(input, Seating::by(table), false).expect("a run");
     let mut lines = String::new();
     let mut count = |what: &'static str, more: usize| *came.entry(what).or_default() += more;
     for _ in 0..most {
@@ -177,6 +173,27 @@ fn compare(
         panic!("not read: {lines}");
     };
     assert_eq!(again.words, rounds.run.words, "{lines}");
+    count("ends where all wait", still(&mut rounds, input, table));
+    assert!(rounds.run.agrees());
+}
+
+/// Does one more round, and says whether it was taken back. Then the engine does the same
+/// round again and again, and nobody in it gets a seat.
+fn still(rounds: &mut Rounds, input: &Input, table: Option<&Table>) -> usize {
+    let (before, done) = (rounds.run.moment(), rounds.run.words.clone());
+    if rounds.go().is_none() {
+        return 0;
+    }
+    let both = rounds.run.words.clone();
+    let is_still = rounds.run.takes_waits_back(before);
+    let own = &both[done.len()..];
+    let (again, state) = engine(input, &both, table);
+    let is_same = again.choices() == own && state.threads == rounds.run.desk.threads();
+    match is_still {
+        true => assert!(is_same && rounds.run.words == done),
+        false => assert_eq!(rounds.run.words, both),
+    }
+    usize::from(is_still)
 }
 
 fn input(name: String, records: &Records) -> Input {
@@ -270,6 +287,56 @@ fn with_seats() {
         }
     }
     assert!(came["visits without a seat"] > 100, "{came:?}");
+}
+
+/// Seats for a random routine: at least as many as sessions start with the role, or no limit.
+fn seats(dice: &mut Dice, records: &Records) -> Vec<u16> {
+    let roles = 0..records.roles.len();
+    roles
+        .map(|role| {
+            let sessions = records.sessions.iter();
+            let starts = sessions.filter(|session| session.mask >> role & 1 == 1);
+            let starts = starts.count() as u16;
+            match dice.below(4) {
+                0 => 0,
+                _ => dice.from(starts.max(1), starts + 1),
+            }
+        })
+        .collect()
+}
+
+/// Random routines with seats, in which sessions wait, go on and wait for ever.
+#[test]
+fn random_routines_with_seats() {
+    let (mut dice, mut came) = (Dice(13), BTreeMap::new());
+    let mut files = 0;
+    while files < 400 {
+        let mut records = deal(&mut dice);
+        for session in &mut records.sessions {
+            session.mask &= [0, 0, 7][dice.below(3)];
+            // Many ask for a role first, in place of a step that binds nothing.
+            let node = &mut records.nodes[usize::from(session.root) - 1];
+            if matches!(node[0], 4 | 6..=8) && dice.below(4) > 0 {
+                *node = [7, dice.from(1, 3), 0];
+            }
+        }
+        if !pilzdamo::read(&records.bytes()).is_clean() {
+            continue;
+        }
+        files += 1;
+        let table = Table::of("seats", &seats(&mut dice, &records));
+        let input = input(format!("file {files}, {:?}", table.words), &records);
+        compare(&input, Some(&table), 75, &mut came);
+    }
+    for (what, least) in [
+        ("rounds", 5_000),
+        ("choices", 20_000),
+        ("visits without a seat", 1_000),
+        ("ends where all wait", 10),
+        ("empty rounds", 100),
+    ] {
+        assert!(came.get(what) >= Some(&least), "{what}: {came:?}");
+    }
 }
 
 /// Sparing rounds are those of a run, and the plain ones as long as no repeat is left out.

@@ -145,11 +145,7 @@ impl Given {
             return Ok(());
         }
         names.dedup();
-        let which = match &names[..] {
-            [name] => format!("one {name}"),
-            [others @ .., last] => format!("one of {} and {last}", others.join(", ")),
-            [] => return Ok(()),
-        };
+        let which = one_of(&names);
         let verb = self.word.name;
         misused(&format!("{verb}: only {which} can be standard input"))
     }
@@ -165,6 +161,15 @@ impl Given {
                 None => format!("{verb}: '{}' is too many", shown(&plain[N])),
             })
         })
+    }
+}
+
+/// `one FILE`, or `one of FILE, NAMES and SEATS`.
+pub fn one_of(names: &[&str]) -> String {
+    match names {
+        [] => "none".to_string(),
+        [name] => format!("one {name}"),
+        [others @ .., last] => format!("one of {} and {last}", others.join(", ")),
     }
 }
 

@@ -1,16 +1,16 @@
 //! The job of each command.
 
-use super::given::Given;
+use super::given::{one_of, Given};
 use super::options::Opt;
-use super::{known, misused, shown, At, Form, Job};
+use super::{known, misused, shown, At, Beside, Form, Job};
 use crate::days;
-use crate::hours;
 use crate::refusals;
 use crate::source::{NamedFile, Source};
 use crate::turning::Turn;
 use crate::WrongUse;
 use pilzdamo::SHEET_FILES;
 use std::ffi::OsString;
+use text::week;
 
 pub fn check(mut given: Given) -> Result<Job, WrongUse> {
     let files = several(&mut given)?;
@@ -159,25 +159,41 @@ pub fn choices(mut given: Given) -> Result<Job, WrongUse> {
 
 pub fn ready(mut given: Given) -> Result<Job, WrongUse> {
     let (file, choices) = file_and_choices(&mut given)?;
-    let json = given.has(Opt::Json);
     Ok(Job::Ready {
         file,
         choices,
-        json,
+        seats: given.source(Opt::Seats),
+        json: given.has(Opt::Json),
     })
 }
 
 pub fn waiting(mut given: Given) -> Result<Job, WrongUse> {
     let (file, choices) = file_and_choices(&mut given)?;
-    Ok(Job::Waiting { file, choices })
+    let seats = given.source(Opt::Seats);
+    Ok(Job::Waiting {
+        file,
+        choices,
+        seats,
+    })
 }
 
+/// SEATS may be left out.
 pub fn seats(mut given: Given) -> Result<Job, WrongUse> {
-    let [file, choices, seats] = given.exactly()?;
+    let (file, choices, seats) = match given.plain.len() {
+        0..=2 => {
+            let (file, choices) = file_and_choices(&mut given)?;
+            (file, choices, None)
+        }
+        _ => {
+            let [file, choices, seats] = given.exactly()?;
+            let [choices, seats] = [choices, seats].map(Source::named);
+            (given.named(file), choices, Some(seats))
+        }
+    };
     Ok(Job::Seats {
-        file: given.named(file),
-        choices: Source::named(choices),
-        seats: Source::named(seats),
+        file,
+        choices,
+        seats,
     })
 }
 
@@ -203,6 +219,7 @@ pub fn dispatch(mut given: Given) -> Result<Job, WrongUse> {
     Ok(Job::Dispatch {
         file,
         rounds,
+        seats: given.source(Opt::Seats),
         sparing: given.has(Opt::Sparing),
     })
 }
@@ -225,12 +242,23 @@ pub fn show(mut given: Given) -> Result<Job, WrongUse> {
 }
 
 pub fn pack(mut given: Given) -> Result<Job, WrongUse> {
-    let (out, names) = (given.out(), given.out_behind(Opt::NamesOut));
-    if out.path.is_none() && names.as_ref().is_some_and(|names| names.path.is_none()) {
-        return misused("pack: only one of FILE and NAMES can be standard output");
+    let out = given.out();
+    let beside = Beside {
+        names: given.out_behind(Opt::NamesOut),
+        seats: given.out_behind(Opt::SeatsOut),
+        hours: given.out_behind(Opt::HoursOut),
+    };
+    let all = beside.all(&out).into_iter();
+    let printed: Vec<&str> = all
+        .filter(|(_, out)| out.path.is_none())
+        .map(|(name, _)| name)
+        .collect();
+    if printed.len() > 1 {
+        let which = one_of(&printed);
+        return misused(&format!("pack: only {which} can be standard output"));
     }
     let text = file(&mut given)?;
-    Ok(Job::Pack { text, out, names })
+    Ok(Job::Pack { text, out, beside })
 }
 
 pub fn unpack(mut given: Given) -> Result<Job, WrongUse> {
@@ -301,15 +329,15 @@ fn several(given: &mut Given) -> Result<Vec<OsString>, WrongUse> {
     Ok(std::mem::take(&mut given.plain))
 }
 
-/// Both or neither of `--at` and `--hours`.
+/// `--at`, with `--hours` or without.
 fn minute_and_hours(given: &Given) -> Result<Option<At>, WrongUse> {
     let verb = given.word.name;
     let (at, hours) = match (given.value(Opt::At), given.source(Opt::Hours)) {
         (None, None) => return Ok(None),
-        (Some(at), Some(hours)) => (at, hours),
-        _ => return misused(&format!("{verb}: --at and --hours go together")),
+        (Some(at), hours) => (at, hours),
+        (None, Some(_)) => return misused(&format!("{verb}: --hours goes with --at TIME")),
     };
-    let Some(minute) = hours::minute(&at.to_string_lossy()) else {
+    let Some(minute) = week::minute(&at.to_string_lossy()) else {
         let (due, at) = ("a day and a time such as \"Mon 07:30\"", shown(at));
         return misused(&format!("{verb}: --at needs {due}, not '{at}'"));
     };

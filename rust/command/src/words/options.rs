@@ -9,8 +9,10 @@ pub enum Opt {
     Hours,
     Seats,
     Names,
-    /// `--names` of a command that writes them.
+    /// `--names`, `--seats` and `--hours` of a command that writes them.
     NamesOut,
+    SeatsOut,
+    HoursOut,
     Json,
     Bytes,
     Trace,
@@ -25,8 +27,8 @@ impl Opt {
             Opt::Out => "--output",
             Opt::Force => "--force",
             Opt::At => "--at",
-            Opt::Hours => "--hours",
-            Opt::Seats => "--seats",
+            Opt::Hours | Opt::HoursOut => "--hours",
+            Opt::Seats | Opt::SeatsOut => "--seats",
             Opt::Names | Opt::NamesOut => "--names",
             Opt::Json => "--json",
             Opt::Bytes => "--bytes",
@@ -54,9 +56,9 @@ impl Opt {
     pub fn wants(self) -> Option<&'static str> {
         match self {
             Opt::At => Some("a day and a time"),
-            Opt::Out | Opt::Hours | Opt::Seats | Opt::Names | Opt::NamesOut => {
-                Some("the name of a file")
-            }
+            Opt::Out => Some("the name of a file"),
+            Opt::Hours | Opt::Seats | Opt::Names => Some("the name of a file"),
+            Opt::HoursOut | Opt::SeatsOut | Opt::NamesOut => Some("the name of a file"),
             _ => None,
         }
     }

@@ -111,9 +111,8 @@ fn a_list_that_halts() {
 fn with_seats() {
     let folder = Folder::new("choices with seats");
     let text = folder.file("asked.txt", placed("seats/asked.txt"));
-    let seats = example("seats/one-holder.seats");
     let seated = |list: &str| {
-        let words = ["choices", &text, "-", "--seats", &seats];
+        let words = ["choices", &text, "-"];
         let answer = pilzdamo_fed(&words, list.as_bytes());
         assert_eq!((answer.status, answer.err.as_str()), (0, ""), "{list}");
         answer.text().to_string()
@@ -125,7 +124,9 @@ fn with_seats() {
     assert!(behind.starts_with(due), "{behind}");
     // Who waits may ask again.
     assert_eq!(seated("book1 book2 book1 book2"), behind);
-    // Without the table it has the role.
-    let free = lines(&text, "book1 book2 book1");
+    // Without seats it has the role.
+    let free = String::from_utf8(placed("seats/asked.txt")).expect("text");
+    let free = folder.file("free.txt", free.replace("; 1 seat", ""));
+    let free = lines(&free, "book1 book2 book1");
     assert!(free.starts_with("book2   # puts holder on; holds holder\n"));
 }

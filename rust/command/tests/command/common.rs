@@ -68,6 +68,14 @@ pub fn placed(name: &str) -> Vec<u8> {
     pilzdamo(&["place", &example(name)]).out
 }
 
+/// A text of the examples without the seats of its roles; bytes stay as they are.
+pub fn without_seats(file: Vec<u8>) -> Vec<u8> {
+    match String::from_utf8(file) {
+        Ok(text) => text.replace("; 1 seat", "").into_bytes(),
+        Err(bytes) => bytes.into_bytes(),
+    }
+}
+
 /// A refusal's sentence: the engine's phrase for its number, and the place with what it
 /// counts, such as `node 4, a send`; where that is empty, no place.
 pub fn sentence(number: u16, place: &str) -> String {

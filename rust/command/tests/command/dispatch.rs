@@ -241,10 +241,17 @@ fn endless_routines() {
         })
         .collect();
     let tables = "clinic 1\nkind k\nrole r: send k\nuser u: r\nuser v\nchannel c: k, owner u\n";
+    let seated = tables.replace("send k", "send k; 1 seat");
+    let holds = "session h by u as r\n  send u on c\n";
+    let asks: String = (1..=8)
+        .map(|number| format!("session q{number} by u\n  on r\n"))
+        .collect();
     for text in [
         format!("{tables}{repeat}"),
         format!("{tables}{repeat}{idle}"),
         format!("{tables}{repeat}    on r\n    off r\n"),
+        // With seats, of which there is one, and a line behind it.
+        format!("{seated}{holds}{repeat}    compare u with u\n{asks}"),
     ] {
         let file = folder.file("endless.txt", text);
         let begun = Instant::now();

@@ -37,6 +37,7 @@ mod named;
 mod nothing;
 mod notices;
 mod odd_texts;
+mod own_tables;
 mod pages;
 mod picture;
 mod place;

@@ -174,7 +174,7 @@ made channels: 1
     let answer = ward.ask("waiting", &["-"], LIST);
     let due = "kind answer: 1 waiting\nkind request: 0 waiting\n";
     assert_eq!((answer.status, answer.text()), (0, due));
-    let seats = ward.folder.file("seats", "1 0");
+    let seats = ward.folder.file("seats", "caller 1");
     let answer = ward.ask("seats", &["-", &seats], LIST);
     let due = "\
 role caller: 1 seat, taken by 1 session
