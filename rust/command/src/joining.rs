@@ -28,6 +28,10 @@ pub fn join(
     let Some(ordered) = text::ordered(names, second).filter(|_| differences.is_empty()) else {
         return refusal(&differ(files, [one, other], &differences));
     };
+    let limits = text::other_limits([&one.packed, &other.packed]);
+    if !limits.is_empty() {
+        return refusal(&limit_otherwise(files, [one, other], &limits));
+    }
     let mut room = [0; ROOM_1];
     let written = pilzdamo::merge(files[0].1, &ordered.bytes(), &mut room);
     if !written.is_written() {
@@ -86,16 +90,37 @@ fn renamed(file: &str, apart: &Apart) -> Option<String> {
     (!each.is_empty()).then(|| format!("of {file}: {}", each.join(", ")))
 }
 
-/// The message for two texts whose kinds or roles differ, with the lines of both.
+/// The message for two texts whose kinds or roles differ.
 fn differ(files: &Files, texts: [&Text; 2], differences: &[Difference]) -> String {
+    let verdict = Verdict {
+        number: 25,
+        place: 0,
+    };
+    let more = lines(files, texts, differences);
+    let more = (!more.is_empty()).then(|| more.join("\n  "));
+    report::of_both(&merging::names(files), verdict, more)
+}
+
+/// The message for two texts whose roles have other seats or hours. It has no number, since
+/// the engine doesn't refuse the bytes.
+fn limit_otherwise(files: &Files, texts: [&Text; 2], differences: &[Difference]) -> String {
+    let names = merging::names(files);
+    let why = "not merged: the seats or hours of roles differ";
+    let lines = lines(files, texts, differences).join("\n  ");
+    let mend = "write the same seats and hours of each role in both";
+    format!("pilzdamo: {names}: {why}\n  {lines}\n  {mend}")
+}
+
+/// What differs, each with its lines in both texts.
+fn lines(files: &Files, texts: [&Text; 2], differences: &[Difference]) -> Vec<String> {
     let mut lines = Vec::new();
-    for Difference { one, name, at } in differences.iter().take(TOLD) {
+    for Difference { one, name, how, at } in differences.iter().take(TOLD) {
         let name = text::shown(name);
         let [(first, _), (second, _)] = files;
         lines.push(match at {
             [_, None] => format!("{one} {name} is in {first} alone"),
             [None, _] => format!("{one} {name} is in {second} alone"),
-            _ => format!("{one} {name} differs"),
+            _ => format!("{one} {name} {how}"),
         });
         for (((file, _), text), at) in files.iter().zip(texts).zip(at) {
             lines.extend(at.map(|at| format!("  {file}:{}: {}", at.line, line(text, at.line))));
@@ -104,12 +129,7 @@ fn differ(files: &Files, texts: [&Text; 2], differences: &[Difference]) -> Strin
     if let Some(more @ 1..) = differences.len().checked_sub(TOLD) {
         lines.push(format!("{more} more differ"));
     }
-    let verdict = Verdict {
-        number: 25,
-        place: 0,
-    };
-    let more = (!lines.is_empty()).then(|| lines.join("\n  "));
-    report::of_both(&merging::names(files), verdict, more)
+    lines
 }
 
 /// A line of a text in a message.

@@ -1,5 +1,6 @@
 //! Two texts in one: their tables compared by name, and names that clash told apart.
 
+use crate::limits::Limits;
 use crate::line::{tokens, At, Token};
 use crate::names::Names;
 use crate::pack::Packed;
@@ -12,6 +13,8 @@ pub struct Difference {
     /// `kind` or `role`.
     pub one: &'static str,
     pub name: String,
+    /// What differs, of a role that both have: `differs`, `has other seats`.
+    pub how: &'static str,
     /// Where its name stands in either text, if it is there.
     pub at: [Option<At>; 2],
 }
@@ -22,20 +25,30 @@ pub fn differences(both: [&Packed; 2]) -> Vec<Difference> {
     let kinds =
         both.map(|packed| table(packed, &packed.names.kinds, &packed.source.kinds, carried));
     let roles = both.map(|packed| table(packed, &packed.names.roles, &packed.source.roles, grants));
-    let mut found = unlike("kind", kinds);
-    found.extend(unlike("role", roles));
+    let mut found = unlike("kind", "differs", kinds);
+    found.extend(unlike("role", "differs", roles));
+    found
+}
+
+/// The roles whose seats or hours two texts don't have alike. No byte has these, so that the
+/// engine doesn't compare them.
+pub fn other_limits(both: [&Packed; 2]) -> Vec<Difference> {
+    let seats = both.map(|packed| table(packed, &packed.names.roles, &packed.source.roles, seats));
+    let hours = both.map(|packed| table(packed, &packed.names.roles, &packed.source.roles, hours));
+    let mut found = unlike("role", "has other seats", seats);
+    found.extend(unlike("role", "has other hours", hours));
     found
 }
 
 /// A record by its name: where that stands, and what the record says in names.
-type Said<'a> = (&'a str, At, Vec<BTreeSet<&'a str>>);
+type Said<'a, T> = (&'a str, At, T);
 
-fn table<'a>(
+fn table<'a, T>(
     packed: &'a Packed,
     names: &'a [String],
     places: &[At],
-    says: fn(&'a Packed, usize) -> Vec<BTreeSet<&'a str>>,
-) -> Vec<Said<'a>> {
+    says: fn(&'a Packed, usize) -> T,
+) -> Vec<Said<'a, T>> {
     let named = names.iter().zip(places).enumerate();
     named
         .map(|(index, (name, &at))| (name.as_str(), at, says(packed, index)))
@@ -61,27 +74,42 @@ fn grants(packed: &Packed, index: usize) -> Vec<BTreeSet<&str>> {
     ]
 }
 
+fn seats(packed: &Packed, index: usize) -> u16 {
+    let limits = packed.names.limits.get(index);
+    limits.map_or(0, |limits| limits.seats)
+}
+
+/// When a role is open, however that is written.
+fn hours(packed: &Packed, index: usize) -> Vec<[u16; 2]> {
+    let limits = packed.names.limits.get(index);
+    limits.map_or(Vec::new(), Limits::minutes)
+}
+
 /// The names of a mask.
 fn named(names: &[String], mask: u32) -> BTreeSet<&str> {
     let names = items(mask).filter_map(|item| names.get(item - 1));
     names.map(String::as_str).collect()
 }
 
-fn unlike(one: &'static str, [first, second]: [Vec<Said>; 2]) -> Vec<Difference> {
-    let find = |table: &[Said], name: &str| table.iter().position(|(known, ..)| *known == name);
+fn unlike<T: PartialEq>(
+    one: &'static str,
+    how: &'static str,
+    [first, second]: [Vec<Said<T>>; 2],
+) -> Vec<Difference> {
+    let find = |table: &[Said<T>], name: &str| table.iter().position(|(known, ..)| *known == name);
     let mut found = Vec::new();
     for (name, at, says) in &first {
         let other = find(&second, name).map(|other| &second[other]);
         if other.is_none_or(|(.., said)| said != says) {
             let at = [Some(*at), other.map(|&(_, at, _)| at)];
             let name = name.to_string();
-            found.push(Difference { one, name, at });
+            found.push(Difference { one, name, how, at });
         }
     }
     for (name, at, _) in &second {
         if find(&first, name).is_none() {
             let (name, at) = (name.to_string(), [None, Some(*at)]);
-            found.push(Difference { one, name, at });
+            found.push(Difference { one, name, how, at });
         }
     }
     found

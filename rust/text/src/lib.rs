@@ -36,7 +36,7 @@ mod words;
 
 pub use edit::{placed, stripped};
 pub use fit::{misfit, several};
-pub use join::{differences, joined, ordered, Apart, Difference};
+pub use join::{differences, joined, ordered, other_limits, Apart, Difference};
 pub use lent::{sum, Lent};
 pub use limits::Limits;
 pub use line::{shown, tokens, At, Flaw, Token};

@@ -28,6 +28,22 @@ impl Limits {
         seats.into_iter().chain(open).collect()
     }
 
+    /// The minutes of the week in which it is open, from one to before another, in their order
+    /// and apart from each other.
+    pub(crate) fn minutes(&self) -> Vec<[u16; 2]> {
+        let rows = self.open.iter().flat_map(|open| open.rows(0));
+        let mut rows: Vec<[u16; 2]> = rows.map(|[_, begin, end]| [begin, end]).collect();
+        rows.sort_unstable();
+        let mut apart: Vec<[u16; 2]> = Vec::new();
+        for [begin, end] in rows {
+            match apart.last_mut() {
+                Some([_, last]) if begin <= *last => *last = end.max(*last),
+                _ => apart.push([begin, end]),
+            }
+        }
+        apart
+    }
+
     /// Reads the part that begins with this word, as [`begun`] says it.
     pub(crate) fn read(&mut self, word: &str, cursor: &mut Cursor) -> Result<(), Flaw> {
         match word {

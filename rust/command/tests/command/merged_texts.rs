@@ -145,6 +145,60 @@ fn what_differs() {
     assert!(line.ends_with("xxx ...") && line.len() < 240, "{line}");
 }
 
+/// Seats and hours belong to a role's line: they are the same in both, however that is
+/// written, or the lines of both are told. The engine refuses nothing, so there is no number.
+#[test]
+fn other_seats_and_hours() {
+    let folder = Folder::new("merge of seats");
+    let own = format::example();
+    let limited =
+        |limits: &str| own.replace("receive answer\n", &format!("receive answer{limits}\n"));
+    let ward = limited("; 1 seat; open Mon-Fri 07:00-15:00");
+    let ward_file = folder.file("ward.txt", &ward);
+    let line = "role caller: send request; receive answer";
+    for (limits, due) in [
+        ("; 2 seats; open Mon-Fri 07:00-15:00", &["seats"][..]),
+        ("; 1 seat; open Mon-Sat 07:00-15:00", &["hours"]),
+        ("; 1 seat", &["hours"]),
+        ("", &["seats", "hours"]),
+    ] {
+        let other = folder.file("other.txt", limited(limits));
+        let differ: String = due
+            .iter()
+            .map(|what| {
+                format!(
+                    "  role caller has other {what}\n    ward.txt:5: {line}; 1 seat; open Mon-Fri \
+                     07:00-15:00\n    other.txt:5: {line}{limits}\n"
+                )
+            })
+            .collect();
+        let due = format!(
+            "pilzdamo: ward.txt, other.txt: not merged: the seats or hours of roles differ\n\
+             {differ}  write the same seats and hours of each role in both\n"
+        );
+        assert_eq!(refused(&folder, &ward_file, &other), due);
+        let bytes = pilzdamo(&["merge", &ward_file, &other, "--bytes"]);
+        assert_eq!((bytes.status, bytes.text()), (1, ""), "{}", bytes.err);
+    }
+    // A difference that the engine refuses is told first, and alone.
+    let other = folder.file("other.txt", own.replace("send request; ", ""));
+    assert_eq!(
+        between(&refused(&folder, &ward_file, &other))[0],
+        "  role caller differs"
+    );
+    // The same minutes, in other words and another order.
+    let same = "; open Wed-Fri 7:00-15:00, Mon-Tue 12:00-15:00, Mon-Wed 07:00-12:00; 1 seat";
+    let other = folder.file("other.txt", limited(same));
+    let merged = pilzdamo(&["merge", &ward_file, &other]);
+    assert_eq!(merged.status, 0, "{}", merged.err);
+    let roles: Vec<&str> = merged
+        .text()
+        .lines()
+        .filter(|line| line.starts_with("role caller"))
+        .collect();
+    assert_eq!(roles, [format!("{line}; 1 seat; open Mon-Fri 07:00-15:00")]);
+}
+
 /// A text beside bytes goes by position, with the numbers that are compared.
 #[test]
 fn a_text_and_bytes() {
@@ -209,7 +263,8 @@ fn in_any_order() {
     for (one, other) in [
         ("house/north.txt", "house/south.txt"),
         ("transfer.txt", "transfer.txt"),
-        ("spring/bare.txt", "spring/cut.txt"),
+        ("spring/bare.txt", "spring/bare.txt"),
+        ("spring/cut.txt", "spring/cut.txt"),
         ("seats/asked.txt", "seats/asked.txt"),
     ] {
         let texts = [one, other].map(|name| {
