@@ -1,7 +1,7 @@
 //! Opening hours as text, and minutes of the week.
 
 use crate::spaced;
-use text::{shown, At, Flaw};
+use text::{shown, unless_flawed, At, Flaw, MOST_FLAWS};
 
 const DAYS: [&str; 7] = ["Mon", "Tue", "Wed", "Thu", "Fri", "Sat", "Sun"];
 
@@ -25,7 +25,7 @@ impl Table {
         let (mut table, mut flaws) = (Table::default(), Vec::new());
         for (line, text) in (1..).zip(text.split(|&byte| byte == b'\n')) {
             let words = spaced::words(line, text);
-            if words.is_empty() {
+            if words.is_empty() || flaws.len() > MOST_FLAWS {
                 continue;
             }
             match rows(&words) {
@@ -36,10 +36,7 @@ impl Table {
                 Err(flaw) => flaws.push(flaw),
             }
         }
-        match flaws.is_empty() {
-            true => Ok(table),
-            false => Err(flaws),
-        }
+        unless_flawed(table, flaws)
     }
 }
 

@@ -1,6 +1,6 @@
 //! Text to bytes and back, and texts that are answered with texts.
 
-use crate::input::{read_names, words_at, Input, Text};
+use crate::input::{read_names, Input, Text};
 use crate::names;
 use crate::output::{self, Out, Ready};
 use crate::source::Source;
@@ -101,7 +101,9 @@ pub fn deliver_placed(from: &Text, placed: &[u8], out: &Out) -> Result<(), Wrong
 fn without_records(text: &str, clinic: At) -> String {
     let mut lines: Vec<String> = text.split('\n').map(str::to_string).collect();
     if let Some(line) = lines.get_mut(clinic.line.saturating_sub(1)) {
-        *line = line.replacen(&words_at(line, clinic), "clinic 1", 1);
+        let before: String = line.chars().take(clinic.column - 1).collect();
+        let behind = line.chars().skip(clinic.column - 1 + clinic.width);
+        *line = before + "clinic 1" + &behind.collect::<String>();
     }
     lines.join("\n")
 }

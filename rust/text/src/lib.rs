@@ -32,11 +32,11 @@ mod words;
 
 pub use edit::{placed, stripped};
 pub use fit::{misfit, several};
-pub use line::{shown, tokens, At, Flaw, Token};
-pub use mark::{decoded, is_text, told, undecoded};
+pub use line::{shown, tokens, unless_flawed, At, Flaw, Token, MOST_FLAWS};
+pub use mark::{decoded, is_text, told, told_first, undecoded};
 pub use names::{Names, SessionNames};
 pub use pack::{pack, NodeAt, Packed, Source};
-pub use printable::printable;
+pub use printable::{printable, printable_line};
 pub use records::{Channel, Node, Records, Role, Session, Version};
 pub use unpack::{canonical, unpack, unpack_named};
 pub use why::{held, variables, variables_at, why, why_in_numbers, Culprit};

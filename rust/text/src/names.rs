@@ -1,6 +1,6 @@
 //! The names in a text, which bytes don't have.
 
-use crate::line::{self, Flaw, Line};
+use crate::line::{self, unless_flawed, Flaw, Line, MOST_FLAWS};
 use crate::records::{Records, NEW, RECEIVE};
 use crate::tree::Spot;
 use crate::words::Cursor;
@@ -100,16 +100,16 @@ impl Names {
         let (lines, mut flaws) = line::lines(text);
         let mut names = Names::default();
         for (index, line) in lines.iter().enumerate() {
+            if flaws.len() > 2 * MOST_FLAWS {
+                break;
+            }
             let read = match index {
                 0 => first(line),
                 _ => names.add(line),
             };
             flaws.extend(read.err());
         }
-        match flaws.is_empty() {
-            true => Ok(names),
-            false => Err(flaws),
-        }
+        unless_flawed(names, flaws)
     }
 
     fn add(&mut self, line: &Line) -> Result<(), Flaw> {

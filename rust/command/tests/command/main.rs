@@ -41,6 +41,7 @@ mod pages;
 mod picture;
 mod place;
 mod printable;
+mod quick;
 mod reached;
 mod reason;
 mod refused;
