@@ -1,7 +1,7 @@
 //! What the command does. The engine judges, places and runs; this crate reads
 //! arguments and files and prints answers.
 
-#![forbid(unsafe_code)]
+#![deny(unsafe_code)]
 
 mod asked;
 mod called;
@@ -44,6 +44,8 @@ mod sessions;
 mod sheets;
 pub mod show;
 mod shown;
+#[allow(unsafe_code)]
+mod signals;
 mod source;
 mod spaced;
 mod state;

@@ -12,9 +12,9 @@ pub fn pack(source: &Source, out: &Out, names: Option<&Out>) -> Result<Outcome, 
     for out in [Some(out), names].into_iter().flatten() {
         output::spare(&[source], out)?;
     }
+    let same = || WrongUse("pack: FILE and NAMES are the same file".to_string());
     if names.is_some_and(|names| names.is_same(out)) {
-        let why = "FILE and NAMES are the same file";
-        return Err(WrongUse(format!("pack: {why}")));
+        return Err(same());
     }
     let bytes = source.read()?;
     if bytes.contains(&0) && !text::is_text(&bytes) {
@@ -24,11 +24,16 @@ pub fn pack(source: &Source, out: &Out, names: Option<&Out>) -> Result<Outcome, 
     let input = Input::of_text(source.name(), &bytes)?;
     let kept = input.text.as_ref().map(|text| text.packed.names.text());
     let kept = kept.as_ref().zip(names);
-    // Neither is put in its place before both are written.
+    // Neither is put in its place before both are written, and none waits for a reader
+    // before the other is there.
     let kept = kept.map(|(kept, names)| Ready::text(kept.as_bytes(), names));
     let (kept, file) = (kept.transpose()?, Ready::bytes(&input, out)?);
-    kept.map_or(Ok(()), Ready::put)?;
-    file.put()?;
+    if kept.as_ref().is_some_and(|kept| kept.is_same(&file)) {
+        return Err(same());
+    }
+    let mut both: Vec<Ready> = kept.into_iter().chain([file]).collect();
+    both.sort_by_key(Ready::is_stream);
+    both.into_iter().try_for_each(Ready::put)?;
     let into = out.told(" in");
     let bytes = names::several(input.len(), "byte");
     output::say(&format!("{}: packed, {bytes}{into}", input.name));
