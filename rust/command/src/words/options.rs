@@ -16,6 +16,7 @@ pub enum Opt {
     Trace,
     Interactive,
     Svg,
+    NotEmpty,
 }
 
 impl Opt {
@@ -32,6 +33,7 @@ impl Opt {
             Opt::Trace => "--trace",
             Opt::Interactive => "--interactive",
             Opt::Svg => "--svg",
+            Opt::NotEmpty => "--not-empty",
         }
     }
 

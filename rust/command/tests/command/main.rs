@@ -34,6 +34,7 @@ mod measure;
 mod merge;
 mod merged_texts;
 mod named;
+mod not_empty;
 mod nothing;
 mod notices;
 mod odd_texts;
