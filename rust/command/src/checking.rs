@@ -34,10 +34,7 @@ pub fn check(files: &[NamedFile], at: Option<&At>, json: bool) -> Result<Outcome
                 Outcome::Refusal
             }
             Ok(Told::Object(object, verdict)) => objects::print(&object, verdict)?,
-            Err(wrong) => {
-                wrong.tell();
-                Outcome::Unanswered
-            }
+            Err(wrong) => wrong.tell(),
         });
     }
     Ok(outcome)

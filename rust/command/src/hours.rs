@@ -5,7 +5,7 @@ use crate::named;
 use crate::spaced;
 use crate::WrongUse;
 use text::week::Stretch;
-use text::{shown, At, Flaw};
+use text::{shown, unless_flawed, At, Flaw, MOST_FLAWS};
 
 /// A table of hours, read from text.
 #[derive(Debug, Default, PartialEq)]
@@ -57,7 +57,7 @@ impl Table {
         let (mut table, mut flaws) = (Table::default(), Vec::new());
         for (line, text) in (1..).zip(text.split(|&byte| byte == b'\n')) {
             let words = spaced::words(line, text);
-            if words.is_empty() {
+            if words.is_empty() || flaws.len() > MOST_FLAWS {
                 continue;
             }
             match rows(&words, roles) {
@@ -68,10 +68,7 @@ impl Table {
                 Err(flaw) => flaws.push(flaw),
             }
         }
-        match flaws.is_empty() {
-            true => Ok(table),
-            false => Err(flaws),
-        }
+        unless_flawed(table, flaws)
     }
 }
 

@@ -9,8 +9,9 @@ use crate::report;
 use crate::source::{too_long, Source};
 use crate::WrongUse;
 use pilzdamo::{Counts, Verdict};
+use std::cell::OnceCell;
 use std::ops::Deref;
-use text::{At, Flaw, Lent, Packed, Records};
+use text::{At, Flaw, Lent, Packed, Records, MOST_FLAWS};
 
 /// A file's bytes, and the text that says them, if it came as one.
 pub struct Input {
@@ -27,6 +28,8 @@ pub struct Text {
     pub has_lines: bool,
     /// The mark of the byte order, if it stood before the text.
     mark: &'static str,
+    /// The step of each node as it is written, once that is asked for.
+    steps: OnceCell<Vec<String>>,
 }
 
 /// A mark of the byte order.
@@ -45,13 +48,24 @@ impl Text {
     }
 
     /// The step of the node of this number, as it is written.
-    pub fn step(&self, node: usize) -> Option<String> {
-        let place = self.packed.source.nodes.get(node.checked_sub(1)?)?;
-        if place.behind {
-            return Some("end".to_string());
-        }
-        let line = self.text.split('\n').nth(place.at.line - 1)?;
-        Some(words_at(line, place.at))
+    pub fn step(&self, node: usize) -> Option<&str> {
+        let steps = self.steps.get_or_init(|| self.written_steps());
+        steps.get(node.checked_sub(1)?).map(String::as_str)
+    }
+
+    /// The step of each node; the lines are gone through once.
+    fn written_steps(&self) -> Vec<String> {
+        let mut lines = (1..).zip(self.text.split('\n'));
+        let nodes = self.packed.source.nodes.iter();
+        nodes
+            .map(|place| match place.behind {
+                true => "end".to_string(),
+                false => {
+                    let line = lines.find(|(number, _)| *number == place.at.line);
+                    line.map_or(String::new(), |(_, line)| words_at(line, place.at))
+                }
+            })
+            .collect()
     }
 }
 
@@ -108,6 +122,7 @@ impl Input {
                     true => MARK,
                     false => "",
                 },
+                steps: OnceCell::new(),
             }),
         })
     }
@@ -129,6 +144,7 @@ impl Input {
             packed,
             has_lines: false,
             mark: "",
+            steps: OnceCell::new(),
         });
         Ok(self)
     }
@@ -245,9 +261,10 @@ impl Input {
     }
 }
 
-/// The words that stand at a place of this line.
-pub fn words_at(line: &str, at: At) -> String {
-    line.chars().skip(at.column - 1).take(at.width).collect()
+/// The words that stand at a place of this line, with one space for any white space.
+fn words_at(line: &str, at: At) -> String {
+    let words: String = line.chars().skip(at.column - 1).take(at.width).collect();
+    words.split_whitespace().collect::<Vec<_>>().join(" ")
 }
 
 /// Said of names whose sum isn't the file's.
@@ -278,13 +295,14 @@ const TOLD: usize = 20;
 
 /// Reports the errors in a text.
 pub fn flawed(name: &str, text: impl AsRef<[u8]>, flaws: &[Flaw]) -> WrongUse {
-    for flaw in flaws.iter().take(TOLD) {
-        output::say(&text::told(name, &text, flaw.at, &flaw.what));
+    for told in text::told_first(name, &text, flaws, TOLD) {
+        output::say(&told);
     }
+    let errors = crate::names::several(flaws.len(), "error");
     let more = match flaws.len().checked_sub(TOLD) {
+        Some(_) if flaws.len() == MOST_FLAWS => " or more".to_string(),
         Some(more @ 1..) => format!(" ({more} more)"),
         _ => String::new(),
     };
-    let errors = crate::names::several(flaws.len(), "error");
     WrongUse(format!("{name}: {errors}{more}"))
 }

@@ -65,7 +65,7 @@ impl<'a> Lines<'a> {
         let mut room = [0; RUN_ROOM];
         let verdict = seats::run(input, choices, Some(self.table), &mut room);
         let state = State::of(&room);
-        let same_lines = (1..).zip(&self.table.words).all(|(role, _)| {
+        let same_lines = (1..=u16::MAX).zip(&self.table.words).all(|(role, _)| {
             let line = self.line(role);
             let sessions = told
                 .line_of(role)

@@ -125,6 +125,17 @@ impl<'a> Ready<'a> {
         })
     }
 
+    /// Whether both are to be in one file.
+    pub fn is_same(&self, other: &Ready) -> bool {
+        let both = self.written.as_ref().zip(other.written.as_ref());
+        both.is_some_and(|(one, other)| one.is_same(other))
+    }
+
+    /// Whether it may be long until it is there, as someone has to read it.
+    pub fn is_stream(&self) -> bool {
+        self.written.as_ref().is_none_or(Written::is_direct)
+    }
+
     /// Puts it there.
     pub fn put(self) -> Result<(), WrongUse> {
         match self.written {

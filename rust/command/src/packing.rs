@@ -1,6 +1,6 @@
 //! Text to bytes and back, and texts that are answered with texts.
 
-use crate::input::{read_names, words_at, Input, Text};
+use crate::input::{read_names, Input, Text};
 use crate::names;
 use crate::output::{self, Out, Ready};
 use crate::source::Source;
@@ -16,8 +16,7 @@ pub fn pack(source: &Source, out: &Out, beside: &Beside) -> Result<Outcome, Wron
         output::spare(&[source], out)?;
         let mut before = outs[..at].iter();
         if let Some((other, _)) = before.find(|(_, before)| out.is_same(before)) {
-            let why = format!("{other} and {name} are the same file");
-            return Err(WrongUse(format!("pack: {why}")));
+            return Err(same(other, name));
         }
     }
     let bytes = source.read()?;
@@ -33,17 +32,24 @@ pub fn pack(source: &Source, out: &Out, beside: &Beside) -> Result<Outcome, Wron
     let hours = names.hours().into_iter().flat_map(|(_, row)| row);
     let (names, hours) = (lent.text(), little_endian(hours));
     // Nothing is put in its place before all is written.
-    let mut ready = Vec::new();
+    let mut ready: Vec<(&str, Ready)> = Vec::new();
     for (name, out) in outs {
-        ready.push(match name {
+        let one = match name {
             "NAMES" => Ready::text(names.as_bytes(), out)?,
             "SEATS" => Ready::bytes(&seats, out)?,
             "HOURS" => Ready::bytes(&hours, out)?,
             _ => Ready::bytes(&input, out)?,
-        });
+        };
+        if let Some((other, _)) = ready.iter().find(|(_, before)| one.is_same(before)) {
+            return Err(same(other, name));
+        }
+        ready.push((name, one));
     }
-    // The file comes last: who finds it finds what belongs to it.
-    ready.into_iter().rev().try_for_each(Ready::put)?;
+    // The file comes last, since who finds it finds what belongs to it; but nothing waits for
+    // a reader before the rest is there.
+    ready.reverse();
+    ready.sort_by_key(|(_, one)| one.is_stream());
+    ready.into_iter().try_for_each(|(_, one)| one.put())?;
     let into = out.told(" in");
     let bytes = names::several(input.len(), "byte");
     output::say(&format!("{}: packed, {bytes}{into}", input.name));
@@ -117,11 +123,17 @@ pub fn deliver_placed(from: &Text, placed: &[u8], out: &Out) -> Result<(), Wrong
     output::deliver_text(&from.marked(&placed), out)
 }
 
+fn same(one: &str, other: &str) -> WrongUse {
+    WrongUse(format!("pack: {one} and {other} are the same file"))
+}
+
 /// The text of a file without records, for that of zero bytes, which placing makes it.
 pub fn without_records(text: &str, clinic: At) -> String {
     let mut lines: Vec<String> = text.split('\n').map(str::to_string).collect();
     if let Some(line) = lines.get_mut(clinic.line.saturating_sub(1)) {
-        *line = line.replacen(&words_at(line, clinic), "clinic 1", 1);
+        let before: String = line.chars().take(clinic.column - 1).collect();
+        let behind = line.chars().skip(clinic.column - 1 + clinic.width);
+        *line = before + "clinic 1" + &behind.collect::<String>();
     }
     lines.join("\n")
 }

@@ -10,7 +10,7 @@ use crate::source::Source;
 use crate::spaced;
 use crate::WrongUse;
 use pilzdamo::{Round, Seats, Verdict, SEATS};
-use text::{shown, At, Flaw};
+use text::{shown, unless_flawed, At, Flaw, MOST_FLAWS};
 
 /// A table of seats with the name of its source.
 pub struct Table {
@@ -138,6 +138,9 @@ fn by_name(text: &[u8], roles: &[String]) -> Result<Vec<u16>, Vec<Flaw>> {
     }
     let (mut seats, mut flaws) = (vec![None; roles.len()], Vec::new());
     for words in &lines {
+        if flaws.len() > MOST_FLAWS {
+            break;
+        }
         match role_and_seats(words, roles) {
             Ok((at, role, _)) if seats[usize::from(role) - 1].is_some() => {
                 let what = format!("'{}' is there twice", roles[usize::from(role) - 1]);
@@ -147,10 +150,8 @@ fn by_name(text: &[u8], roles: &[String]) -> Result<Vec<u16>, Vec<Flaw>> {
             Err(flaw) => flaws.push(flaw),
         }
     }
-    match flaws.is_empty() {
-        true => Ok(seats.into_iter().map(Option::unwrap_or_default).collect()),
-        false => Err(flaws),
-    }
+    let seats = seats.into_iter().map(Option::unwrap_or_default).collect();
+    unless_flawed(seats, flaws)
 }
 
 /// What is said of a table by position, with its first limit by name.

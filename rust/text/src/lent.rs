@@ -1,7 +1,6 @@
 //! Names in a file of their own, with a sum of the routine that they were written for.
 
-use crate::limits::Limits;
-use crate::line::{self, Flaw, Line};
+use crate::line::{self, unless_flawed, Flaw, Line, MOST_FLAWS};
 use crate::names::Names;
 use crate::records::{Node, Records, FORK, OFF, ON};
 use crate::words::Cursor;
@@ -39,6 +38,9 @@ impl Lent {
         let mut lent = Lent::default();
         let mut limited = Vec::new();
         for (index, line) in lines.iter().enumerate() {
+            if flaws.len() > 2 * MOST_FLAWS {
+                break;
+            }
             let read = match index {
                 0 => first(line),
                 _ if Cursor::new(line).takes("role") => {
@@ -50,15 +52,9 @@ impl Lent {
             flaws.extend(read.err());
         }
         // A role's line may stand above that with its name.
-        let names = &mut lent.names;
-        names.limits = vec![Limits::default(); names.roles.len()];
-        let read = limited.into_iter().map(|line| names.limit(line));
-        flaws.extend(read.filter_map(Result::err));
+        flaws.extend(lent.names.limit_all(&limited));
         flaws.sort_by_key(|flaw| (flaw.at.line, flaw.at.column));
-        match flaws.is_empty() {
-            true => Ok(lent),
-            false => Err(flaws),
-        }
+        unless_flawed(lent, flaws)
     }
 
     fn add(&mut self, line: &Line) -> Result<(), Flaw> {

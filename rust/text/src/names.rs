@@ -1,11 +1,12 @@
 //! The names in a text, which bytes don't have.
 
 use crate::limits::{self, Limits};
-use crate::line::{At, Flaw, Line};
-use crate::pack::unknown;
+use crate::line::{shown, Flaw, Line, MOST_FLAWS};
 use crate::records::{Records, NEW, RECEIVE};
+use crate::tables::{unknown, LISTED};
 use crate::tree::Spot;
 use crate::words::Cursor;
+use std::collections::HashMap;
 
 /// The names of a file's records, in their order, and what else a text has and bytes don't.
 #[derive(Clone, Debug, Default, PartialEq, Eq)]
@@ -130,13 +131,23 @@ impl Names {
         }
     }
 
+    /// Reads the lines of the roles' seats and hours, when all roles are known.
+    pub(crate) fn limit_all(&mut self, lines: &[&Line]) -> Vec<Flaw> {
+        self.limits = vec![Limits::default(); self.roles.len()];
+        // Of two with one name the first counts.
+        let roles = self.roles.iter().cloned().zip(0..self.roles.len());
+        let numbers: HashMap<String, usize> = roles.rev().collect();
+        let read = lines.iter().map(|line| self.limit(line, &numbers));
+        read.filter_map(Result::err).take(MOST_FLAWS).collect()
+    }
+
     /// Reads the line of a role's seats and hours.
-    pub(crate) fn limit(&mut self, line: &Line) -> Result<(), Flaw> {
+    fn limit(&mut self, line: &Line, numbers: &HashMap<String, usize>) -> Result<(), Flaw> {
         let mut cursor = Cursor::new(line);
         cursor.word("role")?;
         let role = cursor.name("a role")?;
-        let Some(index) = self.roles.iter().position(|name| *name == role.text) else {
-            let roles = self.roles.iter().map(|name| (name.clone(), At::default()));
+        let Some(&index) = numbers.get(&role.text) else {
+            let roles = self.roles.iter().take(LISTED + 1).map(shown);
             let what = unknown("role", &role.text, &roles.collect::<Vec<_>>());
             return Err(Flaw { at: role.at, what });
         };

@@ -2,7 +2,7 @@
 
 use crate::blocks::Blocks;
 use crate::limits::{self, Limits};
-use crate::line::{self, shown, At, Flaw, Line};
+use crate::line::{self, shown, unless_flawed, At, Flaw, Line, MOST_FLAWS};
 use crate::names::{Names, SessionNames};
 use crate::records::{bit, Channel, Records, Role, Version};
 use crate::tables::{Table, Tables};
@@ -78,16 +78,14 @@ pub fn pack(text: &str) -> Result<Packed, Vec<Flaw>> {
     };
     reader.read(&lines);
     let mut flaws = reader.flaws;
-    if !flaws.is_empty() {
-        flaws.sort_by_key(|flaw| (flaw.at.line, flaw.at.column));
-        flaws.dedup();
-        return Err(flaws);
-    }
-    Ok(Packed {
+    flaws.sort_by_key(|flaw| (flaw.at.line, flaw.at.column));
+    flaws.dedup();
+    let packed = Packed {
         records: reader.records,
         names: reader.names,
         source: reader.source,
-    })
+    };
+    unless_flawed(packed, flaws)
 }
 
 fn places(table: &Table) -> Vec<At> {
@@ -121,8 +119,11 @@ impl Reader<'_> {
             Ok(version) => self.records.version = version,
             Err(flaw) => self.flaws.push(flaw),
         }
-        let mut rest = rest;
+        let (mut rest, most) = (rest, self.flaws.len() + MOST_FLAWS);
         while let Some((line, behind)) = rest.split_first() {
+            if self.flaws.len() > most {
+                break;
+            }
             let steps = behind.iter().take_while(|line| line.indent > 0).count();
             let (steps, behind) = behind.split_at(steps);
             self.statement(line, steps);
@@ -261,7 +262,7 @@ impl Reader<'_> {
     }
 
     fn session(&mut self, cursor: &mut Cursor) -> Result<(), Flaw> {
-        let root = self.records.nodes.len() as u16 + 1;
+        let root = (self.records.nodes.len() + 1) as u16;
         self.records.sessions.push(crate::records::Session {
             user: 0,
             mask: 0,
@@ -287,6 +288,9 @@ impl Reader<'_> {
     fn steps(&mut self, line: &Line, steps: &[Line]) {
         let mut blocks = Blocks::new(self.tables, self.records.nodes.len(), line);
         for step in steps {
+            if blocks.flaws() > MOST_FLAWS {
+                break;
+            }
             blocks.step(step);
         }
         let grown = blocks.close();
@@ -338,29 +342,11 @@ fn version(line: &Line) -> Result<Version, Flaw> {
 
 /// The number of the record that is named next.
 pub fn known(cursor: &mut Cursor, table: &Table) -> Result<usize, Flaw> {
-    let one = table.one;
-    let token = cursor.name(&format!("a {one}"))?;
+    let token = cursor.name(&format!("a {}", table.one))?;
     table.number(&token.text).ok_or_else(|| Flaw {
         at: token.at,
-        what: unknown(one, &token.text, &table.names),
+        what: table.unknown(&token.text),
     })
-}
-
-/// What is said of a name that nothing has.
-pub fn unknown(what: &str, name: &str, names: &[(String, At)]) -> String {
-    let mut there: Vec<&str> = Vec::new();
-    for (name, _) in names {
-        if !name.is_empty() && !there.contains(&&name[..]) {
-            there.push(name);
-        }
-    }
-    let names: Vec<String> = there.into_iter().map(shown).collect();
-    let there = match &names[..] {
-        [] => format!("there are no {what}s"),
-        names if names.len() > 8 => format!("{what}s: {}, ...", names[..8].join(", ")),
-        names => format!("{what}s: {}", names.join(", ")),
-    };
-    format!("there is no {what} '{}' ({there})", shown(name))
 }
 
 /// The mask of names with commas between, and where they stand, in the order of

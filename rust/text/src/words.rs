@@ -9,6 +9,9 @@ const RESERVED: [&str; 21] = [
     "with",
 ];
 
+/// The most characters of a name. An answer may name a thing at each of 65,535 choices.
+const LONGEST_NAME: usize = 100;
+
 /// Whether the form has this word itself.
 pub fn is_reserved(word: &str) -> bool {
     RESERVED.contains(&word)
@@ -59,6 +62,12 @@ impl<'a> Cursor<'a> {
             Some(token) if is_reserved(&token.text) => {
                 let word = &token.text;
                 let what = format!("expected {what}: '{word}' is a reserved word");
+                Err(Flaw { at: token.at, what })
+            }
+            Some(token) if token.is_name() && token.at.width > LONGEST_NAME => {
+                let width = token.at.width;
+                let what =
+                    format!("a name of {width} characters: a name has at most {LONGEST_NAME}");
                 Err(Flaw { at: token.at, what })
             }
             Some(token) if token.is_name() => {

@@ -124,10 +124,19 @@ impl Given {
         })
     }
 
+    /// A clinic's file.
+    pub fn file(&self, word: OsString) -> Source {
+        let source = Source::named(word);
+        match self.has(Opt::NotEmpty) {
+            true => Source::NotEmpty(Box::new(source)),
+            false => source,
+        }
+    }
+
     /// A file, with the names that are given.
     pub fn named(&self, file: OsString) -> NamedFile {
         NamedFile {
-            file: Source::named(file),
+            file: self.file(file),
             names: self.source(Opt::Names),
         }
     }

@@ -48,7 +48,7 @@ pub fn measure(mut given: Given) -> Result<Job, WrongUse> {
 }
 
 pub fn merge(mut given: Given) -> Result<Job, WrongUse> {
-    let [first, second] = given.exactly()?.map(Source::named);
+    let [first, second] = given.exactly()?.map(|word| given.file(word));
     Ok(Job::Merge {
         first,
         second,
@@ -74,7 +74,7 @@ pub fn notice(mut given: Given) -> Result<Job, WrongUse> {
     let [date, file] = given.exactly()?;
     Ok(Job::Notice {
         first_day: day("notice: DATE", date)?,
-        file: Source::named(file),
+        file: given.file(file),
         out: given.out(),
     })
 }
@@ -98,7 +98,7 @@ pub fn sheet(mut given: Given) -> Result<Job, WrongUse> {
         ));
     }
     Ok(Job::Sheet {
-        files: files.into_iter().map(Source::named).collect(),
+        files: files.into_iter().map(|file| given.file(file)).collect(),
         json: given.has(Opt::Json),
     })
 }
@@ -131,13 +131,14 @@ fn interactive(mut given: Given) -> Result<Job, WrongUse> {
     let (file, choices) = match given.plain.len() {
         0 | 1 => (file(&mut given)?, None),
         _ => {
-            let [file, choices] = given.exactly()?.map(Source::named);
-            (file, Some(choices))
+            let [file, choices] = given.exactly()?;
+            (given.file(file), Some(Source::named(choices)))
         }
     };
     let (names, seats) = (given.source(Opt::Names), given.source(Opt::Seats));
     let beside = [choices.as_ref(), names.as_ref(), seats.as_ref()];
-    if file == Source::StandardInput || beside.contains(&Some(&Source::StandardInput)) {
+    let typed = |source: Option<&Source>| source.is_some_and(Source::is_standard_input);
+    if file.is_standard_input() || beside.into_iter().any(typed) {
         return misused("run: with -i standard input is what is typed, and no file can be it");
     }
     Ok(Job::Interactive {
@@ -307,7 +308,7 @@ pub fn help(mut given: Given) -> Result<Job, WrongUse> {
 /// The only operand.
 fn file(given: &mut Given) -> Result<Source, WrongUse> {
     let [file] = given.exactly()?;
-    Ok(Source::named(file))
+    Ok(given.file(file))
 }
 
 /// The only operand, with the names that are given.

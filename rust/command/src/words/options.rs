@@ -19,6 +19,7 @@ pub enum Opt {
     Interactive,
     Svg,
     Sparing,
+    NotEmpty,
 }
 
 impl Opt {
@@ -36,6 +37,7 @@ impl Opt {
             Opt::Interactive => "--interactive",
             Opt::Svg => "--svg",
             Opt::Sparing => "--sparing",
+            Opt::NotEmpty => "--not-empty",
         }
     }
 

@@ -25,17 +25,33 @@ pub fn pilzdamo<W: AsRef<OsStr>>(words: &[W]) -> Answer {
     pilzdamo_fed(words, b"")
 }
 
-/// Calls the command with these bytes on standard input.
+/// Calls the command with these bytes on standard input; zero bytes come from a device, which
+/// is no pipe.
 pub fn pilzdamo_fed<W: AsRef<OsStr>>(words: &[W], input: &[u8]) -> Answer {
+    let stdin = match input {
+        [] => Stdio::null(),
+        _ => Stdio::piped(),
+    };
+    called(words, stdin, input)
+}
+
+/// Calls the command with these bytes in a pipe.
+pub fn pilzdamo_piped<W: AsRef<OsStr>>(words: &[W], input: &[u8]) -> Answer {
+    called(words, Stdio::piped(), input)
+}
+
+fn called<W: AsRef<OsStr>>(words: &[W], stdin: Stdio, input: &[u8]) -> Answer {
     let mut child = Command::new(env!("CARGO_BIN_EXE_pilzdamo"))
         .args(words)
-        .stdin(Stdio::piped())
+        .stdin(stdin)
         .stdout(Stdio::piped())
         .stderr(Stdio::piped())
         .spawn()
         .expect("the command starts");
     // The command may end without reading its input.
-    let _ = child.stdin.take().expect("a pipe").write_all(input);
+    if let Some(mut pipe) = child.stdin.take() {
+        let _ = pipe.write_all(input);
+    }
     let output = child.wait_with_output().expect("the command ends");
     Answer {
         status: output.status.code().expect("an exit status"),
