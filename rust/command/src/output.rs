@@ -140,9 +140,24 @@ impl<'a> Ready<'a> {
     pub fn put(self) -> Result<(), WrongUse> {
         match self.written {
             Some(written) => written.put().map_err(|error| unwritten(self.out, &error)),
+            None if io::stdout().is_terminal() => print(legible(self.bytes).as_bytes()),
             None => print(self.bytes),
         }
     }
+}
+
+/// A text as a terminal may print it: what it would obey is written out, but the ends of
+/// lines.
+fn legible(text: &[u8]) -> String {
+    let text = String::from_utf8_lossy(text);
+    let lines = text.split('\n').map(|line| {
+        let (line, end) = match line.strip_suffix('\r') {
+            Some(line) => (line, "\r"),
+            None => (line, ""),
+        };
+        text::printable_line(line).into_owned() + end
+    });
+    lines.collect::<Vec<_>>().join("\n")
 }
 
 fn unwritten(out: &Out, error: &io::Error) -> WrongUse {

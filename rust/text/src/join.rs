@@ -5,6 +5,7 @@ use crate::line::{tokens, At, Token};
 use crate::names::Names;
 use crate::pack::Packed;
 use crate::records::{bit, items, Records, Role, NEW, OFF, ON};
+use crate::words::LONGEST_NAME;
 use std::collections::{BTreeMap, BTreeSet};
 
 /// A kind or a role that two texts don't have alike.
@@ -280,11 +281,14 @@ fn variables(names: &Names) -> BTreeSet<&str> {
     names.map(String::as_str).collect()
 }
 
-/// The name with the lowest number from 2 that nothing has, which is then there.
+/// The name with the lowest number from 2 that nothing has, which is then there. One that
+/// would be too long with its number loses its last letters.
 fn free(name: &str, there: &mut BTreeSet<String>) -> String {
     let mut number = 2;
     loop {
-        let to = format!("{name}-{number}");
+        let end = format!("-{number}");
+        let start = name.chars().take(LONGEST_NAME - end.len());
+        let to = start.collect::<String>() + &end;
         if there.insert(to.clone()) {
             return to;
         }

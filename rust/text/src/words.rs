@@ -10,7 +10,7 @@ const RESERVED: [&str; 21] = [
 ];
 
 /// The most characters of a name. An answer may name a thing at each of 65,535 choices.
-const LONGEST_NAME: usize = 100;
+pub const LONGEST_NAME: usize = 100;
 
 /// Whether the form has this word itself.
 pub fn is_reserved(word: &str) -> bool {

@@ -404,6 +404,13 @@ fn hardly_anything() {
         let answer = pilzdamo(&["merge", one, other]);
         assert_eq!((answer.status, answer.text()), (0, due), "{}", answer.err);
     }
+    // A name can be too long for a number behind it.
+    let long = |letters: usize| "u".repeat(letters);
+    let user = format!("clinic 1\nuser {}\n", long(100));
+    let users = folder.file("users.txt", &user);
+    let answer = pilzdamo(&["merge", &users, &users]);
+    let due = format!("{user}\nuser {}-2\n", long(98));
+    assert_eq!((answer.status, answer.text()), (0, &*due), "{}", answer.err);
     let kinds = folder.file("kinds.txt", "clinic 1\nkind k\n");
     let answer = pilzdamo(&["merge", &kinds, &kinds]);
     assert_eq!((answer.status, answer.text()), (0, "clinic 1\nkind k\n"));

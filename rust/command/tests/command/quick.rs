@@ -26,6 +26,8 @@ fn filled(start: &str, line: impl Fn(usize) -> String) -> String {
 const SESSION: &str = "clinic 1\nkind k\nrole r: send k; receive k\nuser u: r\n\
                        channel c: k, owner u\nsession s by u\n";
 
+const OPEN: &str = "clinic 1\nrole r: 1 seat; open Mon 07:00-15:00";
+
 /// Texts of one sort of line each, and the exit status of their check.
 fn shapes() -> Vec<(&'static str, String, i32)> {
     let long = "x".repeat(LONGEST - 100);
@@ -75,6 +77,16 @@ fn shapes() -> Vec<(&'static str, String, i32)> {
         (
             "a line of names",
             "clinic 1\nuser u: ".to_string() + &long.replace("xx", "x,"),
+            2,
+        ),
+        (
+            "stretches",
+            filled(OPEN, |_| ", Mon-Sun 22:00-06:00".to_string()),
+            0,
+        ),
+        (
+            "seats",
+            filled("clinic 1\n", |n| format!("role r{n}: {n} seats; open x\n")),
             2,
         ),
         ("a comment", format!("clinic 1 # {long}"), 0),
@@ -133,8 +145,17 @@ fn sound_texts_are_answered_soon_by_every_command() {
             continue;
         }
         let file = folder.file("long.txt", text);
-        let calls: [&[&str]; 14] = [
+        let calls: [&[&str]; 16] = [
             &["place", &file],
+            &["check", &file, "--at", "Mon 12:00"],
+            &[
+                "pack",
+                &file,
+                "--names",
+                "/dev/null",
+                "--hours",
+                "/dev/null",
+            ],
             &["measure", &file],
             &["show", &file],
             &["show", "--json", &file],
@@ -169,6 +190,9 @@ fn other_texts_are_answered_soon() {
         "desk.1 ",
         "9",
         "role 1 Mon-Sun 22:00-06:00\n",
+        "holder 1\n",
+        "holde 1\n",
+        "holde Mon-Sun 22:00-06:00\n",
     ] {
         let list = folder.file("list", pattern.repeat(LONGEST / pattern.len()));
         let calls: [&[&str]; 6] = [
@@ -182,6 +206,12 @@ fn other_texts_are_answered_soon() {
         for words in calls {
             answers_soon(words, None, pattern);
         }
+    }
+    let names = filled("names\n", |n| format!("roles r{n}\nrole r{n}: 1 seat\n"));
+    let turned = filled("names\nroles r\n", |n| format!("role r{n}: 1 seat\n"));
+    for (shape, names) in [("roles", names), ("unknown roles", turned)] {
+        let names = folder.file("names", names);
+        answers_soon(&["unpack", &bytes, "--names", &names], Some(2), shape);
     }
 }
 
