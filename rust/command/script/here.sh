@@ -15,12 +15,13 @@ TEXT
 ./pilzdamo install [DIR]
 
 Builds if it must, and copies the program into DIR, or into .local/bin of your
-home, and its man page into ../share/man/man1 if DIR is called bin, else into
-DIR. It prints both paths, and whether DIR is on the PATH. The installed program
-needs neither this checkout nor a toolchain.
+home. If DIR is called bin, its man page goes into ../share/man/man1 and the
+pages GUIDE.md, CLI.md, FORMAT.md and JSON.md into ../share/doc/pilzdamo; else
+into DIR and its folder doc. It prints the paths, and whether DIR is on the PATH.
+The installed program needs neither this checkout nor a toolchain.
   ./pilzdamo install             into ~/.local/bin
   ./pilzdamo install /opt/bin    into /opt/bin
-Exit status: 0 both are installed, 2 DIR can't be written, 3 something could not
+Exit status: 0 all is installed, 2 DIR can't be written, 3 something could not
 be built.
 TEXT
     esac
@@ -34,9 +35,9 @@ put() { # FROM FOLDER NAME MODE
     misused "install: $(shown "$2/$3") can't be written"
 }
 
-# Puts the program and its man page where they are found, and says where that is.
+# Puts the program, its man page and the pages that its help names where they are found, and says where that is.
 install_into() { # DIR
-    local folder=$1 pages shown
+    local folder=$1 pages documents page shown
     # By its whole name, which no CDPATH leads elsewhere; its last letter may be a line's end.
     if [[ $folder != /* ]]; then folder=$PWD/$folder; fi
     mkdir -p -- "$folder" || misused "install: $(shown "$1") can't be made"
@@ -44,12 +45,20 @@ install_into() { # DIR
     folder=${folder%$'\n.'}
     [[ ! $folder -ef $root ]] || misused "install: $(shown "$1") is the checkout, and pilzdamo there is the script that builds"
     pages=$folder
-    if [[ ${folder##*/} == bin ]]; then pages=${folder%/*}/share/man/man1; fi
+    documents=$folder/doc
+    if [[ ${folder##*/} == bin ]]; then
+        pages=${folder%/*}/share/man/man1
+        documents=${folder%/*}/share/doc/pilzdamo
+    fi
     put "$program" "$folder" pilzdamo 755
     put "$root/docs/pilzdamo.1" "$pages" pilzdamo.1 644
+    for page in GUIDE CLI FORMAT JSON; do
+        put "$root/docs/$page.md" "$documents" "$page.md" 644
+    done
     shown=$(shown "$folder")
     {
         printf 'the program is %s\nits man page is %s\n' "$shown/pilzdamo" "$(shown "$pages/pilzdamo.1")"
+        printf 'its documents are in %s\n' "$(shown "$documents")"
         case :$PATH: in
         *:"$folder":*) printf '%s is on the PATH\n' "$shown" ;;
         *) printf '%s is not on the PATH: put it there, or call the program by its whole name\n' "$shown" ;;
@@ -80,6 +89,7 @@ carry_out_here() { # WORD [DIR]
     done
     if [[ $word == install ]]; then most=1; fi
     ((${#operands[@]} <= most)) || misused "$word: '$(shown "${operands[most]}")' is too many"
+    if ((${#operands[@]})) && [[ -z ${operands[0]} ]]; then misused "install: DIR is empty: ''"; fi
     if [[ $word == install && -z ${operands[0]-} && -z ${HOME-} ]]; then misused "install: DIR is missing, and HOME isn't set"; fi
     is_built || build || exit 3
     if [[ $word == install ]]; then install_into "${operands[0]:-${HOME-}/.local/bin}"; fi

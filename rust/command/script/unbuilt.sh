@@ -176,7 +176,7 @@ one_standard_input() { # WORD
     for name in "${typed[@]}"; do
         value=${given[$name]}
         case $1$name in
-        pack--names) ;;
+        pack--*) ;;
         *--hours | *--seats | *--names)
             name=${name#--}
             add_input "${name^^}" "$value"
@@ -184,10 +184,15 @@ one_standard_input() { # WORD
         esac
     done
     ((inputs > 1)) || return 0
-    local last=${all[*]: -1} others=("${all[@]:0:${#all[@]}-1}") which
+    misused "$1: only $(one_of "${all[@]}") can be standard input"
+}
+
+# "one FILE", or "one of FILE, NAMES and SEATS".
+one_of() { # NAME...
+    local last=${*: -1} others=("${@:1:$#-1}") which
     printf -v which '%s, ' "${others[@]}"
     if ((${#others[@]})); then which="one of ${which%, } and $last"; else which="one $last"; fi
-    misused "$1: only $which can be standard input"
+    printf '%s' "$which"
 }
 
 # Counts a file that is read, and keeps its name if that isn't the one before.
@@ -198,10 +203,14 @@ add_input() { # NAME FILE
 
 # Ends if options don't go together.
 fit_options() { # WORD
-    local other
+    local other printed=()
     case $1 in
     pack)
-        [[ ${given[-o]--} != - || ${given[--names]-} != - ]] || misused "pack: only one of FILE and NAMES can be standard output"
+        if [[ ${given[-o]--} == - ]]; then printed=(FILE); fi
+        for other in names seats hours; do
+            if [[ ${given[--$other]-} == - ]]; then printed+=("${other^^}"); fi
+        done
+        ((${#printed[@]} < 2)) || misused "pack: only $(one_of "${printed[@]}") can be standard output"
         ;;
     place)
         ! has --json || [[ ${given[-o]--} != - ]] ||
@@ -254,12 +263,12 @@ fit_day() { # WORD NAME
     is_number "$day" 0 || is_date "$day" || misused "$1: $2 is $due, not '$(shown "$day")'"
 }
 
-# Ends if one of --at and --hours is missing, or TIME is invalid.
+# Ends if --hours has no --at, or TIME is invalid.
 fit_hours() { # WORD
     # White space may be any that the program knows, so all but letters and digits passes for it.
     local LC_ALL=C space='[^a-z0-9:]' time
     time="^$space*(mon|tue|wed|thu|fri|sat|sun)$space+([01]?[0-9]|2[0-3]):[0-5][0-9]$space*\$"
-    if has --at; then has --hours; else ! has --hours; fi || misused "$1: --at and --hours go together"
+    ! has --hours || has --at || misused "$1: --hours goes with --at TIME"
     ! has --at || [[ ${given[--at],,} =~ $time ]] ||
         misused "$1: --at needs a day and a time such as \"Mon 07:30\", not '$(shown "${given[--at]}")'"
 }

@@ -1,11 +1,13 @@
-//! A minute of the week that is asked for, with a table of opening hours.
+//! A minute of the week that is asked for, with opening hours.
 
 use crate::hours;
-use crate::input::{flawed, Input};
+use crate::input::Input;
 use crate::report;
+use crate::source::Source;
 use crate::words::At;
 use crate::WrongUse;
 use pilzdamo::Verdict;
+use text::week;
 
 /// A table of hours with its source, and the minute that is asked for.
 pub struct Hours {
@@ -14,21 +16,44 @@ pub struct Hours {
     pub minute: u16,
 }
 
-impl Hours {
-    pub fn read(at: &At) -> Result<Hours, WrongUse> {
-        let name = at.hours.name();
-        let bytes = at.hours.read()?;
-        let table = hours::Table::of(&bytes).map_err(|flaws| {
-            let WrongUse(why) = flawed(&name, &bytes, &flaws);
-            let form =
-                "opening hours are text, a line for each stretch: role 2 Mon-Fri 07:00-15:00";
-            WrongUse(format!("{why}\n  {form}"))
+/// A minute that is asked for, and the table that goes with it, if one is named. It is read
+/// once, and understood for each file by itself.
+pub struct Asked {
+    minute: u16,
+    hours: Option<(String, Vec<u8>)>,
+}
+
+impl Asked {
+    pub fn read(at: &At) -> Result<Asked, WrongUse> {
+        let read = |hours: &Source| Ok((hours.name(), hours.read()?));
+        Ok(Asked {
+            minute: at.minute,
+            hours: at.hours.as_ref().map(read).transpose()?,
+        })
+    }
+
+    /// The hours of a file: those of the table that is named, or else its own.
+    pub fn of(&self, input: &Input) -> Result<Hours, WrongUse> {
+        let (name, table) = match &self.hours {
+            Some((name, bytes)) => (name, Some(hours::Table::read(name, bytes, input)?)),
+            None => (&input.name, hours::Table::own(input)),
+        };
+        let table = table.ok_or_else(|| {
+            let why = "--at goes with --hours HOURS here: no role has opening hours of its own";
+            WrongUse(format!("{name}: {why}"))
         })?;
         Ok(Hours {
-            name,
+            name: name.clone(),
             table,
-            minute: at.minute,
+            minute: self.minute,
         })
+    }
+}
+
+impl Hours {
+    /// The hours that are asked for of one file, if a minute is.
+    pub fn read(at: Option<&At>, input: &Input) -> Result<Option<Hours>, WrongUse> {
+        at.map(|at| Asked::read(at)?.of(input)).transpose()
     }
 
     /// The message for what is refused of a file or of these hours.
@@ -41,7 +66,7 @@ impl Hours {
 
     /// The minute in an answer.
     pub fn when(&self, word: &str) -> String {
-        format!(" {word} {}", hours::clock(self.minute))
+        format!(" {word} {}", week::clock(self.minute))
     }
 }
 

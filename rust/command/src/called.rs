@@ -45,6 +45,20 @@ impl<'a> Called<'a> {
         }
     }
 
+    /// `ask.2`, or `thread 3 (s1.2)`.
+    pub fn named(&self, roll: &Roll, number: u16) -> String {
+        let (name, index) = (
+            self.thread(roll, number),
+            usize::from(number).checked_sub(1),
+        );
+        match index.and_then(|index| roll.threads.get(index)) {
+            Some(thread) if self.told().is_none() => {
+                format!("{name} ({})", thread.name(&self.input.sessions()))
+            }
+            _ => name,
+        }
+    }
+
     /// A choice as a list has it: `ask -> serve.2`, or `1 5`.
     pub fn choice(&self, roll: &Roll, thread: u16, partner: u16) -> String {
         let there = |number: u16| (1..=roll.threads.len()).contains(&usize::from(number));
@@ -123,6 +137,11 @@ impl<'a> Called<'a> {
             none if none.is_empty() => "none".to_string(),
             roles => roles.join(", "),
         }
+    }
+
+    /// Whether the file has no on or off, and no starting role.
+    pub fn is_bare(&self) -> bool {
+        self.clinic.is_bare()
     }
 
     /// The roles that a user has.

@@ -1,11 +1,12 @@
 //! `check FILE...`.
 
-use crate::asked::{refused, Hours};
+use crate::asked::{self, refused};
 use crate::clinic::Clinic;
 use crate::json::Json;
 use crate::names;
 use crate::objects::{self, Asked};
 use crate::output;
+use crate::report;
 use crate::source::NamedFile;
 use crate::words::At;
 use crate::{Outcome, WrongUse};
@@ -20,7 +21,7 @@ enum Told {
 
 /// Answers for each file, also where another can't be read.
 pub fn check(files: &[NamedFile], at: Option<&At>, json: bool) -> Result<Outcome, WrongUse> {
-    let hours = at.map(Hours::read).transpose()?;
+    let hours = at.map(asked::Asked::read).transpose()?;
     let mut outcome = Outcome::Answer;
     for file in files {
         outcome = outcome.max(match told(file, hours.as_ref(), json) {
@@ -33,17 +34,16 @@ pub fn check(files: &[NamedFile], at: Option<&At>, json: bool) -> Result<Outcome
                 Outcome::Refusal
             }
             Ok(Told::Object(object, verdict)) => objects::print(&object, verdict)?,
-            Err(wrong) => {
-                wrong.tell();
-                Outcome::Unanswered
-            }
+            Err(wrong) => wrong.tell(),
         });
     }
     Ok(outcome)
 }
 
-fn told(file: &NamedFile, hours: Option<&Hours>, json: bool) -> Result<Told, WrongUse> {
+fn told(file: &NamedFile, at: Option<&asked::Asked>, json: bool) -> Result<Told, WrongUse> {
     let bytes = file.clinic()?;
+    let hours = at.map(|at| at.of(&bytes)).transpose()?;
+    let hours = hours.as_ref();
     let verdict = match hours {
         None => pilzdamo::check(&bytes),
         Some(hours) => pilzdamo::check_at(&bytes, &hours.table.words, hours.minute),
@@ -60,7 +60,7 @@ fn told(file: &NamedFile, hours: Option<&Hours>, json: bool) -> Result<Told, Wro
     }
     let mut message = refused(&bytes, hours, verdict);
     if verdict.number == 13 && Clinic::of(&bytes).is_bare() {
-        message += "\n  the routine has no on or off yet: pilzdamo place adds them";
+        message += &format!("\n  {}", report::UNPLACED);
     }
     Ok(Told::Refused(message))
 }

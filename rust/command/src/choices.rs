@@ -1,16 +1,20 @@
 //! A list of numbers as text.
 
 use crate::spaced;
-use text::{shown, Flaw};
+use text::{shown, unless_flawed, Flaw, MOST_FLAWS};
 
 /// The numbers of the text, or each word that is none from 0 to 65,535. `#` starts a
 /// comment.
 pub fn numbers(text: &[u8]) -> Result<Vec<u16>, Vec<Flaw>> {
     let (mut numbers, mut flaws) = (Vec::new(), Vec::new());
     for (line, text) in (1..).zip(text.split(|&byte| byte == b'\n')) {
+        if flaws.len() > MOST_FLAWS {
+            break;
+        }
         for (at, word) in spaced::words(line, text) {
             match number(word) {
                 Some(number) => numbers.push(number),
+                None if flaws.len() > MOST_FLAWS => break,
                 None => {
                     let what = format!("'{}' isn't a number from 0 to 65535", shown(word));
                     flaws.push(Flaw { at, what });
@@ -18,10 +22,7 @@ pub fn numbers(text: &[u8]) -> Result<Vec<u16>, Vec<Flaw>> {
             }
         }
     }
-    match flaws.is_empty() {
-        true => Ok(numbers),
-        false => Err(flaws),
-    }
+    unless_flawed(numbers, flaws)
 }
 
 /// Choices in a line, as they are read.

@@ -194,8 +194,14 @@ impl<'a> Course<'a> {
         ))
     }
 
-    /// That no role that a thread holds permits its step, and which roles would.
+    /// That no role that a thread holds permits its step, with its name.
     fn unpermitted(&self, one: u16) -> Option<String> {
+        let name = self.called.thread(&self.roll, one);
+        Some(format!("{name} {}", self.lacking(one)?))
+    }
+
+    /// That no role that a thread holds permits its step, and which roles would.
+    pub fn lacking(&self, one: u16) -> Option<String> {
         let thread = self.thread(one)?;
         let [tag, f1, _] = self.called.node(thread.node);
         let act = match tag {
@@ -206,10 +212,15 @@ impl<'a> Course<'a> {
         let kind = self.kind(&thread, f1)?;
         let may = self.called.permitting(tag, kind);
         let roles = self.called.each_role(may);
-        let (name, kind) = (self.called.thread(&self.roll, one), self.called.kind(kind));
-        (thread.mask & may == 0).then(|| {
-            format!("{name} holds no role that may {act} on {kind} (roles that may: {roles})")
-        })
+        let kind = self.called.kind(kind);
+        (thread.mask & may == 0)
+            .then(|| format!("holds no role that may {act} on {kind} (roles that may: {roles})"))
+    }
+
+    /// Whether the file has no on or off yet, and a thread stands still for want of a role.
+    pub fn is_unplaced(&self) -> bool {
+        let mut all = 1..=self.desk.threads().len() as u16;
+        self.called.is_bare() && all.any(|one| self.lacking(one).is_some())
     }
 
     /// The kind of the channel that an operand of a thread's step names.

@@ -5,13 +5,13 @@ use crate::input::Input;
 use crate::lines::Lines;
 use crate::roll::Roll;
 use crate::seats::Table;
-use pilzdamo::Desk;
+use pilzdamo::{Desk, Verdict};
 
 /// A run as it stands, with the names of its threads.
 pub struct Follower<'a> {
     input: &'a Input,
-    clinic: Clinic,
-    desk: Desk,
+    pub clinic: Clinic,
+    pub desk: Desk,
     seating: Seating<'a>,
     pub roll: Roll,
     /// The choices so far, two words for each.
@@ -30,11 +30,38 @@ pub enum Seating<'a> {
     Asked(&'a Table),
 }
 
+impl<'a> Seating<'a> {
+    /// By lines if there is a table of seats.
+    pub fn by(table: Option<&'a Table>) -> Seating<'a> {
+        table.map_or(Seating::Unlimited, |table| {
+            Seating::Followed(Lines::of(table))
+        })
+    }
+}
+
+/// How far a run has come: the choices done, those that got no seat, and the lines.
+pub struct Moment<'a> {
+    words: usize,
+    waited: usize,
+    lines: Option<Lines<'a>>,
+}
+
+/// An on that gets no seat.
+pub struct Wait {
+    pub role: u16,
+    /// How many seats it has.
+    pub seats: u16,
+    /// The indices of the sessions that have them.
+    pub seated: Vec<usize>,
+    /// The place of the thread's session in line, from 1, if it has asked.
+    pub place: Option<usize>,
+}
+
 impl<'a> Follower<'a> {
-    /// The start of a run; none where the engine refuses the file.
-    pub fn start(input: &'a Input, seating: Seating<'a>) -> Option<Follower<'a>> {
-        let desk = Desk::start(input).ok()?;
-        Some(Follower {
+    /// The start of a run, unless the engine refuses the file.
+    pub fn start(input: &'a Input, seating: Seating<'a>) -> Result<Follower<'a>, Verdict> {
+        let desk = Desk::start(input)?;
+        Ok(Follower {
             input,
             clinic: Clinic::of(input),
             roll: Roll::start(desk.threads().len()),
@@ -45,19 +72,33 @@ impl<'a> Follower<'a> {
         })
     }
 
-    /// Carries out a choice; says whether it isn't refused. One that gets no seat is no
-    /// step.
+    /// Carries out a choice; says whether it isn't refused. The list ends with it either
+    /// way.
     pub fn choose(&mut self, thread: u16, partner: u16) -> bool {
-        self.words.extend([thread, partner]);
-        if self.waits(thread, partner) {
-            self.waited.push(self.words.len() / 2 - 1);
-            return true;
-        }
-        let done = self.desk.choose(thread, partner).is_ok();
-        if done {
-            self.roll.step(thread, self.desk.threads().len());
+        let done = self.tries(thread, partner).is_ok();
+        if !done {
+            self.words.extend([thread, partner]);
         }
         done
+    }
+
+    /// Carries out a choice, and changes nothing if it is refused. One that gets no seat is
+    /// no step.
+    pub fn tries(&mut self, thread: u16, partner: u16) -> Result<(), Verdict> {
+        let before = self.words.len();
+        self.words.extend([thread, partner]);
+        if self.waits(thread, partner) {
+            self.waited.push(before / 2);
+            return Ok(());
+        }
+        match self.desk.choose(thread, partner) {
+            Ok(()) => self.roll.step(thread, self.desk.threads().len()),
+            Err(refusal) => {
+                self.words.truncate(before);
+                return Err(refusal);
+            }
+        }
+        Ok(())
     }
 
     /// Whether a choice is an on that gets no seat.
@@ -102,6 +143,53 @@ impl<'a> Follower<'a> {
         sessions.sort_unstable();
         sessions.dedup();
         sessions
+    }
+
+    /// The seat that a thread stands at an on for and wouldn't get now, by lines that are
+    /// followed.
+    pub fn wait(&self, thread: u16) -> Option<Wait> {
+        let (role, session) = self.asks(thread, 0)?;
+        let Seating::Followed(lines) = &self.seating else {
+            return None;
+        };
+        let (seated, line) = (self.seated(role), lines.line(role));
+        let place = line.iter().position(|&one| one == session);
+        (!lines.gives(role, session, &seated)).then(|| Wait {
+            role,
+            seats: lines.table.seats(role),
+            seated,
+            place: place.map(|index| index + 1),
+        })
+    }
+
+    /// How far the run has come.
+    pub fn moment(&self) -> Moment<'a> {
+        let lines = match &self.seating {
+            Seating::Followed(lines) => Some(lines.clone()),
+            _ => None,
+        };
+        Moment {
+            words: self.words.len(),
+            waited: self.waited.len(),
+            lines,
+        }
+    }
+
+    /// Takes the choices since a moment back if none of them got a seat and all lines are as
+    /// they were then. The same choices would change nothing again. Says whether that is so.
+    pub fn takes_waits_back(&mut self, since: Moment<'a>) -> bool {
+        let (Seating::Followed(lines), Some(before)) = (&mut self.seating, since.lines) else {
+            return false;
+        };
+        let choices = (self.words.len() - since.words) / 2;
+        let waits = self.waited.len() - since.waited;
+        let is_still = waits == choices && lines.is_as(&before);
+        if is_still {
+            *lines = before;
+            self.words.truncate(since.words);
+            self.waited.truncate(since.waited);
+        }
+        is_still
     }
 
     /// Whether what was followed is what the engine answers for all choices at once.

@@ -46,8 +46,12 @@ pub fn choices(listed: &Listed) -> String {
     let found = possible(&course, table.as_ref(), &list.words[..2 * done]);
     if found.is_empty() {
         let left = names::several(course.desk.threads().len(), "thread");
+        let hint = match course.is_unplaced() {
+            true => format!("\n  {}", report::UNPLACED),
+            false => String::new(),
+        };
         output::say(&format!(
-            "{}: no choice can be done, {left} left",
+            "{}: no choice can be done, {left} left{hint}",
             input.name
         ));
     }

@@ -9,8 +9,9 @@ use crate::report;
 use crate::source::{too_long, Source};
 use crate::WrongUse;
 use pilzdamo::{Counts, Verdict};
+use std::cell::OnceCell;
 use std::ops::Deref;
-use text::{At, Flaw, Names, Packed};
+use text::{At, Flaw, Lent, Packed, Records, MOST_FLAWS};
 
 /// A file's bytes, and the text that says them, if it came as one.
 pub struct Input {
@@ -27,6 +28,8 @@ pub struct Text {
     pub has_lines: bool,
     /// The mark of the byte order, if it stood before the text.
     mark: &'static str,
+    /// The step of each node as it is written, once that is asked for.
+    steps: OnceCell<Vec<String>>,
 }
 
 /// A mark of the byte order.
@@ -45,13 +48,24 @@ impl Text {
     }
 
     /// The step of the node of this number, as it is written.
-    pub fn step(&self, node: usize) -> Option<String> {
-        let place = self.packed.source.nodes.get(node.checked_sub(1)?)?;
-        if place.behind {
-            return Some("end".to_string());
-        }
-        let line = self.text.split('\n').nth(place.at.line - 1)?;
-        Some(words_at(line, place.at))
+    pub fn step(&self, node: usize) -> Option<&str> {
+        let steps = self.steps.get_or_init(|| self.written_steps());
+        steps.get(node.checked_sub(1)?).map(String::as_str)
+    }
+
+    /// The step of each node; the lines are gone through once.
+    fn written_steps(&self) -> Vec<String> {
+        let mut lines = (1..).zip(self.text.split('\n'));
+        let nodes = self.packed.source.nodes.iter();
+        nodes
+            .map(|place| match place.behind {
+                true => "end".to_string(),
+                false => {
+                    let line = lines.find(|(number, _)| *number == place.at.line);
+                    line.map_or(String::new(), |(_, line)| words_at(line, place.at))
+                }
+            })
+            .collect()
     }
 }
 
@@ -108,6 +122,7 @@ impl Input {
                     true => MARK,
                     false => "",
                 },
+                steps: OnceCell::new(),
             }),
         })
     }
@@ -129,20 +144,29 @@ impl Input {
             packed,
             has_lines: false,
             mark: "",
+            steps: OnceCell::new(),
         });
         Ok(self)
     }
 
     /// The canonical text with these names; none where the file has no text.
-    pub fn named_text(&self, from: &str, names: &Names) -> Result<Option<String>, WrongUse> {
-        if let Some(what) = text::misfit(self, names) {
-            let name = &self.name;
-            let why = "there is one for each kind, role, user, channel, session and variable, in the file's order";
-            return Err(WrongUse(format!(
+    pub fn named_text(&self, from: &str, lent: &Lent) -> Result<Option<String>, WrongUse> {
+        let name = &self.name;
+        let unfit = |what: String, why: &str| {
+            Err(WrongUse(format!(
                 "{from}: these names don't fit {name}: {what}\n  {why}"
-            )));
+            )))
+        };
+        if let Some(what) = text::misfit(self, &lent.names) {
+            let why = "there is one for each kind, role, user, channel, session and variable, in the file's order";
+            return unfit(what, why);
         }
-        Ok(text::unpack_named(self, names))
+        let text = text::unpack_named(self, &lent.names);
+        let records = Records::of(self).filter(|_| text.is_some());
+        match records.and_then(|records| lent.other(&records)) {
+            Some(what) => unfit(what, OTHER),
+            None => Ok(text),
+        }
     }
 
     /// The text that the file came as.
@@ -237,20 +261,28 @@ impl Input {
     }
 }
 
-/// The words that stand at a place of this line.
-pub fn words_at(line: &str, at: At) -> String {
-    line.chars().skip(at.column - 1).take(at.width).collect()
+/// The words that stand at a place of this line, with one space for any white space.
+fn words_at(line: &str, at: At) -> String {
+    let words: String = line.chars().skip(at.column - 1).take(at.width).collect();
+    words.split_whitespace().collect::<Vec<_>>().join(" ")
 }
 
+/// Said of names whose sum isn't the file's.
+const OTHER: &str =
+    "they name other records or steps than the file has, or the same in another order; \
+    give the names or the text that the file was packed from";
+
 /// Names from a file of their own, or from a text.
-pub fn read_names(source: &Source) -> Result<Names, WrongUse> {
+pub fn read_names(source: &Source) -> Result<Lent, WrongUse> {
     let (name, bytes) = (source.name(), source.read()?);
     if text::is_text(&bytes) {
         let input = Input::of_text(name, &bytes)?;
-        return Ok(input.text.map(|text| text.packed.names).unwrap_or_default());
+        return Ok(input
+            .text
+            .map_or(Lent::default(), |text| Lent::of(&text.packed)));
     }
     let text = decoded(&name, &bytes)?;
-    Names::read(text).map_err(|flaws| flawed(&name, text, &flaws))
+    Lent::read(text).map_err(|flaws| flawed(&name, text, &flaws))
 }
 
 /// The characters of a text.
@@ -263,13 +295,14 @@ const TOLD: usize = 20;
 
 /// Reports the errors in a text.
 pub fn flawed(name: &str, text: impl AsRef<[u8]>, flaws: &[Flaw]) -> WrongUse {
-    for flaw in flaws.iter().take(TOLD) {
-        output::say(&text::told(name, &text, flaw.at, &flaw.what));
+    for told in text::told_first(name, &text, flaws, TOLD) {
+        output::say(&told);
     }
+    let errors = crate::names::several(flaws.len(), "error");
     let more = match flaws.len().checked_sub(TOLD) {
+        Some(_) if flaws.len() == MOST_FLAWS => " or more".to_string(),
         Some(more @ 1..) => format!(" ({more} more)"),
         _ => String::new(),
     };
-    let errors = crate::names::several(flaws.len(), "error");
     WrongUse(format!("{name}: {errors}{more}"))
 }

@@ -111,7 +111,8 @@ impl<'a> Driven<'a> {
         self.course.called.input
     }
 
-    /// The state in a line, and the choices that can be done, by number.
+    /// The state in a line, the roles with a limit, and the choices that can be done, by
+    /// number.
     fn tell(&mut self) {
         let threads = (1..)
             .zip(self.course.desk.threads())
@@ -127,9 +128,15 @@ impl<'a> Driven<'a> {
         output::say(&format!(
             "choices done: {done}; threads: {threads}; made channels: {made}"
         ));
+        for line in seats::limited(self.table, self.input(), &self.words) {
+            output::say(&line);
+        }
         let possible = possible(&self.course, self.table, &self.words);
         if possible.is_empty() {
             output::say("no choice can be done");
+            if self.course.is_unplaced() {
+                output::say(&format!("  {}", report::UNPLACED));
+            }
         }
         let widths = possible
             .iter()
@@ -223,7 +230,11 @@ impl<'a> Driven<'a> {
         let place = u16::try_from(self.done.len() + 1).unwrap_or(u16::MAX);
         let why = self.course.why(number, choice);
         let below = report::below_choice(Verdict { number, place });
-        output::say(&format!("refused {number}: {why}\n  {below}"));
+        let mut message = format!("refused {number}: {why}\n  {below}");
+        if number == 13 && self.course.called.is_bare() {
+            message += &format!("\n  {}", report::UNPLACED);
+        }
+        output::say(&message);
     }
 
     fn why_not(&self, choice: Choice) {

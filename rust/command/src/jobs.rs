@@ -11,7 +11,7 @@ use crate::{
     refusals, scheduling, sheets, shown, svg, turning,
 };
 use crate::{Outcome, WrongUse};
-use pilzdamo::{ROOM, ROOM_1};
+use pilzdamo::ROOM;
 
 /// Does a job.
 pub fn carry_out(job: Job) -> Result<Outcome, WrongUse> {
@@ -25,7 +25,12 @@ pub fn carry_out(job: Job) -> Result<Outcome, WrongUse> {
             json,
         } => placing::place(&file, at.as_ref(), &out, bytes, json),
         Job::Measure { file, at, json } => placing::measure(&file, at.as_ref(), json),
-        Job::Merge { first, second, out } => merge(&first, &second, &out),
+        Job::Merge {
+            first,
+            second,
+            out,
+            bytes,
+        } => merging::merge(&first, &second, &out, bytes),
         Job::Turn { turn, file, out } => turn_file(turn, &file, &out),
         Job::Notice {
             first_day,
@@ -40,7 +45,7 @@ pub fn carry_out(job: Job) -> Result<Outcome, WrongUse> {
         } => in_force(day, [&first, &second], out.as_ref()),
         Job::Sheet { files, json } => sheet(&files, json),
         Job::Show { file, form, out } => show(&file, form, &out),
-        Job::Pack { text, out, names } => packing::pack(&text, &out, names.as_ref()),
+        Job::Pack { text, out, beside } => packing::pack(&text, &out, &beside),
         Job::Unpack { file, out, names } => packing::unpack(&file, &out, names.as_ref()),
         Job::Strip { file, out } => packing::strip(&file, &out),
         Job::Explain { number, json } => explain(number, json),
@@ -68,20 +73,30 @@ pub fn carry_out(job: Job) -> Result<Outcome, WrongUse> {
         Job::Ready {
             file,
             choices,
+            seats,
             json,
-        } => scheduling::ready(&file, &choices, json),
-        Job::Waiting { file, choices } => scheduling::waiting(&file, &choices),
+        } => scheduling::ready(&file, &choices, seats.as_ref(), json),
+        Job::Waiting {
+            file,
+            choices,
+            seats,
+        } => scheduling::waiting(&file, &choices, seats.as_ref()),
         Job::Seats {
             file,
             choices,
             seats,
-        } => scheduling::seats(&file, &choices, &seats),
+        } => scheduling::seats(&file, &choices, seats.as_ref()),
         Job::Round {
             file,
             choices,
             seats,
         } => scheduling::round(&file, &choices, seats.as_ref()),
-        Job::Dispatch { file, rounds } => scheduling::dispatch(&file, rounds),
+        Job::Dispatch {
+            file,
+            rounds,
+            seats,
+            sparing,
+        } => scheduling::dispatch(&file, rounds, seats.as_ref(), sparing),
     }
 }
 
@@ -93,23 +108,6 @@ pub fn answer(text: &str) -> Result<Outcome, WrongUse> {
 pub fn refusal(message: &str) -> Result<Outcome, WrongUse> {
     output::say(message);
     Ok(Outcome::Refusal)
-}
-
-fn merge(first: &Source, second: &Source, out: &Out) -> Result<Outcome, WrongUse> {
-    output::spare(&[first, second], out)?;
-    let (one, other) = (first.clinic()?, second.clinic()?);
-    let files = [(first.name(), &one), (second.name(), &other)];
-    let mut room = [0; ROOM_1];
-    let written = pilzdamo::merge(&one, &other, &mut room);
-    if !written.is_written() {
-        return refusal(&merging::refused(&files, written.verdict()));
-    }
-    let merged = &room[..usize::from(written.length).min(ROOM_1)];
-    output::deliver(merged, out)?;
-    let (names, told) = (merging::names(&files), merging::size(merged));
-    let into = out.told(" in");
-    output::say(&format!("{names}: merged, {told}{into}"));
-    Ok(Outcome::Answer)
 }
 
 fn turn_file(turn: Turn, file: &Source, out: &Out) -> Result<Outcome, WrongUse> {

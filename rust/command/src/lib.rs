@@ -1,7 +1,7 @@
 //! What the command does. The engine judges, places and runs; this crate reads
 //! arguments and files and prints answers.
 
-#![forbid(unsafe_code)]
+#![deny(unsafe_code)]
 
 mod asked;
 mod called;
@@ -18,12 +18,14 @@ mod hours;
 mod input;
 mod interactive;
 mod jobs;
+mod joining;
 mod json;
 mod length;
 mod lines;
 mod listed;
 mod lists;
 mod merging;
+mod named;
 mod names;
 mod notices;
 mod objects;
@@ -37,6 +39,7 @@ mod records;
 mod refusals;
 mod report;
 mod roll;
+mod rounds;
 mod runs;
 mod scheduling;
 mod seats;
@@ -44,8 +47,11 @@ mod sessions;
 mod sheets;
 pub mod show;
 mod shown;
+#[allow(unsafe_code)]
+mod signals;
 mod source;
 mod spaced;
+mod standing;
 mod state;
 mod svg;
 mod threads;
@@ -66,26 +72,35 @@ enum Outcome {
     Unanswered,
 }
 
-/// Why there is neither an answer nor a refusal: words that can't be
-/// understood, or a file that can't be read or written.
+/// Why there is neither an answer nor a refusal of the engine's: words that can't be
+/// understood, or a file that can't be read or written. Without words it is what the command
+/// itself refuses, which has been reported.
 struct WrongUse(String);
 
 impl WrongUse {
-    fn tell(&self) {
+    /// Reports what the command itself refuses.
+    fn refused(message: &str) -> WrongUse {
+        output::say(message);
+        WrongUse(String::new())
+    }
+
+    /// Reports it, unless it has been, and says what it came to.
+    fn tell(&self) -> Outcome {
+        if self.0.is_empty() {
+            return Outcome::Refusal;
+        }
         output::say(&format!("pilzdamo: {}", self.0));
+        Outcome::Unanswered
     }
 }
 
 /// Does what the arguments ask for. The exit status: 0 for an answer, 1 for a
 /// refusal, 2 for wrong use.
 pub fn go(words: impl Iterator<Item = OsString>) -> u8 {
-    match words::job(words).and_then(jobs::carry_out) {
-        Ok(Outcome::Answer) => 0,
-        Ok(Outcome::Refusal) => 1,
-        Ok(Outcome::Unanswered) => 2,
-        Err(wrong) => {
-            wrong.tell();
-            2
-        }
+    let outcome = words::job(words).and_then(jobs::carry_out);
+    match outcome.unwrap_or_else(|wrong| wrong.tell()) {
+        Outcome::Answer => 0,
+        Outcome::Refusal => 1,
+        Outcome::Unanswered => 2,
     }
 }

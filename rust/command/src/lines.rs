@@ -7,6 +7,7 @@ use pilzdamo::{Desk, State, RUN_ROOM};
 use std::collections::BTreeMap;
 
 /// The sessions that wait for a seat.
+#[derive(Clone)]
 pub struct Lines<'a> {
     pub table: &'a Table,
     /// For each role the indices of the sessions in its line, the first in front.
@@ -27,15 +28,10 @@ impl<'a> Lines<'a> {
     /// Whether a session that puts on a role with a limit gets no seat, where these
     /// sessions have it. Its line changes by that.
     pub fn waits(&mut self, role: u16, session: usize, seated: &[usize]) -> bool {
-        if seated.contains(&session) {
-            return false;
-        }
+        let gives = self.gives(role, session, seated);
         let line = self.lines.entry(role).or_default();
-        let free = seated.len() < usize::from(self.table.seats(role));
-        if free && line.first().is_none_or(|&head| head == session) {
-            if !line.is_empty() {
-                line.remove(0);
-            }
+        if gives {
+            line.retain(|&waiting| waiting != session);
             return false;
         }
         if !line.contains(&session) {
@@ -45,14 +41,32 @@ impl<'a> Lines<'a> {
         true
     }
 
+    /// Whether a session has a seat in a role with a limit or gets one, where these sessions
+    /// have it.
+    pub fn gives(&self, role: u16, session: usize, seated: &[usize]) -> bool {
+        let is_free = seated.len() < usize::from(self.table.seats(role));
+        let head = self.line(role).first();
+        seated.contains(&session) || is_free && head.is_none_or(|&head| head == session)
+    }
+
+    /// The indices of the sessions that wait for a seat in a role, the first in front.
+    pub fn line(&self, role: u16) -> &[usize] {
+        self.lines.get(&role).map_or(&[], |line| line)
+    }
+
+    /// Whether the same sessions wait for the same roles.
+    pub fn is_as(&self, other: &Lines) -> bool {
+        self.lines == other.lines
+    }
+
     /// Whether the engine answers these choices with the same lines and threads.
     pub fn agree(&self, input: &Input, choices: &[u16], desk: &Desk) -> bool {
         let told = pilzdamo::seats(input, choices, &self.table.words);
         let mut room = [0; RUN_ROOM];
         let verdict = seats::run(input, choices, Some(self.table), &mut room);
         let state = State::of(&room);
-        let same_lines = (1..).zip(&self.table.words).all(|(role, _)| {
-            let line = self.lines.get(&role).map_or(&[][..], |line| line);
+        let same_lines = (1..=u16::MAX).zip(&self.table.words).all(|(role, _)| {
+            let line = self.line(role);
             let sessions = told
                 .line_of(role)
                 .iter()

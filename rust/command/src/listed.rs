@@ -1,6 +1,7 @@
 //! A file with a list of choices for it, and a table of seats if there is one: what every
 //! word about runs begins with.
 
+use crate::clinic::Clinic;
 use crate::input::Input;
 use crate::jobs::{answer, refusal};
 use crate::lists::{self, List};
@@ -20,7 +21,8 @@ pub struct Listed {
 }
 
 impl Listed {
-    /// Reads all of them; without a source the list is empty.
+    /// Reads all of them. Without a source the list is empty, and the seats are those that the
+    /// file has of its own.
     pub fn read(
         file: &NamedFile,
         list: Option<&Source>,
@@ -31,7 +33,10 @@ impl Listed {
             Some(list) => (list.name(), list.choices()?),
             None => Default::default(),
         };
-        let table = table.map(Table::read).transpose()?;
+        let table = match table {
+            Some(table) => Some(Table::read(table, &input)?),
+            None => Table::own(&input),
+        };
         let list = List::of(name, &choices, &input, table.as_ref())?;
         Ok(Listed { input, list, table })
     }
@@ -44,6 +49,15 @@ impl Listed {
     /// The indices of the choices that get no seat.
     pub fn waited(&self) -> Vec<usize> {
         lists::waited(&self.input, &self.list.words, self.table.as_ref())
+    }
+
+    /// The list without the choices that get no seat. Without seats it leads to the same
+    /// threads as the list does with them.
+    pub fn without_waits(&self) -> Vec<u16> {
+        let mut waited = self.waited().into_iter().peekable();
+        let pairs = self.list.words.chunks(2).enumerate();
+        let done = pairs.filter(|(index, _)| waited.next_if_eq(index).is_none());
+        done.flat_map(|(_, choice)| choice).copied().collect()
     }
 
     /// What there is to say where the list leads, or after it the refusal: of a run that
@@ -64,6 +78,14 @@ impl Listed {
 
     /// The message for a refusal of the file, the list or the table.
     pub fn refused(&self, verdict: Verdict) -> String {
+        let message = self.message(verdict);
+        match verdict.number == 13 && Clinic::of(&self.input).is_bare() {
+            true => format!("{message}\n  {}", report::UNPLACED),
+            false => message,
+        }
+    }
+
+    fn message(&self, verdict: Verdict) -> String {
         let Listed { input, list, table } = self;
         if let Some(wrong) = self.wrong_table(verdict) {
             return wrong.refused(input, verdict);

@@ -4,7 +4,6 @@
 use crate::choices;
 use crate::follow::{Follower, Seating};
 use crate::input::{decoded, flawed, Input};
-use crate::lines::Lines;
 use crate::seats::Table;
 use crate::threads::{named, over, tokens, Choice, Thread, Who};
 use crate::WrongUse;
@@ -159,10 +158,7 @@ fn numbered(words: &[u16]) -> Vec<Choice> {
 /// Follows a list, and gives each named thread its number in the list of threads at that
 /// choice.
 fn follow(input: &Input, choices: &[Choice], table: Option<&Table>) -> Followed {
-    let seating = table.map_or(Seating::Unlimited, |table| {
-        Seating::Followed(Lines::of(table))
-    });
-    let quick = walk(input, choices, seating);
+    let quick = walk(input, choices, Seating::by(table));
     quick.unwrap_or_else(|| {
         let slow = table.and_then(|table| walk(input, choices, Seating::Asked(table)));
         slow.unwrap_or_default()
@@ -173,7 +169,7 @@ fn follow(input: &Input, choices: &[Choice], table: Option<&Table>) -> Followed 
 fn walk(input: &Input, choices: &[Choice], seating: Seating) -> Option<Followed> {
     let mut followed = Followed::default();
     let start = Follower::start(input, seating);
-    let (Some(mut run), true) = (start, choices.len() <= MOST) else {
+    let (Ok(mut run), true) = (start, choices.len() <= MOST) else {
         // The engine refuses the file, or the length of the list.
         followed.words = vec![0; 2 * choices.len()];
         return Some(followed);

@@ -3,8 +3,13 @@
 use crate::clinic::{Clinic, Section};
 use crate::clinic::{CHANNELS, KINDS, NODES, ROLES, SESSIONS, USERS};
 use crate::input::Input;
+use crate::jobs::refusal;
+use crate::joining;
 use crate::names::{carries, grants, items, planned, several};
+use crate::output::{self, Out};
 use crate::report;
+use crate::source::Source;
+use crate::{Outcome, WrongUse};
 use pilzdamo::{Verdict, ROOM_1};
 use text::At;
 
@@ -13,6 +18,32 @@ pub type Files<'a> = [(String, &'a Input); 2];
 
 /// The sections that both files fill.
 const FILLED: [Section; 4] = [USERS, CHANNELS, SESSIONS, NODES];
+
+/// `merge A B`: two texts by name, and bytes, also beside a text, by position.
+pub fn merge(
+    first: &Source,
+    second: &Source,
+    out: &Out,
+    as_bytes: bool,
+) -> Result<Outcome, WrongUse> {
+    output::spare(&[first, second], out)?;
+    let (one, other) = (first.clinic()?, second.clinic()?);
+    let files = [(first.name(), &one), (second.name(), &other)];
+    if let (Some(one), Some(other)) = (one.source_text(), other.source_text()) {
+        return joining::join(&files, [one, other], out, as_bytes);
+    }
+    let mut room = [0; ROOM_1];
+    let written = pilzdamo::merge(&one, &other, &mut room);
+    if !written.is_written() {
+        return refusal(&refused(&files, written.verdict()));
+    }
+    let merged = &room[..usize::from(written.length).min(ROOM_1)];
+    output::deliver(merged, out)?;
+    let (names, told) = (names(&files), size(merged));
+    let into = out.told(" in");
+    output::say(&format!("{names}: merged, {told}{into}"));
+    Ok(Outcome::Answer)
+}
 
 /// How messages name both.
 pub fn names(files: &Files) -> String {
@@ -29,12 +60,20 @@ pub fn size(merged: &[u8]) -> String {
     format!("{}, {} bytes", counts.join(", "), merged.len())
 }
 
+/// The message for what is refused of either file whatever the other is, the first's before
+/// the second's.
+pub fn refused_alone(files: &Files) -> Option<String> {
+    let mut refused = files.iter().filter_map(|(_, input)| {
+        let verdict = own(input)?;
+        Some(of_one(input, verdict))
+    });
+    refused.next()
+}
+
 /// The message for two files that are refused.
 pub fn refused(files: &Files, verdict: Verdict) -> String {
-    for (_, input) in files {
-        if own(input) == Some(verdict) {
-            return of_one(input, verdict);
-        }
+    if let Some(message) = refused_alone(files) {
+        return message;
     }
     let clinics = files.each_ref().map(|(_, bytes)| Clinic::of(*bytes));
     let lines = match verdict.number {

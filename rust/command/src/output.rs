@@ -125,13 +125,39 @@ impl<'a> Ready<'a> {
         })
     }
 
+    /// Whether both are to be in one file.
+    pub fn is_same(&self, other: &Ready) -> bool {
+        let both = self.written.as_ref().zip(other.written.as_ref());
+        both.is_some_and(|(one, other)| one.is_same(other))
+    }
+
+    /// Whether it may be long until it is there, as someone has to read it.
+    pub fn is_stream(&self) -> bool {
+        self.written.as_ref().is_none_or(Written::is_direct)
+    }
+
     /// Puts it there.
     pub fn put(self) -> Result<(), WrongUse> {
         match self.written {
             Some(written) => written.put().map_err(|error| unwritten(self.out, &error)),
+            None if io::stdout().is_terminal() => print(legible(self.bytes).as_bytes()),
             None => print(self.bytes),
         }
     }
+}
+
+/// A text as a terminal may print it: what it would obey is written out, but the ends of
+/// lines.
+fn legible(text: &[u8]) -> String {
+    let text = String::from_utf8_lossy(text);
+    let lines = text.split('\n').map(|line| {
+        let (line, end) = match line.strip_suffix('\r') {
+            Some(line) => (line, "\r"),
+            None => (line, ""),
+        };
+        text::printable_line(line).into_owned() + end
+    });
+    lines.collect::<Vec<_>>().join("\n")
 }
 
 fn unwritten(out: &Out, error: &io::Error) -> WrongUse {

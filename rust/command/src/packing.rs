@@ -1,20 +1,23 @@
 //! Text to bytes and back, and texts that are answered with texts.
 
-use crate::input::{read_names, words_at, Input, Text};
+use crate::input::{read_names, Input, Text};
 use crate::names;
 use crate::output::{self, Out, Ready};
 use crate::source::Source;
+use crate::words::Beside;
 use crate::{Outcome, WrongUse};
-use text::{At, Records};
+use text::{At, Lent, Records};
 
-/// `pack TEXT`: writes the file that a text says, and its names if that is wanted.
-pub fn pack(source: &Source, out: &Out, names: Option<&Out>) -> Result<Outcome, WrongUse> {
-    for out in [Some(out), names].into_iter().flatten() {
+/// `pack TEXT`: writes the file that a text says, and what else it has if that is wanted: its
+/// names, and the tables of seats and hours that are lent to the engine.
+pub fn pack(source: &Source, out: &Out, beside: &Beside) -> Result<Outcome, WrongUse> {
+    let outs = beside.all(out);
+    for (at, (name, out)) in outs.iter().enumerate() {
         output::spare(&[source], out)?;
-    }
-    if names.is_some_and(|names| names.is_same(out)) {
-        let why = "FILE and NAMES are the same file";
-        return Err(WrongUse(format!("pack: {why}")));
+        let mut before = outs[..at].iter();
+        if let Some((other, _)) = before.find(|(_, before)| out.is_same(before)) {
+            return Err(same(other, name));
+        }
     }
     let bytes = source.read()?;
     if bytes.contains(&0) && !text::is_text(&bytes) {
@@ -22,17 +25,40 @@ pub fn pack(source: &Source, out: &Out, names: Option<&Out>) -> Result<Outcome, 
         return Err(WrongUse(format!("{name}: can't be packed: {why}")));
     }
     let input = Input::of_text(source.name(), &bytes)?;
-    let kept = input.text.as_ref().map(|text| text.packed.names.text());
-    let kept = kept.as_ref().zip(names);
-    // Neither is put in its place before both are written.
-    let kept = kept.map(|(kept, names)| Ready::text(kept.as_bytes(), names));
-    let (kept, file) = (kept.transpose()?, Ready::bytes(&input, out)?);
-    kept.map_or(Ok(()), Ready::put)?;
-    file.put()?;
+    let lent = input.text.as_ref().map(|text| Lent::of(&text.packed));
+    let lent = lent.unwrap_or_default();
+    let names = &lent.names;
+    let seats = little_endian(names.seats());
+    let hours = names.hours().into_iter().flat_map(|(_, row)| row);
+    let (names, hours) = (lent.text(), little_endian(hours));
+    // Nothing is put in its place before all is written.
+    let mut ready: Vec<(&str, Ready)> = Vec::new();
+    for (name, out) in outs {
+        let one = match name {
+            "NAMES" => Ready::text(names.as_bytes(), out)?,
+            "SEATS" => Ready::bytes(&seats, out)?,
+            "HOURS" => Ready::bytes(&hours, out)?,
+            _ => Ready::bytes(&input, out)?,
+        };
+        if let Some((other, _)) = ready.iter().find(|(_, before)| one.is_same(before)) {
+            return Err(same(other, name));
+        }
+        ready.push((name, one));
+    }
+    // The file comes last, since who finds it finds what belongs to it; but nothing waits for
+    // a reader before the rest is there.
+    ready.reverse();
+    ready.sort_by_key(|(_, one)| one.is_stream());
+    ready.into_iter().try_for_each(|(_, one)| one.put())?;
     let into = out.told(" in");
     let bytes = names::several(input.len(), "byte");
     output::say(&format!("{}: packed, {bytes}{into}", input.name));
     Ok(Outcome::Answer)
+}
+
+/// The bytes of words, the low byte first.
+fn little_endian(words: impl IntoIterator<Item = u16>) -> Vec<u8> {
+    words.into_iter().flat_map(u16::to_le_bytes).collect()
 }
 
 /// `unpack FILE`: writes the text of a file.
@@ -46,7 +72,7 @@ pub fn unpack(source: &Source, out: &Out, names: Option<&Source>) -> Result<Outc
     }
     let names = match (names, &input.text) {
         (Some(names), _) => Some((names.name(), read_names(names)?)),
-        (None, Some(Text { packed, .. })) => Some((input.name.clone(), packed.names.clone())),
+        (None, Some(Text { packed, .. })) => Some((input.name.clone(), Lent::of(packed))),
         (None, None) => None,
     };
     let text = match &names {
@@ -97,11 +123,17 @@ pub fn deliver_placed(from: &Text, placed: &[u8], out: &Out) -> Result<(), Wrong
     output::deliver_text(&from.marked(&placed), out)
 }
 
+fn same(one: &str, other: &str) -> WrongUse {
+    WrongUse(format!("pack: {one} and {other} are the same file"))
+}
+
 /// The text of a file without records, for that of zero bytes, which placing makes it.
-fn without_records(text: &str, clinic: At) -> String {
+pub fn without_records(text: &str, clinic: At) -> String {
     let mut lines: Vec<String> = text.split('\n').map(str::to_string).collect();
     if let Some(line) = lines.get_mut(clinic.line.saturating_sub(1)) {
-        *line = line.replacen(&words_at(line, clinic), "clinic 1", 1);
+        let before: String = line.chars().take(clinic.column - 1).collect();
+        let behind = line.chars().skip(clinic.column - 1 + clinic.width);
+        *line = before + "clinic 1" + &behind.collect::<String>();
     }
     lines.join("\n")
 }

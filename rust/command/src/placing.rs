@@ -19,13 +19,13 @@ pub fn place(
     as_bytes: bool,
     json: bool,
 ) -> Result<Outcome, WrongUse> {
-    let hours = at.map(|at| &at.hours);
+    let hours = at.and_then(|at| at.hours.as_ref());
     output::spare(
         &file.sources().into_iter().chain(hours).collect::<Vec<_>>(),
         out,
     )?;
     let bytes = file.clinic()?;
-    let hours = at.map(Hours::read).transpose()?;
+    let hours = Hours::read(at, &bytes)?;
     let mut room = [0; ROOM];
     let placed = match &hours {
         None => pilzdamo::place(&bytes, &mut room),
@@ -77,7 +77,7 @@ fn deliver(
 
 pub fn measure(file: &NamedFile, at: Option<&At>, json: bool) -> Result<Outcome, WrongUse> {
     let bytes = file.clinic()?;
-    let hours = at.map(Hours::read).transpose()?;
+    let hours = Hours::read(at, &bytes)?;
     let placed = match &hours {
         None => pilzdamo::measure(&bytes),
         Some(hours) => pilzdamo::measure_at(&bytes, &hours.table.words, hours.minute),

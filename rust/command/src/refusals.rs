@@ -278,18 +278,19 @@ pub const ALL: [Refusal; 28] = [
             can't be put on then, though it is assigned, and also where it is on already. A role \
             with which a session starts, and the juniors of an open role, go on permitting.",
         mend:
-            "Place the routine for this minute (`pilzdamo place` with the same --at and --hours), \
-            put on a role that is open, or change the hours.",
+            "Place the routine for this minute (`pilzdamo place` with the same --at and hours), put on \
+            a role that is open, or change the hours.",
     },
     Refusal {
         place: NOTHING,
         who: KEEPER,
         wrong:
             "Two files are made one only if they have the same roles and the same kinds: as many \
-            of each, with the same records in the same order. It is judged after everything \
-            that is wrong with either file alone.",
+            of each, with the same records in the same order. Two texts go by name, in any \
+            order: each kind carries the same in both, and each role permits the same. It is \
+            judged after everything that is wrong with either file alone.",
         mend: "Agree on one table of roles and one of kinds, and write both files with them. \
-            `pilzdamo merge` names the first record that differs.",
+            `pilzdamo merge` names the first record that differs, and of two texts the lines.",
     },
     Refusal {
         place: "sessions, from 1, where the starting masks find no seat; choices, from 1, in a \

@@ -10,6 +10,9 @@ use crate::records;
 use crate::refusals;
 use pilzdamo::{Counts, Verdict, NO_TAG};
 
+/// Said of a file whose steps want roles that nothing puts on.
+pub const UNPLACED: &str = "the routine has no on or off yet: pilzdamo place adds them";
+
 /// The message for a refused file, by check or placing.
 pub fn of_file(name: &str, input: &Input, verdict: Verdict) -> String {
     let counts = refusals::counts(verdict.number, verdict.place, false);

@@ -148,7 +148,7 @@ impl Told<'_> {
             None => return place,
             Some(found) if found.behind && self.text.has_lines => return place,
             Some(found) if found.behind => "end".to_string(),
-            Some(_) => self.text.step(node.into()).unwrap_or_default(),
+            Some(_) => self.text.step(node.into()).unwrap_or_default().to_string(),
         };
         format!("{place} ({step})")
     }

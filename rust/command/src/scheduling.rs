@@ -1,6 +1,9 @@
 //! What each word that takes a list of choices, or makes one, does.
 
+use crate::called::Called;
 use crate::clinic::{Clinic, KINDS};
+use crate::course::Course;
+use crate::follow::Seating;
 use crate::following;
 use crate::input::Input;
 use crate::jobs::{answer, refusal};
@@ -9,13 +12,15 @@ use crate::lists;
 use crate::names;
 use crate::objects::{self, Ran};
 use crate::output;
+use crate::refusals;
+use crate::report;
+use crate::rounds::Rounds;
 use crate::runs;
 use crate::seats;
 use crate::source::{NamedFile, Source};
-use crate::state::State;
+use crate::standing;
 use crate::{Outcome, WrongUse};
 use pilzdamo::{Totals, BEFORE_ROUND, RUN_ROOM};
-use std::ops::Range;
 
 pub fn run(
     file: &NamedFile,
@@ -58,10 +63,15 @@ pub fn choices(
 }
 
 /// The lowest sender and receiver that can meet after a list of choices.
-pub fn ready(file: &NamedFile, choices: &Source, json: bool) -> Result<Outcome, WrongUse> {
-    let listed = Listed::read(file, Some(choices), None)?;
-    let told = pilzdamo::ready(&listed.input, &listed.list.words);
-    let verdict = told.verdict();
+pub fn ready(
+    file: &NamedFile,
+    choices: &Source,
+    table: Option<&Source>,
+    json: bool,
+) -> Result<Outcome, WrongUse> {
+    let listed = Listed::read(file, Some(choices), table)?;
+    let verdict = listed.run(&mut [0; RUN_ROOM]);
+    let told = pilzdamo::ready(&listed.input, &listed.without_waits());
     if json {
         let ran = Ran {
             file: file.file.typed(),
@@ -89,17 +99,26 @@ fn thread(listed: &Listed, number: u16) -> String {
     }
 }
 
-pub fn seats(file: &NamedFile, list: &Source, table: &Source) -> Result<Outcome, WrongUse> {
-    let listed = Listed::read(file, Some(list), Some(table))?;
+pub fn seats(file: &NamedFile, list: &Source, table: Option<&Source>) -> Result<Outcome, WrongUse> {
+    let listed = Listed::read(file, Some(list), table)?;
     let Listed { input, list, table } = &listed;
     let verdict = listed.run(&mut [0; RUN_ROOM]);
+    if table.is_none() && (verdict.is_clean() || refusals::is_halt(verdict)) {
+        let why = "no role has seats of its own; name a table: SEATS";
+        return Err(WrongUse(format!("seats: {}: {why}", input.name)));
+    }
     listed.answered(verdict, || seats::after(table.as_ref(), input, &list.words))
 }
 
-pub fn waiting(file: &NamedFile, list: &Source) -> Result<Outcome, WrongUse> {
-    let listed = Listed::read(file, Some(list), None)?;
-    let totals = pilzdamo::totals(&listed.input, &listed.list.words);
-    listed.answered(totals.verdict(), || by_kind(&listed.input, &totals))
+pub fn waiting(
+    file: &NamedFile,
+    list: &Source,
+    table: Option<&Source>,
+) -> Result<Outcome, WrongUse> {
+    let listed = Listed::read(file, Some(list), table)?;
+    let verdict = listed.run(&mut [0; RUN_ROOM]);
+    let totals = pilzdamo::totals(&listed.input, &listed.without_waits());
+    listed.answered(verdict, || by_kind(&listed.input, &totals))
 }
 
 /// A line for each kind of a file.
@@ -114,10 +133,7 @@ pub fn round(file: &NamedFile, list: &Source, table: Option<&Source>) -> Result<
     let Listed { input, list, table } = &listed;
     let table = table.as_ref();
     let mut room = [0; RUN_ROOM];
-    let round = match table {
-        None => pilzdamo::round(input, &list.words, &mut room),
-        Some(table) => pilzdamo::round_seated(input, &list.words, &table.words, &mut room),
-    };
+    let round = seats::round(input, &list.words, table, &mut room);
     let both = [&list.words, round.choices()].concat();
     let followed = lists::followed(input, &both, table);
     let verdict = round.verdict();
@@ -136,36 +152,71 @@ pub fn round(file: &NamedFile, list: &Source, table: Option<&Source>) -> Result<
     })
 }
 
-pub fn dispatch(file: &NamedFile, most: Option<u16>) -> Result<Outcome, WrongUse> {
-    let bytes = file.clinic()?;
-    let mut room = [0; RUN_ROOM];
-    let (mut choices, mut rounds) = (Vec::new(), Vec::new());
+/// Rounds from the start, each from where the one before it left the run.
+pub fn dispatch(
+    file: &NamedFile,
+    most: Option<u16>,
+    table: Option<&Source>,
+    sparing: bool,
+) -> Result<Outcome, WrongUse> {
+    let listed = Listed::read(file, None, table)?;
+    let verdict = listed.run(&mut [0; RUN_ROOM]);
+    let Listed { input, table, .. } = &listed;
+    let seating = Seating::by(table.as_ref());
+    let mut rounds = match Rounds::start(input, seating, sparing) {
+        Ok(rounds) if verdict.is_clean() => rounds,
+        _ => return refusal(&listed.refused(verdict)),
+    };
+    let mut lines = Vec::new();
     let why = loop {
-        if most.is_some_and(|most| rounds.len() == usize::from(most)) {
+        if most.is_some_and(|most| lines.len() == usize::from(most)) {
             break "all rounds are done".to_string();
         }
-        if choices.len() > 2 * BEFORE_ROUND {
+        if rounds.run.words.len() > 2 * BEFORE_ROUND {
             break "no round follows over 65,471 choices".to_string();
         }
-        let round = pilzdamo::round(&bytes, &choices, &mut room);
-        if !round.verdict().is_clean() {
-            return refusal(&bytes.refused(round.verdict()));
-        }
-        if round.choices().is_empty() {
-            let threads = names::several(State::of(&room).threads(), "thread");
-            break format!("then no choice can be done, {threads} left");
-        }
-        let start = choices.len() / 2;
-        choices.extend(round.choices());
-        rounds.push(start..choices.len() / 2);
+        let before = rounds.run.moment();
+        let line = rounds.go();
+        let what = match line {
+            None if sparing => "nothing is left to do",
+            None => "no choice can be done",
+            Some(_) if rounds.run.takes_waits_back(before) => "every choice waits for a seat",
+            Some(line) => {
+                lines.push(line + "\n");
+                continue;
+            }
+        };
+        let threads = names::several(rounds.run.desk.threads().len(), "thread");
+        break format!("then {what}, {threads} left");
     };
-    let followed = lists::followed(&bytes, &choices, None);
-    let line =
-        |round: &Range<usize>| lists::line(&bytes, &followed, &choices, round.clone()) + "\n";
-    let lines: String = rounds.iter().map(line).collect();
-    output::print(lines.as_bytes())?;
-    let rounds = names::several(rounds.len(), "round");
-    let count = names::several(choices.len() / 2, "choice");
-    output::say(&format!("{}: {rounds}, {count}; {why}", file.name()));
+    if !rounds.run.agrees() {
+        let why = "the engine answers these rounds otherwise";
+        return Err(WrongUse(format!("dispatch: {why}")));
+    }
+    output::print(lines.concat().as_bytes())?;
+    let count = names::several(rounds.run.words.len() / 2, "choice");
+    let (name, done) = (file.name(), names::several(lines.len(), "round"));
+    let mut told = vec![format!("{name}: {done}, {count}; {why}")];
+    told.extend(stopped(input, &rounds));
+    output::say(&told.join("\n  "));
     Ok(Outcome::Answer)
+}
+
+/// What there is to say of rounds that have stopped: what kind of rounds they are if they
+/// aren't those of `round`, where each thread stands, and a hint where no role is ever on.
+fn stopped(input: &Input, rounds: &Rounds) -> Vec<String> {
+    let called = Called::of(input);
+    let course = Course {
+        called: &called,
+        desk: rounds.run.desk.clone(),
+        roll: rounds.run.roll.clone(),
+    };
+    let spared = rounds.spared().map(|spared| {
+        let times = names::several(spared.left_out, "time");
+        format!("with --sparing these are not the rounds of `round` (K5): a repeat was left out {times}")
+    });
+    let mut told: Vec<String> = spared.into_iter().collect();
+    told.extend(standing::lines(&course, rounds));
+    told.extend(course.is_unplaced().then(|| report::UNPLACED.to_string()));
+    told
 }

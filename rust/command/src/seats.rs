@@ -3,11 +3,14 @@
 use crate::choices;
 use crate::clinic::{Clinic, ROLES};
 use crate::input::{flawed, Input};
+use crate::named;
 use crate::names;
 use crate::report;
 use crate::source::Source;
+use crate::spaced;
 use crate::WrongUse;
-use pilzdamo::{Seats, Verdict, SEATS};
+use pilzdamo::{Round, Seats, Verdict, SEATS};
+use text::{shown, unless_flawed, At, Flaw, MOST_FLAWS};
 
 /// A table of seats with the name of its source.
 pub struct Table {
@@ -16,14 +19,35 @@ pub struct Table {
 }
 
 impl Table {
-    pub fn read(seats: &Source) -> Result<Table, WrongUse> {
+    /// The table that a source has for a file: by the names of the roles, or for bytes without
+    /// names a number for each role.
+    pub fn read(seats: &Source, input: &Input) -> Result<Table, WrongUse> {
         let (name, bytes) = (seats.name(), seats.read()?);
-        let words = choices::numbers(&bytes).map_err(|flaws| {
-            let WrongUse(why) = flawed(&name, &bytes, &flaws);
-            let form = "seats are text, a number for each role: 0 for no limit, else 1 to 32";
-            WrongUse(format!("{why}\n  {form}"))
-        })?;
-        Ok(Table { name, words })
+        let (read, form) = match named::roles(input) {
+            Some(roles) => (by_name(&bytes, roles), by_name_form(roles)),
+            None => (choices::numbers(&bytes), BY_NUMBER.to_string()),
+        };
+        match read {
+            Ok(words) => Ok(Table { name, words }),
+            // A refused file is reported first, whatever names the table has.
+            Err(_) if input.text.is_none() && !pilzdamo::read(input).is_clean() => {
+                let words = vec![0; Clinic::of(input).count(ROLES)];
+                Ok(Table { name, words })
+            }
+            Err(flaws) => {
+                let WrongUse(why) = flawed(&name, &bytes, &flaws);
+                Err(WrongUse(format!("{why}\n  {form}")))
+            }
+        }
+    }
+
+    /// The seats that a file's own text says, or the text that its names are from; none if
+    /// no role has a limit.
+    pub fn own(input: &Input) -> Option<Table> {
+        let words = input.text.as_ref()?.packed.names.seats();
+        let limited = words.iter().any(|&seats| seats != 0);
+        let name = input.name.clone();
+        limited.then_some(Table { name, words })
     }
 
     #[cfg(test)]
@@ -90,11 +114,93 @@ impl Table {
     }
 }
 
+/// The form of a table for bytes without names.
+const BY_NUMBER: &str = "seats are text, a number for each role: 0 for no limit, else 1 to 32 \
+                         (by name with --names NAMES)";
+
+/// The form of a table for these roles.
+fn by_name_form(roles: &[String]) -> String {
+    let role = named::example(roles, 1);
+    format!("seats are text, a line for each role with a limit of 1 to 32: {role} 1")
+}
+
+/// The seats of each role, by lines such as `holder 1`. A role without a line has no limit.
+fn by_name(text: &[u8], roles: &[String]) -> Result<Vec<u16>, Vec<Flaw>> {
+    let mut lines: Vec<Vec<(At, &[u8])>> = (1..)
+        .zip(text.split(|&byte| byte == b'\n'))
+        .map(|(line, text)| spaced::words(line, text))
+        .collect();
+    lines.retain(|words| !words.is_empty());
+    if let (Some(words), Ok(numbers)) = (lines.first(), choices::numbers(text)) {
+        let at = spaced::over(words);
+        let what = by_position(&numbers, roles);
+        return Err(vec![Flaw { at, what }]);
+    }
+    let (mut seats, mut flaws) = (vec![None; roles.len()], Vec::new());
+    for words in &lines {
+        if flaws.len() > MOST_FLAWS {
+            break;
+        }
+        match role_and_seats(words, roles) {
+            Ok((at, role, _)) if seats[usize::from(role) - 1].is_some() => {
+                let what = format!("'{}' is there twice", roles[usize::from(role) - 1]);
+                flaws.push(Flaw { at, what });
+            }
+            Ok((_, role, found)) => seats[usize::from(role) - 1] = Some(found),
+            Err(flaw) => flaws.push(flaw),
+        }
+    }
+    let seats = seats.into_iter().map(Option::unwrap_or_default).collect();
+    unless_flawed(seats, flaws)
+}
+
+/// What is said of a table by position, with its first limit by name.
+fn by_position(numbers: &[u16], roles: &[String]) -> String {
+    let mut limited = (1..).zip(numbers).filter(|&(_, &seats)| seats != 0);
+    let (role, seats) = limited.next().unwrap_or((1, &1));
+    let role = named::example(roles, role);
+    format!("a table by position, and roles go by name here: {role} {seats}")
+}
+
+/// The role of a line, where its name stands, and its seats.
+fn role_and_seats(words: &[(At, &[u8])], roles: &[String]) -> Result<(At, u16, u16), Flaw> {
+    let flaw = |at, what| Flaw { at, what };
+    let &[(at, role), (seats_at, seats)] = words else {
+        let what = format!(
+            "a role and its seats, such as {} 1, are due",
+            named::example(roles, 1)
+        );
+        return Err(flaw(spaced::over(words), what));
+    };
+    let role = named::role(role, roles).map_err(|what| flaw(at, what))?;
+    let number = std::str::from_utf8(seats).ok();
+    let number = number.filter(|text| text.bytes().all(|byte| byte.is_ascii_digit()));
+    let number = number.and_then(|text| text.parse().ok());
+    match number.filter(|&number| number <= SEATS) {
+        Some(number) => Ok((at, role, number)),
+        None => {
+            let what = format!(
+                "'{}' isn't 0 for no limit, or 1 to {SEATS} seats",
+                shown(seats)
+            );
+            Err(flaw(seats_at, what))
+        }
+    }
+}
+
 /// A run, with seats if there is a table of them.
 pub fn run(input: &Input, choices: &[u16], table: Option<&Table>, out: &mut [u8]) -> Verdict {
     match table {
         None => pilzdamo::run(input, choices, out),
         Some(table) => pilzdamo::run_seated(input, choices, &table.words, out).verdict(),
+    }
+}
+
+/// A round after these choices, with seats if there is a table of them.
+pub fn round(input: &Input, choices: &[u16], table: Option<&Table>, out: &mut [u8]) -> Round {
+    match table {
+        None => pilzdamo::round(input, choices, out),
+        Some(table) => pilzdamo::round_seated(input, choices, &table.words, out),
     }
 }
 
@@ -104,6 +210,18 @@ pub fn after(table: Option<&Table>, input: &Input, choices: &[u16]) -> String {
         let told = pilzdamo::seats(input, choices, &table.words);
         text(input, table, &told)
     })
+}
+
+/// A line for each role with a limit after these choices.
+pub fn limited(table: Option<&Table>, input: &Input, choices: &[u16]) -> Vec<String> {
+    let Some(table) = table else {
+        return Vec::new();
+    };
+    let told = pilzdamo::seats(input, choices, &table.words);
+    let roles = (1..).zip(&table.words).filter(|&(_, &seats)| seats != 0);
+    roles
+        .map(|(role, &seats)| of_role(input, role, seats, &told))
+        .collect()
 }
 
 /// A line for each role, and how many choices got no seat.
@@ -124,14 +242,20 @@ fn of_role(input: &Input, role: u16, seats: u16, told: &Seats) -> String {
         seats => names::several(usize::from(seats), "seat"),
     };
     let taken = names::several(usize::from(told.in_role(role)), "session");
-    let line = told.line_of(role).iter();
-    let line: Vec<String> = line.map(|&session| input.session(session)).collect();
-    let line = match line.as_slice() {
-        [] => String::new(),
-        [session] => format!(", in line: session {session}"),
-        _ => format!(", in line: sessions {}", line.join(", ")),
-    };
+    let line = sessions(input, told.line_of(role));
+    let line = line.map_or(String::new(), |line| format!(", in line: {line}"));
     format!("role {}: {seats}, taken by {taken}{line}", input.role(role))
+}
+
+/// `session book1`, `sessions book1, book2`; none of no session.
+pub fn sessions(input: &Input, sessions: &[u16]) -> Option<String> {
+    let noun = match sessions {
+        [] => return None,
+        [_] => "session",
+        _ => "sessions",
+    };
+    let each = sessions.iter().map(|&session| input.session(session));
+    Some(format!("{noun} {}", each.collect::<Vec<_>>().join(", ")))
 }
 
 /// What the last choice done was answered, if that is 26.

@@ -5,6 +5,10 @@ use crate::clinic::Clinic;
 use crate::input::{Input, Text};
 use crate::names::{items, several};
 use crate::show;
+use text::NodeAt;
+
+/// The most characters for which every line makes room before it.
+const WIDEST: usize = 60;
 
 /// The page for a file: of a text its lines, of bytes their records.
 pub fn page(input: &Input) -> String {
@@ -24,21 +28,24 @@ fn of_text(input: &Input, text: &Text) -> String {
     page += &format!("on steps: {}\n\n", on_steps.count());
     let rows = rows(text);
     let width = rows.iter().map(|row| row.held.chars().count()).max();
-    let width = width.unwrap_or(0).max(4);
+    let width = width.unwrap_or(0).clamp(4, WIDEST);
     page += match text.has_lines {
         true => "  node  line  held\n",
         false => "  node  held\n",
     };
     let culprit = text::why(&text.packed, verdict.number, verdict.place);
-    for (number, (row, line)) in (1..).zip(rows.iter().zip(text.text.lines())) {
-        let Row { node, held } = row;
-        let numbered = match text.has_lines {
-            true => format!("{number:4}  "),
-            false => String::new(),
-        };
-        let line = safe(line);
-        let shown = format!("  {node:>4}  {numbered}{held:width$}  {line}");
-        page += shown.trim_end();
+    let mut rows = rows.into_iter().peekable();
+    for (number, line) in (1..).zip(text.text.lines()) {
+        let start = page.len();
+        let row = rows.next_if(|row| row.line == number);
+        let (node, held) = row.map_or_else(Default::default, |row| (row.node, row.held));
+        page += &format!("  {node:>4}  ");
+        if text.has_lines {
+            page += &format!("{number:4}  ");
+        }
+        page += &format!("{held:width$}  ");
+        page += &text::printable_line(line);
+        page.truncate(start + page[start..].trim_end().len());
         page.push('\n');
         if let Some(culprit) = culprit.as_ref().filter(|found| found.at.line == number) {
             page += &format!("!! refused {}: {}\n", verdict.number, culprit.what);
@@ -50,41 +57,31 @@ fn of_text(input: &Input, text: &Text) -> String {
     page
 }
 
-/// A line whose control characters but tabs are written out: a terminal would obey them.
-fn safe(line: &str) -> String {
-    let written = |c: char| match c.is_control() && c != '\t' {
-        true => text::printable(c.to_string()),
-        false => c.to_string(),
-    };
-    line.chars().map(written).collect()
-}
-
-/// What stands before a line: a step's node, and the roles that are held there.
-#[derive(Clone, Default)]
+/// What stands before the line of a step: its node, and the roles that are held there.
 struct Row {
+    line: usize,
     node: String,
     held: String,
 }
 
+/// The rows of the lines that have a step, in their order.
 fn rows(text: &Text) -> Vec<Row> {
-    let mut rows = vec![Row::default(); text.text.lines().count()];
     let packed = &text.packed;
     let nodes = packed.source.nodes.iter().zip(text::held(packed));
-    for (number, (place, held)) in (1..).zip(nodes).filter(|(_, (place, _))| !place.behind) {
+    let steps = (1..).zip(nodes).filter(|(_, (place, _))| !place.behind);
+    let row = |(number, (place, held)): (usize, (&NodeAt, u16))| {
         let roles: Vec<&str> = items(held.into())
             .filter_map(|role| packed.names.roles.get(role as usize - 1))
             .map(String::as_str)
             .collect();
-        if let Some(row) = rows.get_mut(place.at.line - 1) {
-            *row = Row {
-                node: format!("{number}"),
-                held: if roles.is_empty() {
-                    "-".to_string()
-                } else {
-                    roles.join(",")
-                },
-            };
+        Row {
+            line: place.at.line,
+            node: number.to_string(),
+            held: match &roles[..] {
+                [] => "-".to_string(),
+                roles => roles.join(","),
+            },
         }
-    }
-    rows
+    };
+    steps.map(row).collect()
 }

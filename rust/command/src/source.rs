@@ -1,6 +1,7 @@
 //! Where a file comes from.
 
 use crate::input::Input;
+use crate::output;
 use crate::reading::{self, Start, LONGEST_LIST, LONGEST_TEXT};
 use crate::WrongUse;
 use std::ffi::OsString;
@@ -8,17 +9,18 @@ use std::fs::{self, File, Metadata};
 use std::io::{self, ErrorKind};
 use std::os::fd::AsFd;
 use std::os::unix::ffi::OsStrExt;
-use std::os::unix::fs::MetadataExt;
+use std::os::unix::fs::{FileTypeExt, MetadataExt};
 use std::path::{Path, PathBuf};
 
 /// The system's number for a stream that is closed, or open for something else (EBADF).
 const NOT_OPEN: i32 = 9;
 
 /// A file by its name, or standard input.
-#[derive(PartialEq)]
 pub enum Source {
     StandardInput,
     File(PathBuf),
+    /// One of these that is refused if it has no bytes.
+    NotEmpty(Box<Source>),
 }
 
 impl Source {
@@ -36,6 +38,16 @@ impl Source {
         match self {
             Source::StandardInput => "standard input".to_string(),
             Source::File(path) => shown(path),
+            Source::NotEmpty(source) => source.name(),
+        }
+    }
+
+    /// Whether it is standard input.
+    pub fn is_standard_input(&self) -> bool {
+        match self {
+            Source::StandardInput => true,
+            Source::File(_) => false,
+            Source::NotEmpty(source) => source.is_standard_input(),
         }
     }
 
@@ -44,6 +56,7 @@ impl Source {
         match self {
             Source::StandardInput => "-".to_string(),
             Source::File(path) => path.to_string_lossy().to_string(),
+            Source::NotEmpty(source) => source.typed(),
         }
     }
 
@@ -52,12 +65,43 @@ impl Source {
         match self {
             Source::StandardInput => Identity::of_open(io::stdin()),
             Source::File(path) => Identity::of_path(path),
+            Source::NotEmpty(source) => source.identity(),
         }
     }
 
     /// The clinic's file that it is, or that its text says.
     pub fn clinic(&self) -> Result<Input, WrongUse> {
-        Input::of(self.name(), self.start()?)
+        let start = self.start()?;
+        if start.is_empty() {
+            self.empty()?;
+        }
+        Input::of(self.name(), start)
+    }
+
+    /// What becomes of a file of zero bytes. In a pipe it is mostly what a command that
+    /// failed has left.
+    fn empty(&self) -> Result<(), WrongUse> {
+        let name = self.name();
+        let failed = "did the command before the pipe fail?";
+        match self {
+            Source::StandardInput if is_pipe(io::stdin()) => {
+                let planned = "taken for a clinic with nothing planned";
+                output::say(&format!(
+                    "pilzdamo: {name}: warning: zero bytes, {planned}; {failed}\n  --not-empty refuses zero bytes"
+                ));
+                Ok(())
+            }
+            Source::StandardInput | Source::File(_) => Ok(()),
+            Source::NotEmpty(source) => {
+                let why = match source.is_standard_input() {
+                    true => format!("\n  {failed}"),
+                    false => String::new(),
+                };
+                Err(WrongUse::refused(&format!(
+                    "pilzdamo: {name}: refused: it has no bytes, and --not-empty asks for some{why}"
+                )))
+            }
+        }
     }
 
     /// Its bytes, or the start of them that any longer file is answered by.
@@ -91,6 +135,7 @@ impl Source {
             // Past the library's own buffer, so that the file's position is known.
             Source::StandardInput => Ok(File::from(io::stdin().as_fd().try_clone_to_owned()?)),
             Source::File(path) => File::open(path),
+            Source::NotEmpty(source) => source.open(),
         }
     }
 
@@ -164,6 +209,13 @@ impl Identity {
             number: file.ino(),
         })
     }
+}
+
+/// Whether another program writes what a stream has.
+fn is_pipe(stream: impl AsFd) -> bool {
+    let file = stream.as_fd().try_clone_to_owned().map(File::from);
+    let about = file.and_then(|file| file.metadata());
+    about.is_ok_and(|about| about.file_type().is_fifo() || about.file_type().is_socket())
 }
 
 /// Said of a text that is longer than any.

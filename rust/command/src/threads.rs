@@ -1,6 +1,6 @@
 //! Choices as they stand in a list: threads by number or by name.
 
-use text::{shown, At, Flaw, Token};
+use text::{shown, unless_flawed, At, Flaw, Token, MOST_FLAWS};
 
 /// A thread by its session's index, and its number in it: 1 is the one that the session
 /// starts with, and each that is forked or repeated off has the next.
@@ -65,7 +65,7 @@ pub fn named(tokens: &[Token], sessions: Option<&[String]>) -> Result<Vec<Choice
         sessions,
     };
     let (mut choices, mut flaws) = (Vec::new(), Vec::new());
-    while reader.next < tokens.len() {
+    while reader.next < tokens.len() && flaws.len() <= MOST_FLAWS {
         let start = reader.next;
         match reader.choice() {
             Ok(choice) => choices.push(choice),
@@ -75,10 +75,7 @@ pub fn named(tokens: &[Token], sessions: Option<&[String]>) -> Result<Vec<Choice
             }
         }
     }
-    match flaws.is_empty() {
-        true => Ok(choices),
-        false => Err(flaws),
-    }
+    unless_flawed(choices, flaws)
 }
 
 /// One choice, with or without an arrow, of all these words.

@@ -2,7 +2,7 @@
 
 mod given;
 mod jobs;
-mod near;
+pub mod near;
 mod options;
 mod table;
 
@@ -39,6 +39,8 @@ pub enum Job {
         first: Source,
         second: Source,
         out: Out,
+        /// Whether to answer two texts with bytes.
+        bytes: bool,
     },
     Turn {
         turn: Turn,
@@ -83,16 +85,19 @@ pub enum Job {
     Ready {
         file: NamedFile,
         choices: Source,
+        seats: Option<Source>,
         json: bool,
     },
     Waiting {
         file: NamedFile,
         choices: Source,
+        seats: Option<Source>,
     },
     Seats {
         file: NamedFile,
         choices: Source,
-        seats: Source,
+        /// None if the file has seats of its own.
+        seats: Option<Source>,
     },
     Round {
         file: NamedFile,
@@ -103,6 +108,9 @@ pub enum Job {
         file: NamedFile,
         /// The most rounds, if that is said.
         rounds: Option<u16>,
+        seats: Option<Source>,
+        /// Whether a repeat is left out while the thread that it made last waits.
+        sparing: bool,
     },
     Show {
         file: NamedFile,
@@ -112,8 +120,7 @@ pub enum Job {
     Pack {
         text: Source,
         out: Out,
-        /// Where the names are to go, if they are asked for.
-        names: Option<Out>,
+        beside: Beside,
     },
     Unpack {
         file: Source,
@@ -143,10 +150,34 @@ pub enum Form {
     Json,
 }
 
-/// A minute of the week, and where the table of hours is.
+/// A minute of the week, and where the table of hours is; none if the file has hours of its
+/// own.
 pub struct At {
     pub minute: u16,
-    pub hours: Source,
+    pub hours: Option<Source>,
+}
+
+/// Where what a text has and bytes don't is to go, as far as it is asked for.
+pub struct Beside {
+    pub names: Option<Out>,
+    pub seats: Option<Out>,
+    pub hours: Option<Out>,
+}
+
+impl Beside {
+    /// Where anything of a text goes, its bytes first, with what messages call it.
+    pub fn all<'a>(&'a self, out: &'a Out) -> Vec<(&'static str, &'a Out)> {
+        let Beside {
+            names,
+            seats,
+            hours,
+        } = self;
+        let beside = [("NAMES", names), ("SEATS", seats), ("HOURS", hours)];
+        let beside = beside
+            .into_iter()
+            .filter_map(|(name, out)| Some((name, out.as_ref()?)));
+        [("FILE", out)].into_iter().chain(beside).collect()
+    }
 }
 
 /// The job that the arguments name.

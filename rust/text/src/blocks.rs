@@ -4,8 +4,9 @@ use crate::line::{shown, At, Flaw, Line};
 use crate::pack::{known, NodeAt};
 use crate::records::{Node, MOST, VARIABLES};
 use crate::records::{COMPARE, END, FORK, NEW, OFF, ON, RECEIVE, REPEAT, SEND};
-use crate::tables::Tables;
+use crate::tables::{listed, Tables};
 use crate::words::Cursor;
+use std::collections::HashMap;
 
 /// What a block of lines stands under.
 #[derive(Clone, Copy, Debug, PartialEq)]
@@ -34,8 +35,35 @@ struct Block {
     last: Option<At>,
     /// The fork or repeat that ends it.
     ended: Option<&'static str>,
-    /// The variables that are bound here.
-    bound: Vec<String>,
+    /// How many variables are bound above it.
+    bound_above: usize,
+}
+
+/// The variables that are bound on the path to a line.
+#[derive(Default)]
+struct Bound {
+    names: Vec<String>,
+    /// The index of each.
+    numbers: HashMap<String, usize>,
+}
+
+impl Bound {
+    fn number(&self, name: &str) -> Option<usize> {
+        self.numbers.get(name).copied()
+    }
+
+    /// Binds one that isn't bound.
+    fn add(&mut self, name: &str) {
+        self.numbers.insert(name.to_string(), self.names.len());
+        self.names.push(name.to_string());
+    }
+
+    /// Forgets all but the first.
+    fn cut(&mut self, kept: usize) {
+        for name in self.names.drain(kept..) {
+            self.numbers.remove(&name);
+        }
+    }
 }
 
 /// A session's nodes while its lines are read.
@@ -44,6 +72,7 @@ pub struct Blocks<'a> {
     /// How many nodes stand before these.
     before: usize,
     open: Vec<Block>,
+    bound: Bound,
     /// Whether a line was indented by a tab, which has a message of its own.
     tabbed: bool,
     /// Whether the lines from here on can't be judged because of that tab.
@@ -68,15 +97,16 @@ impl<'a> Blocks<'a> {
             tables,
             before,
             open: Vec::new(),
+            bound: Bound::default(),
             tabbed: false,
             lost: false,
             grown: Grown::default(),
         };
-        blocks.open(Opener::Session, session, Vec::new());
+        blocks.open(Opener::Session, session);
         blocks
     }
 
-    fn open(&mut self, opener: Opener, line: &Line, bound: Vec<String>) {
+    fn open(&mut self, opener: Opener, line: &Line) {
         self.open.push(Block {
             opener,
             under: line.at(),
@@ -84,7 +114,7 @@ impl<'a> Blocks<'a> {
             inner: None,
             last: None,
             ended: None,
-            bound,
+            bound_above: self.bound.names.len(),
         });
     }
 
@@ -97,6 +127,11 @@ impl<'a> Blocks<'a> {
         if !self.lost {
             self.grown.flaws.push(Flaw { at, what });
         }
+    }
+
+    /// How many flaws were found.
+    pub fn flaws(&self) -> usize {
+        self.grown.flaws.len()
     }
 
     /// Reads one line.
@@ -157,6 +192,7 @@ impl<'a> Blocks<'a> {
         let Some(block) = self.open.pop() else {
             return;
         };
+        self.bound.cut(block.bound_above);
         match block.opener {
             Opener::Fork { branches: 2.., .. } => (),
             Opener::Fork { branches, .. } => {
@@ -199,9 +235,7 @@ impl<'a> Blocks<'a> {
         let mut cursor = Cursor::new(line);
         cursor.word("branch")?;
         let number = (self.before + self.grown.nodes.len() + 1) as u16;
-        let block = self.block();
-        let bound = block.bound.clone();
-        let Opener::Fork { node, branches } = &mut block.opener else {
+        let Opener::Fork { node, branches } = &mut self.block().opener else {
             return Ok(());
         };
         *branches += 1;
@@ -214,7 +248,7 @@ impl<'a> Blocks<'a> {
                 "a fork has two branches; this is one more".to_string(),
             ),
         }
-        self.open(Opener::Branch, line, bound);
+        self.open(Opener::Branch, line);
         cursor.end()
     }
 
@@ -245,8 +279,7 @@ impl<'a> Blocks<'a> {
                 };
                 self.push([tag, 0, 0], place);
                 self.block().ended = Some(word);
-                let bound = self.block().bound.clone();
-                self.open(opener, line, bound);
+                self.open(opener, line);
                 return cursor.end();
             }
             "branch" => {
@@ -299,7 +332,7 @@ impl<'a> Blocks<'a> {
         let token = cursor.name("a name for the variable")?;
         let node = rest(self, cursor);
         let name = &token.text;
-        let known = if self.block().bound.contains(name) {
+        let known = if self.bound.number(name).is_some() {
             Some("variable above it")
         } else if self.tables.users.number(name).is_some() {
             Some("user")
@@ -312,9 +345,9 @@ impl<'a> Blocks<'a> {
         if let Some(one) = known {
             return flaw(format!("'{}' is the name of a {one} already", shown(name)));
         }
-        self.block().bound.push(name.clone());
+        self.bound.add(name);
         self.grown.variables.push(name.clone());
-        if self.block().bound.len() > VARIABLES {
+        if self.bound.names.len() > VARIABLES {
             return flaw("a ninth variable: at most 8 are bound on the way to a step".to_string());
         }
         node
@@ -324,19 +357,18 @@ impl<'a> Blocks<'a> {
     fn operand(&self, cursor: &mut Cursor, what: &str) -> Result<u16, Flaw> {
         let token = cursor.name(what)?;
         let name = &token.text;
-        let bound = &self.open.last().expect("a block is open").bound;
-        if let Some(variable) = bound.iter().position(|known| known == name) {
-            return Ok(512 + variable as u16);
+        if let Some(variable) = self.bound.number(name) {
+            return Ok((512 + variable) as u16);
         }
         if let Some(user) = self.tables.users.number(name) {
             return Ok(user as u16);
         }
         if let Some(channel) = self.tables.channels.number(name) {
-            return Ok(256 + channel as u16);
+            return Ok((256 + channel) as u16);
         }
-        let bound = match &bound[..] {
+        let bound = match &self.bound.names[..] {
             [] => "no variable is bound here".to_string(),
-            bound => format!("variables bound here: {}", bound.join(", ")),
+            bound => format!("variables bound here: {}", listed(bound)),
         };
         Err(Flaw {
             at: token.at,

@@ -3,6 +3,7 @@
 use crate::line::tokens;
 use crate::pack::Packed;
 use crate::records::{Records, OFF, ON};
+use std::collections::HashSet;
 
 /// Lines to be put in before the line of an index, from 0.
 struct Insertion {
@@ -98,7 +99,7 @@ fn put(all: &mut Vec<String>, insertion: Insertion) {
 /// The text without its on and off steps. A comment after one of them stays.
 pub fn stripped(text: &str, packed: &Packed) -> String {
     let nodes = packed.records.nodes.iter().zip(&packed.source.nodes);
-    let gone: Vec<usize> = nodes
+    let gone: HashSet<usize> = nodes
         .filter(|([tag, ..], _)| matches!(*tag, ON | OFF))
         .map(|(_, place)| place.at.line)
         .collect();

@@ -1,6 +1,6 @@
 //! The lines of a text, and the words in them.
 
-use crate::printable::units;
+use crate::printable::{is_plain, units};
 
 /// A stretch of a line.
 #[derive(Clone, Copy, Debug, Default, PartialEq, Eq)]
@@ -18,6 +18,19 @@ pub struct At {
 pub struct Flaw {
     pub at: At,
     pub what: String,
+}
+
+/// How many flaws are looked for: behind so many the rest of a text isn't read.
+pub const MOST_FLAWS: usize = 1_000;
+
+/// The outcome of reading something: what it says, or its flaws, of which it has at most
+/// [`MOST_FLAWS`].
+pub fn unless_flawed<T>(read: T, mut flaws: Vec<Flaw>) -> Result<T, Vec<Flaw>> {
+    flaws.truncate(MOST_FLAWS);
+    match flaws.is_empty() {
+        true => Ok(read),
+        false => Err(flaws),
+    }
 }
 
 /// A word, or a sign.
@@ -78,7 +91,7 @@ pub fn lines(text: &str) -> (Vec<Line>, Vec<Flaw>) {
         };
         let indent = first.at.column - 1;
         let tab = text.chars().take(indent).position(|c| c == '\t');
-        if let Some(tab) = tab {
+        if let (Some(tab), true) = (tab, flaws.len() < MOST_FLAWS) {
             flaws.push(Flaw {
                 at: At {
                     line: number,
@@ -100,40 +113,44 @@ pub fn lines(text: &str) -> (Vec<Line>, Vec<Flaw>) {
 /// The words and signs of a line, up to its comment.
 pub fn tokens(line: usize, text: &str) -> Vec<Token> {
     let mut tokens: Vec<Token> = Vec::new();
-    let rest = text.trim_start_matches(' ');
-    let skipped = text.len() - rest.len();
-    let chars: Vec<char> = rest.chars().collect();
-    let mut next = 0;
-    while let Some(&first) = chars.get(next) {
-        let start = next;
-        next += 1;
+    let mut rest = text.trim_start_matches(' ');
+    let mut column = text.len() - rest.len() + 1;
+    while let Some(first) = rest.chars().next() {
         if first == '#' {
             break;
         }
-        if first.is_whitespace() {
-            continue;
+        let length = match first {
+            '-' if is_arrow(rest) => 2,
+            _ if is_of_word(first) => word_length(rest),
+            _ => first.len_utf8(),
+        };
+        let (word, behind) = rest.split_at(length);
+        let width = word.chars().count();
+        if !first.is_whitespace() {
+            tokens.push(Token {
+                text: word.to_string(),
+                at: At {
+                    line,
+                    column,
+                    width,
+                },
+            });
         }
-        if is_arrow(&chars[start..]) {
-            next += 1;
-        } else if is_of_word(first) {
-            while chars.get(next).is_some_and(|&c| is_of_word(c)) && !is_arrow(&chars[next..]) {
-                next += 1;
-            }
-        }
-        tokens.push(Token {
-            text: chars[start..next].iter().collect(),
-            at: At {
-                line,
-                column: skipped + start + 1,
-                width: next - start,
-            },
-        });
+        column += width;
+        rest = behind;
     }
     tokens
 }
 
-fn is_arrow(chars: &[char]) -> bool {
-    chars.starts_with(&['-', '>'])
+/// How many bytes the word has that a text begins with. An arrow ends it.
+fn word_length(text: &str) -> usize {
+    let ends = |&(at, c): &(usize, char)| !is_of_word(c) || (c == '-' && is_arrow(&text[at..]));
+    let end = text.char_indices().find(ends);
+    end.map_or(text.len(), |(at, _)| at)
+}
+
+fn is_arrow(text: &str) -> bool {
+    text.starts_with("->")
 }
 
 fn is_of_word(c: char) -> bool {
@@ -145,5 +162,10 @@ const SHOWN: usize = 40;
 
 /// A word of a text in a message, as it can be printed and not too long.
 pub fn shown(word: impl AsRef<[u8]>) -> String {
-    units(word.as_ref()).take(SHOWN).collect()
+    let word = word.as_ref();
+    let start = &word[..word.len().min(SHOWN)];
+    match std::str::from_utf8(start) {
+        Ok(plain) if is_plain(plain) => plain.to_string(),
+        _ => units(word, 0).take(SHOWN).collect(),
+    }
 }

@@ -1,6 +1,6 @@
 //! Tells texts from bytes, and shows places in texts.
 
-use crate::line::{At, Flaw};
+use crate::line::{At, Flaw, MOST_FLAWS};
 use crate::pack::pack;
 use crate::printable::units;
 use std::collections::HashSet;
@@ -40,8 +40,10 @@ pub fn undecoded(bytes: &[u8]) -> Vec<Flaw> {
     let (mut text, mut flaws) = (String::new(), Vec::new());
     for (number, line) in (1..).zip(without_mark(bytes).split(|&byte| byte == b'\n')) {
         if let Err(mut flaw) = characters(line) {
-            flaw.at.line = number;
-            flaws.push(flaw);
+            if flaws.len() < MOST_FLAWS {
+                flaw.at.line = number;
+                flaws.push(flaw);
+            }
         }
         // Such bytes are mostly letters of Latin-1. Read as such, names stay names, and
         // other lines get no false messages.
@@ -55,6 +57,7 @@ pub fn undecoded(bytes: &[u8]) -> Vec<Flaw> {
     let others = pack(&text).err().unwrap_or_default().into_iter();
     flaws.extend(others.filter(|flaw| !told.contains(&flaw.at.line)));
     flaws.sort_by_key(|flaw| (flaw.at.line, flaw.at.column));
+    flaws.truncate(MOST_FLAWS);
     flaws
 }
 
@@ -82,19 +85,44 @@ const SHOWN: usize = 100;
 /// A message about a place in a text: the file's name, line and column, what there is
 /// to say, and the line itself with a mark below it.
 pub fn told(file: &str, text: impl AsRef<[u8]>, at: At, what: &str) -> String {
+    let text = without_mark(text.as_ref());
+    let mut lines = text.split(|&byte| byte == b'\n');
+    let whole = lines.nth(at.line.saturating_sub(1)).unwrap_or_default();
+    told_of_line(file, whole, at, what)
+}
+
+/// The messages about the first flaws of a text, at most so many. Its lines are gone through
+/// once if the flaws are in their order.
+pub fn told_first(file: &str, text: impl AsRef<[u8]>, flaws: &[Flaw], most: usize) -> Vec<String> {
+    let text = without_mark(text.as_ref());
+    let numbered = || (1..).zip(text.split(|&byte| byte == b'\n'));
+    let (mut lines, mut found) = (numbered(), (0, &[][..]));
+    let flaws = flaws.iter().take(most);
+    flaws
+        .map(|Flaw { at, what }| {
+            if at.line < found.0 {
+                (lines, found) = (numbered(), (0, &[][..]));
+            }
+            if found.0 < at.line {
+                let line = lines.find(|(number, _)| *number == at.line);
+                found = line.unwrap_or((at.line, &[]));
+            }
+            told_of_line(file, found.1, *at, what)
+        })
+        .collect()
+}
+
+fn told_of_line(file: &str, whole: &[u8], at: At, what: &str) -> String {
     let At {
         line,
         column,
         width,
     } = at;
-    let text = without_mark(text.as_ref());
-    let mut lines = text.split(|&byte| byte == b'\n');
-    let whole = lines.nth(line.saturating_sub(1)).unwrap_or_default();
     let skipped = match column > BEFORE {
         true => column - 1 - BEFORE / 3,
         false => 0,
     };
-    let shown = units(whole.trim_ascii_end()).skip(skipped).take(SHOWN);
+    let shown = units(whole.trim_ascii_end(), skipped).take(SHOWN);
     let shown: Vec<String> = shown.collect();
     let lead = if skipped > 0 { "... " } else { "" };
     let first = column.saturating_sub(1) - skipped;

@@ -1,15 +1,20 @@
 //! The names in a text, which bytes don't have.
 
-use crate::line::{self, Flaw, Line};
+use crate::limits::{self, Limits};
+use crate::line::{shown, Flaw, Line, MOST_FLAWS};
 use crate::records::{Records, NEW, RECEIVE};
+use crate::tables::{unknown, LISTED};
 use crate::tree::Spot;
 use crate::words::Cursor;
+use std::collections::HashMap;
 
-/// The names of a file's records, in their order.
+/// The names of a file's records, in their order, and what else a text has and bytes don't.
 #[derive(Clone, Debug, Default, PartialEq, Eq)]
 pub struct Names {
     pub kinds: Vec<String>,
     pub roles: Vec<String>,
+    /// The seats and hours of each role.
+    pub limits: Vec<Limits>,
     pub users: Vec<String>,
     pub channels: Vec<String>,
     pub sessions: Vec<SessionNames>,
@@ -44,6 +49,7 @@ impl Names {
         Names {
             kinds: numbered('k', records.kinds.len()),
             roles: numbered('r', records.roles.len()),
+            limits: vec![Limits::default(); records.roles.len()],
             users: numbered('u', records.users.len()),
             channels: numbered('c', records.channels.len()),
             sessions: (0..records.sessions.len()).map(session).collect(),
@@ -63,6 +69,9 @@ impl Names {
             if !names.is_empty() {
                 text += &format!("{word} {}\n", names.join(", "));
             }
+            if word == "roles" {
+                text += &self.limited();
+            }
         }
         for session in &self.sessions {
             text += &format!("session {}", session.name);
@@ -72,6 +81,32 @@ impl Names {
             text.push('\n');
         }
         text
+    }
+
+    /// A line for each role with seats or hours.
+    fn limited(&self) -> String {
+        let roles = self.roles.iter().zip(&self.limits);
+        let line = |(role, limits): (&String, &Limits)| match limits.parts().join("; ") {
+            none if none.is_empty() => none,
+            parts => format!("role {role}: {parts}\n"),
+        };
+        roles.map(line).collect()
+    }
+
+    /// The table of seats to be lent to the engine: a word for each role, 0 for no limit.
+    pub fn seats(&self) -> Vec<u16> {
+        self.limits.iter().map(|limits| limits.seats).collect()
+    }
+
+    /// The rows of the table of hours to be lent to the engine, each with its role's index.
+    pub fn hours(&self) -> Vec<(usize, [u16; 3])> {
+        let open = self.limits.iter().enumerate();
+        let rows = open.flat_map(|(index, limits)| {
+            let rows = limits.open.iter();
+            let rows = rows.flat_map(move |open| open.rows(index as u16 + 1));
+            rows.map(move |row| (index, row))
+        });
+        rows.collect()
     }
 
     /// Names that are numbers, of names that were invented: `user 1`, `variable 2`.
@@ -89,30 +124,57 @@ impl Names {
         Names {
             kinds: told("kind", self.kinds),
             roles: told("role", self.roles),
+            limits: self.limits,
             users: told("user", self.users),
             channels: told("channel", self.channels),
             sessions: self.sessions.into_iter().map(session).collect(),
         }
     }
 
-    /// Reads such a text. Whether the names fit a file is seen when it is unpacked.
-    pub fn read(text: &str) -> Result<Names, Vec<Flaw>> {
-        let (lines, mut flaws) = line::lines(text);
-        let mut names = Names::default();
-        for (index, line) in lines.iter().enumerate() {
-            let read = match index {
-                0 => first(line),
-                _ => names.add(line),
+    /// Reads the lines of the roles' seats and hours, when all roles are known.
+    pub(crate) fn limit_all(&mut self, lines: &[&Line]) -> Vec<Flaw> {
+        self.limits = vec![Limits::default(); self.roles.len()];
+        // Of two with one name the first counts.
+        let roles = self.roles.iter().cloned().zip(0..self.roles.len());
+        let numbers: HashMap<String, usize> = roles.rev().collect();
+        let read = lines.iter().map(|line| self.limit(line, &numbers));
+        read.filter_map(Result::err).take(MOST_FLAWS).collect()
+    }
+
+    /// Reads the line of a role's seats and hours.
+    fn limit(&mut self, line: &Line, numbers: &HashMap<String, usize>) -> Result<(), Flaw> {
+        let mut cursor = Cursor::new(line);
+        cursor.word("role")?;
+        let role = cursor.name("a role")?;
+        let Some(&index) = numbers.get(&role.text) else {
+            let roles = self.roles.iter().take(LISTED + 1).map(shown);
+            let what = unknown("role", &role.text, &roles.collect::<Vec<_>>());
+            return Err(Flaw { at: role.at, what });
+        };
+        cursor.word(":")?;
+        let limits = &mut self.limits[index];
+        loop {
+            let at = cursor.token().map(|token| token.at).unwrap_or_default();
+            let Some(word) = cursor.peek().and_then(limits::begun) else {
+                return cursor.expected("'open' or a number of seats");
             };
-            flaws.extend(read.err());
-        }
-        match flaws.is_empty() {
-            true => Ok(names),
-            false => Err(flaws),
+            let is_there = match word {
+                "open" => !limits.open.is_empty(),
+                _ => limits.seats != 0,
+            };
+            if is_there {
+                let what = format!("'{word}' of this role is there twice");
+                return Err(Flaw { at, what });
+            }
+            limits.read(word, &mut cursor)?;
+            if !cursor.takes(";") {
+                return cursor.end_or("';' or ");
+            }
         }
     }
 
-    fn add(&mut self, line: &Line) -> Result<(), Flaw> {
+    /// Takes the names of a line of such a text.
+    pub(crate) fn add(&mut self, line: &Line) -> Result<(), Flaw> {
         let mut cursor = Cursor::new(line);
         let table = match cursor.peek() {
             Some("kinds") => &mut self.kinds,
@@ -129,18 +191,15 @@ impl Names {
                 self.sessions.push(SessionNames { name, variables });
                 return cursor.end_or(more);
             }
-            _ => return cursor.expected("'kinds', 'roles', 'users', 'channels' or 'session'"),
+            _ => {
+                let words = "'sum', 'kinds', 'roles', 'role', 'users', 'channels' or 'session'";
+                return cursor.expected(words);
+            }
         };
         cursor.skip();
         table.extend(list(&mut cursor, "a name")?);
         cursor.end_or("',' or ")
     }
-}
-
-fn first(line: &Line) -> Result<(), Flaw> {
-    let mut cursor = Cursor::new(line);
-    cursor.word("names")?;
-    cursor.end()
 }
 
 /// Names with commas between.

@@ -1,7 +1,8 @@
 //! Text to bytes.
 
 use crate::blocks::Blocks;
-use crate::line::{self, shown, At, Flaw, Line};
+use crate::limits::{self, Limits};
+use crate::line::{self, shown, unless_flawed, At, Flaw, Line, MOST_FLAWS};
 use crate::names::{Names, SessionNames};
 use crate::records::{bit, Channel, Records, Role, Version};
 use crate::tables::{Table, Tables};
@@ -60,6 +61,7 @@ pub fn pack(text: &str) -> Result<Packed, Vec<Flaw>> {
         names: Names {
             kinds: tables.kinds.only_names(),
             roles: tables.roles.only_names(),
+            limits: Vec::new(),
             users: tables.users.only_names(),
             channels: tables.channels.only_names(),
             sessions: Vec::new(),
@@ -76,16 +78,14 @@ pub fn pack(text: &str) -> Result<Packed, Vec<Flaw>> {
     };
     reader.read(&lines);
     let mut flaws = reader.flaws;
-    if !flaws.is_empty() {
-        flaws.sort_by_key(|flaw| (flaw.at.line, flaw.at.column));
-        flaws.dedup();
-        return Err(flaws);
-    }
-    Ok(Packed {
+    flaws.sort_by_key(|flaw| (flaw.at.line, flaw.at.column));
+    flaws.dedup();
+    let packed = Packed {
         records: reader.records,
         names: reader.names,
         source: reader.source,
-    })
+    };
+    unless_flawed(packed, flaws)
 }
 
 fn places(table: &Table) -> Vec<At> {
@@ -119,8 +119,11 @@ impl Reader<'_> {
             Ok(version) => self.records.version = version,
             Err(flaw) => self.flaws.push(flaw),
         }
-        let mut rest = rest;
+        let (mut rest, most) = (rest, self.flaws.len() + MOST_FLAWS);
         while let Some((line, behind)) = rest.split_first() {
+            if self.flaws.len() > most {
+                break;
+            }
             let steps = behind.iter().take_while(|line| line.indent > 0).count();
             let (steps, behind) = behind.split_at(steps);
             self.statement(line, steps);
@@ -181,15 +184,19 @@ impl Reader<'_> {
     fn role(&mut self, cursor: &mut Cursor) -> Result<(), Flaw> {
         self.records.roles.push(Role::default());
         self.source.juniors.push(Vec::new());
+        self.names.limits.push(Limits::default());
         cursor.name("a name for the role")?;
         if !cursor.takes(":") {
             return cursor.end_or("':' or ");
         }
         let role = last(&mut self.records.roles);
+        let limits = last(&mut self.names.limits);
         let mut said: Vec<&str> = Vec::new();
         loop {
             let at = cursor.token().map(|token| token.at);
+            let limit = cursor.peek().and_then(limits::begun);
             let word = match cursor.peek() {
+                _ if limit.is_some() => limit.unwrap_or_default(),
                 Some(word @ ("send" | "receive")) => word,
                 Some(word @ "juniors") if self.records.version.has_juniors() => word,
                 Some("juniors") if self.records.version == Version::One => {
@@ -197,13 +204,23 @@ impl Reader<'_> {
                     let what = "juniors take 'clinic 2': version 1 has none".to_string();
                     return Err(Flaw { at, what });
                 }
-                _ => return cursor.expected("'send', 'receive' or 'juniors'"),
+                _ => return cursor.expected(PARTS),
             };
             if let (true, Some(at)) = (said.contains(&word), at) {
                 let what = format!("'{word}' is there twice");
                 return Err(Flaw { at, what });
             }
             said.push(word);
+            if let Some(limit) = limit {
+                limits.read(limit, cursor)?;
+                if cursor.takes(";") {
+                    continue;
+                }
+                return cursor.end_or(match limit {
+                    "open" => "',' or ';' or ",
+                    _ => "';' or ",
+                });
+            }
             cursor.skip();
             match word {
                 "send" => role.sends = mask(cursor, &self.tables.kinds)?.0,
@@ -245,7 +262,7 @@ impl Reader<'_> {
     }
 
     fn session(&mut self, cursor: &mut Cursor) -> Result<(), Flaw> {
-        let root = self.records.nodes.len() as u16 + 1;
+        let root = (self.records.nodes.len() + 1) as u16;
         self.records.sessions.push(crate::records::Session {
             user: 0,
             mask: 0,
@@ -271,6 +288,9 @@ impl Reader<'_> {
     fn steps(&mut self, line: &Line, steps: &[Line]) {
         let mut blocks = Blocks::new(self.tables, self.records.nodes.len(), line);
         for step in steps {
+            if blocks.flaws() > MOST_FLAWS {
+                break;
+            }
             blocks.step(step);
         }
         let grown = blocks.close();
@@ -280,6 +300,9 @@ impl Reader<'_> {
         self.flaws.extend(grown.flaws);
     }
 }
+
+/// What a part of a role's line begins with.
+const PARTS: &str = "'send', 'receive', 'juniors', 'open' or a number of seats";
 
 /// The record that was begun last.
 fn last<T>(records: &mut [T]) -> &mut T {
@@ -319,29 +342,11 @@ fn version(line: &Line) -> Result<Version, Flaw> {
 
 /// The number of the record that is named next.
 pub fn known(cursor: &mut Cursor, table: &Table) -> Result<usize, Flaw> {
-    let one = table.one;
-    let token = cursor.name(&format!("a {one}"))?;
+    let token = cursor.name(&format!("a {}", table.one))?;
     table.number(&token.text).ok_or_else(|| Flaw {
         at: token.at,
-        what: unknown(one, &token.text, &table.names),
+        what: table.unknown(&token.text),
     })
-}
-
-/// What is said of a name that nothing has.
-pub fn unknown(what: &str, name: &str, names: &[(String, At)]) -> String {
-    let mut there: Vec<&str> = Vec::new();
-    for (name, _) in names {
-        if !name.is_empty() && !there.contains(&&name[..]) {
-            there.push(name);
-        }
-    }
-    let names: Vec<String> = there.into_iter().map(shown).collect();
-    let there = match &names[..] {
-        [] => format!("there are no {what}s"),
-        names if names.len() > 8 => format!("{what}s: {}, ...", names[..8].join(", ")),
-        names => format!("{what}s: {}", names.join(", ")),
-    };
-    format!("there is no {what} '{}' ({there})", shown(name))
 }
 
 /// The mask of names with commas between, and where they stand, in the order of

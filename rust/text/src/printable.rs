@@ -1,5 +1,7 @@
 //! Writes out what would not show in a message, or would show as something else.
 
+use std::borrow::Cow;
+
 /// Words in a message. Control characters are written `\n` or `\x1b`, other characters
 /// that don't show or turn the line round `\u{202e}`, bytes that are no characters `\xff`,
 /// and a backslash `\\`.
@@ -10,17 +12,56 @@
 /// assert_eq!(text::printable("\u{202e}txt.b\\"), "\\u{202e}txt.b\\\\");
 /// ```
 pub fn printable(words: impl AsRef<[u8]>) -> String {
-    units(words.as_ref()).collect()
+    units(words.as_ref(), 0).collect()
 }
 
-/// Each character, or stretch of bytes that is none, as it stands in a message.
-pub fn units(words: &[u8]) -> impl Iterator<Item = String> + '_ {
-    words.utf8_chunks().flat_map(|chunk| {
-        let bytes = chunk.invalid().iter();
-        let others: String = bytes.map(|byte| format!("\\x{byte:02x}")).collect();
-        let others = (!others.is_empty()).then_some(others);
-        chunk.valid().chars().map(written).chain(others)
+/// A line of a text as a terminal may print it: as in a message, but tabs and backslashes
+/// stay.
+///
+/// ```
+/// assert_eq!(text::printable_line("\ta\\b \u{2066}"), "\ta\\b \\u{2066}");
+/// ```
+pub fn printable_line(line: &str) -> Cow<'_, str> {
+    let is_itself = |c: char| matches!(c, '\t' | '\\') || shows(c);
+    if is_plain(line) || line.chars().all(is_itself) {
+        return line.into();
+    }
+    let mut printed = String::with_capacity(line.len());
+    for c in line.chars() {
+        match is_itself(c) {
+            true => printed.push(c),
+            false => printed += &written(c),
+        }
+    }
+    printed.into()
+}
+
+/// Each character, or stretch of bytes that is none, as it stands in a message, but for the
+/// first, which are skipped.
+pub fn units(words: &[u8], mut skipped: usize) -> impl Iterator<Item = String> + '_ {
+    words.utf8_chunks().flat_map(move |chunk| {
+        let (valid, invalid) = (chunk.valid(), chunk.invalid());
+        let skips = skipped.min(valid.chars().count());
+        skipped -= skips;
+        let mut chars = valid.chars();
+        if let Some(last) = skips.checked_sub(1) {
+            chars.nth(last);
+        }
+        let skips = skipped.min(usize::from(!invalid.is_empty()));
+        skipped -= skips;
+        let others = (skips == 0 && !invalid.is_empty()).then(|| {
+            let bytes = invalid.iter();
+            bytes.map(|byte| format!("\\x{byte:02x}")).collect()
+        });
+        chars.map(written).chain(others)
     })
+}
+
+/// Whether all of it is printed as it is, seen at a glance.
+pub fn is_plain(words: &str) -> bool {
+    words
+        .bytes()
+        .all(|byte| matches!(byte, b' '..=b'[' | b']'..=b'~'))
 }
 
 fn written(c: char) -> String {
@@ -38,7 +79,9 @@ fn written(c: char) -> String {
 /// Whether a character shows as itself, by the standard library's table; an accent does,
 /// over the letter before it.
 fn shows(c: char) -> bool {
-    matches!(c, ' '..='~') || format!("a{c}").escape_debug().skip(1).eq([c])
+    matches!(c, ' '..='~')
+        || c.escape_debug().eq([c])
+        || format!("a{c}").escape_debug().skip(1).eq([c])
 }
 
 #[cfg(test)]

@@ -1,5 +1,6 @@
 //! Bytes to text.
 
+use crate::limits::Limits;
 use crate::names::Names;
 use crate::records::{items, Node, Records, Version};
 use crate::records::{COMPARE, FORK, NEW, OFF, ON, RECEIVE, REPEAT, SEND};
@@ -82,7 +83,7 @@ impl Writer<'_> {
                 kind => format!("kind {name} carries {}\n", one(&names.kinds, kind)?),
             };
         }
-        for (role, name) in records.roles.iter().zip(&names.roles) {
+        for (index, (role, name)) in records.roles.iter().zip(&names.roles).enumerate() {
             let grants = [
                 ("send", role.sends, &names.kinds),
                 ("receive", role.receives, &names.kinds),
@@ -94,6 +95,7 @@ impl Writer<'_> {
                     parts.push(format!("{word} {}", all(names, mask)?));
                 }
             }
+            parts.extend(names.limits.get(index).into_iter().flat_map(Limits::parts));
             *text += &format!("role {name}{}\n", behind(": ", &parts.join("; ")));
         }
         for (&mask, name) in records.users.iter().zip(&names.users) {

@@ -1,6 +1,6 @@
 //! A line read word by word.
 
-use crate::line::{shown, Flaw, Line, Token};
+use crate::line::{shown, At, Flaw, Line, Token};
 
 /// The words of the form, which are no names.
 const RESERVED: [&str; 21] = [
@@ -8,6 +8,9 @@ const RESERVED: [&str; 21] = [
     "juniors", "owner", "by", "as", "on", "off", "new", "fork", "branch", "repeat", "compare",
     "with",
 ];
+
+/// The most characters of a name. An answer may name a thing at each of 65,535 choices.
+pub const LONGEST_NAME: usize = 100;
 
 /// Whether the form has this word itself.
 pub fn is_reserved(word: &str) -> bool {
@@ -61,12 +64,39 @@ impl<'a> Cursor<'a> {
                 let what = format!("expected {what}: '{word}' is a reserved word");
                 Err(Flaw { at: token.at, what })
             }
+            Some(token) if token.is_name() && token.at.width > LONGEST_NAME => {
+                let width = token.at.width;
+                let what =
+                    format!("a name of {width} characters: a name has at most {LONGEST_NAME}");
+                Err(Flaw { at: token.at, what })
+            }
             Some(token) if token.is_name() => {
                 self.skip();
                 Ok(token)
             }
             _ => self.expected(what),
         }
+    }
+
+    /// Goes past a word that white space, a comma or a semicolon ends, whatever signs are in
+    /// it.
+    pub fn spaced(&mut self, what: &str) -> Result<Token, Flaw> {
+        let is_sign = |token: &Token| matches!(&token.text[..], "," | ";");
+        let Some(first) = self.token().filter(|token| !is_sign(token)) else {
+            return self.expected(what);
+        };
+        let (mut text, mut end) = (String::new(), first.at.column);
+        while let Some(token) = self.token() {
+            if is_sign(token) || token.at.column != end {
+                break;
+            }
+            text += &token.text;
+            end += token.at.width;
+            self.skip();
+        }
+        let width = end - first.at.column;
+        let at = At { width, ..first.at };
+        Ok(Token { text, at })
     }
 
     /// Nothing more is due.

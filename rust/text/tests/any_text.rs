@@ -1,14 +1,14 @@
 //! Any text whatever is read to its end: as a file that has a text, or with flaws at
 //! places that are in it.
 
-use text::{canonical, pack, placed, stripped, told, unpack_named, why, Packed};
+use text::{canonical, pack, placed, stripped, told, unpack_named, why, Lent, Packed};
 
 const TEXT: &str = "\
 clinic 2 # a comment
 kind a carries b
 kind b
-role r: send a, b; receive a
-role s: send b; juniors r
+role r: send a, b; receive a; 1 seat
+role s: send b; juniors r; 12 seats; open Mon-Fri 07:00-15:00, Sat 22:00-06:00
 user u: r, s
 user w
 channel c: a, owner u
@@ -44,9 +44,10 @@ impl Rng {
 }
 
 /// Some words and signs.
-const BITS: [&str; 24] = [
+const BITS: [&str; 28] = [
     "clinic", "kind", "role", "user", "channel", "session", "send", "on", "off", "fork", "branch",
-    "repeat", "new", ":", ",", ";", "#", "->", "\t", "  ", "\n", "\u{0}", "\u{e4}", "\u{2028}",
+    "repeat", "new", "open", "seats", "Sun", "24:00", ":", ",", ";", "#", "->", "\t", "  ", "\n",
+    "\u{0}", "\u{e4}", "\u{2028}",
 ];
 
 /// The text with something changed.
@@ -78,6 +79,9 @@ fn is_sound(text: &str, packed: &Packed) {
     let again = canonical(packed).unwrap_or_else(|| panic!("no text for\n{text}"));
     let file = packed.bytes();
     assert_eq!(unpack_named(&file, &packed.names), Some(again));
+    let lent = Lent::of(packed);
+    let kept = lent.text();
+    assert_eq!(Lent::read(&kept), Ok(lent), "{kept}");
     let bare = stripped(text, packed);
     let bare_file = pack(&bare).unwrap_or_else(|flaws| panic!("{flaws:?}\n{bare}"));
     assert!(bare_file.records.nodes.iter().all(|node| node[0] < 7));

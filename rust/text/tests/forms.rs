@@ -1,7 +1,7 @@
 //! Texts and their bytes, by hand.
 
 use text::{canonical, decoded, is_text, pack, placed, stripped, told, unpack, unpack_named};
-use text::{Names, Packed, Records, Version};
+use text::{Lent, Packed, Records, Version};
 
 /// The example of the form: a nurse asks the desk for a bed.
 const ASK: &str = "\
@@ -103,11 +103,12 @@ session s2 by u2
 #[test]
 fn names_are_kept_beside_a_file() {
     let packed = read(ASK);
-    let kept = packed.names.text();
+    let kept = Lent::of(&packed).text();
     assert_eq!(
         kept,
         "\
 names
+sum 6eafb1d6985f75e0
 kinds answer, request
 roles caller, keeper
 users nurse, desk, bed
@@ -116,8 +117,9 @@ session ask: reply, found
 session serve: back
 "
     );
-    let names = Names::read(&kept).expect("names");
-    assert_eq!(names, packed.names);
+    let lent = Lent::read(&kept).expect("names");
+    assert_eq!(lent, Lent::of(&packed));
+    let names = lent.names;
     let file = packed.bytes();
     assert_eq!(unpack_named(&file, &names).as_deref(), Some(ASK));
     for wrong in [
@@ -127,12 +129,12 @@ session serve: back
         kept.replace("inbox", "desk"),
         kept.replace("session serve: back\n", ""),
     ] {
-        let names = Names::read(&wrong).expect("names");
+        let names = Lent::read(&wrong).expect("names").names;
         assert_eq!(unpack_named(&file, &names), None, "{wrong}");
     }
-    assert!(Names::read("kinds a").is_err());
-    assert!(Names::read("names\nkinds a,").is_err());
-    assert!(Names::read("names\nkinds on").is_err());
+    assert!(Lent::read("kinds a").is_err());
+    assert!(Lent::read("names\nkinds a,").is_err());
+    assert!(Lent::read("names\nkinds on").is_err());
 }
 
 /// Every version, starting masks, juniors, on and off, tables in any order, kinds that
@@ -294,7 +296,7 @@ session ask of nurse
             "2:20: expected a kind, but the line ends",
             "3:22: there is no kind 'anser' (kinds: answer, request)",
             "4:27: expected ',' or ';' or the end of the line, not 'receive'",
-            "5:14: expected 'send', 'receive' or 'juniors', not 'sends'",
+            "5:14: expected 'send', 'receive', 'juniors', 'open' or a number of seats, not 'sends'",
             "6:21: 'caller' is there twice",
             "7:6: 'nurse' is the name of a user already (line 6)",
             "8:1: expected 'kind', 'role', 'user', 'channel' or 'session', not 'usr'",

@@ -1,6 +1,6 @@
 //! Texts whose lines end or begin otherwise than usual.
 
-use text::{pack, placed, stripped, undecoded, Names, Packed};
+use text::{pack, placed, stripped, undecoded, Lent, Packed};
 
 fn read(text: &str) -> Packed {
     pack(text).unwrap_or_else(|flaws| panic!("{flaws:#?}"))
@@ -112,7 +112,7 @@ fn a_sign_that_is_missing() {
 #[test]
 fn a_sign_that_is_missing_in_names() {
     let names = |line: &str| {
-        let flaws = Names::read(&format!("names\n{line}\n")).expect_err("they are wrong");
+        let flaws = Lent::read(&format!("names\n{line}\n")).expect_err("they are wrong");
         let [flaw] = &flaws[..] else {
             panic!("{flaws:#?}");
         };
@@ -151,4 +151,40 @@ fn bytes_that_are_no_characters() {
             format!("10:13: {told}"),
         ]
     );
+}
+
+/// A name may be long, but not so long that an answer which has it everywhere never ends.
+#[test]
+fn long_names() {
+    let name = |length: usize| "n".repeat(length);
+    read(&format!("clinic 1\nuser {}\n", name(100)));
+    let user = name(101);
+    let text = format!("clinic 1\nuser {user}\nsession s by {user}\n  send {user} on {user}\n");
+    let what = "a name of 101 characters: a name has at most 100";
+    let due = ["2:6", "3:14", "4:8"].map(|at| format!("{at}: {what}"));
+    assert_eq!(flaws(&text), due);
+    let kept = format!("names\nusers {user}\n");
+    let flaws = Lent::read(&kept).expect_err("it is too long");
+    assert_eq!(lines(flaws), [format!("2:7: {what}")]);
+}
+
+/// Names that are too many are known all the same, and a message lists eight.
+#[test]
+fn names_past_the_limit() {
+    let kinds: String = (1..=40).map(|n| format!("kind k{n}\n")).collect();
+    let text = format!("clinic 1\n{kinds}role r: send k40, z\n");
+    let found = flaws(&text);
+    assert_eq!(found.len(), 9);
+    assert_eq!(found[0], "34:6: one kind too many: a clinic has at most 32");
+    let listed = (1..=8).map(|n| format!("k{n}, ")).collect::<String>();
+    assert_eq!(
+        found[8],
+        format!("42:19: there is no kind 'z' (kinds: {listed}...)")
+    );
+    let bound: String = (1..=9).map(|n| format!("  new v{n}: k\n")).collect();
+    let found = flaws(&format!("{HEAD}session s by u\n{bound}  send v9 on z\n"));
+    assert_eq!(found.len(), 2);
+    let listed = (1..=8).map(|n| format!("v{n}, ")).collect::<String>();
+    let due = "there is no user, channel or variable 'z' here (variables bound here: ";
+    assert_eq!(found[1], format!("16:14: {due}{listed}...)"));
 }

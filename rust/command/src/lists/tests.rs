@@ -77,7 +77,7 @@ fn quick_and_slow_alike() {
                 waited += told.waited;
                 halted += u16::from(!told.verdict().is_clean());
                 ended += 1;
-                let quick = walk(&input, &choices, Seating::Followed(Lines::of(&table)));
+                let quick = walk(&input, &choices, Seating::by(Some(&table)));
                 let slow = walk(&input, &choices, Seating::Asked(&table));
                 assert!(quick.is_some(), "{name} {seats:?}: {words:?}");
                 assert_eq!(quick, slow, "{name} {seats:?}: {words:?}");
@@ -103,7 +103,7 @@ fn read_again(input: &Input, followed: &Followed, table: &Table) {
 #[test]
 fn another_list_does_not_agree() {
     let (input, table) = (example("spring/cut.txt"), Table::of("seats", &[1, 0, 0]));
-    let lines = Seating::Followed(Lines::of(&table));
+    let lines = Seating::by(Some(&table));
     let mut run = Follower::start(&input, lines).expect("a run");
     // Both schedulers want role 1, and the second waits.
     assert!(run.choose(1, 0) && run.choose(2, 0) && run.agrees());
@@ -130,7 +130,7 @@ session second by two
     };
     let table = Table::of("seats", &[1]);
     let choices = numbered(&[1, 0, 2, 0]);
-    let quick = walk(&input, &choices, Seating::Followed(Lines::of(&table)));
+    let quick = walk(&input, &choices, Seating::by(Some(&table)));
     assert!(quick.is_some());
     assert_eq!(quick, walk(&input, &choices, Seating::Asked(&table)));
 }

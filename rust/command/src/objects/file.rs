@@ -126,10 +126,15 @@ impl File<'_> {
         let roles = self.clinic.roles.iter().enumerate();
         list(roles.map(|(at, &[low, high, low_in, high_in])| {
             let juniors = self.clinic.juniors.get(at).map_or(0, |&[mask]| mask);
+            let limits = self.named().limits(at);
+            let open = limits.open.iter().map(|open| Json::from(open.to_string()));
+            let seats = Some(limits.seats).filter(|&seats| seats != 0);
             let said = [
                 ("sends", kinds(wide(low, high))),
                 ("receives", kinds(wide(low_in, high_in))),
                 ("juniors", self.named().masked(Table::Roles, juniors.into())),
+                ("seats", seats.into()),
+                ("open", list(open)),
             ];
             self.record(Table::Roles, at, said)
         }))

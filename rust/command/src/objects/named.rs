@@ -3,7 +3,7 @@
 use crate::input::{Input, Text};
 use crate::json::{list, object, Json};
 use crate::names::items;
-use text::Names;
+use text::{Limits, Names};
 
 /// A table whose records have names.
 #[derive(Clone, Copy)]
@@ -38,6 +38,12 @@ impl<'a> Named<'a> {
             Table::Sessions => &names.sessions.get(at)?.name,
         };
         Some(name)
+    }
+
+    /// The seats and hours of the role of this index.
+    pub fn limits(&self, at: usize) -> Limits {
+        let limits = self.names.and_then(|names| names.limits.get(at));
+        limits.cloned().unwrap_or_default()
     }
 
     /// A record.

@@ -50,7 +50,7 @@ impl<'a> Nodes<'a> {
     pub fn step(&self, number: usize, above: Above) -> Option<String> {
         let node = *self.clinic.nodes.get(number.checked_sub(1)?)?;
         let written = self.input.text.as_ref().and_then(|text| text.step(number));
-        Some(written.unwrap_or_else(|| names::step(self.clinic, node, above)))
+        Some(written.map_or_else(|| names::step(self.clinic, node, above), str::to_string))
     }
 
     /// A node of a session's tree.

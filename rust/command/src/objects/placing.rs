@@ -2,12 +2,12 @@
 
 use super::refused;
 use crate::asked::Hours;
-use crate::hours;
 use crate::input::Input;
 use crate::json::{object, Json};
 use crate::output::Out;
 use crate::source::NamedFile;
 use pilzdamo::{Placed, Verdict};
+use text::week;
 
 /// What was asked of a file.
 pub struct Asked<'a> {
@@ -38,7 +38,7 @@ impl<'a> Asked<'a> {
             true => answer,
             false => "refused",
         };
-        let at = self.hours.map(|hours| hours::clock(hours.minute));
+        let at = self.hours.map(|hours| week::clock(hours.minute));
         let rows = self.hours.map(|hours| &hours.table.lines[..]);
         let before = [
             ("file", self.file.as_str().into()),

@@ -1,7 +1,7 @@
 //! What a picture shows: each session's nodes in words, with the roles that are held.
 
 use crate::clinic::{Clinic, NODES, SESSIONS};
-use crate::input::{words_at, Input, Text};
+use crate::input::{Input, Text};
 use crate::names::{self, Above};
 use crate::page::Spot;
 use crate::sessions;
@@ -53,20 +53,16 @@ pub struct Subject<'a> {
     pub verdict: Verdict,
     /// Where the check's refusal stands.
     spot: Option<Spot>,
-    /// The lines of a text.
-    lines: Vec<&'a str>,
 }
 
 impl Subject<'_> {
     pub fn of(input: &Input) -> Subject<'_> {
         let verdict = pilzdamo::check(input);
-        let lines = input.text.iter().flat_map(|text| text.text.split('\n'));
         Subject {
             input,
             clinic: Clinic::of(input),
             verdict,
             spot: (!verdict.is_clean()).then(|| Spot::of(verdict)),
-            lines: lines.collect(),
         }
     }
 
@@ -140,13 +136,7 @@ impl Subject<'_> {
     /// A node's step as the text has it.
     fn written(&self, node: usize) -> Option<String> {
         let text = self.input.text.as_ref()?;
-        let place = text.packed.source.nodes.get(node - 1)?;
-        if place.behind {
-            return Some("end".to_string());
-        }
-        let line = self.lines.get(place.at.line - 1)?;
-        let words = words_at(line, place.at);
-        Some(words.split_whitespace().collect::<Vec<_>>().join(" "))
+        text.step(node).map(str::to_string)
     }
 
     /// What there is to say of records that are missing.

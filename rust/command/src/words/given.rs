@@ -124,10 +124,19 @@ impl Given {
         })
     }
 
+    /// A clinic's file.
+    pub fn file(&self, word: OsString) -> Source {
+        let source = Source::named(word);
+        match self.has(Opt::NotEmpty) {
+            true => Source::NotEmpty(Box::new(source)),
+            false => source,
+        }
+    }
+
     /// A file, with the names that are given.
     pub fn named(&self, file: OsString) -> NamedFile {
         NamedFile {
-            file: Source::named(file),
+            file: self.file(file),
             names: self.source(Opt::Names),
         }
     }
@@ -145,11 +154,7 @@ impl Given {
             return Ok(());
         }
         names.dedup();
-        let which = match &names[..] {
-            [name] => format!("one {name}"),
-            [others @ .., last] => format!("one of {} and {last}", others.join(", ")),
-            [] => return Ok(()),
-        };
+        let which = one_of(&names);
         let verb = self.word.name;
         misused(&format!("{verb}: only {which} can be standard input"))
     }
@@ -165,6 +170,15 @@ impl Given {
                 None => format!("{verb}: '{}' is too many", shown(&plain[N])),
             })
         })
+    }
+}
+
+/// `one FILE`, or `one of FILE, NAMES and SEATS`.
+pub fn one_of(names: &[&str]) -> String {
+    match names {
+        [] => "none".to_string(),
+        [name] => format!("one {name}"),
+        [others @ .., last] => format!("one of {} and {last}", others.join(", ")),
     }
 }
 

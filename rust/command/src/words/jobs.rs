@@ -1,16 +1,16 @@
 //! The job of each command.
 
-use super::given::Given;
+use super::given::{one_of, Given};
 use super::options::Opt;
-use super::{known, misused, shown, At, Form, Job};
+use super::{known, misused, shown, At, Beside, Form, Job};
 use crate::days;
-use crate::hours;
 use crate::refusals;
 use crate::source::{NamedFile, Source};
 use crate::turning::Turn;
 use crate::WrongUse;
 use pilzdamo::SHEET_FILES;
 use std::ffi::OsString;
+use text::week;
 
 pub fn check(mut given: Given) -> Result<Job, WrongUse> {
     let files = several(&mut given)?;
@@ -48,9 +48,13 @@ pub fn measure(mut given: Given) -> Result<Job, WrongUse> {
 }
 
 pub fn merge(mut given: Given) -> Result<Job, WrongUse> {
-    let [first, second] = given.exactly()?.map(Source::named);
-    let out = given.out();
-    Ok(Job::Merge { first, second, out })
+    let [first, second] = given.exactly()?.map(|word| given.file(word));
+    Ok(Job::Merge {
+        first,
+        second,
+        out: given.out(),
+        bytes: given.has(Opt::Bytes),
+    })
 }
 
 pub fn columns(given: Given) -> Result<Job, WrongUse> {
@@ -70,7 +74,7 @@ pub fn notice(mut given: Given) -> Result<Job, WrongUse> {
     let [date, file] = given.exactly()?;
     Ok(Job::Notice {
         first_day: day("notice: DATE", date)?,
-        file: Source::named(file),
+        file: given.file(file),
         out: given.out(),
     })
 }
@@ -94,7 +98,7 @@ pub fn sheet(mut given: Given) -> Result<Job, WrongUse> {
         ));
     }
     Ok(Job::Sheet {
-        files: files.into_iter().map(Source::named).collect(),
+        files: files.into_iter().map(|file| given.file(file)).collect(),
         json: given.has(Opt::Json),
     })
 }
@@ -127,13 +131,14 @@ fn interactive(mut given: Given) -> Result<Job, WrongUse> {
     let (file, choices) = match given.plain.len() {
         0 | 1 => (file(&mut given)?, None),
         _ => {
-            let [file, choices] = given.exactly()?.map(Source::named);
-            (file, Some(choices))
+            let [file, choices] = given.exactly()?;
+            (given.file(file), Some(Source::named(choices)))
         }
     };
     let (names, seats) = (given.source(Opt::Names), given.source(Opt::Seats));
     let beside = [choices.as_ref(), names.as_ref(), seats.as_ref()];
-    if file == Source::StandardInput || beside.contains(&Some(&Source::StandardInput)) {
+    let typed = |source: Option<&Source>| source.is_some_and(Source::is_standard_input);
+    if file.is_standard_input() || beside.into_iter().any(typed) {
         return misused("run: with -i standard input is what is typed, and no file can be it");
     }
     Ok(Job::Interactive {
@@ -155,25 +160,41 @@ pub fn choices(mut given: Given) -> Result<Job, WrongUse> {
 
 pub fn ready(mut given: Given) -> Result<Job, WrongUse> {
     let (file, choices) = file_and_choices(&mut given)?;
-    let json = given.has(Opt::Json);
     Ok(Job::Ready {
         file,
         choices,
-        json,
+        seats: given.source(Opt::Seats),
+        json: given.has(Opt::Json),
     })
 }
 
 pub fn waiting(mut given: Given) -> Result<Job, WrongUse> {
     let (file, choices) = file_and_choices(&mut given)?;
-    Ok(Job::Waiting { file, choices })
+    let seats = given.source(Opt::Seats);
+    Ok(Job::Waiting {
+        file,
+        choices,
+        seats,
+    })
 }
 
+/// SEATS may be left out.
 pub fn seats(mut given: Given) -> Result<Job, WrongUse> {
-    let [file, choices, seats] = given.exactly()?;
+    let (file, choices, seats) = match given.plain.len() {
+        0..=2 => {
+            let (file, choices) = file_and_choices(&mut given)?;
+            (file, choices, None)
+        }
+        _ => {
+            let [file, choices, seats] = given.exactly()?;
+            let [choices, seats] = [choices, seats].map(Source::named);
+            (given.named(file), choices, Some(seats))
+        }
+    };
     Ok(Job::Seats {
-        file: given.named(file),
-        choices: Source::named(choices),
-        seats: Source::named(seats),
+        file,
+        choices,
+        seats,
     })
 }
 
@@ -189,13 +210,19 @@ pub fn round(mut given: Given) -> Result<Job, WrongUse> {
 
 /// ROUNDS may be left out.
 pub fn dispatch(mut given: Given) -> Result<Job, WrongUse> {
-    if given.plain.len() < 2 {
-        let (file, rounds) = (named_file(&mut given)?, None);
-        return Ok(Job::Dispatch { file, rounds });
-    }
-    let [file, word] = given.exactly()?;
-    let (file, rounds) = (given.named(file), Some(rounds(word)?));
-    Ok(Job::Dispatch { file, rounds })
+    let (file, rounds) = match given.plain.len() {
+        0 | 1 => (named_file(&mut given)?, None),
+        _ => {
+            let [file, word] = given.exactly()?;
+            (given.named(file), Some(rounds(word)?))
+        }
+    };
+    Ok(Job::Dispatch {
+        file,
+        rounds,
+        seats: given.source(Opt::Seats),
+        sparing: given.has(Opt::Sparing),
+    })
 }
 
 pub fn show(mut given: Given) -> Result<Job, WrongUse> {
@@ -216,12 +243,23 @@ pub fn show(mut given: Given) -> Result<Job, WrongUse> {
 }
 
 pub fn pack(mut given: Given) -> Result<Job, WrongUse> {
-    let (out, names) = (given.out(), given.out_behind(Opt::NamesOut));
-    if out.path.is_none() && names.as_ref().is_some_and(|names| names.path.is_none()) {
-        return misused("pack: only one of FILE and NAMES can be standard output");
+    let out = given.out();
+    let beside = Beside {
+        names: given.out_behind(Opt::NamesOut),
+        seats: given.out_behind(Opt::SeatsOut),
+        hours: given.out_behind(Opt::HoursOut),
+    };
+    let all = beside.all(&out).into_iter();
+    let printed: Vec<&str> = all
+        .filter(|(_, out)| out.path.is_none())
+        .map(|(name, _)| name)
+        .collect();
+    if printed.len() > 1 {
+        let which = one_of(&printed);
+        return misused(&format!("pack: only {which} can be standard output"));
     }
     let text = file(&mut given)?;
-    Ok(Job::Pack { text, out, names })
+    Ok(Job::Pack { text, out, beside })
 }
 
 pub fn unpack(mut given: Given) -> Result<Job, WrongUse> {
@@ -270,7 +308,7 @@ pub fn help(mut given: Given) -> Result<Job, WrongUse> {
 /// The only operand.
 fn file(given: &mut Given) -> Result<Source, WrongUse> {
     let [file] = given.exactly()?;
-    Ok(Source::named(file))
+    Ok(given.file(file))
 }
 
 /// The only operand, with the names that are given.
@@ -292,15 +330,15 @@ fn several(given: &mut Given) -> Result<Vec<OsString>, WrongUse> {
     Ok(std::mem::take(&mut given.plain))
 }
 
-/// Both or neither of `--at` and `--hours`.
+/// `--at`, with `--hours` or without.
 fn minute_and_hours(given: &Given) -> Result<Option<At>, WrongUse> {
     let verb = given.word.name;
     let (at, hours) = match (given.value(Opt::At), given.source(Opt::Hours)) {
         (None, None) => return Ok(None),
-        (Some(at), Some(hours)) => (at, hours),
-        _ => return misused(&format!("{verb}: --at and --hours go together")),
+        (Some(at), hours) => (at, hours),
+        (None, Some(_)) => return misused(&format!("{verb}: --hours goes with --at TIME")),
     };
-    let Some(minute) = hours::minute(&at.to_string_lossy()) else {
+    let Some(minute) = week::minute(&at.to_string_lossy()) else {
         let (due, at) = ("a day and a time such as \"Mon 07:30\"", shown(at));
         return misused(&format!("{verb}: --at needs {due}, not '{at}'"));
     };

@@ -9,13 +9,17 @@ pub enum Opt {
     Hours,
     Seats,
     Names,
-    /// `--names` of a command that writes them.
+    /// `--names`, `--seats` and `--hours` of a command that writes them.
     NamesOut,
+    SeatsOut,
+    HoursOut,
     Json,
     Bytes,
     Trace,
     Interactive,
     Svg,
+    Sparing,
+    NotEmpty,
 }
 
 impl Opt {
@@ -24,14 +28,16 @@ impl Opt {
             Opt::Out => "--output",
             Opt::Force => "--force",
             Opt::At => "--at",
-            Opt::Hours => "--hours",
-            Opt::Seats => "--seats",
+            Opt::Hours | Opt::HoursOut => "--hours",
+            Opt::Seats | Opt::SeatsOut => "--seats",
             Opt::Names | Opt::NamesOut => "--names",
             Opt::Json => "--json",
             Opt::Bytes => "--bytes",
             Opt::Trace => "--trace",
             Opt::Interactive => "--interactive",
             Opt::Svg => "--svg",
+            Opt::Sparing => "--sparing",
+            Opt::NotEmpty => "--not-empty",
         }
     }
 
@@ -52,9 +58,9 @@ impl Opt {
     pub fn wants(self) -> Option<&'static str> {
         match self {
             Opt::At => Some("a day and a time"),
-            Opt::Out | Opt::Hours | Opt::Seats | Opt::Names | Opt::NamesOut => {
-                Some("the name of a file")
-            }
+            Opt::Out => Some("the name of a file"),
+            Opt::Hours | Opt::Seats | Opt::Names => Some("the name of a file"),
+            Opt::HoursOut | Opt::SeatsOut | Opt::NamesOut => Some("the name of a file"),
             _ => None,
         }
     }

@@ -78,7 +78,10 @@ fn no_choice() {
     let file = example("booking.txt");
     let answer = choices(&file, "");
     assert_eq!((answer.status, answer.text()), (0, ""));
-    let due = format!("{file}: no choice can be done, 1 thread left\n");
+    let due = format!(
+        "{file}: no choice can be done, 1 thread left\n  \
+         the routine has no on or off yet: pilzdamo place adds them\n"
+    );
     assert_eq!(answer.err, due);
     let answer = choices(&example("nothing.clinic"), "");
     assert_eq!((answer.status, answer.text()), (0, ""));
@@ -108,9 +111,8 @@ fn a_list_that_halts() {
 fn with_seats() {
     let folder = Folder::new("choices with seats");
     let text = folder.file("asked.txt", placed("seats/asked.txt"));
-    let seats = example("seats/one-holder.seats");
     let seated = |list: &str| {
-        let words = ["choices", &text, "-", "--seats", &seats];
+        let words = ["choices", &text, "-"];
         let answer = pilzdamo_fed(&words, list.as_bytes());
         assert_eq!((answer.status, answer.err.as_str()), (0, ""), "{list}");
         answer.text().to_string()
@@ -122,7 +124,9 @@ fn with_seats() {
     assert!(behind.starts_with(due), "{behind}");
     // Who waits may ask again.
     assert_eq!(seated("book1 book2 book1 book2"), behind);
-    // Without the table it has the role.
-    let free = lines(&text, "book1 book2 book1");
+    // Without seats it has the role.
+    let free = String::from_utf8(placed("seats/asked.txt")).expect("text");
+    let free = folder.file("free.txt", free.replace("; 1 seat", ""));
+    let free = lines(&free, "book1 book2 book1");
     assert!(free.starts_with("book2   # puts holder on; holds holder\n"));
 }

@@ -25,17 +25,33 @@ pub fn pilzdamo<W: AsRef<OsStr>>(words: &[W]) -> Answer {
     pilzdamo_fed(words, b"")
 }
 
-/// Calls the command with these bytes on standard input.
+/// Calls the command with these bytes on standard input; zero bytes come from a device, which
+/// is no pipe.
 pub fn pilzdamo_fed<W: AsRef<OsStr>>(words: &[W], input: &[u8]) -> Answer {
+    let stdin = match input {
+        [] => Stdio::null(),
+        _ => Stdio::piped(),
+    };
+    called(words, stdin, input)
+}
+
+/// Calls the command with these bytes in a pipe.
+pub fn pilzdamo_piped<W: AsRef<OsStr>>(words: &[W], input: &[u8]) -> Answer {
+    called(words, Stdio::piped(), input)
+}
+
+fn called<W: AsRef<OsStr>>(words: &[W], stdin: Stdio, input: &[u8]) -> Answer {
     let mut child = Command::new(env!("CARGO_BIN_EXE_pilzdamo"))
         .args(words)
-        .stdin(Stdio::piped())
+        .stdin(stdin)
         .stdout(Stdio::piped())
         .stderr(Stdio::piped())
         .spawn()
         .expect("the command starts");
     // The command may end without reading its input.
-    let _ = child.stdin.take().expect("a pipe").write_all(input);
+    if let Some(mut pipe) = child.stdin.take() {
+        let _ = pipe.write_all(input);
+    }
     let output = child.wait_with_output().expect("the command ends");
     Answer {
         status: output.status.code().expect("an exit status"),
@@ -66,6 +82,14 @@ pub fn numbers(name: &str) -> Vec<u16> {
 /// The bytes of an example when it is placed.
 pub fn placed(name: &str) -> Vec<u8> {
     pilzdamo(&["place", &example(name)]).out
+}
+
+/// A text of the examples without the seats of its roles; bytes stay as they are.
+pub fn without_seats(file: Vec<u8>) -> Vec<u8> {
+    match String::from_utf8(file) {
+        Ok(text) => text.replace("; 1 seat", "").into_bytes(),
+        Err(bytes) => bytes.into_bytes(),
+    }
 }
 
 /// A refusal's sentence: the engine's phrase for its number, and the place with what it

@@ -169,8 +169,8 @@ fn lines_that_are_wrong() {
             assert_eq!((answer.status, answer.text()), (2, ""), "{text}");
             let due = format!("{hours}:{place}: {what}");
             assert!(answer.err.starts_with(&due), "{}", answer.err);
-            let form =
-                "opening hours are text, a line for each stretch: role 2 Mon-Fri 07:00-15:00\n";
+            let form = "opening hours are text, a line for each stretch: role 2 Mon-Fri \
+                        07:00-15:00 (by name with --names NAMES)\n";
             assert!(answer.err.ends_with(form), "{}", answer.err);
         }
     }

@@ -4,13 +4,26 @@ use crate::script::{repository, said, Place, Said, CARGO, RT};
 use crate::unbuilt::words;
 use std::fs;
 use std::os::unix::fs::{symlink, PermissionsExt};
-use std::path::Path;
+use std::path::{Path, PathBuf};
+
+/// The documents that are installed.
+const DOCUMENTS: [&str; 4] = ["GUIDE.md", "CLI.md", "FORMAT.md", "JSON.md"];
+
+/// Where they are beside a program.
+fn documents(program: &Path) -> PathBuf {
+    let folder = program.parent().expect("a folder");
+    match folder.ends_with("bin") {
+        true => folder.with_file_name("share/doc/pilzdamo"),
+        false => folder.join("doc"),
+    }
+}
 
 fn place(name: &str) -> Place {
     Place::new(name).with(&[("rt", RT), ("cargo", CARGO)])
 }
 
-/// What is installed is the program that was built and the page, with nothing beside them.
+/// What is installed is the program that was built, the page and the documents, with nothing
+/// beside them.
 fn is_installed(place: &Place, program: &Path, page: &Path) {
     let built = fs::read(place.at("rust/target/release/pilzdamo")).expect("a program");
     assert_eq!(fs::read(program).expect("a program"), built);
@@ -18,6 +31,13 @@ fn is_installed(place: &Place, program: &Path, page: &Path) {
     assert_eq!(mode & 0o777, 0o755);
     let man = fs::read(repository("docs/pilzdamo.1")).expect("a page");
     assert_eq!(fs::read(page).expect("a page"), man);
+    let documents = documents(program);
+    for document in DOCUMENTS {
+        let text = fs::read(repository(&format!("docs/{document}"))).expect("a page");
+        assert_eq!(fs::read(documents.join(document)).expect("a page"), text);
+    }
+    let found = fs::read_dir(&documents).expect("a folder").count();
+    assert_eq!(found, DOCUMENTS.len());
     for file in [program, page] {
         let folder = fs::read_dir(file.parent().expect("a folder")).expect("a folder");
         let mut names = folder.map(|entry| entry.expect("an entry").file_name());
@@ -36,10 +56,11 @@ fn into_a_folder_called_bin() {
         own.join("share/man/man1/pilzdamo.1"),
     );
     let due = format!(
-        "the program is {}\nits man page is {}\n{} is not on the PATH: put it there, or call \
-         the program by its whole name\n",
+        "the program is {}\nits man page is {}\nits documents are in {}\n{} is not on the PATH: \
+         put it there, or call the program by its whole name\n",
         program.display(),
         page.display(),
+        own.join("share/doc/pilzdamo").display(),
         own.join("bin").display()
     );
     assert_eq!(said.out, due);
@@ -98,8 +119,9 @@ fn into_a_folder_with_hidden_characters() {
     let here = fs::canonicalize(place.folder.path()).expect("a folder");
     let told = format!("{}/a\\x1bb\\\\", here.display());
     let due = format!(
-        "the program is {told}/pilzdamo\nits man page is {told}/pilzdamo.1\n{told} is not on \
-         the PATH: put it there, or call the program by its whole name\n"
+        "the program is {told}/pilzdamo\nits man page is {told}/pilzdamo.1\nits documents are in \
+         {told}/doc\n{told} is not on the PATH: put it there, or call the program by its whole \
+         name\n"
     );
     assert_eq!(said.out, due);
     fs::write(here.join("file"), "").expect("it can be written");
@@ -154,6 +176,8 @@ fn wrong_use() {
         place.call(&["install", "--frob"]),
         "install has no option '--frob'",
     );
+    is_wrong(place.call(&["install", ""]), "install: DIR is empty: ''");
+    is_wrong(place.call(&["install", "--", ""]), "install: DIR is empty");
     let mut call = place.command(&place.at("pilzdamo"));
     let homeless = said(call.arg("install").env_remove("HOME"));
     is_wrong(homeless, "install: DIR is missing, and HOME isn't set");
@@ -216,4 +240,29 @@ fn the_man_page() {
     }
     let version = concat!("\"pilzdamo ", env!("CARGO_PKG_VERSION"), "\"");
     assert!(man.lines().next().expect("a line").contains(version));
+}
+
+/// Help, man page and explanations of an installed program name documents that are installed.
+#[test]
+fn documents_that_help_names() {
+    let mut texts = vec![man()];
+    let source = repository("rust/command/src");
+    texts.push(fs::read_to_string(source.join("help.txt")).expect("a page"));
+    for folder in ["help", "explain"] {
+        for entry in fs::read_dir(source.join(folder)).expect("a folder") {
+            let page = entry.expect("an entry").path();
+            texts.push(fs::read_to_string(page).expect("a page"));
+        }
+    }
+    let mut named = 0;
+    for text in &texts {
+        let words = text.split(|c: char| !(c.is_alphanumeric() || "./-_".contains(c)));
+        for word in words.map(|word| word.trim_end_matches('.')) {
+            if word.ends_with(".md") {
+                assert!(DOCUMENTS.contains(&word), "{word}");
+                named += 1;
+            }
+        }
+    }
+    assert!(named > 6);
 }

@@ -217,13 +217,13 @@ fn saved_and_shown() {
     assert_eq!(answer.text(), "ask\n");
     // Nor is the list written over, or a table of seats.
     let list = folder.file("begun.choices", "ask # so far");
-    let table = folder.file("one.seats", "1 0");
+    let table = folder.file("one.seats", "caller 1");
     let typed = format!("ask\nsave {list}\nsave {table}\n");
     let answer = driven(&[&file, &list, "--seats", &table], &typed);
     let refused = answer.err.matches(" is an input, and isn't overwritten");
     assert_eq!(refused.count(), 2, "{}", answer.err);
     let kept = [&list, &table].map(|path| fs::read_to_string(path).expect("it"));
-    assert_eq!(kept, ["ask # so far", "1 0"]);
+    assert_eq!(kept, ["ask # so far", "caller 1"]);
 }
 
 /// A line without an end is not waited for.
@@ -241,14 +241,14 @@ fn an_endless_line() {
 fn with_seats() {
     let folder = Folder::new("driven with seats");
     let text = folder.file("asked.txt", placed("seats/asked.txt"));
-    let seats = example("seats/one-holder.seats");
     let typed = "book1 book2 book1\nwhy not book2\nbook2\nundo\nbook2 book2\nstate\n";
-    let answer = driven(&[&text, "--seats", &seats], typed);
+    let answer = driven(&[&text], typed);
     assert_eq!(answer.text(), "book1\nbook2\nbook1\nbook2\nbook2\n");
     for due in [
-        "\n  1  book2   waits for a seat as holder\n",
+        "; made channels: 2\nrole holder: 1 seat, taken by 1 session\n  1  book2   waits for a seat as holder\n",
         "\nit can be done: waits for a seat as holder\n",
         "\nbook2: waits for a seat as holder\nchoices done: 4; ",
+        "; made channels: 2\nrole holder: 1 seat, taken by 1 session, in line: session book2\n  1  book2   waits",
         "\ntaken back: book2\nchoices done: 3; ",
         "\nrole holder: 1 seat, taken by 1 session, in line: session book2\n",
         "\nchoices that got no seat: 2\n",
@@ -263,9 +263,8 @@ fn with_seats() {
 fn a_wait_that_is_taken_back() {
     let folder = Folder::new("driven back from a wait");
     let text = folder.file("asked.txt", placed("seats/asked.txt"));
-    let seats = example("seats/one-holder.seats");
     let typed = "book1 book2 book1\nbook2\nundo\nbegin\nbook2\nundo\n";
-    let answer = driven(&[&text, "--seats", &seats], typed);
+    let answer = driven(&[&text], typed);
     assert_eq!(answer.text(), "book1\nbook2\nbook1\nbegin\n");
     let (_, last) = answer.err.rsplit_once("taken back: ").expect("a last");
     let due =

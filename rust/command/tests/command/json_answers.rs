@@ -280,7 +280,8 @@ fn roles_with_hours() {
         },
     );
     assert_eq!(told["refusal"]["of"].text(), "file");
-    let told = asked(&file.replace(".clinic", ".txt"), "Sun 12:00", &week);
+    let text = file.replace(".clinic", ".txt");
+    let told = object(&pilzdamo(&["check", &text, "--json", "--at", "Sun 12:00"]));
     assert!(told["refusal"]["line"].number() > 1);
     let what = told["refusal"]["what"].text();
     assert_eq!(what, "admissions is closed at that minute");

@@ -1,6 +1,6 @@
 //! `ready FILE CHOICES`, to be read and with `--json`.
 
-use crate::common::{example, pilzdamo, pilzdamo_fed, Folder};
+use crate::common::{example, pilzdamo_fed, placed, without_seats, Folder};
 use crate::json::{object, Value};
 use crate::json_answers::{assert_refusal, bytes};
 use crate::json_runs::numbers;
@@ -18,8 +18,8 @@ fn ready() {
     ] {
         let choices = numbers(&example(list)).expect("numbers");
         for end in ["clinic", "txt"] {
-            let placed = pilzdamo(&["place", &example(&format!("{name}.{end}"))]);
-            let file = folder.file(&format!("file.{end}"), placed.out);
+            let placed = without_seats(placed(&format!("{name}.{end}")));
+            let file = folder.file(&format!("file.{end}"), placed);
             for count in 0..=choices.len() {
                 let list: Vec<String> = choices[..count].iter().map(u16::to_string).collect();
                 let list = list.join(" ");

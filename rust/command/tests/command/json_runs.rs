@@ -1,7 +1,7 @@
 //! `--json` of `run`: what is read of it is what the crate answers, and has the
 //! names that are printed.
 
-use crate::common::{example, pilzdamo, Answer, Folder};
+use crate::common::{example, example_bytes, pilzdamo, without_seats, Answer, Folder};
 use crate::json::{object, Value};
 use crate::json_answers::{assert_refusal, bytes};
 use pilzdamo::{State, RUN_ROOM};
@@ -39,7 +39,7 @@ pub const LISTS: [&str; 19] = [
     "nothing.clinic",
 ];
 
-/// Each file, as bytes and as text, and placed where it can be.
+/// Each file, as bytes and as text without seats, and placed where it can be.
 pub fn files(folder: &Folder) -> Vec<String> {
     let mut found = vec![
         example("refused/choices.clinic"),
@@ -47,11 +47,12 @@ pub fn files(folder: &Folder) -> Vec<String> {
     ];
     for name in FILES {
         for end in ["clinic", "txt"] {
-            let path = example(&format!("{name}.{end}"));
+            let bytes = without_seats(example_bytes(&format!("{name}.{end}")));
+            let name = format!("{}.{end}", name.replace('/', " "));
+            let path = folder.file(&format!("bare {name}"), bytes);
             let placed = pilzdamo(&["place", &path]);
             found.push(path);
             if placed.status == 0 {
-                let name = format!("{}.{end}", name.replace('/', " "));
                 found.push(folder.file(&name, placed.out));
             }
         }

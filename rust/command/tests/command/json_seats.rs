@@ -9,21 +9,26 @@ use pilzdamo::{Seats, Verdict};
 #[test]
 fn runs_with_seats() {
     let folder = Folder::new("json seats");
-    let table = example("seats/one-holder.seats");
-    let seats = numbers(&table).expect("numbers");
+    let numbered = example("seats/one-holder.seats");
+    let named = folder.file("named.seats", "holder 1 # and nobody else\n");
     let mut waited = 0;
     let files = files(&folder);
     let seated = ["spring", "seats", "booking"];
     let files = files
         .iter()
-        .filter(|file| seated.iter().any(|part| file.contains(part)));
+        .filter(|file| seated.iter().any(|part| name(file).contains(part)));
     for file in files {
+        let (table, seats) = match file.ends_with(".txt") {
+            true => (&named, of_holder(file)),
+            false => (&numbered, numbers(&numbered).expect("numbers")),
+        };
         for list in LISTS.map(example) {
-            let words = ["run", file, &list, "--seats", &table, "--json"];
+            let words = ["run", file, &list, "--seats", table, "--json"];
             let answer = pilzdamo(&words);
             let plain = pilzdamo(&words[..5]);
             assert_eq!(answer.status, plain.status);
             if answer.status == 2 {
+                assert!(!answer.err.contains(".seats"), "{}", answer.err);
                 continue;
             }
             let told = object(&answer);
@@ -40,6 +45,20 @@ fn runs_with_seats() {
         }
     }
     assert!(waited > 5, "{waited}");
+}
+
+fn name(path: &str) -> &str {
+    path.rsplit('/').next().unwrap_or(path)
+}
+
+/// One seat for the role `holder` of a text.
+fn of_holder(text: &str) -> Vec<u16> {
+    let text = std::fs::read_to_string(text).expect("a text");
+    let roles = text::pack(&text).expect("a sound text").names.roles;
+    roles
+        .iter()
+        .map(|role| u16::from(role == "holder"))
+        .collect()
 }
 
 fn assert_seats(told: &Value, due: &Seats) {

@@ -209,6 +209,8 @@ fn assert_named(told: &Value, path: &str) {
         let records = told[table].list().iter();
         records.map(|one| one["name"].text().to_string()).collect()
     };
+    let text = fs::read_to_string(path).expect("a text");
+    let due = text::pack(&text).expect("a sound text").names;
     let sessions = told["sessions"].list().iter();
     let sessions = sessions.map(|session| text::SessionNames {
         name: session["name"].text().to_string(),
@@ -217,12 +219,19 @@ fn assert_named(told: &Value, path: &str) {
     let names = text::Names {
         kinds: names("kinds"),
         roles: names("roles"),
+        limits: due.limits.clone(),
         users: names("users"),
         channels: names("channels"),
         sessions: sessions.collect(),
     };
-    let text = fs::read_to_string(path).expect("a text");
-    assert_eq!(names, text::pack(&text).expect("a sound text").names);
+    assert_eq!(names, due);
+    for (role, limits) in told["roles"].list().iter().zip(&due.limits) {
+        let open = role["open"].list().iter().map(Value::text);
+        let seats = (!role["seats"].is_null()).then(|| role["seats"].number());
+        assert_eq!(seats.unwrap_or(0), usize::from(limits.seats));
+        let due = limits.open.iter().map(|open| open.to_string());
+        assert!(open.eq(due), "{path}");
+    }
     let line = |value: &Value| {
         text.lines()
             .nth(value["line"].number() - 1)

@@ -95,9 +95,10 @@ pilzdamo: {file}: {}
     assert_eq!(answer.status, 1);
     assert!(answer.err.contains(due), "{}", answer.err);
     let other = bare_ward().replace("session serve by desk", "session serve by desk as caller");
+    let text = ward.folder.file("other.txt", &other);
     let other = pilzdamo_fed(&["pack", "-"], other.as_bytes()).out;
     let other = ward.folder.file("other.clinic", other);
-    let answer = pilzdamo(&["check", &other, "--names", names]);
+    let answer = pilzdamo(&["check", &other, "--names", &text]);
     let due = "\n  session serve by desk as caller\n  caller isn't a role of desk (roles of desk: keeper)\n";
     assert_eq!(answer.status, 1);
     assert!(answer.err.contains(due), "{}", answer.err);
@@ -173,7 +174,7 @@ made channels: 1
     let answer = ward.ask("waiting", &["-"], LIST);
     let due = "kind answer: 1 waiting\nkind request: 0 waiting\n";
     assert_eq!((answer.status, answer.text()), (0, due));
-    let seats = ward.folder.file("seats", "1 0");
+    let seats = ward.folder.file("seats", "caller 1");
     let answer = ward.ask("seats", &["-", &seats], LIST);
     let due = "\
 role caller: 1 seat, taken by 1 session
@@ -323,4 +324,70 @@ fn names_that_say_nothing() {
     let answer = pilzdamo(&["check", &nothing, "--names", &none]);
     let due = format!("{nothing}: passes (zero bytes: nothing is planned)\n");
     assert_eq!((answer.status, answer.text()), (0, &*due), "{}", answer.err);
+}
+
+/// Lines of a text in another order: the bytes that they pack to, and the two lines.
+const SWAPS: [(&str, &str); 4] = [
+    ("kind answer\n", "kind request carries answer\n"),
+    (
+        "role caller: send request; receive answer\n",
+        "role keeper: send answer; receive request\n",
+    ),
+    ("user nurse: caller\n", "user desk: keeper\n"),
+    ("user desk: keeper\n", "user bed\n"),
+];
+
+/// Names in another order than the bytes are noticed by their sum, from a file of names and
+/// from a text, also for the placed file.
+#[test]
+fn names_in_another_order() {
+    let ward = Ward::new("names in another order");
+    let own = bare_ward();
+    for (one, other) in SWAPS {
+        assert!(own.contains(one) && own.contains(other), "{one}{other}");
+        let swapped = own.replace(one, "\0").replace(other, one);
+        let swapped = swapped.replace('\0', other);
+        let text = ward.folder.file("swapped.txt", &swapped);
+        let [bytes, names] = ["swapped.clinic", "swapped.names"].map(|name| ward.folder.at(name));
+        let pack = ["pack", &text, "-o", &bytes, "--names", &names];
+        assert_eq!(pilzdamo(&pack).status, 0);
+        for lent in [&names, &text] {
+            for (file, verb) in [(&ward.file, "unpack"), (&ward.placed, "show")] {
+                let answer = pilzdamo(&[verb, file, "--names", lent]);
+                assert_eq!((answer.status, answer.text()), (2, ""), "{one}");
+                let due = format!("pilzdamo: {lent}: these names don't fit {file}: their sum is ");
+                assert!(answer.err.starts_with(&due), "{}", answer.err);
+                let why = "or the same in another order; give the names or the text that the file was packed from\n";
+                assert!(answer.err.ends_with(why), "{}", answer.err);
+            }
+            let answer = pilzdamo(&["unpack", &bytes, "--names", lent]);
+            assert_eq!((answer.status, &*answer.err), (0, ""), "{one}");
+        }
+    }
+}
+
+/// Names without a sum, as they were written before there was one, go by their counts.
+#[test]
+fn names_without_a_sum() {
+    let ward = Ward::new("names without a sum");
+    let good = fs::read_to_string(&ward.names).expect("the names");
+    let (first, rest) = good.split_once('\n').expect("lines");
+    let (sum, rest) = rest.split_once('\n').expect("lines");
+    assert_eq!(first, "names");
+    assert!(sum.starts_with("sum "), "{sum}");
+    let old = ward.folder.file("old.names", format!("names\n{rest}"));
+    let [with, without] =
+        [&ward.names, &old].map(|names| pilzdamo(&["show", &ward.placed, "--names", names]));
+    assert_eq!((without.status, without.text()), (0, with.text()));
+    assert_eq!(without.err, "");
+    let other = format!("names\nsum 0123456789abcdef\n{rest}");
+    let other = ward.folder.file("other.names", other);
+    let answer = pilzdamo(&["check", &ward.placed, "--names", &other]);
+    let due = format!(
+        "pilzdamo: {other}: these names don't fit {}: their sum is 0123456789abcdef, and the file's is {}\n",
+        ward.placed,
+        &sum[4..]
+    );
+    assert_eq!((answer.status, answer.text()), (2, ""));
+    assert!(answer.err.starts_with(&due), "{}", answer.err);
 }

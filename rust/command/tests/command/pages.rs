@@ -296,9 +296,13 @@ fn files_of_the_help(folder: &Folder) {
     let second = folder.file("second.txt", ward.replace("clinic 1", "clinic 2"));
     folder.file("placed.txt", crate::format::placed());
     folder.file("day.choices", "ask ask ask");
-    folder.file("ward.seats", "1 0");
-    folder.file("east.clinic", example_bytes("house/north.clinic"));
-    folder.file("west.clinic", example_bytes("house/south.clinic"));
+    folder.file("ward.seats", "caller 1");
+    for (name, house) in [("east", "north"), ("west", "south")] {
+        for form in ["clinic", "txt"] {
+            let bytes = example_bytes(&format!("house/{house}.{form}"));
+            folder.file(&format!("{name}.{form}"), bytes);
+        }
+    }
     for notice in ["november.notice", "december.notice"] {
         folder.file(notice, example_bytes(&format!("notices/{notice}")));
     }

@@ -3,6 +3,7 @@
 use crate::common::{example, example_bytes, pilzdamo, pilzdamo_fed, Folder};
 use std::ffi::{OsStr, OsString};
 use std::os::unix::ffi::{OsStrExt, OsStringExt};
+use std::process::Command;
 
 /// A name that clears a terminal, turns its line round and is no text, and how it is told.
 const NAME: &[u8] = b"a\x1b[2J\n\xe2\x80\xaeb\xff";
@@ -156,6 +157,63 @@ fn in_the_lines_of_a_text_that_is_shown() {
                \x20          1        clinic 1 # \\x1b[2J\\u{9b}\ta\\rb\\x7f \u{e9}\\\n\
                \x20          2        user u\n";
     assert_eq!((answer.status, answer.text()), (0, due));
+}
+
+/// What turns a line round, or ends it where no line ends, and how it is told.
+const COMMENT: &str = "a\u{202e}b\u{2066}c\u{2028}d\u{2029}e\u{200f}f\u{feff}\u{e9}\\\t";
+const COMMENT_TOLD: &str = "a\\u{202e}b\\u{2066}c\\u{2028}d\\u{2029}e\\u{200f}f\\u{feff}\u{e9}\\";
+
+#[test]
+fn in_the_comments_of_a_text_that_is_shown() {
+    let text = format!("clinic 1 # {COMMENT}\nuser u\n");
+    let answer = pilzdamo_fed(&["show", "-"], text.as_bytes());
+    let due = format!("           1        clinic 1 # {COMMENT_TOLD}\n");
+    assert!(answer.text().contains(&due), "{}", answer.text());
+    // A file or a pipe gets the text as it is.
+    let answer = pilzdamo_fed(&["place", "-"], text.as_bytes());
+    assert_eq!((answer.status, answer.text()), (0, &*text));
+}
+
+/// White space of any sort between the words of a step is a space in an answer.
+#[test]
+fn in_a_step() {
+    let text = "clinic 1\nkind k\nuser u\nchannel c: k, owner u\nsession s by u\n \
+                send\u{2028}u\u{85} on\tc\n";
+    for words in [&["run", "-", "/dev/null"][..], &["show", "-", "--json"]] {
+        let answer = pilzdamo_fed(words, text.as_bytes());
+        assert!(answer.text().contains("send u on c"), "{}", answer.text());
+    }
+}
+
+/// What a command prints on a terminal, which `script` makes.
+fn on_a_terminal(words: &[&str]) -> Option<String> {
+    let words = [&[env!("CARGO_BIN_EXE_pilzdamo")], words].concat();
+    let quoted = words.iter().map(|word| format!("'{word}'"));
+    let command = quoted.collect::<Vec<_>>().join(" ") + " 2>/dev/null";
+    let mut script = Command::new("script");
+    let output = script.args(["-qec", &command, "/dev/null"]).output().ok()?;
+    Some(
+        String::from_utf8(output.stdout)
+            .expect("text")
+            .replace('\r', ""),
+    )
+}
+
+#[test]
+fn in_a_text_on_a_terminal() {
+    let folder = Folder::new("terminal");
+    let file = folder.file(
+        "in.txt",
+        format!("clinic 1 # {COMMENT}\r\nuser u # \x1b[2J\n"),
+    );
+    let due = format!("clinic 1 # {COMMENT_TOLD}\t\nuser u # \\x1b[2J\n");
+    for word in ["place", "strip"] {
+        if let Some(printed) = on_a_terminal(&[word, &file]) {
+            // A terminal may write a tab as spaces.
+            let printed = printed.replace("        \n", "\t\n");
+            assert_eq!(printed, due, "{word}");
+        }
+    }
 }
 
 #[test]

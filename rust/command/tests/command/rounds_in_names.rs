@@ -1,6 +1,6 @@
 //! `round` and `dispatch` of a text: its names, in the form that `run` takes.
 
-use crate::common::{example, pilzdamo, pilzdamo_fed, placed, Folder};
+use crate::common::{example, pilzdamo, pilzdamo_fed, placed, without_seats, Folder};
 use crate::files;
 use std::time::{Duration, Instant};
 
@@ -27,7 +27,7 @@ fn what_is_dispatched_is_run() {
     let folder = Folder::new("dispatched in names");
     let (mut dispatched, mut meetings) = (0, 0);
     for (name, text) in texts() {
-        let file = folder.file("file.txt", text);
+        let file = folder.file("file.txt", without_seats(text));
         let bytes = folder.at("file.clinic");
         assert_eq!(pilzdamo(&["pack", &file, "-o", &bytes]).status, 0);
         let [names, numbers] = [&file, &bytes].map(|file| pilzdamo(&["dispatch", file]));
@@ -96,17 +96,14 @@ second
 fn a_round_with_seats() {
     let folder = Folder::new("seated rounds in names");
     let file = folder.file("asked.txt", placed("seats/asked.txt"));
-    let seats = example("seats/one-holder.seats");
     let mut list = String::new();
     for _ in 0..8 {
-        let words = ["round", &file, "-", "--seats", &seats];
-        let round = pilzdamo_fed(&words, list.as_bytes());
+        let round = pilzdamo_fed(&["round", &file, "-"], list.as_bytes());
         assert_eq!((round.status, &*round.err), (0, ""), "{list}");
         let (first, state) = round.text().split_once('\n').expect("lines");
         list += first.strip_prefix("round: ").expect("its choices");
         list.push('\n');
-        let words = ["run", &file, "-", "--seats", &seats];
-        let run = pilzdamo_fed(&words, list.as_bytes());
+        let run = pilzdamo_fed(&["run", &file, "-"], list.as_bytes());
         assert_eq!((run.status, run.text()), (0, state), "{list}");
     }
     assert!(list.contains("book2"), "{list}");
@@ -146,7 +143,10 @@ fn turns(most: usize) -> (String, usize) {
 #[test]
 fn a_long_list_with_seats() {
     let folder = Folder::new("long list with seats");
-    let (file, seats) = (folder.file("turns.txt", TURNS), folder.file("one", "1\n"));
+    let (file, seats) = (
+        folder.file("turns.txt", TURNS),
+        folder.file("one", "holder 1\n"),
+    );
     for most in [20_000, 65_535] {
         let (list, count) = turns(most);
         let list = folder.file("list", list);

@@ -86,6 +86,9 @@ impl Place {
         place.copy("pilzdamo");
         place.copy("rust/Cargo.toml");
         place.copy("docs/pilzdamo.1");
+        for page in ["GUIDE", "CLI", "FORMAT", "JSON"] {
+            place.copy(&format!("docs/{page}.md"));
+        }
         place.copy("rust/command/script");
         place.copy("rust/command/src/help.txt");
         place.copy("rust/command/src/help");

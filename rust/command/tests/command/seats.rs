@@ -119,7 +119,7 @@ standard input:2:1: 'many' isn't a number from 0 to 65535
      2 | many
        | ^^^^
 pilzdamo: standard input: 1 error
-  seats are text, a number for each role: 0 for no limit, else 1 to 32
+  seats are text, a number for each role: 0 for no limit, else 1 to 32 (by name with --names NAMES)
 ";
     assert_eq!(answer.err, due);
     for (table, numbers) in [("", "0 numbers"), ("1", "1 number"), ("1 33", "2 numbers")] {

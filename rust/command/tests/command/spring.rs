@@ -120,7 +120,8 @@ fn lists_in_names() {
         let text = text.expect("text");
         let run = |list: &str| {
             let list = example(&format!("spring/{name}-both-write{list}.choices"));
-            let answer = pilzdamo_fed(&["run", "-", &list], text.as_bytes());
+            let words = ["run", "-", &list, "--seats", "/dev/null"];
+            let answer = pilzdamo_fed(&words, text.as_bytes());
             assert_eq!((answer.status, answer.err.as_str()), (0, ""));
             answer.text().to_string()
         };

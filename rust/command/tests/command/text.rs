@@ -209,7 +209,7 @@ fn names_go_beside_a_file() {
     assert_eq!(answer.status, 2);
     assert!(answer
         .err
-        .starts_with(&format!("{wrong}:2:1: expected 'kinds'")));
+        .starts_with(&format!("{wrong}:2:1: expected 'sum', 'kinds'")));
     let answer = pilzdamo(&["unpack", "-", "--names", "-"]);
     assert_eq!(answer.status, 2);
     assert!(answer.err.contains("only one of FILE and NAMES"));

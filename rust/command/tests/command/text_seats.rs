@@ -25,7 +25,7 @@ session second by two
 fn files(folder: &Folder) -> [String; 2] {
     [
         folder.file("two.txt", TWO),
-        folder.file("one.seats", "1 # holder\n"),
+        folder.file("one.seats", "# one\nholder 1\n"),
     ]
 }
 
@@ -40,9 +40,7 @@ fn lists_in_names_and_in_numbers() {
     let seats = example("seats/one-holder.seats");
     let lists = ["one-by-one.choices", "one-by-one-named.choices"];
     let lists = lists.map(|name| example(&format!("seats/{name}")));
-    let [numbers, names] = lists
-        .each_ref()
-        .map(|list| pilzdamo(&["run", &text, list, "--seats", &seats]));
+    let [numbers, names] = lists.each_ref().map(|list| pilzdamo(&["run", &text, list]));
     assert_eq!((numbers.status, names.status), (0, 0), "{}", names.err);
     assert_eq!(names.text(), numbers.text());
     for due in [
@@ -120,11 +118,6 @@ fn refusals_at_their_places() {
     assert!(answer.err.starts_with(&due), "{}", answer.err);
     let due = sentence(26, "session 2");
     assert!(answer.err.contains(&due), "{}", answer.err);
-    let few = folder.file("none.seats", "");
-    let answer = pilzdamo_fed(&["run", &file, "-", "--seats", &few], b"first");
-    assert_eq!((answer.status, answer.text()), (1, ""));
-    let due = format!("pilzdamo: {few}: ");
-    assert!(answer.err.starts_with(&due), "{}", answer.err);
 }
 
 /// What is written of a text is what is written of its bytes.

@@ -176,7 +176,7 @@ fn a_choice_that_waits() {
     let seats = example("seats/one-holder.seats");
     let list = example("seats/one-by-one-named.choices");
     let list = std::fs::read_to_string(list).expect("a list");
-    let [lines, why] = around(&text, &list, &["--seats", &seats]);
+    let [lines, why] = around(&text, &list, &[]);
     assert!(lines.contains("\n 7  book1: puts holder on; holds holder\n"));
     assert!(lines.contains("\n 8  book2: waits for a seat as holder\n"));
     assert!(lines.contains("\n18  book2: puts holder on; holds holder\n"));

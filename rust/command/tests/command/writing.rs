@@ -3,7 +3,9 @@
 use crate::common::{example, example_bytes, pilzdamo, placed, Answer, Folder};
 use std::fs;
 use std::os::unix::fs::{symlink, MetadataExt, PermissionsExt};
-use std::process::Command;
+use std::process::{Command, Stdio};
+use std::thread;
+use std::time::Instant;
 
 /// The names of all that is in a folder, also of what is hidden.
 fn names(folder: &Folder) -> Vec<String> {
@@ -310,4 +312,98 @@ fn nor_are_hours_and_names() {
     assert_eq!(answer.status, 2);
     assert!(answer.err.contains("not written over without --force"));
     assert_eq!(fs::read(&hours).unwrap(), example_bytes("hours/week.hours"));
+}
+
+/// A signal at whatever moment leaves the old file or the new one, whole, and nothing else.
+#[test]
+fn a_signal_leaves_nothing_behind() {
+    let folder = Folder::new("signals");
+    let comments = "# A comment.\n".repeat(100_000);
+    let text = folder.file("in.txt", [&long_text()[..], comments.as_bytes()].concat());
+    let out = folder.file("out", "as it was");
+    let begun = Instant::now();
+    let due = pilzdamo(&["place", &text]).out;
+    let taken = begun.elapsed();
+    let mut replaced = 0;
+    for round in 0..100 {
+        fs::write(&out, "as it was").expect("it can be written");
+        let mut child = Command::new(env!("CARGO_BIN_EXE_pilzdamo"))
+            .args(["place", &text, "-o", &out])
+            .stdout(Stdio::null())
+            .stderr(Stdio::null())
+            .spawn()
+            .expect("the command starts");
+        // Moments that are spread over the time that a call takes.
+        thread::sleep(taken * (round * 37 % 100) / 100);
+        let signal = ["-INT", "-TERM", "-HUP"][round as usize % 3];
+        let process = child.id().to_string();
+        let kill = Command::new("kill")
+            .args([signal, &process])
+            .stderr(Stdio::null())
+            .status();
+        kill.expect("kill starts");
+        child.wait().expect("it ends");
+        assert_eq!(names(&folder), ["in.txt", "out"], "{signal}");
+        let found = fs::read(&out).expect("a file");
+        assert!(found == due || found == b"as it was", "{signal}: {found:?}");
+        replaced += usize::from(found == due);
+    }
+    println!("{replaced} of 100 files were replaced");
+}
+
+/// What a command that was killed has left is removed by the next write in its folder; what
+/// another still writes stays, and so does what has only a like name.
+#[test]
+fn old_files_are_removed() {
+    let folder = Folder::new("old files");
+    let booking = example("booking.clinic");
+    for name in [".pilzdamo-1-0", ".pilzdamo-4194304-17"] {
+        folder.file(name, "left");
+    }
+    let held = folder.file(".pilzdamo-2-0", "held");
+    let held = fs::File::open(held).expect("a file");
+    held.lock().expect("it can be locked");
+    for name in [
+        ".pilzdamo-",
+        ".pilzdamo-1",
+        ".pilzdamo-1-x",
+        ".pilzdamo--1",
+        "pilzdamo-1-0",
+    ] {
+        folder.file(name, "another's");
+    }
+    fs::create_dir(folder.path().join(".pilzdamo-3-0")).expect("a folder");
+    symlink(".pilzdamo-1", folder.path().join(".pilzdamo-4-0")).expect("a link");
+    let out = folder.at("out");
+    assert_eq!(pilzdamo(&["place", &booking, "-o", &out]).status, 0);
+    let kept = [
+        ".pilzdamo-",
+        ".pilzdamo--1",
+        ".pilzdamo-1",
+        ".pilzdamo-1-x",
+        ".pilzdamo-2-0",
+        ".pilzdamo-3-0",
+        ".pilzdamo-4-0",
+        "out",
+        "pilzdamo-1-0",
+    ];
+    assert_eq!(names(&folder), kept);
+    drop(held);
+    assert_eq!(pilzdamo(&["place", &booking, "-o", &out]).status, 0);
+    assert!(!names(&folder).contains(&".pilzdamo-2-0".to_string()));
+}
+
+/// Two outputs that a link makes one are wrong use, and nothing is written.
+#[test]
+fn two_outputs_by_a_link() {
+    let folder = Folder::new("one by a link");
+    let text = folder.file("in.txt", example_bytes("transfer.txt"));
+    symlink("new", folder.path().join("link")).expect("a link");
+    let (link, new) = (folder.at("link"), folder.at("new"));
+    for [file, kept] in [[&link, &new], [&new, &link]] {
+        let answer = pilzdamo(&["pack", &text, "-o", file, "--names", kept]);
+        let due = "pilzdamo: pack: FILE and NAMES are the same file\n";
+        assert_eq!((answer.status, answer.err.as_str()), (2, due));
+        assert_eq!(names(&folder), ["in.txt", "link"]);
+    }
 }

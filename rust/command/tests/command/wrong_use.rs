@@ -34,12 +34,12 @@ fn words() {
             "place: -o is given twice",
         ),
         (
-            &["check", "a", "--at", "Mon 07:30"],
-            "check: --at and --hours go together",
+            &["check", "a", "--at", "noon"],
+            "check: --at needs a day and a time such as \"Mon 07:30\", not 'noon'",
         ),
         (
             &["place", "a", "--hours", "b"],
-            "place: --at and --hours go together",
+            "place: --hours goes with --at TIME",
         ),
         (
             &["check", "a", "--at", "noon", "--hours", "b"],
@@ -77,8 +77,8 @@ fn words() {
         (&["measure"], "measure: FILE is missing"),
         (&["measure", "a", "-o", "b"], "measure has no option '-o'"),
         (
-            &["measure", "a", "--at", "Mon 07:30"],
-            "measure: --at and --hours go together",
+            &["measure", "a", "--hours", "b"],
+            "measure: --hours goes with --at TIME",
         ),
         (&["merge"], "merge: A is missing"),
         (&["merge", "a"], "merge: B is missing"),
@@ -173,7 +173,6 @@ fn words() {
         ),
         (&["seats"], "seats: FILE is missing"),
         (&["seats", "a"], "seats: CHOICES is missing"),
-        (&["seats", "a", "b"], "seats: SEATS is missing"),
         (&["seats", "a", "b", "c", "d"], "seats: 'd' is too many"),
         (
             &["seats", "-", "b", "-"],
@@ -201,8 +200,8 @@ fn words() {
             "round: only one of FILE, CHOICES and SEATS can be standard input",
         ),
         (
-            &["waiting", "a", "b", "--seats", "c"],
-            "waiting has no option '--seats'",
+            &["waiting", "a", "-", "--seats=-"],
+            "waiting: only one of FILE, CHOICES and SEATS can be standard input",
         ),
         (&["round"], "round: FILE is missing"),
         (&["round", "a"], "round: CHOICES is missing"),
@@ -233,6 +232,10 @@ fn words() {
         (
             &["dispatch", "a", "--at", "Mon 07:30"],
             "dispatch has no option '--at'",
+        ),
+        (
+            &["pack", "a", "-o", "b", "--seats", "-", "--hours", "-"],
+            "pack: only one of SEATS and HOURS can be standard output",
         ),
         (&["show"], "show: FILE is missing"),
         (&["show", "a", "b"], "show: 'b' is too many"),
