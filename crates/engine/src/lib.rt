@@ -16,6 +16,7 @@ use lending::starting::begin;
 use lending::starting::sessions_of;
 use lending::verdict_of;
 use notices::InForce;
+use offering::Offers;
 use placing::Placed;
 use reasons::Reason;
 use running::Ready;
@@ -38,6 +39,7 @@ ghost use Rattle.seating.specs.SeatsRead.{seatsAfter};
 ghost use Rattle.seating.specs.SeatedRound.{seatedRounding, seatedRoundOver};
 ghost use Rattle.seated.specs.SeatedEntry.{seatedWritten};
 ghost use Rattle.certifying.specs.Certificate.{closing};
+ghost use Rattle.offering.specs.Offers.{offering};
 ghost use Rattle.reasons.specs.Reasons.{reasonOf, understood, reasonLength, reasonOver, meaningLength, meaningOver};
 ghost use Rattle.lending.specs.Lent.{choosing, recordsOver, besideOver};
 ghost use Rattle.lending.specs.Starting.{starting, recordsStarted, besideStarted};
@@ -261,6 +263,23 @@ pub extern "C" fn pilzdamo_closed(
     ensures { λ r. ⌜ r ≡ closing (now (file .entry)) (now (seats .entry)) (now (states .entry)) (now (places .entry)) (now (next .entry)) ⌝ }
 {
     certifying::check_closed(file, seats, states, places, next)
+}
+
+// All choices of one lent state of a run with seats, for whoever searches the schedules: `state` has a state's words as a certificate's row has them. Each choice that is done is
+// offered, threads outside (from 1 on), partners inside (from 0 on): thread, partner, answer (26 where it has to wait, else 0), how many words the state has that it leads to, and these words.
+// 1 to 10; refused as the run with seats is; 18 at place 0 where the words are not those of a state in order; 17 at place 0 where an offer has no room, and then those before it stand in the output.
+// The count and the length, in words, are those of the offers written.
+#[no_mangle]
+pub extern "C" fn pilzdamo_offers(
+    file: &[u8],
+    seats: &[u16],
+    state: &[u16],
+    out: &mut [u16],
+) -> Offers
+    ensures { λ r. ⌜ (r ≡ offering (now (file .entry)) (now (seats .entry)) (now (state .entry)) (now (out .entry)) .answer)
+        × (now (out .exit) ≡ offering (now (file .entry)) (now (seats .entry)) (now (state .entry)) (now (out .entry)) .out) ⌝ }
+{
+    offering::find_offers(file, seats, state, out)
 }
 
 // Carries out one choice in the list that the live desk lends: 64 records of threads, and beside them 162 words: the thread count, the number of made

@@ -315,7 +315,7 @@ inOrder-iff L S others = (to, from)
       ),
     )
 
-past-seats : (l : List ℕ) (r : ℕ) → length l ≤ 16 → inCount 16 r ≡ false → _≡_ {A = ℕ} (seatsIn l r) 0
+pub past-seats : (l : List ℕ) (r : ℕ) → length l ≤ 16 → inCount 16 r ≡ false → _≡_ {A = ℕ} (seatsIn l r) 0
 past-seats l zero few e = refl
 past-seats l (suc r) few e = List·getD-eq-default l 0 (past (ltb r 16) refl)
   where
