@@ -42,7 +42,7 @@ run-state L (i ∷ p ∷ ws) S = go (seatedChoice L S i p) (run-state L ws)
     go (waits T) ih = ih T
     go (steps T) ih = ih T
 
-start-eight : (ss : List Session) → All Eight (threadsFrom ss)
+pub start-eight : (ss : List Session) → All Eight (threadsFrom ss)
 unfolding threadsFrom
 start-eight [] = tt
 start-eight (s ∷ ss) = (refl, start-eight ss)

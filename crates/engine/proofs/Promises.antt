@@ -11,7 +11,7 @@ use Prim.Native.Nat.{ℕ, suc, _+_, _*_, _-_, _/_, _%_, _^_, _≤_, _<_}
 use mathlib.Core.Path.{_≡_, refl, sym, _∙_, ap, subst}
 use mathlib.Core.Logic.{_↔_, _≢_, _⊎_}
 use mathlib.Core.Bool.{true, false, cond}
-use mathlib.Core.List.{List, [], _∷_, _++_, map, Perm}
+use mathlib.Core.List.{List, [], _∷_, _++_, map, Perm, List·Memᴰ}
 use native.Mathlib.Omega.{arith}
 use lib.Dec.{eqb}
 use borrow.Author.Tests.{ne-eqb}
@@ -181,7 +181,7 @@ use Rattle.seats.proofs.SeatedStart.{start-sits}
 use Rattle.seats.proofs.OwnerTrees.{owners-descend}
 use Rattle.seating.specs.SeatedRunning.{seatedRunning, seatedLength, seatedOver}
 use Rattle.seating.specs.SeatsRead.{seatedStepsOf, seatsAfter}
-use Rattle.seated.specs.SeatedEntry.{seatedWritten}
+use Rattle.seated.specs.SeatedEntry.{seatedWritten, seatsBar}
 use Rattle.seating.specs.SeatedRound.{seatedThreads, seatedRounding, seatedRoundOver}
 use Rattle.seating_exact.specs.SeatTable.{SeatTableFits, SeatTableMisfits, OverfullAt, StartFits, SeatsBar}
 use Rattle.seating_exact.specs.SeatsTold.{SeatsTold, ReadsPlainly, noSeatsAt}
@@ -233,6 +233,14 @@ use Rattle.certifying_exact.specs.PartCases.{PartShown, partCases}
 use Rattle.certifying_exact.proofs.PartsWhole.{chain-is-whole, whole-has-part}
 use Rattle.certifying_exact.proofs.PartsShown.{parts-shown}
 use Rattle.certifying_exact.proofs.CasesShown.{certificates-shown}
+use Rattle.rows.specs.Rows.{rowWords}
+use Rattle.offering.specs.Offers.{Offer, offersOf, offersPut, begun, offeringOf, refusing, offering}
+use Rattle.offering_exact.specs.Offered.{IsOffer, InOrder, DoesNext, OffersStand, StateWords}
+use Rattle.offering_exact.specs.OfferCases.{OfferShown, offerCases}
+use Rattle.offering_exact.proofs.Offered.{offered-exactly, offered-in-order, next-exactly}
+use Rattle.offering_exact.proofs.Written.{offers-stand}
+use Rattle.offering_exact.proofs.Lent.{lent-offers, lent-refused, run-lent, plain-offers}
+use Rattle.offering_exact.proofs.OffersShown.{offers-shown}
 use Rattle.engine.proofs.LongInputs.{kept-alike}
 use Rattle.engine.proofs.NothingPlanned.{nothing-alike, nothing-checked, nothing-measured, nothing-placed, nothing-short, nothing-over, nothing-run, nothing-chosen, short-one, short-second}
 use Rattle.reading_exact.proofs.Bytes.{length-bytesOf, word-back, small-bytes}
@@ -1916,3 +1924,43 @@ parts-in-words = parts-shown
 -- known yet or missing, a row missing or never reached, refused at their rows; and the refusals before the rows, in order.
 pub certificates-in-words : All CertificateShown certificateCases
 certificates-in-words = certificates-shown
+
+-- The offers of a lent state. `pilzdamo_offers` answers `offering`. Once 1 to 10, the table of seats and the start refuse nothing, the words of a state in order get its offers, and any other words 18.
+pub lent-states-are-offered : (f seats : List ℕ) → readingNames f .number ≡ 0 → seatsBar (contentsOf f) seats .number ≡ 0 → (s out : List ℕ) (S : SeatedState) → StateWords (contentsOf f) seats s S
+    → offering f seats s out ≡ offeringOf (offersPut (length seats) (begun out) (offersOf (limitedOf (contentsOf f) seats) S))
+lent-states-are-offered = lent-offers
+
+pub other-words-are-refused : (f seats : List ℕ) → readingNames f .number ≡ 0 → seatsBar (contentsOf f) seats .number ≡ 0 → (s out : List ℕ)
+    → ((S : SeatedState) → StateWords (contentsOf f) seats s S → ⊥) → offering f seats s out ≡ refusing (refused 18 0) out
+other-words-are-refused = lent-refused
+
+-- The state after any list of choices may be lent ..
+pub run-states-may-be-lent : (f seats : List ℕ) → readingNames f .number ≡ 0 → seatsBar (contentsOf f) seats .number ≡ 0 → (ws : List ℕ)
+    → StateWords (contentsOf f) seats (rowWords (length seats) (seatedRanOf f seats ws .seating)) (seatedRanOf f seats ws .seating)
+run-states-may-be-lent = run-lent
+
+-- .. and its offers are exactly what the run does next: with the same thread and partner, answer and state.
+pub offers-are-the-choices : (f seats ws : List ℕ) → length ws ≡ 2 * seatedRanOf f seats ws .count → (o : Offer)
+    → List·Memᴰ o (offersOf (limitedOf (contentsOf f) seats) (seatedRanOf f seats ws .seating)) ↔ DoesNext f seats ws o
+offers-are-the-choices = next-exactly
+
+-- By one choice: an offer is a choice that is done, and every choice that is done is offered, whatever its numbers.
+pub every-choice-that-is-done-is-offered : (L : Limited) (S : SeatedState) (o : Offer) → List·Memᴰ o (offersOf L S) ↔ IsOffer L S o
+every-choice-that-is-done-is-offered = offered-exactly
+
+-- Threads outside, partners inside, so each once.
+pub offers-are-in-order : (L : Limited) (S : SeatedState) → InOrder (offersOf L S)
+offers-are-in-order = offered-in-order
+
+-- With a table of seats of zeros: the choice that `pilzdamo_choose` carries out.
+pub plain-choices-are-offered : (C : Contents) (seats : List ℕ) → All (λ w. w ≡ 0) seats → (S : SeatedState) (i p : ℕ) (s : State) → (choice (clinicOf C) (S .state) i p ≡ goes s)
+    ↔ ((o : Offer) × List·Memᴰ o (offersOf (limitedOf C seats) S) × (o .thread ≡ i) × (o .partner ≡ p) × (o .answer ≡ 0) × (o .seating .state ≡ s))
+plain-choices-are-offered = plain-offers
+
+-- In the output stand as many offers as have room, from its first word on; words past them stay.
+pub offers-stand-in-the-output : (roles : ℕ) (out : List ℕ) (os : List Offer) → OffersStand roles out os (offersPut roles (begun out) os)
+offers-stand-in-the-output = offers-stand
+
+-- In literal words: states with two offers, one that waits, room for one and for none; and words, tables and files refused.
+pub offers-in-words : All OfferShown offerCases
+offers-in-words = offers-shown

@@ -294,9 +294,10 @@ pub extern "C" fn pilzdamo_closed_part(
     certifying::check_closed_part(file, seats, states, places, next, part)
 }
 
-// All choices of one lent state, the file judged once: for whoever searches all schedules. `state` has the words of a row, as a certificate has them. For each choice that is done, threads outside
-// and partners inside, `out` has the thread, the partner, the answer (26 where it has to wait, else 0), how many words the state has that it leads to, and these. 1 to 10; refused as the run with
-// seats is; 18 where the lent words are no state's in order; 17 where an offer has no room, and then those before it are written, as of a run that halts; or 0, 0, with their count and words.
+// All choices of one lent state of a run with seats, for whoever searches the schedules: `state` has a state's words as a certificate's row has them. Each choice that is done is
+// offered, threads outside (from 1 on), partners inside (from 0 on): thread, partner, answer (26 where it has to wait, else 0), how many words the state has that it leads to, and these words.
+// 1 to 10; refused as the run with seats is; 18 at place 0 where the words are not those of a state in order; 17 at place 0 where an offer has no room, and then those before it stand in the output.
+// The count and the length, in words, are those of the offers written.
 #[no_mangle]
 pub extern "C" fn pilzdamo_offers(
     file: &[u8],

@@ -207,7 +207,7 @@ module _ (s : List ℕ) (at roles on r : ℕ) (ls : List ℕ) (P : LinesPut s at
         by-few row low false e = omega (arith, count-there row (eqb-false row r e), P .rows .few row low)
 
 -- beyond so many lines there is none
-row-lines-past : (s : List ℕ) (p k j : ℕ) → k ≤ j → getD (rowLines s p k) j [] ≡ []
+pub row-lines-past : (s : List ℕ) (p k j : ℕ) → k ≤ j → getD (rowLines s p k) j [] ≡ []
 unfolding rowLines
 row-lines-past s p zero j le = refl
 row-lines-past s p (suc k) zero le = let no : ⊥ = omega (arith, le) in absurd no

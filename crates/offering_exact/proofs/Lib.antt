@@ -1,0 +1,4 @@
+pub mod Offered
+pub mod Written
+pub mod Lent
+pub mod OffersShown
