@@ -12,12 +12,6 @@ use Rattle.certifying.proofs.begins_fine.Tie as tie
 returns : tie.Need-returns
 returns c = rw (lt-ltb 0 (c .before .before .before .before .before .before .before .args .from) (omega arith))
 
-number-at-requires : tie.Need-number-at-requires
-number-at-requires c κs = search needs
-
-same-row-requires : tie.Need-same-row-requires
-same-row-requires c κs = search needs
-
 returns-2 : tie.Need-returns-2
 returns-2 c =
     let a = c .before .before .before .before .before .before .before .before .before .args in
@@ -25,4 +19,4 @@ returns-2 c =
     (c .same-row .ensures ∙ ap (λ (x : ℕ). standsAt (a .states .now) x (rowWords (a .roles) (seatedIn (a .threads .now) (a .beside .now) (a .owners .now) (a .lines .now)))) (c .before .number-at .ensures .0))
 
 pub begins-fine-spec : {M : Type 1} → statement M
-begins-fine-spec = tie.close (tie.spec returns number-at-requires same-row-requires returns-2)
+begins-fine-spec = tie.close (tie.spec returns (λ c κs. search needs) (λ c κs. search needs) returns-2)

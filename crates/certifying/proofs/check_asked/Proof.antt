@@ -10,22 +10,10 @@ use borrow.Author.Needs.{needs}
 use Rattle.certifying.proofs.check_asked.Statement.{statement}
 use Rattle.certifying.proofs.check_asked.Tie as tie
 
-fits-asked-requires : tie.Need-fits-asked-requires
-fits-asked-requires c κs = search needs
-
 returns : tie.Need-returns
 returns c =
     let a = c .before .before .before .before .before .before .before .args in
     not-asked (a .file .now) _ (λ (C : Contents). closingAskedBy C (a .seats .now) (a .states .now) (a .places .now) (a .next .now) (a .asked)) (sym (c .before .fits-asked .ensures) ∙ not-true (c .before .fits-asked .result) (c .if1 .taken))
-
-enter-requires : tie.Need-enter-requires
-enter-requires c κs = search needs
-
-enum-known-answer : tie.Need-enum-known-answer
-enum-known-answer c = search needs
-
-enum-known-answer-2 : tie.Need-enum-known-answer-2
-enum-known-answer-2 c = search needs
 
 closed-in-requires : tie.Need-closed-in-requires
 closed-in-requires c κs =
@@ -43,4 +31,4 @@ returns-3 c =
     c .closed-in .ensures ∙ file-fine (a .file .now) _ (λ (C : Contents). closingAskedBy C (a .seats .now) (a .states .now) (a .places .now) (a .next .now) (a .asked)) (sym (c .before .before .before .before .before .before .fits-asked .ensures) ∙ not-false (c .before .before .before .before .before .before .fits-asked .result) (c .before .before .before .before .before .if1 .left)) _ (sym (c .before .before .before .before .enter .ensures) ∙ c .before .before .answer2 .given .1)
 
 pub check-asked-spec : {M : Type 1} → statement M
-check-asked-spec = tie.close (tie.spec fits-asked-requires returns enter-requires enum-known-answer enum-known-answer-2 closed-in-requires returns-2 returns-3)
+check-asked-spec = tie.close (tie.spec (λ c κs. search needs) returns (λ c κs. search needs) (λ c. search needs) (λ c. search needs) closed-in-requires returns-2 returns-3)

@@ -3,12 +3,9 @@ use borrow.Author.Needs.{needs}
 use Rattle.certifying.proofs.check_closed.Statement.{statement}
 use Rattle.certifying.proofs.check_closed.Tie as tie
 
-check-asked-requires : tie.Need-check-asked-requires
-check-asked-requires c κs = search needs
-
 returns : tie.Need-returns
 unfolding closing
 returns c = c .check-asked .ensures
 
 pub check-closed-spec : {M : Type 1} → statement M
-check-closed-spec = tie.close (tie.spec check-asked-requires returns)
+check-closed-spec = tie.close (tie.spec (λ c κs. search needs) returns)

@@ -11,11 +11,6 @@ use native.Mathlib.Omega.{arith}
 use borrow.Author.Needs.{needs}
 use Rattle.certifying.proofs.closed_in.Statement.{statement}
 use Rattle.certifying.proofs.closed_in.Tie as tie
-use Rattle.certifying.proofs.closed_in.Reads as reads
-use Rattle.certifying.proofs.closed_in.Lts as lts
-
-seats-bar-requires : tie.Need-seats-bar-requires
-seats-bar-requires c κs = search needs
 
 returns : tie.Need-returns
 returns c =
@@ -29,9 +24,6 @@ row-at-fault-requires c κs =
     let clear = bar-clear (contentsAt (a .file .now) (a .head)) (a .seats .now) (sym (ap (λ (v : Verdict). v .number) (c .before .before .seats-bar .ensures)) ∙ c .if1 .left) in
     (q .0, omega (arith, clear .0, roles-held (a .file .now) (a .head), q .0 .roles), q .1, clear .1)
 
-fault-at-requires : tie.Need-fault-at-requires
-fault-at-requires c κs = search needs
-
 returns-2 : tie.Need-returns-2
 returns-2 c =
     let a = c .before .before .before .before .before .before .before .before .before .before .args in
@@ -40,9 +32,4 @@ returns-2 c =
 pub closed-in-spec : {M : Type 1} → statement M
 closed-in-spec =
     tie.close
-    (tie.spec
-    seats-bar-requires
-    returns
-    row-at-fault-requires
-    fault-at-requires
-    returns-2)
+    (tie.spec (λ c κs. search needs) returns row-at-fault-requires (λ c κs. search needs) returns-2)

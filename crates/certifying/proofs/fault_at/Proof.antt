@@ -6,23 +6,14 @@ use borrow.Author.Needs.{needs}
 use borrow.Author.Needs.{needs}
 use Rattle.certifying.proofs.fault_at.Statement.{statement}
 use Rattle.certifying.proofs.fault_at.Tie as tie
-use Rattle.certifying.proofs.fault_at.Reads as reads
-use Rattle.certifying.proofs.fault_at.Lts as lts
-use Rattle.certifying.proofs.words.short.Reads as short-reads
 
--- src/lib.rt:52:9
 returns : tie.Need-returns
 returns c = rw (eq-eqb (c .before .args .row) 0 (c .if1 .taken))
 
--- src/lib.rt:61:14
-short-requires : tie.Need-short-requires
-short-requires c κs = search needs
-
--- src/lib.rt:47:1
 returns-2 : tie.Need-returns-2
 returns-2 c =
     let a = c .before .before .args in
     rw (ne-eqb (a .row) 0 (c .before .if1 .left)) (ap (λ (x : ℕ). record { number = 18; place = 0; row = x }) (c .short .ensures))
 
 pub fault-at-spec : {M : Type 1} → statement M
-fault-at-spec = tie.close (tie.spec returns short-requires returns-2)
+fault-at-spec = tie.close (tie.spec returns (λ c κs. search needs) returns-2)

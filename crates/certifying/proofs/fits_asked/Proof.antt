@@ -5,18 +5,6 @@ use borrow.Author.Needs.{needs}
 use Rattle.certifying.proofs.fits_asked.Statement.{statement}
 use Rattle.certifying.proofs.fits_asked.Tie as tie
 
-enum-told : tie.Need-enum-told
-enum-told c = search needs
-
-has-rows-requires : tie.Need-has-rows-requires
-has-rows-requires c κs = search needs
-
-enum-known-asked : tie.Need-enum-known-asked
-enum-known-asked c = search needs
-
-has-part-requires : tie.Need-has-part-requires
-has-part-requires c κs = search needs
-
 returns : tie.Need-returns
 returns c = c .has-rows .ensures ∙ sym (ap (askedFits (c .before .before .before .args .rows) (c .before .before .before .args .words)) (c .before .enum-told .given .1))
 
@@ -26,10 +14,4 @@ returns-2 c = c .has-part .ensures ∙ sym (ap (askedFits (c .before .before .be
 pub fits-asked-spec : {M : Type 1} → statement M
 fits-asked-spec =
     tie.close
-    (tie.spec
-    enum-told
-    has-rows-requires
-    enum-known-asked
-    has-part-requires
-    returns
-    returns-2)
+    (tie.spec (λ c. search needs) (λ c κs. search needs) (λ c. search needs) (λ c κs. search needs) returns returns-2)

@@ -7,9 +7,6 @@ use borrow.Author.Needs.{needs}
 use Rattle.certifying.proofs.has_part.Statement.{statement}
 use Rattle.certifying.proofs.has_part.Tie as tie
 
-has-rows-requires : tie.Need-has-rows-requires
-has-rows-requires c κs = search needs
-
 returns : tie.Need-returns
 returns c =
     let a = c .before .before .before .before .before .args in
@@ -17,4 +14,4 @@ returns c =
     ap (λ (x : Bool). x && ltb (P .from) (P .to) && leb (P .to) (a .rows) && leb (P .begin) (P .end) && leb (P .end) (a .words)) (c .before .before .before .before .has-rows .ensures)
 
 pub has-part-spec : {M : Type 1} → statement M
-has-part-spec = tie.close (tie.spec has-rows-requires returns)
+has-part-spec = tie.close (tie.spec (λ c κs. search needs) returns)

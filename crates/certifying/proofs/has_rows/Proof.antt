@@ -3,14 +3,10 @@ use native.Mathlib.Omega.{arith}
 use borrow.Author.Needs.{needs}
 use Rattle.certifying.proofs.has_rows.Statement.{statement}
 use Rattle.certifying.proofs.has_rows.Tie as tie
-use Rattle.certifying.proofs.has_rows.Reads as reads
-use Rattle.certifying.proofs.has_rows.Lts as lts
 
--- src/lib.rt:69:9
 returns : tie.Need-returns
 returns c = rw (lt-ltb 0 (c .before .args .n) (omega arith))
 
--- src/lib.rt:65:1
 returns-2 : tie.Need-returns-2
 returns-2 c = rw (le-ltb 0 (c .before .args .n) (omega arith))
 

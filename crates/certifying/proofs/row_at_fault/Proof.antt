@@ -10,49 +10,10 @@ use borrow.Author.Needs.{needs}
 use Rattle.certifying.proofs.row_at_fault.Statement.{statement}
 use Rattle.certifying.proofs.row_at_fault.Tie as tie
 
-slice-aggregate-run-seated-by : tie.Need-slice-aggregate-run-seated-by
-slice-aggregate-run-seated-by c = search needs
-
-slice-aggregate-run-seated-by-2 : tie.Need-slice-aggregate-run-seated-by-2
-slice-aggregate-run-seated-by-2 c = search needs
-
-slice-aggregate-run-seated-by-3 : tie.Need-slice-aggregate-run-seated-by-3
-slice-aggregate-run-seated-by-3 c = search needs
-
-slice-aggregate-run-seated-by-4 : tie.Need-slice-aggregate-run-seated-by-4
-slice-aggregate-run-seated-by-4 c = search needs
-
-slice-aggregate-run-seated-by-5 : tie.Need-slice-aggregate-run-seated-by-5
-slice-aggregate-run-seated-by-5 c = search needs
-
-slice-aggregate-run-seated-by-6 : tie.Need-slice-aggregate-run-seated-by-6
-slice-aggregate-run-seated-by-6 c = search needs
-
-slice-aggregate-run-seated-by-7 : tie.Need-slice-aggregate-run-seated-by-7
-slice-aggregate-run-seated-by-7 c = search needs
-
-slice-aggregate-run-seated-by-8 : tie.Need-slice-aggregate-run-seated-by-8
-slice-aggregate-run-seated-by-8 c = search needs
-
 run-seated-by-requires : tie.Need-run-seated-by-requires
 run-seated-by-requires c κs =
     let q = c .before .before .before .before .before .before .before .before .before .before .before .before .before .pre in
     (q .0, refl, refl, refl, refl, refl, refl, refl, refl, q .1, omega arith, q .3)
-
-from-asked-requires : tie.Need-from-asked-requires
-from-asked-requires c κs = search needs
-
-slice-aggregate-begins-fine : tie.Need-slice-aggregate-begins-fine
-slice-aggregate-begins-fine c = search needs
-
-slice-aggregate-begins-fine-2 : tie.Need-slice-aggregate-begins-fine-2
-slice-aggregate-begins-fine-2 c = search needs
-
-slice-aggregate-begins-fine-3 : tie.Need-slice-aggregate-begins-fine-3
-slice-aggregate-begins-fine-3 c = search needs
-
-slice-aggregate-begins-fine-4 : tie.Need-slice-aggregate-begins-fine-4
-slice-aggregate-begins-fine-4 c = search needs
 
 begins-fine-requires : tie.Need-begins-fine-requires
 begins-fine-requires c κs =
@@ -65,24 +26,6 @@ returns c =
     let a = c .before .before .before .before .before .before .before .before .before .before .before .before .before .before .before .before .before .before .before .before .before .before .before .before .before .before .before .args in
     let R = c .before .before .before .before .before .before .before .before .before .before .before .before .before .run-seated-by in
     (start-differs (contentsAt (a .file .now) (a .head)) (a .seats .now) (a .states .now) (a .places .now) (a .next .now) _ _ _ _ _ _ _ (R .ensures .0) (a .asked) (c .before .before .before .before .before .before .from-asked .result) (c .before .before .before .before .before .before .from-asked .ensures) (c .before .begins-fine .result) (c .before .begins-fine .ensures) (not-true (c .before .begins-fine .result) (c .if1 .taken)), omega arith)
-
-slice-aggregate-try-asked : tie.Need-slice-aggregate-try-asked
-slice-aggregate-try-asked c = search needs
-
-slice-aggregate-try-asked-2 : tie.Need-slice-aggregate-try-asked-2
-slice-aggregate-try-asked-2 c = search needs
-
-slice-aggregate-try-asked-3 : tie.Need-slice-aggregate-try-asked-3
-slice-aggregate-try-asked-3 c = search needs
-
-slice-aggregate-try-asked-4 : tie.Need-slice-aggregate-try-asked-4
-slice-aggregate-try-asked-4 c = search needs
-
-slice-aggregate-try-asked-5 : tie.Need-slice-aggregate-try-asked-5
-slice-aggregate-try-asked-5 c = search needs
-
-slice-aggregate-try-asked-6 : tie.Need-slice-aggregate-try-asked-6
-slice-aggregate-try-asked-6 c = search needs
 
 try-asked-requires : tie.Need-try-asked-requires
 try-asked-requires c κs =
@@ -110,28 +53,8 @@ returns-2 c =
 pub row-at-fault-spec : {M : Type 1} → statement M
 row-at-fault-spec =
     tie.close
-    (tie.spec
-    slice-aggregate-run-seated-by
-    slice-aggregate-run-seated-by-2
-    slice-aggregate-run-seated-by-3
-    slice-aggregate-run-seated-by-4
-    slice-aggregate-run-seated-by-5
-    slice-aggregate-run-seated-by-6
-    slice-aggregate-run-seated-by-7
-    slice-aggregate-run-seated-by-8
-    run-seated-by-requires
-    from-asked-requires
-    slice-aggregate-begins-fine
-    slice-aggregate-begins-fine-2
-    slice-aggregate-begins-fine-3
-    slice-aggregate-begins-fine-4
-    begins-fine-requires
-    returns
-    slice-aggregate-try-asked
-    slice-aggregate-try-asked-2
-    slice-aggregate-try-asked-3
-    slice-aggregate-try-asked-4
-    slice-aggregate-try-asked-5
-    slice-aggregate-try-asked-6
-    try-asked-requires
-    returns-2)
+    (tie.spec (λ c. search needs) (λ c. search needs) (λ c. search needs) (λ c. search needs) (λ c. search needs)
+    (λ c. search needs) (λ c. search needs) (λ c. search needs) run-seated-by-requires (λ c κs. search needs)
+    (λ c. search needs) (λ c. search needs) (λ c. search needs) (λ c. search needs) begins-fine-requires returns
+    (λ c. search needs) (λ c. search needs) (λ c. search needs) (λ c. search needs) (λ c. search needs)
+    (λ c. search needs) try-asked-requires returns-2)

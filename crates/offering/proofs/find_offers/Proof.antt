@@ -6,18 +6,6 @@ use borrow.Author.Needs.{needs}
 use Rattle.offering.proofs.find_offers.Statement.{statement}
 use Rattle.offering.proofs.find_offers.Tie as tie
 
-enter-requires : tie.Need-enter-requires
-enter-requires c κs = search needs
-
-enum-known-answer : tie.Need-enum-known-answer
-enum-known-answer c = search needs
-
-none-requires : tie.Need-none-requires
-none-requires c κs = search needs
-
-enum-known-answer-2 : tie.Need-enum-known-answer-2
-enum-known-answer-2 c = search needs
-
 offers-with-requires : tie.Need-offers-with-requires
 offers-with-requires c κs =
     let a = c .before .before .before .before .before .before .before .before .before .args in
@@ -29,9 +17,6 @@ returns c =
     let refused = file-refused (a .file .now) (a .seats .now) (a .state .now) (a .out .now) _ (sym (c .before .before .before .before .enter .ensures) ∙ c .before .before .answer .given .1) in
     (c .none .ensures ∙ ap (λ (x : Offering). x .answer) refused, ap (λ (x : Offering). x .out) refused)
 
-same-length : tie.Need-same-length
-same-length c = search needs
-
 returns-2 : tie.Need-returns-2
 returns-2 c =
     let a = c .before .before .before .before .before .before .before .before .before .before .before .before .args in
@@ -41,12 +26,5 @@ returns-2 c =
 pub find-offers-spec : {M : Type 1} → statement M
 find-offers-spec =
     tie.close
-    (tie.spec
-    enter-requires
-    enum-known-answer
-    none-requires
-    enum-known-answer-2
-    offers-with-requires
-    returns
-    same-length
-    returns-2)
+    (tie.spec (λ c κs. search needs) (λ c. search needs) (λ c κs. search needs) (λ c. search needs) offers-with-requires
+    returns (λ c. search needs) returns-2)

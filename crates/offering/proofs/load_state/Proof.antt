@@ -11,9 +11,6 @@ use borrow.Author.Needs.{needs}
 use Rattle.offering.proofs.load_state.Statement.{statement}
 use Rattle.offering.proofs.load_state.Tie as tie
 
-row-fits-requires : tie.Need-row-fits-requires
-row-fits-requires c κs = search needs
-
 returns : tie.Need-returns
 returns c =
     let a = c .before .before .before .before .before .before .before .before .before .args in
@@ -28,18 +25,6 @@ load-row-requires c κs =
 row-length-requires : tie.Need-row-length-requires
 row-length-requires c κs = let D = c .before .before .before .before .before .before .before .before .before .before .load-row .ensures in (D .sized .beside, D .sized .threads, D .sized .made, c .before .before .before .before .before .before .before .before .before .before .before .before .before .before .before .before .before .before .before .before .before .before .before .before .pre .1, D .rows)
 
-same-length : tie.Need-same-length
-same-length c = search needs
-
-same-length-2 : tie.Need-same-length-2
-same-length-2 c = search needs
-
-same-length-3 : tie.Need-same-length-3
-same-length-3 c = search needs
-
-same-length-4 : tie.Need-same-length-4
-same-length-4 c = search needs
-
 returns-2 : tie.Need-returns-2
 returns-2 c =
     let a = c .before .before .before .before .before .before .before .before .before .before .before .before .before .before .before .before .before .before .before .before .before .before .before .before .before .before .args in
@@ -51,18 +36,6 @@ returns-2 c =
 
 same-row-requires : tie.Need-same-row-requires
 same-row-requires c κs = let D = c .before .before .before .before .before .before .before .before .before .before .before .before .before .before .before .before .load-row .ensures in (omega arith, c .before .before .before .before .before .before .before .before .before .before .before .before .before .before .before .before .before .before .before .before .before .before .before .before .before .before .before .before .before .before .pre .1, D .sized, D .owners, D .rows)
-
-same-length-5 : tie.Need-same-length-5
-same-length-5 c = search needs
-
-same-length-6 : tie.Need-same-length-6
-same-length-6 c = search needs
-
-same-length-7 : tie.Need-same-length-7
-same-length-7 c = search needs
-
-same-length-8 : tie.Need-same-length-8
-same-length-8 c = search needs
 
 returns-3 : tie.Need-returns-3
 returns-3 c =
@@ -76,18 +49,6 @@ returns-3 c =
 
 in-order-requires : tie.Need-in-order-requires
 in-order-requires c κs = let D = c .before .before .before .before .before .before .before .before .before .before .before .before .before .before .before .before .before .before .before .before .before .before .load-row .ensures in (D .sized, D .owners, D .rows, c .before .before .before .before .before .before .before .before .before .before .before .before .before .before .before .before .before .before .before .before .before .before .before .before .before .before .before .before .before .before .before .before .before .before .before .before .pre .0 .sessions)
-
-same-length-9 : tie.Need-same-length-9
-same-length-9 c = search needs
-
-same-length-10 : tie.Need-same-length-10
-same-length-10 c = search needs
-
-same-length-11 : tie.Need-same-length-11
-same-length-11 c = search needs
-
-same-length-12 : tie.Need-same-length-12
-same-length-12 c = search needs
 
 returns-4 : tie.Need-returns-4
 returns-4 c =
@@ -104,25 +65,7 @@ returns-4 c =
 pub load-state-spec : {M : Type 1} → statement M
 load-state-spec =
     tie.close
-    (tie.spec
-    row-fits-requires
-    returns
-    load-row-requires
-    row-length-requires
-    same-length
-    same-length-2
-    same-length-3
-    same-length-4
-    returns-2
-    same-row-requires
-    same-length-5
-    same-length-6
-    same-length-7
-    same-length-8
-    returns-3
-    in-order-requires
-    same-length-9
-    same-length-10
-    same-length-11
-    same-length-12
-    returns-4)
+    (tie.spec (λ c κs. search needs) returns load-row-requires row-length-requires (λ c. search needs)
+    (λ c. search needs) (λ c. search needs) (λ c. search needs) returns-2 same-row-requires (λ c. search needs)
+    (λ c. search needs) (λ c. search needs) (λ c. search needs) returns-3 in-order-requires (λ c. search needs)
+    (λ c. search needs) (λ c. search needs) (λ c. search needs) returns-4)

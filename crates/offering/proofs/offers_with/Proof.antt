@@ -10,12 +10,6 @@ use borrow.Author.Needs.{needs}
 use Rattle.offering.proofs.offers_with.Statement.{statement}
 use Rattle.offering.proofs.offers_with.Tie as tie
 
-seats-bar-requires : tie.Need-seats-bar-requires
-seats-bar-requires c κs = search needs
-
-none-requires : tie.Need-none-requires
-none-requires c κs = search needs
-
 returns : tie.Need-returns
 returns c =
     let a = c .before .before .before .before .before .before .before .before .args in
@@ -29,9 +23,6 @@ offers-in-requires c κs =
     let clear = bar-clear (contentsAt (a .file .now) (a .head)) (a .seats .now) (sym (ap (λ (v : Verdict). v .number) (c .before .before .before .seats-bar .ensures)) ∙ c .before .if1 .left) in
     (q, omega (arith, clear .0, roles-held (a .file .now) (a .head), q .roles))
 
-same-length : tie.Need-same-length
-same-length c = search needs
-
 returns-2 : tie.Need-returns-2
 returns-2 c =
     let a = c .before .before .before .before .before .before .before .before .before .before .before .args in
@@ -41,4 +32,4 @@ returns-2 c =
 pub offers-with-spec : {M : Type 1} → statement M
 offers-with-spec =
     tie.close
-    (tie.spec seats-bar-requires none-requires returns offers-in-requires same-length returns-2)
+    (tie.spec (λ c κs. search needs) (λ c κs. search needs) returns offers-in-requires (λ c. search needs) returns-2)

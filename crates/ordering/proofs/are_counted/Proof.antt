@@ -10,9 +10,6 @@ use Rattle.ordering.specs.Order.{allCounted}
 use Rattle.ordering.proofs.OrderLaws.{counted-step, counted-end}
 use Rattle.ordering.proofs.are_counted.Statement.{statement}
 use Rattle.ordering.proofs.are_counted.Tie as tie
-use Rattle.ordering.proofs.are_counted.Reads as reads
-use Rattle.ordering.proofs.are_counted.Lts as lts
-use Rattle.format.proofs.sections.in_count.Reads as in-count-reads
 
 abbrev Inv-loop : tie.InvT-loop
 Inv-loop owners count n k₀ k = (k ≤ count) × (count ≤ length owners) × (allCounted n (take count owners) ≡ allCounted n (take (count - k) (drop k owners)))
@@ -20,26 +17,12 @@ Inv-loop owners count n k₀ k = (k ≤ count) × (count ≤ length owners) × (
 abbrev μ-loop : tie.MeasureT-loop
 μ-loop owners count n k₀ k = count - k
 
--- src/lib.rt:31:5
 loop-holds : tie.Need-loop-holds Inv-loop μ-loop
 loop-holds c =
     let a = c .before .args in
     let all : a .count ≡ a .count - 0 = omega arith in
     (omega arith, c .before .pre, ap (λ (x : ℕ). allCounted (a .n) (take x (a .owners .now))) all)
 
--- src/lib.rt:32:25
-mul-in-count : tie.Need-mul-in-count Inv-loop μ-loop
-mul-in-count c = search needs
-
--- src/lib.rt:32:25
-shared-slice-read-in-count : tie.Need-shared-slice-read-in-count Inv-loop μ-loop
-shared-slice-read-in-count c = search needs
-
--- src/lib.rt:32:13
-in-count-requires : tie.Need-in-count-requires Inv-loop μ-loop
-in-count-requires c κs = search needs
-
--- src/lib.rt:33:13
 returns : tie.Need-returns Inv-loop μ-loop
 returns c =
     let a = c .before .before .before .before .before .before .args in
@@ -48,15 +31,6 @@ returns c =
     let more = l .inv .2 ∙ step ∙ ap (λ (b : Bool). b && allCounted (a .n) (take (a .count - (l .k + 1)) (drop (l .k + 1) (a .owners .now)))) (sym (c .before .in-count .ensures) ∙ not-true (c .before .in-count .result) (c .if1 .taken)) in
     sym more
 
--- src/lib.rt:35:9
-add-k : tie.Need-add-k Inv-loop μ-loop
-add-k c = omega arith
-
--- src/lib.rt:31:5
-loop-less : tie.Need-loop-less Inv-loop μ-loop
-loop-less c = omega arith
-
--- src/lib.rt:31:5
 loop-again : tie.Need-loop-again Inv-loop μ-loop
 loop-again c =
     let a = c .before .before .before .before .before .before .args in
@@ -65,7 +39,6 @@ loop-again c =
     let more = l .inv .2 ∙ step ∙ ap (λ (b : Bool). b && allCounted (a .n) (take (a .count - (l .k + 1)) (drop (l .k + 1) (a .owners .now)))) (sym (c .before .in-count .ensures) ∙ not-false (c .before .in-count .result) (c .if1 .left)) in
     (omega arith, l .inv .1, more)
 
--- src/lib.rt:26:1
 returns-2 : tie.Need-returns-2 Inv-loop μ-loop
 returns-2 c =
     let a = c .before .before .before .args in
@@ -75,15 +48,5 @@ returns-2 c =
 pub are-counted-spec : {M : Type 1} → statement M
 are-counted-spec =
     tie.close
-    (tie.spec
-    Inv-loop
-    μ-loop
-    loop-holds
-    mul-in-count
-    shared-slice-read-in-count
-    in-count-requires
-    returns
-    add-k
-    loop-less
-    loop-again
-    returns-2)
+    (tie.spec Inv-loop μ-loop loop-holds (λ c. search needs) (λ c. search needs) (λ c κs. search needs) returns
+    (λ c. omega arith) (λ c. omega arith) loop-again returns-2)

@@ -12,13 +12,6 @@ use Rattle.ordering.specs.Order.{allCounted, rolesFit}
 use Rattle.ordering.proofs.OrderLaws.{counted-iff, not-counted, role-other, role-same, all-fit}
 use Rattle.ordering.proofs.in_order.Statement.{statement}
 use Rattle.ordering.proofs.in_order.Tie as tie
-use Rattle.ordering.proofs.in_order.Reads as reads
-use Rattle.ordering.proofs.in_order.Lts as lts
-use Rattle.format.proofs.words.wide.Reads as wide-reads
-use Rattle.ordering.proofs.are_counted.Reads as are-counted-reads
-use Rattle.ordering.proofs.role_fits.Reads as role-fits-reads
-use Rattle.rows.proofs.words.word_at.Reads as word-at-reads
-use Rattle.steps.proofs.beside.thread_count.Reads as thread-count-reads
 
 abbrev Inv-loop : tie.InvT-loop
 Inv-loop seats n threads beside owners lines r₀ r =
@@ -27,19 +20,6 @@ Inv-loop seats n threads beside owners lines r₀ r =
 abbrev μ-loop : tie.MeasureT-loop
 μ-loop seats n threads beside owners lines r₀ r = r
 
--- src/lib.rt:115:34
-thread-count-requires : tie.Need-thread-count-requires Inv-loop μ-loop
-thread-count-requires c κs = search needs
-
--- src/lib.rt:115:29
-wide-requires : tie.Need-wide-requires Inv-loop μ-loop
-wide-requires c κs = search needs
-
--- src/lib.rt:115:9
-are-counted-requires : tie.Need-are-counted-requires Inv-loop μ-loop
-are-counted-requires c κs = search needs
-
--- src/lib.rt:116:9
 returns : tie.Need-returns Inv-loop μ-loop
 returns c =
     let a = c .before .before .before .before .before .before .before .before .before .args in
@@ -48,23 +28,9 @@ returns c =
     let counted = sym (c .before .are-counted .ensures ∙ ap (λ (x : ℕ). allCounted (a .n) (take x (a .owners .now))) count) ∙ not-true (c .before .are-counted .result) (c .if1 .taken) in
     not-counted (a .seats .now) (a .threads .now) (a .beside .now) (a .owners .now) (a .lines .now) (q .0) (q .1) (a .n) counted
 
--- src/lib.rt:119:5
 loop-holds : tie.Need-loop-holds Inv-loop μ-loop
 loop-holds c = (omega arith, refl)
 
--- src/lib.rt:120:41
-sub-wide : tie.Need-sub-wide Inv-loop μ-loop
-sub-wide c = search needs
-
--- src/lib.rt:120:36
-wide-requires-2 : tie.Need-wide-requires-2 Inv-loop μ-loop
-wide-requires-2 c κs = search needs
-
--- src/lib.rt:120:13
-word-at-requires : tie.Need-word-at-requires Inv-loop μ-loop
-word-at-requires c κs = search needs
-
--- src/lib.rt:121:13
 role-fits-requires : tie.Need-role-fits-requires Inv-loop μ-loop
 role-fits-requires c κs =
     let a = c .before .before .before .before .before .before .before .before .before .before .before .before .before .args in
@@ -73,7 +39,6 @@ role-fits-requires c κs =
     let counted = sym (c .before .before .before .before .before .are-counted .ensures ∙ ap (λ (x : ℕ). allCounted (a .n) (take x (a .owners .now))) count) ∙ not-false (c .before .before .before .before .before .are-counted .result) (c .before .before .before .before .if1 .left) in
     (q .0, q .1, q .2, q .3, counted-iff (a .n) _ .0 counted, omega arith, omega arith)
 
--- src/lib.rt:122:13
 returns-2 : tie.Need-returns-2 Inv-loop μ-loop
 returns-2 c =
     let a = c .before .before .before .before .before .before .before .before .before .before .before .before .before .before .before .args in
@@ -83,15 +48,6 @@ returns-2 c =
     let l = c .before .before .before .before .before .loop in
     role-other (a .seats .now) (a .threads .now) (a .beside .now) (a .owners .now) (a .lines .now) (q .0) (q .1) (a .n) (l .r) (c .before .before .word-at .result) (omega arith) (c .before .before .word-at .ensures ∙ ap (λ (x : ℕ). getD (a .seats .now) x 0) (c .before .before .before .wide2 .ensures .0)) (c .before .role-fits .result) (c .before .role-fits .ensures) counted (l .inv .1) (not-true (c .before .role-fits .result) (c .if2 .taken))
 
--- src/lib.rt:124:9
-sub-r : tie.Need-sub-r Inv-loop μ-loop
-sub-r c = search needs
-
--- src/lib.rt:119:5
-loop-less : tie.Need-loop-less Inv-loop μ-loop
-loop-less c = omega arith
-
--- src/lib.rt:119:5
 loop-again : tie.Need-loop-again Inv-loop μ-loop
 loop-again c =
     let a = c .before .before .before .before .before .before .before .before .before .before .before .before .before .before .before .args in
@@ -99,7 +55,6 @@ loop-again c =
     let l = c .before .before .before .before .before .loop in
     (omega arith, role-same (a .seats .now) (a .threads .now) (a .beside .now) (a .owners .now) (a .lines .now) (q .0) (q .1) (a .n) (l .r) (c .before .before .word-at .result) (omega arith) (c .before .before .word-at .ensures ∙ ap (λ (x : ℕ). getD (a .seats .now) x 0) (c .before .before .before .wide2 .ensures .0)) (c .before .role-fits .result) (c .before .role-fits .ensures) (l .inv .1) (not-false (c .before .role-fits .result) (c .if2 .left)))
 
--- src/lib.rt:103:1
 returns-3 : tie.Need-returns-3 Inv-loop μ-loop
 returns-3 c =
     let a = c .before .before .before .before .before .before .before .before .before .before .before .args in
@@ -112,20 +67,6 @@ returns-3 c =
 pub in-order-spec : {M : Type 1} → statement M
 in-order-spec =
     tie.close
-    (tie.spec
-    Inv-loop
-    μ-loop
-    thread-count-requires
-    wide-requires
-    are-counted-requires
-    returns
-    loop-holds
-    sub-wide
-    wide-requires-2
-    word-at-requires
-    role-fits-requires
-    returns-2
-    sub-r
-    loop-less
-    loop-again
-    returns-3)
+    (tie.spec Inv-loop μ-loop (λ c κs. search needs) (λ c κs. search needs) (λ c κs. search needs) returns loop-holds
+    (λ c. search needs) (λ c κs. search needs) (λ c κs. search needs) role-fits-requires returns-2 (λ c. search needs)
+    (λ c. omega arith) loop-again returns-3)

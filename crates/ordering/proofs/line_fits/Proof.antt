@@ -13,11 +13,6 @@ use Rattle.ordering.specs.Order.{lineFits}
 use Rattle.ordering.proofs.OrderLaws.{line-other, line-same, line-end}
 use Rattle.ordering.proofs.line_fits.Statement.{statement}
 use Rattle.ordering.proofs.line_fits.Tie as tie
-use Rattle.ordering.proofs.line_fits.Reads as reads
-use Rattle.ordering.proofs.line_fits.Lts as lts
-use Rattle.format.proofs.words.wide.Reads as wide-reads
-use Rattle.ordering.proofs.may_wait.Reads as may-wait-reads
-use Rattle.ordering.proofs.with_waiting.Reads as with-waiting-reads
 
 abbrev Inv-loop : tie.InvT-loop
 Inv-loop lines row mask n at waiting seen₀ i₀ seen i = (i ≤ waiting) × (lineFits n (has mask) (lineRow lines row) ≡ lineFits n (has seen) (take (waiting - i) (drop (at + i) lines)))
@@ -25,31 +20,6 @@ Inv-loop lines row mask n at waiting seen₀ i₀ seen i = (i ≤ waiting) × (l
 abbrev μ-loop : tie.MeasureT-loop
 μ-loop lines row mask n at waiting seen₀ i₀ seen i = waiting - i
 
--- src/lib.rt:60:14
-mul-at : tie.Need-mul-at Inv-loop μ-loop
-mul-at c = search needs
-
--- src/lib.rt:60:14
-add-at : tie.Need-add-at Inv-loop μ-loop
-add-at c = search needs
-
--- src/lib.rt:61:30
-mul-wide : tie.Need-mul-wide Inv-loop μ-loop
-mul-wide c = search needs
-
--- src/lib.rt:61:24
-mul-wide-2 : tie.Need-mul-wide-2 Inv-loop μ-loop
-mul-wide-2 c = search needs
-
--- src/lib.rt:61:24
-shared-slice-read-wide : tie.Need-shared-slice-read-wide Inv-loop μ-loop
-shared-slice-read-wide c = search needs
-
--- src/lib.rt:61:9
-wide-requires : tie.Need-wide-requires Inv-loop μ-loop
-wide-requires c κs = search needs
-
--- src/lib.rt:64:5
 loop-holds : tie.Need-loop-holds Inv-loop μ-loop
 loop-holds c =
     let a = c .before .before .before .args in
@@ -58,15 +28,6 @@ loop-holds c =
     let on : 33 * a .row + 1 ≡ 33 * a .row + 1 + 0 = omega arith in
     (omega arith, ap₂ (λ (x y : ℕ). lineFits (a .n) (has (a .mask)) (take x (drop y w))) none on)
 
--- src/lib.rt:65:23
-add-k : tie.Need-add-k Inv-loop μ-loop
-add-k c = search needs
-
--- src/lib.rt:65:17
-mul-k : tie.Need-mul-k Inv-loop μ-loop
-mul-k c = search needs
-
--- src/lib.rt:65:17
 shared-slice-read-k : tie.Need-shared-slice-read-k Inv-loop μ-loop
 shared-slice-read-k c =
     let a = c .before .before .before .before .before .before .args in
@@ -75,11 +36,6 @@ shared-slice-read-k c =
     let fits : 33 * a .row + 1 + l .i < length (a .lines .now) = omega (arith, q .0 .words, q .0 .few (a .row) (q .1), c .before .before .before .wide .ensures .0) in
     fits
 
--- src/lib.rt:66:13
-may-wait-requires : tie.Need-may-wait-requires Inv-loop μ-loop
-may-wait-requires c κs = search needs
-
--- src/lib.rt:67:13
 returns : tie.Need-returns Inv-loop μ-loop
 returns c =
     let a = c .before .before .before .before .before .before .before .before .args in
@@ -88,7 +44,6 @@ returns c =
     let fits : 33 * a .row + 1 + l .i < length (a .lines .now) = omega (arith, q .0 .words, q .0 .few (a .row) (q .1), c .before .before .before .before .before .wide .ensures .0) in
     sym (l .inv .1 ∙ sym (line-other (a .lines .now) (a .n) (33 * a .row + 1) (c .before .before .before .before .before .wide .result) (l .i) (l .seen) (omega arith) fits (sym (c .before .may-wait .ensures) ∙ not-true (c .before .may-wait .result) (c .if1 .taken))))
 
--- src/lib.rt:69:9
 with-waiting-requires : tie.Need-with-waiting-requires Inv-loop μ-loop
 with-waiting-requires c κs =
     let a = c .before .before .before .before .before .before .before .before .args in
@@ -97,15 +52,6 @@ with-waiting-requires c κs =
     let counted = in-count (a .n) k (and-eq-true-iff _ _ .0 (sym (c .before .may-wait .ensures) ∙ not-false (c .before .may-wait .result) (c .if1 .left)) .0) in
     (counted .0, omega (arith, counted .1, c .before .before .before .before .before .before .before .before .pre .2))
 
--- src/lib.rt:70:9
-add-i : tie.Need-add-i Inv-loop μ-loop
-add-i c = search needs
-
--- src/lib.rt:64:5
-loop-less : tie.Need-loop-less Inv-loop μ-loop
-loop-less c = omega arith
-
--- src/lib.rt:64:5
 loop-again : tie.Need-loop-again Inv-loop μ-loop
 loop-again c =
     let a = c .before .before .before .before .before .before .before .before .before .args in
@@ -115,7 +61,6 @@ loop-again c =
     let same = line-same (a .lines .now) (a .n) (33 * a .row + 1) (c .before .before .before .before .before .before .wide .result) (l .i) (l .seen) (omega arith) fits (sym (c .before .before .may-wait .ensures) ∙ not-false (c .before .before .may-wait .result) (c .before .if1 .left)) in
     (omega arith, l .inv .1 ∙ same ∙ sym (ap (λ (m : ℕ). lineFits (a .n) (has m) (take (c .before .before .before .before .before .before .wide .result - (l .i + 1)) (drop (33 * a .row + 1 + (l .i + 1)) (a .lines .now)))) (c .with-waiting .ensures)))
 
--- src/lib.rt:56:1
 returns-2 : tie.Need-returns-2 Inv-loop μ-loop
 returns-2 c =
     let a = c .before .before .before .before .before .args in
@@ -125,23 +70,6 @@ returns-2 c =
 pub line-fits-spec : {M : Type 1} → statement M
 line-fits-spec =
     tie.close
-    (tie.spec
-    Inv-loop
-    μ-loop
-    mul-at
-    add-at
-    mul-wide
-    mul-wide-2
-    shared-slice-read-wide
-    wide-requires
-    loop-holds
-    add-k
-    mul-k
-    shared-slice-read-k
-    may-wait-requires
-    returns
-    with-waiting-requires
-    add-i
-    loop-less
-    loop-again
-    returns-2)
+    (tie.spec Inv-loop μ-loop (λ c. search needs) (λ c. search needs) (λ c. search needs) (λ c. search needs)
+    (λ c. search needs) (λ c κs. search needs) loop-holds (λ c. search needs) (λ c. search needs) shared-slice-read-k
+    (λ c κs. search needs) returns with-waiting-requires (λ c. search needs) (λ c. omega arith) loop-again returns-2)

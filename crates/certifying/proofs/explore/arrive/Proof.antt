@@ -9,65 +9,34 @@ use borrow.Author.Needs.{needs}
 use borrow.Author.Needs.{needs}
 use Rattle.certifying.proofs.explore.arrive.Statement.{statement}
 use Rattle.certifying.proofs.explore.arrive.Tie as tie
-use Rattle.certifying.proofs.explore.arrive.Reads as reads
-use Rattle.certifying.proofs.explore.arrive.Lts as lts
-use Rattle.rows.proofs.compare.same_row.Reads as same-row-reads
-use Rattle.certifying.proofs.words.index_after.Reads as index-after-reads
-use Rattle.certifying.proofs.words.number_at.Reads as number-at-reads
 
--- src/explore.rt:58:9
 returns : tie.Need-returns
 returns c =
     let a = c .before .before .before .before .before .before .before .before .before .args in
     no-word (a .roles) (a .states .now) (a .places .now) (a .next .now) (seatedIn (a .threads .now) (a .beside .now) (a .owners .now) (a .lines .now)) (a .search) _ refl (omega arith)
 
--- src/explore.rt:60:9
-number-at-requires : tie.Need-number-at-requires
-number-at-requires c κs = search needs
-
--- src/explore.rt:62:9
 returns-2 : tie.Need-returns-2
 returns-2 c =
     let a = c .before .before .before .before .before .before .before .before .before .before .before .before .args in
     not-known (a .roles) (a .states .now) (a .places .now) (a .next .now) (seatedIn (a .threads .now) (a .beside .now) (a .owners .now) (a .lines .now)) (a .search) (c .before .before .number-at .result) (c .before .before .number-at .ensures .0) (omega arith) (omega arith)
 
--- src/explore.rt:65:9
 returns-3 : tie.Need-returns-3
 returns-3 c =
     let a = c .before .before .before .before .before .before .before .before .before .before .before .before .before .args in
     no-such-row (a .roles) (a .states .now) (a .places .now) (a .next .now) (seatedIn (a .threads .now) (a .beside .now) (a .owners .now) (a .lines .now)) (a .search) (c .before .before .before .number-at .result) (c .before .before .before .number-at .ensures .0) (omega arith) (omega arith) (omega arith)
 
--- src/explore.rt:67:9
-number-at-requires-2 : tie.Need-number-at-requires-2
-number-at-requires-2 c κs = search needs
-
--- src/explore.rt:68:9
-same-row-requires : tie.Need-same-row-requires
-same-row-requires c κs = search needs
-
--- src/explore.rt:69:9
 returns-4 : tie.Need-returns-4
 returns-4 c =
     let a = c .before .before .before .before .before .before .before .before .before .before .before .before .before .before .before .before .args in
     other-words (a .roles) (a .states .now) (a .places .now) (a .next .now) (seatedIn (a .threads .now) (a .beside .now) (a .owners .now) (a .lines .now)) (a .search) (c .before .before .before .before .before .before .number-at .result) (c .before .before .before .before .before .before .number-at .ensures .0) (omega arith) (omega arith) (omega arith)
     (ap (λ (x : ℕ). standsAt (a .states .now) x (rowWords (a .roles) (seatedIn (a .threads .now) (a .beside .now) (a .owners .now) (a .lines .now)))) (sym (c .before .before .number-at2 .ensures .0)) ∙ sym (c .before .same-row .ensures) ∙ not-true (c .before .same-row .result) (c .if4 .taken))
 
--- src/explore.rt:71:9
-index-after-requires : tie.Need-index-after-requires
-index-after-requires c κs = search needs
-
--- src/explore.rt:74:9
-index-after-requires-2 : tie.Need-index-after-requires-2
-index-after-requires-2 c κs = search needs
-
--- src/explore.rt:42:1
 returns-5 : tie.Need-returns-5
 returns-5 c =
     let a = c .before .before .before .before .before .before .before .before .before .before .before .before .before .before .before .before .before .before .before .args in
     has-arrived (a .roles) (a .states .now) (a .places .now) (a .next .now) (seatedIn (a .threads .now) (a .beside .now) (a .owners .now) (a .lines .now)) (a .search) (c .before .before .before .before .before .before .before .before .before .number-at .result) (c .before .before .before .before .before .before .before .before .before .number-at .ensures .0) (omega arith) (omega arith) (omega arith)
     (ap (λ (x : ℕ). standsAt (a .states .now) x (rowWords (a .roles) (seatedIn (a .threads .now) (a .beside .now) (a .owners .now) (a .lines .now)))) (sym (c .before .before .before .before .before .number-at2 .ensures .0)) ∙ sym (c .before .before .before .before .same-row .ensures) ∙ not-false (c .before .before .before .before .same-row .result) (c .before .before .before .if4 .left)) _ _ (now-known (c .before .before .before .before .before .before .before .before .before .number-at .result) (a .search .known) _ (c .before .if5 .taken) (c .index-after2 .ensures)) (c .before .before .index-after .ensures)
 
--- src/explore.rt:42:1
 returns-6 : tie.Need-returns-6
 returns-6 c =
     let a = c .before .before .before .before .before .before .before .before .before .before .before .before .before .before .before .before .before .before .args in
@@ -77,15 +46,5 @@ returns-6 c =
 pub arrive-spec : {M : Type 1} → statement M
 arrive-spec =
     tie.close
-    (tie.spec
-    returns
-    number-at-requires
-    returns-2
-    returns-3
-    number-at-requires-2
-    same-row-requires
-    returns-4
-    index-after-requires
-    index-after-requires-2
-    returns-5
-    returns-6)
+    (tie.spec returns (λ c κs. search needs) returns-2 returns-3 (λ c κs. search needs) (λ c κs. search needs) returns-4
+    (λ c κs. search needs) (λ c κs. search needs) returns-5 returns-6)

@@ -7,27 +7,6 @@ use borrow.Author.Needs.{needs}
 use Rattle.certifying.proofs.explore.try_choice.Statement.{statement}
 use Rattle.certifying.proofs.explore.try_choice.Tie as tie
 
-slice-aggregate-choose-one : tie.Need-slice-aggregate-choose-one
-slice-aggregate-choose-one c = search needs
-
-choose-one-requires : tie.Need-choose-one-requires
-choose-one-requires c κs = search needs
-
-is-done-requires : tie.Need-is-done-requires
-is-done-requires c κs = search needs
-
-same-length : tie.Need-same-length
-same-length c = search needs
-
-same-length-2 : tie.Need-same-length-2
-same-length-2 c = search needs
-
-same-length-3 : tie.Need-same-length-3
-same-length-3 c = search needs
-
-same-length-4 : tie.Need-same-length-4
-same-length-4 c = search needs
-
 returns : tie.Need-returns
 returns c =
     let a = c .before .before .before .before .before .before .before .before .before .before .before .before .before .before .before .before .before .before .before .before .before .before .before .before .before .before .before .args in
@@ -45,18 +24,6 @@ load-row-requires c κs =
     let Z = c .before .before .before .before .before .before .before .before .before .before .before .before .before .before .before .before .before .before .before .choose-one .ensures .kept in
     (q .1 .small, q .0 .roles, q .1 .fits, Z .sized .words, Z .sized .beside, Z .owners, Z .rows .words)
 
-same-length-5 : tie.Need-same-length-5
-same-length-5 c = search needs
-
-same-length-6 : tie.Need-same-length-6
-same-length-6 c = search needs
-
-same-length-7 : tie.Need-same-length-7
-same-length-7 c = search needs
-
-same-length-8 : tie.Need-same-length-8
-same-length-8 c = search needs
-
 returns-2 : tie.Need-returns-2
 returns-2 c =
     let a = c .before .before .before .before .before .before .before .before .before .before .before .before .before .before .before .before .before .before .before .before .before .before .before .before .before .before .before .before .before .before .before .before .before .before .before .before .before .before .before .before .before .before .before .before .before .args in
@@ -66,19 +33,6 @@ returns-2 c =
 pub try-choice-spec : {M : Type 1} → statement M
 try-choice-spec =
     tie.close
-    (tie.spec
-    slice-aggregate-choose-one
-    choose-one-requires
-    is-done-requires
-    same-length
-    same-length-2
-    same-length-3
-    same-length-4
-    returns
-    arrive-requires
-    load-row-requires
-    same-length-5
-    same-length-6
-    same-length-7
-    same-length-8
-    returns-2)
+    (tie.spec (λ c. search needs) (λ c κs. search needs) (λ c κs. search needs) (λ c. search needs) (λ c. search needs)
+    (λ c. search needs) (λ c. search needs) returns arrive-requires load-row-requires (λ c. search needs)
+    (λ c. search needs) (λ c. search needs) (λ c. search needs) returns-2)

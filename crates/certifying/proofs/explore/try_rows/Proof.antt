@@ -59,9 +59,6 @@ try-threads-requires c κs =
 index-after-requires : tie.Need-index-after-requires Inv-loop μ-loop
 index-after-requires c κs = omega (arith, c .before .before .before .before .before .before .before .before .before .before .before .before .before .before .before .before .before .before .before .before .before .before .before .before .before .before .before .if1 .taken, c .before .before .before .before .before .before .before .before .before .before .before .before .before .before .before .before .before .before .before .before .before .before .before .before .before .before .before .before .before .loop .inv .5 .within)
 
-enum-told : tie.Need-enum-told Inv-loop μ-loop
-enum-told c = search needs
-
 same-length : tie.Need-same-length Inv-loop μ-loop
 same-length c = omega (arith, c .before .before .before .before .before .before .before .before .before .before .before .before .before .before .before .before .before .before .before .before .before .before .before .threads .given, c .before .before .before .before .before .before .before .before .before .before .threads2 .given, c .before .before .before .before .before .before .before .before .before .before .before .before .before .before .before .before .before .before .before .before .before .before .before .before .before .before .before .before .before .before .before .before .loop .inv .1, c .before .before .before .before .before .before .before .before .before .before .before .before .before .before .before .before .before .before .before .before .before .before .before .before .before .before .before .before .before .before .before .before .before .before .before .before .before .before .before .before .before .before .before .before .pre .1)
 
@@ -83,9 +80,6 @@ returns c =
           (t .ensures .answered ∙ ap (λ (x : ℕ). rowTried (certificateAt (a .file .now) (a .head) (a .seats .now) (a .states .now) (a .places .now) (a .next .now)) (seatedAt (length (a .seats .now)) (a .states .now) x) (l .on)) (c .before .before .before .before .before .before .before .before .before .before .before .before .before .before .before .before .before .before .before .before .before .before .before .before .before .before .before .before .before .number-at .ensures .0)) (c .enum-told .given .1) ∙ sym (l .inv .6),
       omega (arith, c .before .before .index-after .ensures, c .before .before .before .before .before .before .before .before .before .before .before .before .before .before .before .before .before .before .before .before .before .before .before .before .before .before .before .before .before .before .if1 .taken, l .inv .5 .within, c .before .before .before .before .before .before .before .before .before .before .before .before .before .before .before .before .before .before .before .before .before .before .before .before .before .before .before .before .before .before .before .before .before .before .before .before .before .before .before .before .before .before .before .before .pre .5),
     )
-
-enum-known-trial : tie.Need-enum-known-trial Inv-loop μ-loop
-enum-known-trial c = search needs
 
 loop-less : tie.Need-loop-less Inv-loop μ-loop
 loop-less c = omega (arith, c .before .before .before .index-after .ensures, c .before .before .before .before .before .before .before .before .before .before .before .before .before .before .before .before .before .before .before .before .before .before .before .before .before .before .before .before .before .before .before .if1 .taken, c .before .before .before .before .before .before .before .before .before .before .before .before .before .before .before .before .before .before .before .before .before .before .before .before .before .before .before .before .before .before .before .before .before .loop .inv .5 .within)
@@ -109,21 +103,6 @@ loop-again c =
       l .inv .6 ∙ row-passes (certificateAt (a .file .now) (a .head) (a .seats .now) (a .states .now) (a .places .now) (a .next .now)) (l .j) (length (a .places .now)) (l .on) (omega (arith, c .before .before .before .before .before .before .before .before .before .before .before .before .before .before .before .before .before .before .before .before .before .before .before .before .before .before .before .before .before .before .before .if1 .taken, l .inv .5 .within)) low (t .result) _ tried (c .before .trial .given .1) (c .before .before .before .index-after .result) (c .before .before .before .index-after .ensures),
     )
 
-add-result : tie.Need-add-result Inv-loop μ-loop
-add-result c = omega arith
-
-same-length-5 : tie.Need-same-length-5 Inv-loop μ-loop
-same-length-5 c = search needs
-
-same-length-6 : tie.Need-same-length-6 Inv-loop μ-loop
-same-length-6 c = search needs
-
-same-length-7 : tie.Need-same-length-7 Inv-loop μ-loop
-same-length-7 c = search needs
-
-same-length-8 : tie.Need-same-length-8 Inv-loop μ-loop
-same-length-8 c = search needs
-
 returns-2 : tie.Need-returns-2 Inv-loop μ-loop
 returns-2 c =
     let a = c .before .before .before .before .before .before .before .before .before .before .before .before .before .before .before .args in
@@ -131,18 +110,6 @@ returns-2 c =
       row-unknown (certificateAt (a .file .now) (a .head) (a .seats .now) (a .states .now) (a .places .now) (a .next .now)) (l .j) (length (a .places .now)) (l .on) (omega (arith, c .if2 .taken)) (omega (arith, c .before .if1 .left)) (l .inv .0) ∙ sym (l .inv .6),
       omega (arith, c .if2 .taken, c .before .before .before .before .before .before .before .before .before .before .before .before .before .before .before .pre .5),
     )
-
-same-length-9 : tie.Need-same-length-9 Inv-loop μ-loop
-same-length-9 c = search needs
-
-same-length-10 : tie.Need-same-length-10 Inv-loop μ-loop
-same-length-10 c = search needs
-
-same-length-11 : tie.Need-same-length-11 Inv-loop μ-loop
-same-length-11 c = search needs
-
-same-length-12 : tie.Need-same-length-12 Inv-loop μ-loop
-same-length-12 c = search needs
 
 returns-3 : tie.Need-returns-3 Inv-loop μ-loop
 returns-3 c =
@@ -153,31 +120,7 @@ returns-3 c =
 pub try-rows-spec : {M : Type 1} → statement M
 try-rows-spec =
     tie.close
-    (tie.spec
-    Inv-loop
-    μ-loop
-    loop-holds
-    number-at-requires
-    load-row-requires
-    try-threads-requires
-    index-after-requires
-    enum-told
-    same-length
-    same-length-2
-    same-length-3
-    same-length-4
-    returns
-    enum-known-trial
-    loop-less
-    loop-again
-    add-result
-    same-length-5
-    same-length-6
-    same-length-7
-    same-length-8
-    returns-2
-    same-length-9
-    same-length-10
-    same-length-11
-    same-length-12
-    returns-3)
+    (tie.spec Inv-loop μ-loop loop-holds number-at-requires load-row-requires try-threads-requires index-after-requires
+    (λ c. search needs) same-length same-length-2 same-length-3 same-length-4 returns (λ c. search needs) loop-less
+    loop-again (λ c. omega arith) (λ c. search needs) (λ c. search needs) (λ c. search needs) (λ c. search needs)
+    returns-2 (λ c. search needs) (λ c. search needs) (λ c. search needs) (λ c. search needs) returns-3)

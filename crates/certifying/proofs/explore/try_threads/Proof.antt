@@ -21,9 +21,6 @@ Inv-loop file head sends receives seats states places next threads₀ beside₀ 
 abbrev μ-loop : tie.MeasureT-loop
 μ-loop file head sends receives seats states places next threads₀ beside₀ owners₀ lines₀ at count on₀ i₀ threads beside owners lines on i = count - i
 
-thread-count-requires : tie.Need-thread-count-requires Inv-loop μ-loop
-thread-count-requires c κs = search needs
-
 loop-holds : tie.Need-loop-holds Inv-loop μ-loop
 loop-holds c =
     let a = c .before .before .before .before .before .before .before .before .before .before .before .before .before .args in
@@ -32,14 +29,8 @@ loop-holds c =
     let all : length (seatedAt (length (a .seats .now)) (a .states .now) (a .at) .state .threads) ≡ c .thread-count .result - 0 = omega (arith, count) in
     (omega arith, omega (arith, c .thread-count .ensures, T .seated .sized .threads), T, ap (λ (x : ℕ). threadsTried (certificateAt (a .file .now) (a .head) (a .seats .now) (a .states .now) (a .places .now) (a .next .now)) (seatedAt (length (a .seats .now)) (a .states .now) (a .at)) 1 x (a .search)) all, count)
 
-add-i : tie.Need-add-i Inv-loop μ-loop
-add-i c = omega arith
-
 try-partners-requires : tie.Need-try-partners-requires Inv-loop μ-loop
 try-partners-requires c κs = (c .before .before .before .before .before .before .before .before .before .before .before .before .before .before .before .before .before .before .before .pre .0, c .before .before .before .before .before .loop .inv .1, c .before .before .before .before .before .loop .inv .2)
-
-enum-told : tie.Need-enum-told Inv-loop μ-loop
-enum-told c = search needs
 
 same-length : tie.Need-same-length Inv-loop μ-loop
 same-length c = omega (arith, c .before .before .before .before .before .before .before .before .before .threads .given, c .before .before .before .before .before .before .before .before .before .before .before .before .before .before .before .before .loop .inv .2 .seated .sized .words, c .before .before .before .before .before .before .before .before .before .before .before .before .before .before .before .before .before .before .before .before .before .before .before .before .before .before .before .before .before .before .pre .1 .seated .sized .words)
@@ -63,12 +54,6 @@ returns c =
       trying = t .ensures .trying;
     }
 
-enum-known-trial : tie.Need-enum-known-trial Inv-loop μ-loop
-enum-known-trial c = search needs
-
-loop-less : tie.Need-loop-less Inv-loop μ-loop
-loop-less c = omega arith
-
 loop-again : tie.Need-loop-again Inv-loop μ-loop
 loop-again c =
     let a = c .before .before .before .before .before .before .before .before .before .before .before .before .before .before .before .before .before .before .before .before .before .before .before .before .before .before .before .before .before .before .before .args in
@@ -81,18 +66,6 @@ loop-again c =
       l .inv .4,
     )
 
-same-length-5 : tie.Need-same-length-5 Inv-loop μ-loop
-same-length-5 c = search needs
-
-same-length-6 : tie.Need-same-length-6 Inv-loop μ-loop
-same-length-6 c = search needs
-
-same-length-7 : tie.Need-same-length-7 Inv-loop μ-loop
-same-length-7 c = search needs
-
-same-length-8 : tie.Need-same-length-8 Inv-loop μ-loop
-same-length-8 c = search needs
-
 returns-2 : tie.Need-returns-2 Inv-loop μ-loop
 returns-2 c =
     let a = c .before .before .before .before .before .before .before .before .before .before .before .before .before .before .before .args in
@@ -102,24 +75,7 @@ returns-2 c =
 pub try-threads-spec : {M : Type 1} → statement M
 try-threads-spec =
     tie.close
-    (tie.spec
-    Inv-loop
-    μ-loop
-    thread-count-requires
-    loop-holds
-    add-i
-    try-partners-requires
-    enum-told
-    same-length
-    same-length-2
-    same-length-3
-    same-length-4
-    returns
-    enum-known-trial
-    loop-less
-    loop-again
-    same-length-5
-    same-length-6
-    same-length-7
-    same-length-8
+    (tie.spec Inv-loop μ-loop (λ c κs. search needs) loop-holds (λ c. omega arith) try-partners-requires
+    (λ c. search needs) same-length same-length-2 same-length-3 same-length-4 returns (λ c. search needs)
+    (λ c. omega arith) loop-again (λ c. search needs) (λ c. search needs) (λ c. search needs) (λ c. search needs)
     returns-2)

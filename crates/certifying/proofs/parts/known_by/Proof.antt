@@ -20,20 +20,11 @@ loop-holds c = (omega arith, none-known-by (c .before .args .next .now))
 number-at-requires : tie.Need-number-at-requires Inv-loop μ-loop
 number-at-requires c κs = omega (arith, c .before .before .before .pre)
 
-add-c : tie.Need-add-c Inv-loop μ-loop
-add-c c = omega arith
-
 add-known : tie.Need-add-known Inv-loop μ-loop
 add-known c = omega (arith, c .before .number-at .ensures .1)
 
-loop-less : tie.Need-loop-less Inv-loop μ-loop
-loop-less c = omega arith
-
 loop-again : tie.Need-loop-again Inv-loop μ-loop
 loop-again c = (omega arith, word-new (c .before .before .before .before .before .args .next .now) (c .before .before .before .loop .c) (c .before .before .before .loop .known) (c .before .number-at .result) (c .before .before .before .loop .inv .1) (c .before .number-at .ensures .0) (omega arith))
-
-loop-less-2 : tie.Need-loop-less-2 Inv-loop μ-loop
-loop-less-2 c = omega arith
 
 loop-again-2 : tie.Need-loop-again-2 Inv-loop μ-loop
 loop-again-2 c = (omega arith, word-old (c .before .before .before .before .before .args .next .now) (c .before .before .before .loop .c) (c .before .before .before .loop .known) (c .before .number-at .result) (c .before .before .before .loop .inv .1) (c .before .number-at .ensures .0) (omega arith))
@@ -44,15 +35,5 @@ returns c = let all : c .before .loop .c ≡ c .before .before .before .args .co
 pub known-by-spec : {M : Type 1} → statement M
 known-by-spec =
     tie.close
-    (tie.spec
-    Inv-loop
-    μ-loop
-    loop-holds
-    number-at-requires
-    add-c
-    add-known
-    loop-less
-    loop-again
-    loop-less-2
-    loop-again-2
-    returns)
+    (tie.spec Inv-loop μ-loop loop-holds number-at-requires (λ c. omega arith) add-known (λ c. omega arith) loop-again
+    (λ c. omega arith) loop-again-2 returns)

@@ -21,12 +21,6 @@ use Rattle.certifying.proofs.parts.test_row.Tie as tie
 returns : tie.Need-returns
 returns c = let a = c .before .before .before .before .before .before .before .before .before .before .before .before .before .args in row-unknown-yet (certificateAt (a .file .now) (a .head) (a .seats .now) (a .states .now) (a .places .now) (a .next .now)) (a .j) (a .search) (omega (arith, c .if1 .taken))
 
-number-at-requires : tie.Need-number-at-requires
-number-at-requires c κs = search needs
-
-row-fits-requires : tie.Need-row-fits-requires
-row-fits-requires c κs = search needs
-
 returns-2 : tie.Need-returns-2
 returns-2 c =
     let a = c .before .before .before .before .before .before .before .before .before .before .before .before .before .before .before .before .args in
@@ -43,18 +37,6 @@ in-order-requires : tie.Need-in-order-requires
 in-order-requires c κs =
     let D = c .before .before .before .before .before .before .before .before .before .before .before .before .load-row .ensures in
     (D .sized, D .owners, D .rows, c .before .before .before .before .before .before .before .before .before .before .before .before .before .before .before .before .before .before .before .before .before .before .before .before .before .before .before .before .before .before .before .before .before .pre .0 .laid .sessions)
-
-same-length : tie.Need-same-length
-same-length c = search needs
-
-same-length-2 : tie.Need-same-length-2
-same-length-2 c = search needs
-
-same-length-3 : tie.Need-same-length-3
-same-length-3 c = search needs
-
-same-length-4 : tie.Need-same-length-4
-same-length-4 c = search needs
 
 returns-3 : tie.Need-returns-3
 returns-3 c =
@@ -73,18 +55,6 @@ try-threads-requires c κs =
           (c .before .before .before .before .before .before .before .before .before .before .before .before .before .before .before .before .before .before .before .before .before .before .before .before .before .number-at .ensures .1) _ _ _ _ (c .before .before .before .before .before .before .before .before .before .before .before .before .before .before .before .before .before .before .load-row .ensures),
     )
 
-same-length-5 : tie.Need-same-length-5
-same-length-5 c = search needs
-
-same-length-6 : tie.Need-same-length-6
-same-length-6 c = search needs
-
-same-length-7 : tie.Need-same-length-7
-same-length-7 c = search needs
-
-same-length-8 : tie.Need-same-length-8
-same-length-8 c = search needs
-
 returns-4 : tie.Need-returns-4
 returns-4 c =
     let a = c .before .before .before .before .before .before .before .before .before .before .before .before .before .before .before .before .before .before .before .before .before .before .before .before .before .before .before .before .before .before .before .before .before .before .before .before .before .before .before .before .before .before .before .before .before .before .before .before .args in
@@ -94,21 +64,6 @@ returns-4 c =
 pub test-row-spec : {M : Type 1} → statement M
 test-row-spec =
     tie.close
-    (tie.spec
-    returns
-    number-at-requires
-    row-fits-requires
-    returns-2
-    load-row-requires
-    in-order-requires
-    same-length
-    same-length-2
-    same-length-3
-    same-length-4
-    returns-3
-    try-threads-requires
-    same-length-5
-    same-length-6
-    same-length-7
-    same-length-8
-    returns-4)
+    (tie.spec returns (λ c κs. search needs) (λ c κs. search needs) returns-2 load-row-requires in-order-requires
+    (λ c. search needs) (λ c. search needs) (λ c. search needs) (λ c. search needs) returns-3 try-threads-requires
+    (λ c. search needs) (λ c. search needs) (λ c. search needs) (λ c. search needs) returns-4)

@@ -9,9 +9,6 @@ use borrow.Author.Needs.{needs}
 use Rattle.certifying.proofs.parts.try_asked.Statement.{statement}
 use Rattle.certifying.proofs.parts.try_asked.Tie as tie
 
-enum-told : tie.Need-enum-told
-enum-told c = search needs
-
 try-rows-requires : tie.Need-try-rows-requires
 try-rows-requires c κs =
     let a = c .before .before .before .before .before .before .before .before .before .before .before .before .before .before .before .before .before .args in
@@ -20,9 +17,6 @@ try-rows-requires c κs =
     let rows = some-rows (length (a .places .now)) (sym (ap (askedFits (length (a .places .now)) (length (a .next .now))) all) ∙ q .5) in
     (q .0, q .1, q .2, q .3, q .4, rows .1, q .6 all)
 
-enum-known-asked : tie.Need-enum-known-asked
-enum-known-asked c = search needs
-
 try-part-requires : tie.Need-try-part-requires
 try-part-requires c κs =
     let a = c .before .before .before .before .before .before .before .before .before .before .before .before .before .before .before .before .before .before .args in
@@ -30,34 +24,10 @@ try-part-requires c κs =
     let P = part-of (length (a .places .now)) (length (a .next .now)) (c .before .before .before .before .before .asked .given .0 .0) (sym (ap (askedFits (length (a .places .now)) (length (a .next .now))) (c .before .before .before .before .before .asked .given .1)) ∙ q .5) in
     (q .0, q .1, q .2, q .3, q .4, P .few, P .rising, P .within, omega (arith, P .forward, P .worded))
 
-same-length : tie.Need-same-length
-same-length c = search needs
-
-same-length-2 : tie.Need-same-length-2
-same-length-2 c = search needs
-
-same-length-3 : tie.Need-same-length-3
-same-length-3 c = search needs
-
-same-length-4 : tie.Need-same-length-4
-same-length-4 c = search needs
-
 returns : tie.Need-returns
 returns c =
     let a = c .before .before .before .before .before .before .before .before .before .before .before .before .before .before .before .before .before .before .before .before .before .before .before .before .before .before .args in
     (c .before .before .before .before .before .before .before .before .try-rows .ensures .0 ∙ sym (ap (askedTried (certificateAt (a .file .now) (a .head) (a .seats .now) (a .states .now) (a .places .now) (a .next .now))) (c .before .before .before .before .before .before .before .before .before .before .before .before .before .enum-told .given .1)), c .before .before .before .before .before .before .before .before .try-rows .ensures .1)
-
-same-length-5 : tie.Need-same-length-5
-same-length-5 c = search needs
-
-same-length-6 : tie.Need-same-length-6
-same-length-6 c = search needs
-
-same-length-7 : tie.Need-same-length-7
-same-length-7 c = search needs
-
-same-length-8 : tie.Need-same-length-8
-same-length-8 c = search needs
 
 returns-2 : tie.Need-returns-2
 returns-2 c =
@@ -67,18 +37,6 @@ returns-2 c =
 pub try-asked-spec : {M : Type 1} → statement M
 try-asked-spec =
     tie.close
-    (tie.spec
-    enum-told
-    try-rows-requires
-    enum-known-asked
-    try-part-requires
-    same-length
-    same-length-2
-    same-length-3
-    same-length-4
-    returns
-    same-length-5
-    same-length-6
-    same-length-7
-    same-length-8
-    returns-2)
+    (tie.spec (λ c. search needs) try-rows-requires (λ c. search needs) try-part-requires (λ c. search needs)
+    (λ c. search needs) (λ c. search needs) (λ c. search needs) returns (λ c. search needs) (λ c. search needs)
+    (λ c. search needs) (λ c. search needs) returns-2)

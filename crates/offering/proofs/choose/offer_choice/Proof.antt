@@ -16,23 +16,8 @@ returns c =
     let q = c .before .before .before .before .before .before .before .before .before .before .before .before .pre in
     (put-full (length (a .seats .now)) (outputOf (a .noted) (a .out .now)) _ (c .if1 .taken), q .5, record { few = omega arith; short = omega arith; within = q .7 })
 
-slice-aggregate-go-seated : tie.Need-slice-aggregate-go-seated
-slice-aggregate-go-seated c = search needs
-
 go-seated-requires : tie.Need-go-seated-requires
 go-seated-requires c κs = let q = c .before .before .before .before .before .before .before .before .before .before .before .before .before .before .before .before .before .pre in (q .0, q .1, q .2, q .3, omega arith, q .5 .seated)
-
-same-length : tie.Need-same-length
-same-length c = search needs
-
-same-length-2 : tie.Need-same-length-2
-same-length-2 c = search needs
-
-same-length-3 : tie.Need-same-length-3
-same-length-3 c = search needs
-
-same-length-4 : tie.Need-same-length-4
-same-length-4 c = search needs
 
 returns-2 : tie.Need-returns-2
 returns-2 c =
@@ -57,18 +42,6 @@ load-row-requires c κs =
 same-length-5 : tie.Need-same-length-5
 same-length-5 c = omega (arith, c .before .before .before .before .before .before .before .before .load-row .ensures .sized .words, c .before .before .before .before .before .before .before .before .before .before .before .before .before .before .before .before .before .before .before .before .before .before .before .before .before .before .before .before .before .before .before .before .before .before .before .before .before .before .before .before .before .before .before .before .before .before .before .before .before .pre .5 .seated .sized .words)
 
-same-length-6 : tie.Need-same-length-6
-same-length-6 c = search needs
-
-same-length-7 : tie.Need-same-length-7
-same-length-7 c = search needs
-
-same-length-8 : tie.Need-same-length-8
-same-length-8 c = search needs
-
-same-length-9 : tie.Need-same-length-9
-same-length-9 c = search needs
-
 returns-3 : tie.Need-returns-3
 returns-3 c =
     let a = c .before .before .before .before .before .before .before .before .before .before .before .before .before .before .before .before .before .before .before .before .before .before .before .before .before .before .before .before .before .before .before .before .before .before .before .before .before .before .before .before .before .before .before .before .before .before .before .before .before .args in
@@ -81,20 +54,6 @@ returns-3 c =
 pub offer-choice-spec : {M : Type 1} → statement M
 offer-choice-spec =
     tie.close
-    (tie.spec
-    returns
-    slice-aggregate-go-seated
-    go-seated-requires
-    same-length
-    same-length-2
-    same-length-3
-    same-length-4
-    returns-2
-    put-offer-requires
-    load-row-requires
-    same-length-5
-    same-length-6
-    same-length-7
-    same-length-8
-    same-length-9
-    returns-3)
+    (tie.spec returns (λ c. search needs) go-seated-requires (λ c. search needs) (λ c. search needs) (λ c. search needs)
+    (λ c. search needs) returns-2 put-offer-requires load-row-requires same-length-5 (λ c. search needs)
+    (λ c. search needs) (λ c. search needs) (λ c. search needs) returns-3)

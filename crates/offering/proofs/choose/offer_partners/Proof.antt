@@ -61,21 +61,6 @@ loop-again c =
       partners-turn (length (a .seats .now)) (limitedOf (contentsAt (a .file .now) (a .head)) (a .seats .now)) (seatedAt (length (a .seats .now)) (a .state .now) 0) (a .i) (l .p) (a .count) _ _ _ (omega arith) (e .0) (l .inv .6),
     )
 
-same-length : tie.Need-same-length Inv-loop μ-loop
-same-length c = search needs
-
-same-length-2 : tie.Need-same-length-2 Inv-loop μ-loop
-same-length-2 c = search needs
-
-same-length-3 : tie.Need-same-length-3 Inv-loop μ-loop
-same-length-3 c = search needs
-
-same-length-4 : tie.Need-same-length-4 Inv-loop μ-loop
-same-length-4 c = search needs
-
-same-length-5 : tie.Need-same-length-5 Inv-loop μ-loop
-same-length-5 c = search needs
-
 returns : tie.Need-returns Inv-loop μ-loop
 returns c =
     let a = c .before .before .before .before .before .before .before .before .before .before .before .before .before .args in
@@ -89,17 +74,5 @@ returns c =
 pub offer-partners-spec : {M : Type 1} → statement M
 offer-partners-spec =
     tie.close
-    (tie.spec
-    Inv-loop
-    μ-loop
-    loop-holds
-    offer-choice-requires
-    add-p
-    loop-less
-    loop-again
-    same-length
-    same-length-2
-    same-length-3
-    same-length-4
-    same-length-5
-    returns)
+    (tie.spec Inv-loop μ-loop loop-holds offer-choice-requires add-p loop-less loop-again (λ c. search needs)
+    (λ c. search needs) (λ c. search needs) (λ c. search needs) (λ c. search needs) returns)

@@ -38,17 +38,11 @@ loop-holds c =
 add-i : tie.Need-add-i Inv-loop μ-loop
 add-i c = omega (arith, c .before .loop .inv .1)
 
-slice-aggregate-offer-partners : tie.Need-slice-aggregate-offer-partners Inv-loop μ-loop
-slice-aggregate-offer-partners c = search needs
-
 offer-partners-requires : tie.Need-offer-partners-requires Inv-loop μ-loop
 offer-partners-requires c κs =
     let q = c .before .before .before .before .before .before .before .before .before .before .before .before .before .before .before .before .before .before .before .before .pre in
     let l = c .before .before .before .before .before .before .before .loop in
     (q .0, q .1, q .2, q .3, q .4, l .inv .3, omega (arith, l .inv .4, l .inv .1), l .inv .6, l .inv .1)
-
-loop-less : tie.Need-loop-less Inv-loop μ-loop
-loop-less c = omega arith
 
 loop-again : tie.Need-loop-again Inv-loop μ-loop
 loop-again c =
@@ -66,21 +60,6 @@ loop-again c =
       threads-turn (length (a .seats .now)) (limitedOf (contentsAt (a .file .now) (a .head)) (a .seats .now)) (seatedAt (length (a .seats .now)) (a .state .now) 0) (l .i) (c .before .before .before .before .before .before .before .before .before .before .before .before .before .before .before .before .before .before .before .thread-count .result) _ _ _ (omega arith) (l .inv .2) (e .0) (l .inv .8),
     )
 
-same-length : tie.Need-same-length Inv-loop μ-loop
-same-length c = search needs
-
-same-length-2 : tie.Need-same-length-2 Inv-loop μ-loop
-same-length-2 c = search needs
-
-same-length-3 : tie.Need-same-length-3 Inv-loop μ-loop
-same-length-3 c = search needs
-
-same-length-4 : tie.Need-same-length-4 Inv-loop μ-loop
-same-length-4 c = search needs
-
-same-length-5 : tie.Need-same-length-5 Inv-loop μ-loop
-same-length-5 c = search needs
-
 returns : tie.Need-returns Inv-loop μ-loop
 returns c =
     let a = c .before .before .before .before .before .before .before .before .before .before .before .before .before .before .args in
@@ -92,19 +71,6 @@ returns c =
 pub offer-threads-spec : {M : Type 1} → statement M
 offer-threads-spec =
     tie.close
-    (tie.spec
-    Inv-loop
-    μ-loop
-    thread-count-requires
-    loop-holds
-    add-i
-    slice-aggregate-offer-partners
-    offer-partners-requires
-    loop-less
-    loop-again
-    same-length
-    same-length-2
-    same-length-3
-    same-length-4
-    same-length-5
-    returns)
+    (tie.spec Inv-loop μ-loop thread-count-requires loop-holds add-i (λ c. search needs) offer-partners-requires
+    (λ c. omega arith) loop-again (λ c. search needs) (λ c. search needs) (λ c. search needs) (λ c. search needs)
+    (λ c. search needs) returns)

@@ -23,29 +23,14 @@ loop-holds c =
     let a = c .before .args in
     (omega arith, omega arith, c .before .pre .1, omega arith, omega (arith, ap length (lines-begin (linesIn (a .lines .now)) (a .roles))))
 
-mul-wide : tie.Need-mul-wide Inv-loop μ-loop
-mul-wide c = omega arith
-
-mul-wide-2 : tie.Need-mul-wide-2 Inv-loop μ-loop
-mul-wide-2 c = omega arith
-
 shared-slice-read-wide : tie.Need-shared-slice-read-wide Inv-loop μ-loop
 shared-slice-read-wide c = let l = c .before .before .loop in omega (arith, l .inv .2 .words)
-
-wide-requires : tie.Need-wide-requires Inv-loop μ-loop
-wide-requires c κs = search needs
 
 add-n : tie.Need-add-n Inv-loop μ-loop
 add-n c = let l = c .before .before .before .loop in omega (arith, l .inv .2 .few (l .r) (omega arith))
 
 add-n-2 : tie.Need-add-n-2 Inv-loop μ-loop
 add-n-2 c = let l = c .before .before .before .loop in omega (arith, l .inv .2 .few (l .r) (omega arith))
-
-add-r : tie.Need-add-r Inv-loop μ-loop
-add-r c = omega arith
-
-loop-less : tie.Need-loop-less Inv-loop μ-loop
-loop-less c = omega arith
 
 loop-again : tie.Need-loop-again Inv-loop μ-loop
 loop-again c =
@@ -64,17 +49,5 @@ returns c =
 pub lines-length-spec : {M : Type 1} → statement M
 lines-length-spec =
     tie.close
-    (tie.spec
-    Inv-loop
-    μ-loop
-    loop-holds
-    mul-wide
-    mul-wide-2
-    shared-slice-read-wide
-    wide-requires
-    add-n
-    add-n-2
-    add-r
-    loop-less
-    loop-again
-    returns)
+    (tie.spec Inv-loop μ-loop loop-holds (λ c. omega arith) (λ c. omega arith) shared-slice-read-wide
+    (λ c κs. search needs) add-n add-n-2 (λ c. omega arith) (λ c. omega arith) loop-again returns)

@@ -28,23 +28,11 @@ loop-holds c =
     let all = lines-begin (linesIn (a .lines .now)) (a .roles) in
     (omega arith, omega arith, c .before .before .pre .1, refl, omega (arith, ap length all, c .before .before .pre .2), sym (ap (sets (a .out .now) (a .at)) all))
 
-mul-wide : tie.Need-mul-wide Inv-loop μ-loop
-mul-wide c = omega arith
-
-mul-wide-2 : tie.Need-mul-wide-2 Inv-loop μ-loop
-mul-wide-2 c = omega arith
-
 shared-slice-read-wide : tie.Need-shared-slice-read-wide Inv-loop μ-loop
 shared-slice-read-wide c = let l = c .before .before .loop in omega (arith, l .inv .2 .words)
 
-wide-requires : tie.Need-wide-requires Inv-loop μ-loop
-wide-requires c κs = search needs
-
 add-n : tie.Need-add-n Inv-loop μ-loop
 add-n c = let l = c .before .before .before .loop in omega (arith, l .inv .2 .few (l .r) (omega arith))
-
-mul-copy-words : tie.Need-mul-copy-words Inv-loop μ-loop
-mul-copy-words c = omega arith
 
 copy-words-requires : tie.Need-copy-words-requires Inv-loop μ-loop
 copy-words-requires c κs =
@@ -60,12 +48,6 @@ add-on c =
     let l = c .before .before .before .before .before .before .before .loop in
     let more = line-length (a .lines .now) (l .inv .2) (a .roles) (l .r) (c .before .before .before .before .wide .result + 1) (l .inv .1) (omega arith) (ap (λ (x : ℕ). x + 1) (c .before .before .before .before .wide .ensures .0)) in
     omega (arith, more, l .inv .4)
-
-add-r : tie.Need-add-r Inv-loop μ-loop
-add-r c = omega arith
-
-loop-less : tie.Need-loop-less Inv-loop μ-loop
-loop-less c = omega arith
 
 loop-again : tie.Need-loop-again Inv-loop μ-loop
 loop-again c =
@@ -83,9 +65,6 @@ loop-again c =
       line-turn (a .lines .now) (l .inv .2) (a .roles) (l .r) (c .before .before .before .before .wide .result + 1) (l .inv .1) (omega arith) n (l .out) _ _ (l .on) (c .before .before .copy-words .ensures) (omega (arith, more, l .inv .4)) (l .inv .5),
     )
 
-same-length : tie.Need-same-length Inv-loop μ-loop
-same-length c = search needs
-
 returns : tie.Need-returns Inv-loop μ-loop
 returns c =
     let a = c .before .before .before .before .args in
@@ -95,20 +74,6 @@ returns c =
 pub put-lines-spec : {M : Type 1} → statement M
 put-lines-spec =
     tie.close
-    (tie.spec
-    Inv-loop
-    μ-loop
-    loop-holds
-    mul-wide
-    mul-wide-2
-    shared-slice-read-wide
-    wide-requires
-    add-n
-    mul-copy-words
-    copy-words-requires
-    add-on
-    add-r
-    loop-less
-    loop-again
-    same-length
-    returns)
+    (tie.spec Inv-loop μ-loop loop-holds (λ c. omega arith) (λ c. omega arith) shared-slice-read-wide
+    (λ c κs. search needs) add-n (λ c. omega arith) copy-words-requires add-on (λ c. omega arith) (λ c. omega arith)
+    loop-again (λ c. search needs) returns)

@@ -22,24 +22,6 @@ abbrev μ-loop : tie.MeasureT-loop
 loop-holds : tie.Need-loop-holds Inv-loop μ-loop
 loop-holds c = let a = c .before .before .args in (omega arith, refl, threads-begin (a .threads .now) (a .out .now) (a .at) (a .n))
 
-mul-put-thread : tie.Need-mul-put-thread Inv-loop μ-loop
-mul-put-thread c = search needs
-
-add-put-thread : tie.Need-add-put-thread Inv-loop μ-loop
-add-put-thread c = search needs
-
-thread-at-requires : tie.Need-thread-at-requires Inv-loop μ-loop
-thread-at-requires c κs = search needs
-
-put-thread-requires : tie.Need-put-thread-requires Inv-loop μ-loop
-put-thread-requires c κs = search needs
-
-add-k : tie.Need-add-k Inv-loop μ-loop
-add-k c = search needs
-
-loop-less : tie.Need-loop-less Inv-loop μ-loop
-loop-less c = search needs
-
 loop-again : tie.Need-loop-again Inv-loop μ-loop
 loop-again c =
     let a = c .before .before .before .before .before .before .before .before .before .args in
@@ -48,9 +30,6 @@ loop-again c =
       search needs,
       threads-turn (a .threads .now) (l .out) (c .before .before .put-thread .last .0) _ (a .at) (a .n) (l .k) (c .before .before .before .thread-at .result) (omega arith) (c .before .before .before .thread-at .ensures) (c .before .before .put-thread .ensures) (l .inv .2),
     )
-
-same-length : tie.Need-same-length Inv-loop μ-loop
-same-length c = search needs
 
 returns : tie.Need-returns Inv-loop μ-loop
 returns c =
@@ -61,16 +40,5 @@ returns c =
 pub put-threads-spec : {M : Type 1} → statement M
 put-threads-spec =
     tie.close
-    (tie.spec
-    Inv-loop
-    μ-loop
-    loop-holds
-    mul-put-thread
-    add-put-thread
-    thread-at-requires
-    put-thread-requires
-    add-k
-    loop-less
-    loop-again
-    same-length
-    returns)
+    (tie.spec Inv-loop μ-loop loop-holds (λ c. search needs) (λ c. search needs) (λ c κs. search needs)
+    (λ c κs. search needs) (λ c. search needs) (λ c. search needs) loop-again (λ c. search needs) returns)

@@ -9,10 +9,6 @@ use native.Mathlib.Omega.{arith}
 use borrow.Author.Needs.{needs}
 use Rattle.rows.proofs.compare.same_lines.Statement.{statement}
 use Rattle.rows.proofs.compare.same_lines.Tie as tie
-use Rattle.rows.proofs.compare.same_lines.Reads as reads
-use Rattle.rows.proofs.compare.same_lines.Lts as lts
-use Rattle.rows.proofs.words.same_words.Reads as same-words-reads
-use Rattle.format.proofs.words.wide.Reads as wide-reads
 
 abbrev Inv-loop : tie.InvT-loop
 Inv-loop states at lines roles on₀ r₀ on r =
@@ -22,64 +18,24 @@ Inv-loop states at lines roles on₀ r₀ on r =
 abbrev μ-loop : tie.MeasureT-loop
 μ-loop states at lines roles on₀ r₀ on r = roles - r
 
--- src/compare.rt:64:5
 loop-holds : tie.Need-loop-holds Inv-loop μ-loop
 loop-holds c =
     let a = c .before .before .args in
     let all : a .roles ≡ a .roles - 0 = omega arith in
     (omega arith, omega arith, omega arith, omega arith, c .before .before .pre .2, ap (λ (x : ℕ). standsAt (a .states .now) (a .at) (lineWords (linesIn (a .lines .now)) 1 x)) all)
 
--- src/compare.rt:65:28
-mul-wide : tie.Need-mul-wide Inv-loop μ-loop
-mul-wide c = omega arith
-
--- src/compare.rt:65:22
-mul-wide-2 : tie.Need-mul-wide-2 Inv-loop μ-loop
-mul-wide-2 c = omega arith
-
--- src/compare.rt:65:22
-shared-slice-read-wide : tie.Need-shared-slice-read-wide Inv-loop μ-loop
-shared-slice-read-wide c = omega arith
-
--- src/compare.rt:65:17
-wide-requires : tie.Need-wide-requires Inv-loop μ-loop
-wide-requires c κs = search needs
-
--- src/compare.rt:65:17
-add-n : tie.Need-add-n Inv-loop μ-loop
-add-n c = omega arith
-
--- src/compare.rt:66:43
-mul-same-words : tie.Need-mul-same-words Inv-loop μ-loop
-mul-same-words c = omega arith
-
--- src/compare.rt:66:13
 same-words-requires : tie.Need-same-words-requires Inv-loop μ-loop
 same-words-requires c κs =
     let l = c .before .before .before .loop in
     let few = l .inv .4 .few (l .r) (omega arith) in
     (omega (arith, few, c .wide .ensures .0, l .inv .4 .words), omega arith)
 
--- src/compare.rt:67:13
 returns : tie.Need-returns Inv-loop μ-loop
 returns c =
     let a = c .before .before .before .before .before .before .before .before .args in
     let l = c .before .before .before .before .before .loop in
     line-other (a .states .now) (a .lines .now) (l .inv .4) (l .r) (omega arith) (a .roles) (l .on) (c .before .before .wide .result + 1) (omega arith) (ap (λ (x : ℕ). x + 1) (c .before .before .wide .ensures .0)) (sym (c .before .same-words .ensures) ∙ not-true (c .before .same-words .result) (c .if1 .taken)) ∙ sym (l .inv .5)
 
--- src/compare.rt:69:9
-add-on : tie.Need-add-on Inv-loop μ-loop
-add-on c = omega arith
-
--- src/compare.rt:70:9
-add-r : tie.Need-add-r Inv-loop μ-loop
-add-r c = omega arith
-
--- src/compare.rt:64:5
-loop-less : tie.Need-loop-less Inv-loop μ-loop
-loop-less c = omega arith
-
--- src/compare.rt:64:5
 loop-again : tie.Need-loop-again Inv-loop μ-loop
 loop-again c =
     let a = c .before .before .before .before .before .before .before .before .args in
@@ -88,7 +44,6 @@ loop-again c =
     let same = line-same (a .states .now) (a .lines .now) (l .inv .4) (l .r) (omega arith) (a .roles) (l .on) (c .before .before .wide .result + 1) (omega arith) (ap (λ (x : ℕ). x + 1) (c .before .before .wide .ensures .0)) (sym (c .before .same-words .ensures) ∙ not-false (c .before .same-words .result) (c .if1 .left)) in
     (omega arith, l .inv .1, l .inv .2, omega (arith, few, c .before .before .wide .ensures .0), l .inv .4, l .inv .5 ∙ same)
 
--- src/compare.rt:58:1
 returns-2 : tie.Need-returns-2 Inv-loop μ-loop
 returns-2 c =
     let a = c .before .before .before .before .args in
@@ -98,20 +53,6 @@ returns-2 c =
 pub same-lines-spec : {M : Type 1} → statement M
 same-lines-spec =
     tie.close
-    (tie.spec
-    Inv-loop
-    μ-loop
-    loop-holds
-    mul-wide
-    mul-wide-2
-    shared-slice-read-wide
-    wide-requires
-    add-n
-    mul-same-words
-    same-words-requires
-    returns
-    add-on
-    add-r
-    loop-less
-    loop-again
-    returns-2)
+    (tie.spec Inv-loop μ-loop loop-holds (λ c. omega arith) (λ c. omega arith) (λ c. omega arith) (λ c κs. search needs)
+    (λ c. omega arith) (λ c. omega arith) same-words-requires returns (λ c. omega arith) (λ c. omega arith)
+    (λ c. omega arith) loop-again returns-2)

@@ -10,10 +10,6 @@ use native.Mathlib.Omega.{arith}
 use borrow.Author.Needs.{needs}
 use Rattle.rows.proofs.load.load_threads.Statement.{statement}
 use Rattle.rows.proofs.load.load_threads.Tie as tie
-use Rattle.rows.proofs.load.load_threads.Reads as reads
-use Rattle.rows.proofs.load.load_threads.Lts as lts
-use Rattle.rows.proofs.load.thread_from.Reads as thread-from-reads
-use Rattle.steps.proofs.records.put_thread.Reads as put-thread-reads
 
 abbrev Inv-loop : tie.InvT-loop
 Inv-loop states at threads₀ n k₀ threads k =
@@ -22,35 +18,9 @@ Inv-loop states at threads₀ n k₀ threads k =
 abbrev μ-loop : tie.MeasureT-loop
 μ-loop states at threads₀ n k₀ threads k = n - k
 
--- src/load.rt:42:5
 loop-holds : tie.Need-loop-holds Inv-loop μ-loop
 loop-holds c = (omega arith, omega arith, omega arith, omega arith, omega arith, threads-none _ _ _)
 
--- src/load.rt:43:57
-mul-thread-from : tie.Need-mul-thread-from Inv-loop μ-loop
-mul-thread-from c = omega arith
-
--- src/load.rt:43:52
-add-thread-from : tie.Need-add-thread-from Inv-loop μ-loop
-add-thread-from c = omega arith
-
--- src/load.rt:43:32
-thread-from-requires : tie.Need-thread-from-requires Inv-loop μ-loop
-thread-from-requires c κs = search needs
-
--- src/load.rt:43:9
-put-thread-requires : tie.Need-put-thread-requires Inv-loop μ-loop
-put-thread-requires c κs = search needs
-
--- src/load.rt:44:9
-add-k : tie.Need-add-k Inv-loop μ-loop
-add-k c = omega arith
-
--- src/load.rt:42:5
-loop-less : tie.Need-loop-less Inv-loop μ-loop
-loop-less c = omega arith
-
--- src/load.rt:42:5
 loop-again : tie.Need-loop-again Inv-loop μ-loop
 loop-again c =
     let a = c .before .before .before .before .before .before .before .before .before .args in
@@ -58,11 +28,6 @@ loop-again c =
     let put = c .before .before .put-thread .ensures in
     (omega arith, l .inv .1, l .inv .2, ap length (put .0) ∙ stored-length (l .threads) (12 * l .k) (c .before .before .before .thread-from .result) ∙ l .inv .3, l .inv .4, threads-more (l .threads) _ (a .states .now) (a .at) (l .k) (c .before .before .before .thread-from .result) (omega arith) (c .before .before .before .thread-from .ensures) put (l .inv .5))
 
--- src/load.rt:37:1
-same-length : tie.Need-same-length Inv-loop μ-loop
-same-length c = search needs
-
--- src/load.rt:37:1
 returns : tie.Need-returns Inv-loop μ-loop
 returns c =
     let a = c .before .before .before .before .args in
@@ -73,16 +38,5 @@ returns c =
 pub load-threads-spec : {M : Type 1} → statement M
 load-threads-spec =
     tie.close
-    (tie.spec
-    Inv-loop
-    μ-loop
-    loop-holds
-    mul-thread-from
-    add-thread-from
-    thread-from-requires
-    put-thread-requires
-    add-k
-    loop-less
-    loop-again
-    same-length
-    returns)
+    (tie.spec Inv-loop μ-loop loop-holds (λ c. omega arith) (λ c. omega arith) (λ c κs. search needs)
+    (λ c κs. search needs) (λ c. omega arith) (λ c. omega arith) loop-again (λ c. search needs) returns)

@@ -8,8 +8,6 @@ use native.Mathlib.Omega.{arith}
 use borrow.Author.Needs.{needs}
 use Rattle.rows.proofs.words.copy_words.Statement.{statement}
 use Rattle.rows.proofs.words.copy_words.Tie as tie
-use Rattle.rows.proofs.words.copy_words.Reads as reads
-use Rattle.rows.proofs.words.copy_words.Lts as lts
 
 abbrev Inv-loop : tie.InvT-loop
 Inv-loop states at table₀ to n k₀ table k =
@@ -18,54 +16,15 @@ Inv-loop states at table₀ to n k₀ table k =
 abbrev μ-loop : tie.MeasureT-loop
 μ-loop states at table₀ to n k₀ table k = n - k
 
--- src/words.rt:61:5
 loop-holds : tie.Need-loop-holds Inv-loop μ-loop
 loop-holds c = let a = c .args in (omega arith, omega arith, omega arith, refl, paste-zero (a .table .now) (a .to) (drop (a .at) (a .states .now)))
 
--- src/words.rt:62:32
-add-table : tie.Need-add-table Inv-loop μ-loop
-add-table c = omega arith
-
--- src/words.rt:62:25
-mul-table : tie.Need-mul-table Inv-loop μ-loop
-mul-table c = omega arith
-
--- src/words.rt:62:25
-shared-slice-read-table : tie.Need-shared-slice-read-table Inv-loop μ-loop
-shared-slice-read-table c = omega arith
-
--- src/words.rt:62:15
-add-table-2 : tie.Need-add-table-2 Inv-loop μ-loop
-add-table-2 c = omega arith
-
--- src/words.rt:62:9
-mul-table-2 : tie.Need-mul-table-2 Inv-loop μ-loop
-mul-table-2 c = omega arith
-
--- src/words.rt:62:9
-slice-write-table : tie.Need-slice-write-table Inv-loop μ-loop
-slice-write-table c = omega arith
-
--- src/words.rt:63:9
-add-k : tie.Need-add-k Inv-loop μ-loop
-add-k c = omega arith
-
--- src/words.rt:61:5
-loop-less : tie.Need-loop-less Inv-loop μ-loop
-loop-less c = omega arith
-
--- src/words.rt:61:5
 loop-again : tie.Need-loop-again Inv-loop μ-loop
 loop-again c =
     let a = c .before .before .before .args in
     let l = c .before .before .loop in
     (omega arith, l .inv .1, l .inv .2, simp length-set (l .inv .3), paste-more (a .table .now) (l .table) (a .states .now) (a .to) (a .at) (a .n) (l .k) (omega arith) (l .inv .1) (l .inv .2) (l .inv .4))
 
--- src/words.rt:56:1
-same-length : tie.Need-same-length Inv-loop μ-loop
-same-length c = search needs
-
--- src/words.rt:56:1
 returns : tie.Need-returns Inv-loop μ-loop
 returns c =
     let a = c .before .before .args in
@@ -76,18 +35,5 @@ returns c =
 pub copy-words-spec : {M : Type 1} → statement M
 copy-words-spec =
     tie.close
-    (tie.spec
-    Inv-loop
-    μ-loop
-    loop-holds
-    add-table
-    mul-table
-    shared-slice-read-table
-    add-table-2
-    mul-table-2
-    slice-write-table
-    add-k
-    loop-less
-    loop-again
-    same-length
-    returns)
+    (tie.spec Inv-loop μ-loop loop-holds (λ c. omega arith) (λ c. omega arith) (λ c. omega arith) (λ c. omega arith)
+    (λ c. omega arith) (λ c. omega arith) (λ c. omega arith) (λ c. omega arith) loop-again (λ c. search needs) returns)
