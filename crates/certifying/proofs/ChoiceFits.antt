@@ -71,7 +71,8 @@ module _ (C : Clinic) (n : ℕ) (made : List Made) where
       Ends
       (cond (ltb n 64) (Adds (record { first = onward t; second = movedTo t (m .f1) })) (Refused 20))
       (cond (ltb n 64) (Adds (record { first = t; second = onward t })) (Refused 20))
-      (cond (ltb (length made) 64) (Makes (record { thread = bound t (385 + length made); made = record { owner = t .user; kind = record { 0 = m .f1 } } })) (Refused 20))
+      (cond (ltb (length made) 64) (Makes (record { thread = bound t (385 + length made); made = record { owner = t .user; kind = record { 0 = m .f1 } } }))
+      (Refused 20))
       (cond (eqb (value t (m .f1)) (value t (m .f2))) (Moves (onward t)) (Refused 19))
       (cond (has (C .schema .assigned (t .user)) (m .f1)) (Moves (masked t (with (t .mask) (m .f1)))) (Refused 11))
       (cond (has (t .mask) (m .f1)) (Moves (masked t (without (t .mask) (m .f1)))) (Refused 12))
@@ -79,7 +80,8 @@ module _ (C : Clinic) (n : ℕ) (made : List Made) where
       tt
       (by-test (ltb n 64) (Adds (record { first = onward t; second = movedTo t (m .f1) })) 20 (λ h. (e, e, ltb-true n 64 h)))
       (by-test (ltb n 64) (Adds (record { first = t; second = onward t })) 20 (λ h. (e, e, ltb-true n 64 h)))
-      (by-test (ltb (length made) 64) (Makes (record { thread = bound t (385 + length made); made = record { owner = t .user; kind = record { 0 = m .f1 } } })) 20
+      (by-test (ltb (length made) 64)
+      (Makes (record { thread = bound t (385 + length made); made = record { owner = t .user; kind = record { 0 = m .f1 } } })) 20
       (λ h. (bound-eight t (385 + length made) e, ltb-true (length made) 64 h)))
       (by-test (eqb (value t (m .f1)) (value t (m .f2))) (Moves (onward t)) 19 (λ h. e))
       (by-test (has (C .schema .assigned (t .user)) (m .f1)) (Moves (masked t (with (t .mask) (m .f1)))) 11 (λ h. e))
@@ -97,21 +99,25 @@ module _ (C : Clinic) (n : ℕ) (made : List Made) where
   meeting-fits t k r m e f =
       by-test (isAllowed C made t Sends (k .f1) && isAllowed C made r Receives (m .f1))
       (cond (eqb (value t (k .f1)) (value r (m .f1))) (Meets (record { first = onward t; second = bound r (value t (k .f2)) })) (Refused 19)) 13
-      (λ h. by-test (eqb (value t (k .f1)) (value r (m .f1))) (Meets (record { first = onward t; second = bound r (value t (k .f2)) })) 19 (λ g. (e, bound-eight r (value t (k .f2)) f)))
+      (λ h. by-test (eqb (value t (k .f1)) (value r (m .f1))) (Meets (record { first = onward t; second = bound r (value t (k .f2)) })) 19
+      (λ g. (e, bound-eight r (value t (k .f2)) f)))
 
   sending-fits : (t : Thread) (k : Node) (p : Partner) → Eight t → EightWith p → FitsIn (sending C made t k p)
   unfolding sending
   sending-fits t k Alone e f = tt
   sending-fits t k Missing e f = tt
   sending-fits t k (With r) e f =
-      by-test (inCount (C .nodes) (r .node) && eqb (C .node (r .node) .tag) 5) (meeting C made t k r (C .node (r .node))) 18 (λ h. meeting-fits t k r (C .node (r .node)) e f)
+      by-test (inCount (C .nodes) (r .node) && eqb (C .node (r .node) .tag) 5) (meeting C made t k r (C .node (r .node))) 18
+      (λ h. meeting-fits t k r (C .node (r .node)) e f)
 
   acting-fits : (t : Thread) (p : Partner) → Eight t → EightWith p → FitsIn (acting C n made t p)
   unfolding acting
   acting-fits t p e f =
       let m : Node = C .node (t .node) in
-      by-test (inCount (C .nodes) (t .node)) (cond (eqb (m .tag) 6) (sending C made t m p) (cond (eqb (m .tag) 5) (Refused 18) (aloneOnly p (lone C n (length made) t m)))) 18
-      (λ h. either (eqb (m .tag) 6) (sending C made t m p) (cond (eqb (m .tag) 5) (Refused 18) (aloneOnly p (lone C n (length made) t m))) (sending-fits t m p e f)
+      by-test (inCount (C .nodes) (t .node)) (cond (eqb (m .tag) 6) (sending C made t m p)
+      (cond (eqb (m .tag) 5) (Refused 18) (aloneOnly p (lone C n (length made) t m)))) 18
+      (λ h. either (eqb (m .tag) 6) (sending C made t m p) (cond (eqb (m .tag) 5) (Refused 18) (aloneOnly p (lone C n (length made) t m)))
+      (sending-fits t m p e f)
       (either (eqb (m .tag) 5) (Refused 18) (aloneOnly p (lone C n (length made) t m)) tt (alone-fits p (lone C n (length made) t m) (lone-fits t m e))))
 
 -- threads of a list, and a list without one
@@ -145,10 +151,13 @@ done-eight : (C : Clinic) (s : State) (i p : ℕ) (o : Outcome) → Eights s →
 unfolding done
 done-eight C s i p (Refused n) h e = tt
 done-eight C s i p (Moves t) h e = all-set Eight (s .threads) (i - 1) t e h
-done-eight C s i p (Adds q) h (e, f, z) = all-append Eight (set (s .threads) (i - 1) (q .first)) (q .second ∷ []) (all-set Eight (s .threads) (i - 1) (q .first) e h) (f, tt)
+done-eight C s i p (Adds q) h (e, f, z) = all-append Eight (set (s .threads) (i - 1) (q .first)) (q .second ∷ [])
+    (all-set Eight (s .threads) (i - 1) (q .first) e h) (f, tt)
 done-eight C s i p (Makes q) h (e, z) = all-set Eight (s .threads) (i - 1) (q .thread) e h
-done-eight C s i p Ends h e = all-append Eight (take (i - 1) (s .threads)) (drop i (s .threads)) (take-eight (i - 1) (s .threads) h) (drop-eight i (s .threads) h)
-done-eight C s i p (Meets q) h (e, f) = all-set Eight (set (s .threads) (i - 1) (q .first)) (p - 1) (q .second) f (all-set Eight (s .threads) (i - 1) (q .first) e h)
+done-eight C s i p Ends h e = all-append Eight (take (i - 1) (s .threads)) (drop i (s .threads)) (take-eight (i - 1) (s .threads) h)
+    (drop-eight i (s .threads) h)
+done-eight C s i p (Meets q) h (e, f) = all-set Eight (set (s .threads) (i - 1) (q .first)) (p - 1) (q .second) f
+    (all-set Eight (s .threads) (i - 1) (q .first) e h)
 
 done-few : (C : Clinic) (s : State) (i p : ℕ) (o : Outcome) → Few s → FitsIn C (length (s .threads)) (s .made) o → After Few (done s i p o)
 unfolding done
@@ -177,7 +186,8 @@ outcome-fits C s i p h =
     (λ _. acting-fits C (length (s .threads)) (s .made) (threadAt s i) (partnerAt s p) (nth-eight (s .threads) h (i - 1)) (partner-eight s p h))
 
 -- what holds of the state before, and after the run's choice, holds after the seated one
-by-choice : (P : State → Type 0) (L : Limited) (S : SeatedState) (i p : ℕ) → P (S .state) → After P (choice (L .clinic) (S .state) i p) → LeadsTo (λ T. P (T .state)) (seatedChoice L S i p)
+by-choice : (P : State → Type 0) (L : Limited) (S : SeatedState) (i p : ℕ) → P (S .state) → After P (choice (L .clinic) (S .state) i p)
+    → LeadsTo (λ T. P (T .state)) (seatedChoice L S i p)
 unfolding seatedChoice
 by-choice P L S i p h e = go (asksSeat L S i p && not (getsSeat L S i))
   where
@@ -193,8 +203,10 @@ by-choice P L S i p h e = go (asksSeat L S i p && not (getsSeat L S i))
 module _ (L : Limited) (S : SeatedState) (i p : ℕ) (eights : All Eight (S .state .threads)) where
   pub choice-eight : LeadsTo (λ T. All Eight (T .state .threads)) (seatedChoice L S i p)
   unfolding choice
-  choice-eight = by-choice Eights L S i p eights (done-eight (L .clinic) (S .state) i p (outcome (L .clinic) (S .state) i p) eights (outcome-fits (L .clinic) (S .state) i p eights))
+  choice-eight = by-choice Eights L S i p eights (done-eight (L .clinic) (S .state) i p (outcome (L .clinic) (S .state) i p) eights
+      (outcome-fits (L .clinic) (S .state) i p eights))
 
   pub choice-few : Few (S .state) → LeadsTo (λ T. Few (T .state)) (seatedChoice L S i p)
   unfolding choice
-  choice-few few = by-choice Few L S i p few (done-few (L .clinic) (S .state) i p (outcome (L .clinic) (S .state) i p) few (outcome-fits (L .clinic) (S .state) i p eights))
+  choice-few few = by-choice Few L S i p few (done-few (L .clinic) (S .state) i p (outcome (L .clinic) (S .state) i p) few
+      (outcome-fits (L .clinic) (S .state) i p eights))

@@ -67,7 +67,8 @@ module _ (C : Contents) (seats states places next : List ℕ) where
 
   -- the first row against the start
   module _ (kind : ℕ → ℕ) (b₀ : List ℕ) (r : SeatedWent) (w b os ls : List ℕ) (opened : SeatedThrough kind (K .limited) (seatedStart C) b₀ [] r w b os ls)
-      (a : Asked) (from : ℕ) (its : from ≡ askedFrom a) (begun : Bool) (is : begun ≡ (ltb 0 from || standsAt states (getD places 0 0) (rowWords (length seats) (seatedIn w b os ls)))) where
+      (a : Asked) (from : ℕ) (its : from ≡ askedFrom a) (begun : Bool) (is : begun ≡
+      (ltb 0 from || standsAt states (getD places 0 0) (rowWords (length seats) (seatedIn w b os ls)))) where
     is-start : seatedIn w b os ls ≡ seatedStart C
     unfolding seatedRun
     is-start = opened .state
@@ -98,7 +99,8 @@ module _ (C : Contents) (seats : List ℕ) (v : Verdict) (is : v ≡ seatsBar C 
 
   pub barred : (v .number ≡ 0 → ⊥) → closedBy v ≡ afterSeats C seats k
   barred bar =
-      ap closedBy is ∙ sym (ap (λ (x : Bool). cond x (faultAt k) (closedBy (seatsBar C seats))) (ne-eqb (seatsBar C seats .number) 0 (λ e. bar (number-is ∙ e))))
+      ap closedBy is ∙ sym (ap (λ (x : Bool). cond x (faultAt k) (closedBy (seatsBar C seats)))
+      (ne-eqb (seatsBar C seats .number) 0 (λ e. bar (number-is ∙ e))))
 
   pub not-barred : v .number ≡ 0 → (x : ℕ) → x ≡ k → faultAt x ≡ afterSeats C seats k
   not-barred none x e =

@@ -37,7 +37,8 @@ module _ (roles : ℕ) (s places next : List ℕ) (S : SeatedState) (q : Search)
   abbrev further : Search
   further = record { known = cond (eqb k (q .known)) (q .known + 1) (q .known); cursor = q .cursor + 1 }
 
-  by-tests : (a b c d : Bool) → ltb (q .cursor) (length next) ≡ a → leb k (q .known) ≡ b → ltb k (length places) ≡ c → standsAt s (getD places k 0) (rowWords roles S) ≡ d
+  by-tests : (a b c d : Bool) → ltb (q .cursor) (length next) ≡ a → leb k (q .known) ≡ b → ltb k (length places) ≡ c
+      → standsAt s (getD places k 0) (rowWords roles S) ≡ d
       → tested a b c d further ≡ arrives roles s places next S q
   unfolding arrives
   by-tests a b c d ea eb ec ed =
@@ -64,14 +65,16 @@ module _ (roles : ℕ) (s places next : List ℕ) (S : SeatedState) (q : Search)
         pub other-words : standsAt s (getD places k 0) (rowWords roles S) ≡ false → Fails ≡ arrives roles s places next S q
         other-words e = by-tests true true true false there (le-leb k (q .known) known) (lt-ltb k (length places) row) e
 
-        pub has-arrived : standsAt s (getD places k 0) (rowWords roles S) ≡ true → (known′ cursor′ : ℕ) → known′ ≡ cond (eqb k (q .known)) (q .known + 1) (q .known) → cursor′ ≡ q .cursor + 1
+        pub has-arrived : standsAt s (getD places k 0) (rowWords roles S) ≡ true → (known′ cursor′ : ℕ)
+            → known′ ≡ cond (eqb k (q .known)) (q .known + 1) (q .known) → cursor′ ≡ q .cursor + 1
             → Passes (record { known = known′; cursor = cursor′ }) ≡ arrives roles s places next S q
         has-arrived e known′ cursor′ ek ec =
             ap₂ (λ (x y : ℕ). Passes (record { known = x; cursor = y })) ek ec
             ∙ by-tests true true true true there (le-leb k (q .known) known) (lt-ltb k (length places) row) e
 
 -- what a choice is answered, and what it leaves
-refused-told : (sat : Sat) (a : Taken SeatedState) (S S′ : SeatedState) → isDone sat ≡ false → SatTold sat a S S′ → (K : Certificate) (q : Search) → (Passes q ≡ takenTried K a q) × (S′ ≡ S)
+refused-told : (sat : Sat) (a : Taken SeatedState) (S S′ : SeatedState) → isDone sat ≡ false → SatTold sat a S S′ → (K : Certificate) (q : Search)
+    → (Passes q ≡ takenTried K a q) × (S′ ≡ S)
 refused-told (sat.Refused n) a S S′ e (is, same) K q = (sym (ap (λ (x : Taken SeatedState). takenTried K x q) is), same)
 refused-told sat.Waits a S S′ e told K q = absurd (false≢true (sym e))
 refused-told sat.Ends a S S′ e told K q = absurd (false≢true (sym e))
@@ -89,7 +92,8 @@ module _ (K : Certificate) (p : ℕ) where
   row = seatedAt (K .roles) (K .states) p
 
   -- the tables hold the row's state
-  pub loaded-trying : RowFits (K .roles) (K .states) p → Ordered (K .limited) row → p < 4294967296 → (w b os ls : List ℕ) → Loaded (K .roles) (K .states) p w b os ls → Trying K p w b os ls
+  pub loaded-trying : RowFits (K .roles) (K .states) p → Ordered (K .limited) row → p < 4294967296 → (w b os ls : List ℕ)
+      → Loaded (K .roles) (K .states) p w b os ls → Trying K p w b os ls
   loaded-trying fits ordered small w b os ls D = record {
     seated = record { sized = D .sized; owners = D .owners; rows = D .rows; ordered = subst (Ordered (K .limited)) (sym (D .state)) ordered };
     state = D .state;
@@ -101,7 +105,8 @@ module _ (K : Certificate) (p : ℕ) where
   pub held-count : (w b os ls : List ℕ) → Trying K p w b os ls → threadCount b ≡ length (row .state .threads)
   held-count w b os ls T = sym (threads-length w 0 (threadCount b)) ∙ ap (λ (S : SeatedState). length (S .state .threads)) (T .state)
 
-  module _ (kind : ℕ → ℕ) (i x : ℕ) (q : Search) (r : Sat) (w b os ls w′ b′ os′ ls′ : List ℕ) (T : Trying K p w b os ls) (chose : ChoseSeated kind (K .limited) i x r w b os ls w′ b′ os′ ls′) where
+  module _ (kind : ℕ → ℕ) (i x : ℕ) (q : Search) (r : Sat) (w b os ls w′ b′ os′ ls′ : List ℕ) (T : Trying K p w b os ls)
+      (chose : ChoseSeated kind (K .limited) i x r w b os ls w′ b′ os′ ls′) where
     abbrev taken : Taken SeatedState
     taken = seatedChoice (K .limited) (seatedIn w b os ls) i x
 
@@ -130,7 +135,8 @@ module _ (K : Certificate) (S : SeatedState) (i p n : ℕ) (q : Search) where
     pub partner-fails : (t : Trial) → t ≡ choiceTried K S i p q → t ≡ Fails → Fails ≡ partnersTried K S i p (n - p) q
     partner-fails t is fails = sym (partner-on ∙ ap (λ (x : Trial). onward x (λ y. partnersTried K S i (p + 1) (n - (p + 1)) y)) (sym is ∙ fails))
 
-    pub partner-passes : (t : Trial) (q′ : Search) → t ≡ choiceTried K S i p q → t ≡ Passes q′ → partnersTried K S i p (n - p) q ≡ partnersTried K S i (p + 1) (n - (p + 1)) q′
+    pub partner-passes : (t : Trial) (q′ : Search) → t ≡ choiceTried K S i p q → t ≡ Passes q′
+        → partnersTried K S i p (n - p) q ≡ partnersTried K S i (p + 1) (n - (p + 1)) q′
     partner-passes t q′ is passes = partner-on ∙ ap (λ (x : Trial). onward x (λ y. partnersTried K S i (p + 1) (n - (p + 1)) y)) (sym is ∙ passes)
 
   pub partners-end : n ≤ p → Passes q ≡ partnersTried K S i p (n - p) q
@@ -150,7 +156,8 @@ module _ (K : Certificate) (S : SeatedState) (i n : ℕ) (q : Search) where
     pub thread-fails : (t : Trial) → t ≡ partnersTried K S i′ 0 (count + 1) q → t ≡ Fails → Fails ≡ threadsTried K S (i + 1) (n - i) q
     thread-fails t is fails = sym (thread-on ∙ ap (λ (x : Trial). onward x (λ y. threadsTried K S (i + 1 + 1) (n - (i + 1)) y)) (sym is ∙ fails))
 
-    pub thread-passes : (t : Trial) (q′ : Search) → t ≡ partnersTried K S i′ 0 (count + 1) q → t ≡ Passes q′ → threadsTried K S (i + 1) (n - i) q ≡ threadsTried K S (i′ + 1) (n - i′) q′
+    pub thread-passes : (t : Trial) (q′ : Search) → t ≡ partnersTried K S i′ 0 (count + 1) q → t ≡ Passes q′
+        → threadsTried K S (i + 1) (n - i) q ≡ threadsTried K S (i′ + 1) (n - i′) q′
     thread-passes t q′ is passes =
         thread-on ∙ ap (λ (x : Trial). onward x (λ y. threadsTried K S (i + 1 + 1) (n - (i + 1)) y)) (sym is ∙ passes)
         ∙ ap (λ (x : ℕ). threadsTried K S (x + 1) (n - x) q′) (sym next-thread)
@@ -162,26 +169,31 @@ module _ (K : Certificate) (S : SeatedState) (i n : ℕ) (q : Search) where
 -- one row more, and none
 module _ (K : Certificate) (j n : ℕ) (q : Search) where
   module _ (lt : j < n) where
-    pub row-on : rowsTried K j (n - j) q ≡ cond (ltb j (q .known)) (rowOnward (rowTried K (rowState K j) q) j (λ x. rowsTried K (j + 1) (n - (j + 1)) x)) (q .known + 1)
+    pub row-on : rowsTried K j (n - j) q ≡ cond (ltb j (q .known)) (rowOnward (rowTried K (rowState K j) q) j (λ x. rowsTried K (j + 1) (n - (j + 1)) x))
+        (q .known + 1)
     unfolding rowsTried
     row-on = let more : n - j ≡ suc (n - (j + 1)) = omega (arith, lt) in ap (λ (x : ℕ). rowsTried K j x q) more
 
     module _ (known : j < q .known) where
       known-on : rowsTried K j (n - j) q ≡ rowOnward (rowTried K (rowState K j) q) j (λ x. rowsTried K (j + 1) (n - (j + 1)) x)
       known-on =
-          row-on ∙ ap (λ (b : Bool). cond b (rowOnward (rowTried K (rowState K j) q) j (λ x. rowsTried K (j + 1) (n - (j + 1)) x)) (q .known + 1)) (lt-ltb j (q .known) known)
+          row-on ∙ ap (λ (b : Bool). cond b (rowOnward (rowTried K (rowState K j) q) j (λ x. rowsTried K (j + 1) (n - (j + 1)) x)) (q .known + 1))
+          (lt-ltb j (q .known) known)
 
       pub row-fails : (t : Trial) → t ≡ rowTried K (rowState K j) q → t ≡ Fails → j + 1 ≡ rowsTried K j (n - j) q
       row-fails t is fails = sym (known-on ∙ ap (λ (x : Trial). rowOnward x j (λ y. rowsTried K (j + 1) (n - (j + 1)) y)) (sym is ∙ fails))
 
-      pub row-passes : (t : Trial) (q′ : Search) → t ≡ rowTried K (rowState K j) q → t ≡ Passes q′ → (j′ : ℕ) → j′ ≡ j + 1 → rowsTried K j (n - j) q ≡ rowsTried K j′ (n - j′) q′
+      pub row-passes : (t : Trial) (q′ : Search) → t ≡ rowTried K (rowState K j) q → t ≡ Passes q′ → (j′ : ℕ) → j′ ≡ j + 1
+          → rowsTried K j (n - j) q ≡ rowsTried K j′ (n - j′) q′
       row-passes t q′ is passes j′ next-row =
-          known-on ∙ ap (λ (x : Trial). rowOnward x j (λ y. rowsTried K (j + 1) (n - (j + 1)) y)) (sym is ∙ passes) ∙ ap (λ (x : ℕ). rowsTried K x (n - x) q′) (sym next-row)
+          known-on ∙ ap (λ (x : Trial). rowOnward x j (λ y. rowsTried K (j + 1) (n - (j + 1)) y)) (sym is ∙ passes) ∙ ap (λ (x : ℕ). rowsTried K x (n - x) q′)
+          (sym next-row)
 
     pub row-unknown : q .known ≤ j → j ≤ q .known → j + 1 ≡ rowsTried K j (n - j) q
     row-unknown le ge =
         let same : j + 1 ≡ q .known + 1 = omega (arith, le, ge) in
-        same ∙ sym (row-on ∙ ap (λ (b : Bool). cond b (rowOnward (rowTried K (rowState K j) q) j (λ x. rowsTried K (j + 1) (n - (j + 1)) x)) (q .known + 1)) (le-ltb j (q .known) le))
+        same ∙ sym (row-on ∙ ap (λ (b : Bool). cond b (rowOnward (rowTried K (rowState K j) q) j (λ x. rowsTried K (j + 1) (n - (j + 1)) x)) (q .known + 1))
+        (le-ltb j (q .known) le))
 
   pub rows-end : n ≤ j → 0 ≡ rowsTried K j (n - j) q
   unfolding rowsTried

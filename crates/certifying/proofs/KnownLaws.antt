@@ -40,7 +40,8 @@ module _ (K : Certificate) (S : SeatedState) (P : Search → Type 0) (each : (i 
   partners-keep : (i p n : ℕ) (q : Search) → P q → IfPasses (partnersTried K S i p n q) P
   unfolding partnersTried
   partners-keep i p zero q h = h
-  partners-keep i p (suc n) q h = if-onward P (choiceTried K S i p q) (λ x. partnersTried K S i (p + 1) n x) (each i p q h) (λ x g. partners-keep i (p + 1) n x g)
+  partners-keep i p (suc n) q h = if-onward P (choiceTried K S i p q) (λ x. partnersTried K S i (p + 1) n x) (each i p q h)
+      (λ x g. partners-keep i (p + 1) n x g)
 
   threads-keep : (i n : ℕ) (q : Search) → P q → IfPasses (threadsTried K S i n q) P
   unfolding threadsTried
@@ -57,11 +58,14 @@ module _ (K : Certificate) (S : SeatedState) (q : Search) (P : Search → Type 0
   abbrev named : ℕ
   named = getD (K .next) (q .cursor) 0
 
-  pub if-arrives : (q .cursor < length (K .next) → named < q .known → named < length (K .places) → isRow K named S ≡ true → P (record { known = q .known; cursor = q .cursor + 1 }))
-      → (q .cursor < length (K .next) → named ≡ q .known → named < length (K .places) → isRow K named S ≡ true → P (record { known = q .known + 1; cursor = q .cursor + 1 }))
+  pub if-arrives : (q .cursor < length (K .next) → named < q .known → named < length (K .places) → isRow K named S ≡ true → P
+      (record { known = q .known; cursor = q .cursor + 1 }))
+      → (q .cursor < length (K .next) → named ≡ q .known → named < length (K .places) → isRow K named S ≡ true → P
+      (record { known = q .known + 1; cursor = q .cursor + 1 }))
       → IfPasses (arrives (K .roles) (K .states) (K .places) (K .next) S q) P
   unfolding arrives
-  if-arrives old new = go (ltb (q .cursor) (length (K .next))) refl (leb named (q .known)) refl (ltb named (length (K .places))) refl (isRow K named S) refl (eqb named (q .known)) refl
+  if-arrives old new = go (ltb (q .cursor) (length (K .next))) refl (leb named (q .known)) refl (ltb named (length (K .places))) refl (isRow K named S) refl
+      (eqb named (q .known)) refl
     where
       go : (a : Bool) → ltb (q .cursor) (length (K .next)) ≡ a → (b : Bool) → leb named (q .known) ≡ b → (c : Bool) → ltb named (length (K .places)) ≡ c
           → (d : Bool) → isRow K named S ≡ d → (e : Bool) → eqb named (q .known) ≡ e
@@ -73,11 +77,13 @@ module _ (K : Certificate) (S : SeatedState) (q : Search) (P : Search → Type 0
       go true ea true eb true ec true ed true ee =
           new (ltb-true (q .cursor) (length (K .next)) ea) (eqb-true named (q .known) ee) (ltb-true named (length (K .places)) ec) ed
       go true ea true eb true ec true ed false ee =
-          old (ltb-true (q .cursor) (length (K .next)) ea) (omega (arith, leb-true named (q .known) eb, eqb-false named (q .known) ee)) (ltb-true named (length (K .places)) ec) ed
+          old (ltb-true (q .cursor) (length (K .next)) ea) (omega (arith, leb-true named (q .known) eb, eqb-false named (q .known) ee))
+          (ltb-true named (length (K .places)) ec) ed
 
 -- what holds where no choice is refused holds of the trial
 pub if-taken : (K : Certificate) (q : Search) (P : Search → Type 0) (Q : SeatedState → Type 0) → P q
-    → ((T : SeatedState) → Q T → IfPasses (arrives (K .roles) (K .states) (K .places) (K .next) T q) P) → (a : Taken SeatedState) → LeadsTo Q a → IfPasses (takenTried K a q) P
+    → ((T : SeatedState) → Q T → IfPasses (arrives (K .roles) (K .states) (K .places) (K .next) T q) P) → (a : Taken SeatedState) → LeadsTo Q a
+    → IfPasses (takenTried K a q) P
 if-taken K q P Q h leads (refuses n) g = h
 if-taken K q P Q h leads (waits T) g = leads T g
 if-taken K q P Q h leads (steps T) g = leads T g
@@ -94,7 +100,8 @@ past-seats (x ∷ l) zero le = let no : ⊥ = omega (arith, le) in absurd no
 past-seats (x ∷ l) (suc r) le = past-seats l r (omega (arith, le))
 
 -- a state in order has lines of its own roles alone
-pub ordered-readable : (C : Contents) (seats : List ℕ) (S : SeatedState) → All Eight (S .state .threads) → Ordered (limitedOf C seats) S → Readable (length seats) S
+pub ordered-readable : (C : Contents) (seats : List ℕ) (S : SeatedState) → All Eight (S .state .threads) → Ordered (limitedOf C seats) S
+    → Readable (length seats) S
 ordered-readable C seats S eights O = record {
   vars = eights;
   owners = O .owners;
@@ -126,9 +133,11 @@ held-state L w b os ls Z = record {
 }
 
 state-after : (L : Limited) (S : SeatedState) → RowState L S → (i p : ℕ) → LeadsTo (RowState L) (seatedChoice L S i p)
-state-after L S R i p = go (seatedChoice L S i p) (choice-eight L S i p (R .eights)) (choice-few L S i p (R .eights) (R .few)) (choice-ordered L S (R .ordered) i p)
+state-after L S R i p = go (seatedChoice L S i p) (choice-eight L S i p (R .eights)) (choice-few L S i p (R .eights) (R .few))
+    (choice-ordered L S (R .ordered) i p)
   where
-    go : (a : Taken SeatedState) → LeadsTo (λ T. All Eight (T .state .threads)) a → LeadsTo (λ T. Few (T .state)) a → AfterAnswer a (Ordered L) → LeadsTo (RowState L) a
+    go : (a : Taken SeatedState) → LeadsTo (λ T. All Eight (T .state .threads)) a → LeadsTo (λ T. Few (T .state)) a → AfterAnswer a (Ordered L)
+        → LeadsTo (RowState L) a
     go (refuses n) e f o = tt
     go (waits T) e f o = record { eights = e; few = f; ordered = o }
     go (steps T) e f o = record { eights = e; few = f; ordered = o }
@@ -137,14 +146,17 @@ module _ (C : Contents) (seats states places next : List ℕ) (sessions : length
   abbrev K : Certificate
   K = certificateOf C seats states places next
 
-  row-known : (S : SeatedState) → RowState (K .limited) S → (k : ℕ) → isRow K k S ≡ true → RowFits (length seats) states (rowPlace K k) × Ordered (K .limited) (rowState K k)
+  row-known : (S : SeatedState) → RowState (K .limited) S → (k : ℕ) → isRow K k S ≡ true
+      → RowFits (length seats) states (rowPlace K k) × Ordered (K .limited) (rowState K k)
   row-known S R k stands =
       let readable : Readable (length seats) S = ordered-readable C seats S (R .eights) (R .ordered) in (
-        state-fits states (length seats) S readable (rowPlace K k) stands (R .few .0) (R .few .1) (λ r. omega (arith, line-fits (K .limited) S (R .ordered) r, sessions)),
+        state-fits states (length seats) S readable (rowPlace K k) stands (R .few .0) (R .few .1)
+            (λ r. omega (arith, line-fits (K .limited) S (R .ordered) r, sessions)),
         subst (Ordered (K .limited)) (sym (state-read states (length seats) S readable (rowPlace K k) stands)) (R .ordered),
       )
 
-  one-more : (n k : ℕ) → KnownRows K n → k ≡ n → k < length places → RowFits (length seats) states (rowPlace K k) × Ordered (K .limited) (rowState K k) → KnownRows K (n + 1)
+  one-more : (n k : ℕ) → KnownRows K n → k ≡ n → k < length places → RowFits (length seats) states (rowPlace K k) × Ordered (K .limited) (rowState K k)
+      → KnownRows K (n + 1)
   one-more n k R e row (fits, ordered) = record {
     within = omega (arith, row, e);
     fits = below-more (λ j. RowFits (length seats) states (rowPlace K j)) n (R .fits) (subst (λ (x : ℕ). RowFits (length seats) states (rowPlace K x)) e fits);
@@ -176,9 +188,11 @@ module _ (C : Contents) (seats states places next : List ℕ) (sessions : length
   pub rows-known : (q q′ : Search) (j : ℕ) → KnownRows K (q .known) → j < q .known → rowTried K (rowState K j) q ≡ Passes q′ → KnownRows K (q′ .known)
   rows-known q q′ j R lt e = row-keeps K (rowState K j) (λ x. KnownRows K (x .known)) each q q′ R e
     where
-      arrived : (x : Search) → KnownRows K (x .known) → (T : SeatedState) → RowState (K .limited) T → IfPasses (arrives (length seats) states places next T x) (λ y. KnownRows K (y .known))
+      arrived : (x : Search) → KnownRows K (x .known) → (T : SeatedState) → RowState (K .limited) T
+          → IfPasses (arrives (length seats) states places next T x) (λ y. KnownRows K (y .known))
       arrived x h T t =
-          if-arrives K T x (λ y. KnownRows K (y .known)) (λ _ _ _ _. h) (λ _ is low stands. one-more (x .known) (getD next (x .cursor) 0) h is low (row-known T t (getD next (x .cursor) 0) stands))
+          if-arrives K T x (λ y. KnownRows K (y .known)) (λ _ _ _ _. h) (λ _ is low stands. one-more (x .known) (getD next (x .cursor) 0) h is low
+          (row-known T t (getD next (x .cursor) 0) stands))
 
       each : (i p : ℕ) (x : Search) → KnownRows K (x .known) → IfPasses (choiceTried K (rowState K j) i p x) (λ y. KnownRows K (y .known))
       each i p x h =
@@ -196,5 +210,6 @@ row-grows K S q q′ e = row-keeps K S (λ x. q .known ≤ x .known) each q q′
 
     each : (i p : ℕ) (x : Search) → q .known ≤ x .known → IfPasses (choiceTried K S i p x) (λ y. q .known ≤ y .known)
     each i p x h =
-        if-taken K x (λ y. q .known ≤ y .known) (λ T. Unit {0}) h (λ T u. if-arrives K T x (λ y. q .known ≤ y .known) (λ _ _ _ _. h) (λ _ _ _ _. omega (arith, h)))
+        if-taken K x (λ y. q .known ≤ y .known) (λ T. Unit {0}) h (λ T u. if-arrives K T x (λ y. q .known ≤ y .known) (λ _ _ _ _. h)
+        (λ _ _ _ _. omega (arith, h)))
         (seatedChoice (K .limited) S i p) (anything (seatedChoice (K .limited) S i p))

@@ -37,7 +37,8 @@ unfolding knownBy
 word-old next c known k is word lt = let e : known ≡ knownBy next (suc c) = omega (arith, is, word, lt) in e ∙ sym (ap (knownBy next) (add-one c))
 
 -- the tables hold a row's state, and are tested
-pub order-tested : (C : Contents) (seats : List ℕ) → length seats ≤ 16 → (n : ℕ) → n ≡ length (C .sessions) → (s : List ℕ) (p : ℕ) (w b os ls : List ℕ) → Loaded (length seats) s p w b os ls
+pub order-tested : (C : Contents) (seats : List ℕ) → length seats ≤ 16 → (n : ℕ) → n ≡ length (C .sessions) → (s : List ℕ) (p : ℕ) (w b os ls : List ℕ)
+    → Loaded (length seats) s p w b os ls
     → inOrder n (seatsIn seats) (seatedIn w b os ls) ≡ true → Ordered (limitedOf C seats) (seatedAt (length seats) s p)
 order-tested C seats few n sessions s p w b os ls D e =
     subst (Ordered (limitedOf C seats)) (D .state)
@@ -63,7 +64,8 @@ module _ (K : Certificate) (j : ℕ) (q : Search) where
     pub row-unfit : rowFits (K .roles) (K .states) at ≡ false → Fails ≡ rowTested K j q
     row-unfit e = by-tests true false _ (lt-ltb j (q .known) known) (sym fits-at ∙ e) refl Fails refl
 
-    module _ (fits : rowFits (K .roles) (K .states) at ≡ true) (n : ℕ) (sessions : n ≡ K .limited .sessions) (S : SeatedState) (state : S ≡ seatedAt (K .roles) (K .states) at) where
+    module _ (fits : rowFits (K .roles) (K .states) at ≡ true) (n : ℕ) (sessions : n ≡ K .limited .sessions) (S : SeatedState)
+        (state : S ≡ seatedAt (K .roles) (K .states) at) where
       order-at : inOrder n (K .limited .seats) S ≡ ordered
       order-at = ap₂ (λ (x : ℕ) (T : SeatedState). inOrder x (K .limited .seats) T) sessions (state ∙ ap (seatedAt (K .roles) (K .states)) place)
 

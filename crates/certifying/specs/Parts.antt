@@ -29,8 +29,8 @@ isOrdered K j =
 abbrev pub rowTested : Certificate → ℕ → Search → Trial
 rowTested K j q = cond (ltb j (q .known) && isOrdered K j) (rowTried K (rowState K j) q) Fails
 
--- so many rows from j on, whose words end before the word `end`: 0, or the number from 1 on of the first at fault, which
--- is the last one where the words end elsewhere
+-- so many rows from j on, whose words end before the word `end`: 0, or the number from 1 on of the first at fault, the
+-- last one where the words end elsewhere
 unfoldable pub partTried : Certificate → ℕ → ℕ → ℕ → Search → ℕ
 partTried K end j zero q = cond (eqb (q .cursor) end) 0 j
 partTried K end j (suc n) q = rowOnward (rowTested K j q) j (λ x. partTried K end (j + 1) n x)

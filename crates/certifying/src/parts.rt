@@ -180,7 +180,8 @@ pub fn try_asked(
     requires { ⌜ Prepared (now file) head (now sends) (now receives) (now seats)
         × (length (now threads) ≡ threadTableWords) × (length (now beside) ≡ besideWords) × (length (now owners) ≡ 64)
         × (length (now lines) ≡ 528) × (askedFits (length (now places)) (length (now next)) asked ≡ true)
-        × (asked ≡ All → KnownRows (certificateAt (now file) head (now seats) (now states) (now places) (now next)) 1) ⌝ }
+        × (asked ≡ All
+        → KnownRows (certificateAt (now file) head (now seats) (now states) (now places) (now next)) 1) ⌝ }
     ensures { λ r. ⌜ (r ≡ askedTried (certificateAt (now (file .entry)) head (now (seats .entry))
         (now (states .entry)) (now (places .entry)) (now (next .entry))) asked) × (r < 4294967296) ⌝ }
 {

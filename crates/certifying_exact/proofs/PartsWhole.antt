@@ -66,7 +66,8 @@ module _ (K : Certificate) where
       → (q ≡ at (c + length (doneIn K S))) × (c ≤ length (K .next) → c + length (doneIn K S) ≤ length (K .next))
   row-passed S c q e = go (row-tried K S c)
     where
-      go : Tried K (doneIn K S) c (rowTried K S (at c)) → (q ≡ at (c + length (doneIn K S))) × (c ≤ length (K .next) → c + length (doneIn K S) ≤ length (K .next))
+      go : Tried K (doneIn K S) c (rowTried K S (at c))
+          → (q ≡ at (c + length (doneIn K S))) × (c ≤ length (K .next) → c + length (doneIn K S) ≤ length (K .next))
       go (passed h is) = (same-search q (at (c + length (doneIn K S))) (sym e ∙ is), λ le. names-within (doneIn K S) c le h)
       go (failed never is) = absurd (never-passes q (sym is ∙ e))
 
@@ -74,7 +75,8 @@ module _ (K : Certificate) where
   tested : (j : ℕ) (q x : Search) → rowTested K j q ≡ Passes x → (ltb j (q .known) ≡ true) × (rowTried K (rowState K j) q ≡ Passes x)
   tested j q x e = go (ltb j (q .known)) refl (isOrdered K j) e
     where
-      go : (a : Bool) → ltb j (q .known) ≡ a → (b : Bool) → cond (a && b) (rowTried K (rowState K j) q) Fails ≡ Passes x → (ltb j (q .known) ≡ true) × (rowTried K (rowState K j) q ≡ Passes x)
+      go : (a : Bool) → ltb j (q .known) ≡ a → (b : Bool) → cond (a && b) (rowTried K (rowState K j) q) Fails ≡ Passes x
+          → (ltb j (q .known) ≡ true) × (rowTried K (rowState K j) q ≡ Passes x)
       go true ea true h = (ea, h)
       go true ea false h = absurd (never-passes x h)
       go false ea b h = absurd (never-passes x h)
@@ -105,7 +107,8 @@ module _ (K : Certificate) where
           ap (λ (y : ℕ). rowsTried K j y (at c)) count ∙ row-on K j (j + suc (m + rest)) (at c) (omega arith)
           ∙ ap₂ (λ (b : Bool) (t : Trial). cond b (rowOnward t j (λ y. rowsTried K (j + 1) (j + suc (m + rest) - (j + 1)) y)) (at c .known + 1)) known tried
           ∙ ap₂ (λ (y : ℕ) (q : Search). rowsTried K (j + 1) y q) (sym left) same
-          ∙ later (c + length (doneIn K (rowState K j))) (subst (λ (q : Search). partTried K e (j + 1) m q ≡ 0) same z) ∙ ap (λ (y : ℕ). rowsTried K y rest (at e)) there
+          ∙ later (c + length (doneIn K (rowState K j))) (subst (λ (q : Search). partTried K e (j + 1) m q ≡ 0) same z) ∙ ap
+          (λ (y : ℕ). rowsTried K y rest (at e)) there
 
   abbrev PartFine : Part → Type 0
   PartFine P = (P .from < P .to) × (partTried K (P .end) (P .from) (P .to - P .from) (at (P .begin)) ≡ 0)
@@ -167,7 +170,8 @@ module _ (f seats states places next : List ℕ) where
   abbrev fine-part : Part → Type 0
   fine-part P = closingPart f seats states places next P ≡ closedFine
 
-  part-ready : (P : Part) → fine-part P → (unready (somePart (length places) (length next) P) f .number ≡ 0) × (afterSeats C seats (partAtFault K S P) ≡ closedFine)
+  part-ready : (P : Part) → fine-part P
+      → (unready (somePart (length places) (length next) P) f .number ≡ 0) × (afterSeats C seats (partAtFault K S P) ≡ closedFine)
   unfolding closingPart
   part-ready P e = not-refused (unready (somePart (length places) (length next) P) f) (afterSeats C seats (partAtFault K S P)) e
 
@@ -191,7 +195,8 @@ module _ (f seats states places next : List ℕ) where
   each-tried (P ∷ Ps) (h, hs) = (part-tried P h .1, each-tried Ps hs)
 
   -- Parts that are chained from row 0 and word 0 to the last row, and are each fine: the whole is.
-  pub chain-is-whole : (P : Part) (Ps : List Part) → Chained 0 0 (P ∷ Ps) (length places) → All fine-part (P ∷ Ps) → closing f seats states places next ≡ closedFine
+  pub chain-is-whole : (P : Part) (Ps : List Part) → Chained 0 0 (P ∷ Ps) (length places) → All fine-part (P ∷ Ps)
+      → closing f seats states places next ≡ closedFine
   unfolding closing rowAtFault knownBy
   chain-is-whole P Ps (from, begin, chain) (h, hs) =
       let (fits, clean) = part-fits P h in
@@ -201,7 +206,8 @@ module _ (f seats states places next : List ℕ) where
       let rows : rowsTried K 0 (length places) searchBegins ≡ 0 =
       ap (λ (x : ℕ). rowsTried K 0 x searchBegins) all ∙ chain-tried K (P ∷ Ps) 0 0 (length places) (from, begin, chain) (each-tried (P ∷ Ps) (h, hs)) in
       fine-answer (someRows (length places)) f seats (rowAtFault K S)
-      (and-eq-true-iff (ltb 0 (length places)) (ltb (length places) 4294967295) .1 (lt-ltb 0 (length places) (fits .some), lt-ltb (length places) 4294967295 (fits .few))) clean
+      (and-eq-true-iff (ltb 0 (length places)) (ltb (length places) 4294967295) .1
+      (lt-ltb 0 (length places) (fits .some), lt-ltb (length places) 4294967295 (fits .few))) clean
       (part-clear P h .0) (ap (λ (b : Bool). cond b (rowsTried K 0 (length places) searchBegins) 1) first ∙ rows)
 
   module _ (fine : closing f seats states places next ≡ closedFine) where
@@ -231,16 +237,20 @@ module _ (f seats states places next : List ℕ) where
     stage-first : Stage 0
     unfolding doneBefore collect knownBy
     stage-first = record {
-      tried = let all : length places - 0 ≡ length places = omega arith in ap (λ (x : ℕ). rowsTried K 0 x searchBegins) all ∙ explored f seats states places next fine .1;
-      known = first-known C seats states places next sessions S start-state (rows-some f seats states places next fine) (explored f seats states places next fine .0);
+      tried = let all : length places - 0 ≡ length places = omega arith in ap (λ (x : ℕ). rowsTried K 0 x searchBegins) all
+          ∙ explored f seats states places next fine .1;
+      known = first-known C seats states places next sessions S start-state (rows-some f seats states places next fine)
+          (explored f seats states places next fine .0);
       worded = omega arith;
     }
 
     row-ordered : (n j : ℕ) → KnownRows K n → j < n → isOrdered K j ≡ true
-    row-ordered n j R lt = and-eq-true-iff (rowFits (length seats) states (rowPlace K j)) (inOrder (length (C .sessions)) (K .limited .seats) (rowState K j)) .1 (
-      rowFits-iff (length seats) states (rowPlace K j) .1 (R .fits j lt),
-      inOrder-iff (K .limited) (rowState K j) (λ r e. let none = past-seats seats r roles e in (none, R .ordered j lt .unlimited r none)) .1 (R .ordered j lt),
-    )
+    row-ordered n j R lt = and-eq-true-iff (rowFits (length seats) states (rowPlace K j))
+        (inOrder (length (C .sessions)) (K .limited .seats) (rowState K j)) .1 (
+          rowFits-iff (length seats) states (rowPlace K j) .1 (R .fits j lt),
+          inOrder-iff (K .limited) (rowState K j) (λ r e. let none = past-seats seats r roles e in (none, R .ordered j lt .unlimited r none)) .1
+              (R .ordered j lt),
+        )
 
     -- a row of the whole passes in a part too
     stage-next : (j : ℕ) → j < length places → Stage j → (rowTested K j (at K (wordsBefore K j)) ≡ Passes (at K (wordsBefore K (j + 1)))) × Stage (j + 1)
@@ -258,7 +268,8 @@ module _ (f seats states places next : List ℕ) where
             let (same, within) = row-passed K (rowState K j) (wordsBefore K j) x is in
             let on : x ≡ at K (wordsBefore K (j + 1)) = same ∙ ap (at K) (before-next K j) in
             let passes : rowTried K (rowState K j) (at K (wordsBefore K j)) ≡ Passes (at K (wordsBefore K (j + 1))) = is ∙ ap Passes on in (
-              ap₂ (λ (a b : Bool). cond (a && b) (rowTried K (rowState K j) (at K (wordsBefore K j))) Fails) e (row-ordered (knownBy next (wordsBefore K j)) j (G .known) lt) ∙ passes,
+              ap₂ (λ (a b : Bool). cond (a && b) (rowTried K (rowState K j) (at K (wordsBefore K j))) Fails) e
+                  (row-ordered (knownBy next (wordsBefore K j)) j (G .known) lt) ∙ passes,
               record {
                 tried = subst (λ (q : Search). rowsTried K (j + 1) (length places - (j + 1)) q ≡ 0) on z;
                 known = rows-known C seats states places next sessions (at K (wordsBefore K j)) (at K (wordsBefore K (j + 1))) j (G .known) lt passes;
@@ -270,7 +281,8 @@ module _ (f seats states places next : List ℕ) where
     stages zero le = stage-first
     stages (suc j) le = subst Stage (add-one j) (stage-next j (omega (arith, le)) (stages j (omega (arith, le))) .1)
 
-    part-between : (m j : ℕ) → j + m ≤ length places → (partTried K (wordsBefore K (j + m)) j m (at K (wordsBefore K j)) ≡ 0) × (wordsBefore K j ≤ wordsBefore K (j + m))
+    part-between : (m j : ℕ) → j + m ≤ length places
+        → (partTried K (wordsBefore K (j + m)) j m (at K (wordsBefore K j)) ≡ 0) × (wordsBefore K j ≤ wordsBefore K (j + m))
     unfolding partTried
     part-between zero j le =
         let here : wordsBefore K j ≡ wordsBefore K (j + zero) = let z : j ≡ j + zero = omega arith in ap (wordsBefore K) z in

@@ -49,8 +49,8 @@ partCases =
     ∷ ofEndings (part 0 5 0 4) 17 0
     ∷ ofEndings (part 0 2 3 0) 17 0
     ∷ ofEndings (part 0 4 0 5) 17 0
-    -- a row in order that nothing leads to is for the other parts to refuse; a line with a session that there is none of, and
-    -- a row without all its words
+    -- a row in order that nothing leads to is for the other parts to refuse; a line with a session that there is none
+    -- of, and a row without all its words
     ∷ ofLine 1 (part 1 2 1 1) 0 0
     ∷ ofLine 3 (part 1 2 1 1) 18 2
     ∷ answers sitters (1 ∷ []) (0 ∷ 0 ∷ 1 ∷ []) (0 ∷ 0 ∷ []) (1 ∷ []) (part 1 2 1 1) 18 2
