@@ -44,7 +44,8 @@ fn put_thread(out: &mut [u16], at: usize, it: Thread)
 
 fn put_threads(threads: &[u16], n: usize, out: &mut [u16], at: usize)
     requires { ⌜ (n ≤ 64) × (length (now threads) ≡ threadTableWords) × (at + 12 * n ≤ length (now out)) ⌝ }
-    ensures { λ r. ⌜ now (out .exit) ≡ sets (now (out .entry)) at (threadWords (threadsIn (now (threads .entry)) 0 n)) ⌝ }
+    ensures { λ r. ⌜ now (out .exit) ≡ sets (now (out .entry)) at
+        (threadWords (threadsIn (now (threads .entry)) 0 n)) ⌝ }
 {
     let mut k: usize = 0;
     while k < n {

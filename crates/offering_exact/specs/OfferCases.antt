@@ -15,7 +15,8 @@ pub data OfferCase : Type 0 where
 
 abbrev pub OfferShown : OfferCase → Type 0
 OfferShown (answers ws seats state out n p c l written) =
-    offering (bytesOf ws) seats state out ≡ record { answer = record { number = n; place = p; count = c; length = l }; out = written }
+    offering (bytesOf ws) seats state out
+    ≡ record { answer = record { number = n; place = p; count = c; length = l }; out = written }
 OfferShown (declines ws seats state n p) =
     offering (bytesOf ws) seats state (7 ∷ 8 ∷ 9 ∷ [])
     ≡ record { answer = record { number = n; place = p; count = 0; length = 0 }; out = 7 ∷ 8 ∷ 9 ∷ [] }
@@ -41,21 +42,24 @@ secondEnds = 2 ∷ 0 ∷ 0 ∷ 16 ∷ one (without 1) 1 nobody
 abbrev pub offerCases : List OfferCase
 offerCases =
     -- two offers, and words past them that stay
-    answers enders (0 ∷ []) (two (without 1) (without 2) nobody) (replicate 42 9) 0 0 2 40 (firstEnds ++ (secondEnds ++ (9 ∷ 9 ∷ [])))
+    answers enders (0 ∷ []) (two (without 1) (without 2) nobody) (replicate 42 9) 0 0 2 40
+    (firstEnds ++ (secondEnds ++ (9 ∷ 9 ∷ [])))
     -- room for one
-    ∷ answers enders (0 ∷ []) (two (without 1) (without 2) nobody) (replicate 39 9) 17 0 1 20 (firstEnds ++ replicate 19 9)
+    ∷ answers enders (0 ∷ []) (two (without 1) (without 2) nobody) (replicate 39 9) 17 0 1 20
+    (firstEnds ++ replicate 19 9)
     -- room for none
     ∷ answers enders (0 ∷ []) (two (without 1) (without 2) nobody) (replicate 19 9) 17 0 0 0 (replicate 19 9)
     -- one seat: thread 1 ends, and thread 2 has to wait
     ∷ answers sitters (1 ∷ []) (two (sitting 2) (without 3) nobody) (replicate 55 9) 0 0 2 54
-    ((1 ∷ 0 ∷ 0 ∷ 16 ∷ one (without 3) 2 nobody) ++ ((2 ∷ 0 ∷ 26 ∷ 30 ∷ two (sitting 2) (without 3) (waits 2)) ++ (9 ∷ [])))
+    ((1 ∷ 0 ∷ 0 ∷ 16 ∷ one (without 3) 2 nobody)
+    ++ ((2 ∷ 0 ∷ 26 ∷ 30 ∷ two (sitting 2) (without 3) (waits 2)) ++ (9 ∷ [])))
     -- no threads, no offer
     ∷ answers enders (0 ∷ []) (0 ∷ 0 ∷ nobody) (9 ∷ []) 0 0 0 0 (9 ∷ [])
     -- no whole state; a word too many; a wrong number of roles held
     ∷ declines enders (0 ∷ []) (2 ∷ []) 18 0
     ∷ declines enders (0 ∷ []) (0 ∷ 0 ∷ 0 ∷ 0 ∷ []) 18 0
     ∷ declines enders (0 ∷ []) (1 ∷ 0 ∷ (1 ∷ 1 ∷ 0 ∷ 1 ∷ 0 ∷ 0 ∷ 0 ∷ 0 ∷ 0 ∷ 0 ∷ 0 ∷ 0 ∷ []) ++ (1 ∷ nobody)) 18 0
-    -- a session that has the role waits; more sessions than seats; a session that there is none of; a line without limit
+    -- a session that has the role waits; more sessions than seats; no such session; a line without limit
     ∷ declines sitters (1 ∷ []) (two (sitting 2) (without 3) (waits 1)) 18 0
     ∷ declines sitters (1 ∷ []) (two (sitting 2) (sitting 4) nobody) 18 0
     ∷ declines sitters (1 ∷ []) (one (without 3) 3 nobody) 18 0
