@@ -7,6 +7,7 @@ mod check_several;
 mod choices;
 mod columns;
 mod common;
+mod damaged;
 mod dispatch;
 mod draft;
 mod examples;
