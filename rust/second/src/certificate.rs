@@ -58,7 +58,7 @@ fn each_choice(from: &SeatedRun, mut arrive: impl FnMut([u16; 3], &SeatedRun) ->
 pub fn search(start: SeatedRun, limit: usize) -> Option<Certificate> {
     let mut found = Certificate::default();
     let mut numbers = HashMap::new();
-    let row: Vec<u16> = start.row().collect();
+    let row = start.row();
     found.add(&row);
     numbers.insert(row, 0);
     let mut from = start;
@@ -69,7 +69,7 @@ pub fn search(start: SeatedRun, limit: usize) -> Option<Certificate> {
         }
         from.stand(found.from(done));
         each_choice(&from, |_, run| {
-            let number = match numbers.entry(run.row().collect()) {
+            let number = match numbers.entry(run.row()) {
                 Entry::Occupied(known) => *known.get(),
                 Entry::Vacant(new) => {
                     let number = found.add(new.key());
@@ -188,14 +188,13 @@ pub fn row_at_fault_in(
 pub fn offer(from: &SeatedRun, out: &mut [u16]) -> Offers {
     let (mut count, mut length) = (0, 0);
     let all = each_choice(from, |choice, run| {
-        let words = run.row().count();
+        let words = run.length();
         let Some(room) = out[length..].get_mut(..4 + words) else {
             return false;
         };
-        let head = choice.into_iter().chain([words as u16]);
-        for (slot, word) in room.iter_mut().zip(head.chain(run.row())) {
-            *slot = word;
-        }
+        let [thread, partner, answer] = choice;
+        room[..4].copy_from_slice(&[thread, partner, answer, words as u16]);
+        run.write_row(&mut room[4..]);
         count += 1;
         length += room.len();
         true

@@ -35,7 +35,7 @@ pub fn row_of(run: &SeatedRun, roles: u16) -> Vec<u16> {
 /// The roles of the file of a run, so many as its lines have words at the end of a row.
 fn roles_of(run: &SeatedRun) -> u16 {
     let before = row_of(run, 0).len();
-    (run.row().count() - before) as u16
+    (run.row().len() - before) as u16
 }
 
 /// Breadth first, until all rows are gone on from or there are over `most`. A state that is

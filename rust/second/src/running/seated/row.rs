@@ -22,27 +22,62 @@ fn row_length(words: &[u16], roles: usize) -> Option<usize> {
 }
 
 impl SeatedRun<'_> {
-    /// The words of a row: the run's output from its third word on, the session of each
+    /// The words of its row: the run's output from its third word on, the session of each
     /// thread, and for each role of the file how many wait for it and who, the first in
     /// front.
-    pub fn row(&self) -> impl Iterator<Item = u16> + '_ {
-        let counts = [self.run.threads().len(), self.run.made().len()];
-        let counts = counts.map(|count| count as u16).into_iter();
-        let made = self.run.made().as_flattened().iter().copied();
-        let threads = self.run.threads().iter().flat_map(Thread::words);
-        let owners = self.owners().iter().copied();
-        let lines = &self.seats.lines[..self.run.file.roles.len()];
-        let lines = lines.iter().flat_map(|line| {
-            let waiting = line.waiting().iter().copied();
-            [line.count as u16].into_iter().chain(waiting)
+    pub fn row(&self) -> Vec<u16> {
+        let mut words = Vec::new();
+        self.each_part(|part| {
+            words.extend(part);
+            true
         });
-        counts.chain(made).chain(threads).chain(owners).chain(lines)
+        words
     }
 
     /// Whether some words begin with its row.
     pub(crate) fn begins(&self, words: &[u16]) -> bool {
-        let mut words = words.iter();
-        self.row().all(|word| words.next() == Some(&word))
+        let mut rest = words;
+        self.each_part(|part| match rest.strip_prefix(part) {
+            Some(behind) => {
+                rest = behind;
+                true
+            }
+            None => false,
+        })
+    }
+
+    /// How many words its row has.
+    pub(crate) fn length(&self) -> usize {
+        let mut length = 0;
+        self.each_part(|part| {
+            length += part.len();
+            true
+        });
+        length
+    }
+
+    /// Writes its row into as many words.
+    pub(crate) fn write_row(&self, out: &mut [u16]) {
+        let mut at = 0;
+        self.each_part(|part| {
+            out[at..at + part.len()].copy_from_slice(part);
+            at += part.len();
+            true
+        });
+    }
+
+    /// Visits the words of its row, some at a time, as long as the visit answers true.
+    /// Whether all did.
+    fn each_part(&self, mut visit: impl FnMut(&[u16]) -> bool) -> bool {
+        let (threads, made) = (self.run.threads(), self.run.made());
+        let lines = &self.seats.lines[..self.run.file.roles.len()];
+        visit(&[threads.len() as u16, made.len() as u16])
+            && visit(made.as_flattened())
+            && threads.iter().all(|thread| visit(&thread.words()))
+            && visit(self.owners())
+            && lines
+                .iter()
+                .all(|line| visit(&[line.count as u16]) && visit(line.waiting()))
     }
 
     /// Goes to the state whose row some words begin with, if it has all its words and is
