@@ -6,9 +6,9 @@
  *
  * The caller must provide valid memory, and nothing more:
  *
- * - A pointer with a length names that many bytes, words (uint16_t) or records
- *   (pilzdamo_thread) and is aligned for them. Any length is allowed. No pointer may be
- *   null, also with length 0.
+ * - A pointer with a length names that many bytes, words (uint16_t), numbers (uint32_t)
+ *   or records (pilzdamo_thread) and is aligned for them. Any length is allowed. No
+ *   pointer may be null, also with length 0.
  * - Memory that a call writes must not overlap anything else passed to the call. While
  *   the call runs, nobody else may write what is passed, or read what the call writes.
  *
@@ -20,8 +20,8 @@
  * What the place counts depends on the number: nothing (0) for 1 to 5, 16, 17, 22, 25
  * and 28; words from 0, at the start of a record, for 6 and 21; sessions for 7 and 26;
  * nodes for 8 to 15 and 24 (14 has 0 for a starting mask); choices for 18 to 20, and in
- * a run for 11 to 13 (18 has 0 for a bad list); rows for 23; notices for 27. All but
- * words are counted from 1.
+ * a run for 11 to 13 (18 has 0 for a bad list, a lent state and a certificate); rows for
+ * 23; notices for 27. All but words are counted from 1.
  *
  * A file has version 1; version 2, in which a role has a word of junior roles; or
  * version 3, which is version 2 with the nodes by column: all tags, then all f1, then
@@ -343,10 +343,10 @@ pilzdamo_role_seats pilzdamo_seats(const uint8_t *file, size_t file_len,
  *
  * Refusals, in this order: 17 for no row, or for 2^32 - 1 rows or more; 1 to 10; 17 and 26
  * for the seats as in pilzdamo_run_seated; 18 at place 0, with the row at fault, counted
- * from 1. The row at fault is row 1 if it isn't the file's start; else the lowest row with
- * a choice whose number in next is missing, names no row, names a new row that is not the
- * next new one, or names a row with other words than the state that follows; else the first
- * row that no choice leads to.
+ * from 1. The row at fault is the first if it isn't the file's start; else the lowest row
+ * that no choice of a row before it leads to, or that has a choice whose number in next is
+ * missing, names no row, names a new row that is not the next new one, or names a row with
+ * other words than the state that follows.
  */
 pilzdamo_closing pilzdamo_closed(const uint8_t *file, size_t file_len,
                                  const uint16_t *seats, size_t seats_len,
@@ -358,21 +358,22 @@ pilzdamo_closing pilzdamo_closed(const uint8_t *file, size_t file_len,
  * Judges a part of a certificate, which pilzdamo_closed judges whole: the rows from
  * `from` to `to`, counted from 0, the last not included, whose choices that are done have
  * the numbers from `begin` to `end` of next, the last not included. Parts may be judged
- * apart. If every part of a chain is closed, the whole certificate is: the first part has
+ * apart. If every part of a chain holds, the whole certificate does: the first part has
  * from and begin 0, each begins where the one before ends, and the last has rows as to. If
- * a certificate is closed, so is every part with the right numbers.
+ * a certificate holds, so does every part with the right numbers.
  *
- * The rows before the part aren't looked at. Known when it begins are row 0 and, of the
- * rows that the numbers before begin name, the highest and all below. Each row of the part
- * must be in order: it has all its words, with at most 64 threads, 64 made channels and
- * PILZDAMO_SESSIONS sessions in a line; each thread's session is one of the file's; no
- * role with a limit has more sessions than seats; a line has sessions of the file that
- * aren't in the role, none twice, and a role without limit has no line.
+ * Rows outside the part aren't tried, but those that its choices lead to are compared:
+ * lend them, all of places, and next from its start. Known when the part begins are row 0
+ * and, of the rows that the numbers before begin name, the highest and all below. Each row
+ * of the part must be in order: it has all its words, with at most 64 threads, 64 made
+ * channels and PILZDAMO_SESSIONS sessions in a line; each thread's session is one of the
+ * file's; no role with a limit has more sessions than seats; a line has sessions of the
+ * file that aren't in the role, none twice, and a role without limit has no line.
  *
  * Refusals, in this order: 17 as in pilzdamo_closed, and unless from < to <= rows and
  * begin <= end <= next_len; 1 to 10; 17 and 26 for the seats as in pilzdamo_run_seated; 18
- * at place 0, with the lowest row at fault, counted from 1: row 1 if it is in the part and
- * isn't the file's start; a row that isn't in order, isn't known yet, or has a choice at
+ * at place 0, with the lowest row at fault, counted from 1: the first if it is in the part
+ * and isn't the file's start; a row that isn't in order, isn't known yet, or has a choice at
  * fault as in pilzdamo_closed; the last row of the part if its choices don't end at end.
  */
 pilzdamo_closing pilzdamo_closed_part(const uint8_t *file, size_t file_len,
@@ -385,6 +386,8 @@ pilzdamo_closing pilzdamo_closed_part(const uint8_t *file, size_t file_len,
 /*
  * Writes all choices that can be done in a state, each with the state that follows, for a
  * search over all lists of choices. state has the words of a row, as in pilzdamo_closed.
+ * The start's row is what pilzdamo_run_seated writes without choices, from the third word
+ * on; then 1, 2 and so on for the threads; then a 0 for each word of seats.
  * The offers are written to the start of out, and nothing past them: threads from 1 on,
  * with each thread the partners from 0 on. An offer has these words: thread, partner,
  * answer (0, or 26 if it has to wait for a seat), the number of words of the state that

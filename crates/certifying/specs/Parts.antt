@@ -1,5 +1,5 @@
--- A certificate by parts: some of its rows, one after the other, with the words that their choices have in the list of
--- targets.
+-- A certificate by parts: some of its rows, one after the other, with the words that their choices have in
+-- `next`.
 use Prim.Native.Nat.{ℕ, zero, suc, _+_, _-_}
 use mathlib.Core.Bool.{Bool, cond, _&&_, _||_}
 use mathlib.Core.List.{List}
@@ -20,7 +20,7 @@ use Rattle.certifying.specs.Known.{knownBy}
 use Rattle.certifying.specs.Certificate.{Certificate, certificateOf, rowPlace, rowState, isRow, rowTried, rowOnward}
 use Rattle.certifying.specs.Certificate.{rowsTried, searchBegins, rowAtFault, someRows, afterSeats, afterReading}
 
--- the rows before a part are not looked at: so each row of it is asked whether it is a state in order
+-- the rows before a part are not tried: so each row of it is asked whether it is a state in order
 abbrev pub isOrdered : Certificate → ℕ → Bool
 isOrdered K j =
     rowFits (K .roles) (K .states) (rowPlace K j) && inOrder (K .limited .sessions) (K .limited .seats) (rowState K j)
@@ -29,8 +29,8 @@ isOrdered K j =
 abbrev pub rowTested : Certificate → ℕ → Search → Trial
 rowTested K j q = cond (ltb j (q .known) && isOrdered K j) (rowTried K (rowState K j) q) Fails
 
--- so many rows from j on, whose words end before the word `end`: 0, or the number from 1 on of the first at fault, the
--- last one where the words end elsewhere
+-- so many rows from j on, whose choices have the words up to `end`: 0, or the number from 1 on of the first at fault,
+-- the last one where the words don't end exactly there
 unfoldable pub partTried : Certificate → ℕ → ℕ → ℕ → Search → ℕ
 partTried K end j zero q = cond (eqb (q .cursor) end) 0 j
 partTried K end j (suc n) q = rowOnward (rowTested K j q) j (λ x. partTried K end (j + 1) n x)

@@ -1,4 +1,4 @@
--- Certificates in literal words: a file, a table of seats, states, places and targets, and what is answered.
+-- Certificates in literal words: a file, a table of seats, states, places and `next`, and what is answered.
 use Prim.Native.Nat.{ℕ}
 use mathlib.Core.Path.{_≡_}
 use mathlib.Core.List.{List, [], _∷_, _++_}
@@ -127,12 +127,12 @@ sittingNext = 1 ∷ 2 ∷ 3 ∷ 4 ∷ 5 ∷ 6 ∷ 7 ∷ 8 ∷ 4 ∷ 5 ∷ 9 ∷ 
 abbrev pub certificateCases : List CertificateCase
 certificateCases =
     accepts enders (0 ∷ []) endings (0 ∷ 29 ∷ 45 ∷ 61 ∷ []) (1 ∷ 2 ∷ 3 ∷ 3 ∷ [])
-    -- words of the list of targets past those of the last row are not looked at
+    -- words of `next` past those of the last row are not looked at
     ∷ accepts enders (0 ∷ []) endings (0 ∷ 29 ∷ 45 ∷ 61 ∷ []) (1 ∷ 2 ∷ 3 ∷ 3 ∷ 9 ∷ [])
     -- the first row is not the start, also where no choice leads out of it
     ∷ rejects enders (0 ∷ []) endings (61 ∷ []) [] 18 1
     ∷ rejects enders (0 ∷ []) endings (29 ∷ 0 ∷ 45 ∷ 61 ∷ []) (1 ∷ 2 ∷ 3 ∷ 3 ∷ []) 18 1
-    -- a target that is one off, one that isn't known yet, and a missing one
+    -- a word of `next` that is one off, one that isn't known yet, and a missing one
     ∷ rejects enders (0 ∷ []) endings (0 ∷ 29 ∷ 45 ∷ 61 ∷ []) (1 ∷ 2 ∷ 2 ∷ 3 ∷ []) 18 2
     ∷ rejects enders (0 ∷ []) endings (0 ∷ 29 ∷ 45 ∷ 61 ∷ []) (2 ∷ 1 ∷ 3 ∷ 3 ∷ []) 18 1
     ∷ rejects enders (0 ∷ []) endings (0 ∷ 29 ∷ 45 ∷ 61 ∷ []) (1 ∷ 2 ∷ 3 ∷ []) 18 3

@@ -8,7 +8,7 @@ use Rattle.certifying.specs.declared.Part.{Part}
 use Rattle.certifying.specs.Parts.{closingPart}
 use Rattle.certifying_exact.specs.CertificateCases.{enders, sitters, waits, endings}
 
--- a file, a table of seats, states, places and targets, and a part of them; number and row of the answer
+-- a file, a table of seats, states, places and `next`, and a part of them; number and row of the answer
 pub data PartCase : Type 0 where
   answers : List ℕ → List ℕ → List ℕ → List ℕ → List ℕ → Part → ℕ → ℕ → PartCase
 

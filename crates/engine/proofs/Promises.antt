@@ -235,7 +235,7 @@ use Rattle.certifying_exact.proofs.PartsShown.{parts-shown}
 use Rattle.certifying_exact.proofs.CasesShown.{certificates-shown}
 use Rattle.rows.specs.Rows.{rowWords}
 use Rattle.offering.specs.Offers.{Offer, offersOf, offersPut, begun, offeringOf, refusing, offering}
-use Rattle.offering_exact.specs.Offered.{IsOffer, InOrder, DoesNext, OffersStand, StateWords}
+use Rattle.offering_exact.specs.Offered.{IsOffer, Ascending, DoesNext, OffersStand, StateWords}
 use Rattle.offering_exact.specs.OfferCases.{OfferShown, offerCases}
 use Rattle.offering_exact.proofs.Offered.{offered-exactly, offered-in-order, next-exactly}
 use Rattle.offering_exact.proofs.Written.{offers-stand}
@@ -1949,7 +1949,7 @@ pub every-choice-that-is-done-is-offered : (L : Limited) (S : SeatedState) (o : 
 every-choice-that-is-done-is-offered = offered-exactly
 
 -- Threads outside, partners inside, so each once.
-pub offers-are-in-order : (L : Limited) (S : SeatedState) → InOrder (offersOf L S)
+pub offers-are-in-order : (L : Limited) (S : SeatedState) → Ascending (offersOf L S)
 offers-are-in-order = offered-in-order
 
 -- With a table of seats of zeros: the choice that `pilzdamo_choose` carries out.

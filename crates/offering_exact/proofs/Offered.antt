@@ -17,7 +17,7 @@ use Rattle.seats.specs.Seats.{Limited, limitedOf, SeatedState, seatedChoice, Se
 use Rattle.seats.specs.SeatOrder.{AnswerWord}
 use Rattle.certifying_exact.proofs.ChoiceBounds.{seatedThreads, seated-refuses-unknown}
 use Rattle.offering.specs.Offers.{Offer, offerBy, partnersOffered, threadsOffered, offersOf}
-use Rattle.offering_exact.specs.Offered.{IsOffer, Before, InOrder, DoesNext}
+use Rattle.offering_exact.specs.Offered.{IsOffer, Before, Ascending, DoesNext}
 
 -- what one choice offers
 abbrev By : ℕ → ℕ → Taken SeatedState → Offer → Type 0
@@ -134,17 +134,17 @@ module _ (L : Limited) (S : SeatedState) where
   before-all o [] h = tt
   before-all o (q ∷ os) h = (h q (List·Memᴰ·head refl), before-all o os (λ x m. h x (List·Memᴰ·tail m)))
 
-  joined-order : (xs ys : List Offer) → InOrder xs → InOrder ys → ((x y : Offer) → List·Memᴰ x xs → List·Memᴰ y ys → Before x y) → InOrder (xs ++ ys)
+  joined-order : (xs ys : List Offer) → Ascending xs → Ascending ys → ((x y : Offer) → List·Memᴰ x xs → List·Memᴰ y ys → Before x y) → Ascending (xs ++ ys)
   joined-order [] ys a b h = b
   joined-order (x ∷ xs) ys (first, rest) b h =
       (all-append (Before x) xs ys first (before-all x ys (λ y m. h x y (List·Memᴰ·head refl) m)), joined-order xs ys rest b (λ u v m n. h u v (List·Memᴰ·tail m) n))
 
-  one-order : (i p : ℕ) (a : Taken SeatedState) → InOrder (offerBy i p a)
+  one-order : (i p : ℕ) (a : Taken SeatedState) → Ascending (offerBy i p a)
   one-order i p (refuses n) = tt
   one-order i p (waits T) = (tt, tt)
   one-order i p (steps T) = (tt, tt)
 
-  partners-order : (i p n : ℕ) → InOrder (partnersOffered L S i p n)
+  partners-order : (i p n : ℕ) → Ascending (partnersOffered L S i p n)
   unfolding partnersOffered
   partners-order i p zero = tt
   partners-order i p (suc n) =
@@ -154,7 +154,7 @@ module _ (L : Limited) (S : SeatedState) where
       let (ey, low, high, its) = partners-to i (p + 1) n y k in
       inr (ex ∙ sym ey, omega (arith, ep, low)))
 
-  threads-order : (i n : ℕ) → InOrder (threadsOffered L S i n)
+  threads-order : (i n : ℕ) → Ascending (threadsOffered L S i n)
   unfolding threadsOffered
   threads-order i zero = tt
   threads-order i (suc n) =
@@ -164,7 +164,7 @@ module _ (L : Limited) (S : SeatedState) where
       let (low, high, few, its) = threads-to (i + 1) n y k in
       inl (omega (arith, ex, low)))
 
-  pub offered-in-order : InOrder (offersOf L S)
+  pub offered-in-order : Ascending (offersOf L S)
   offered-in-order = threads-order 1 n-threads
 
 -- one more choice after a list whose choices are all done

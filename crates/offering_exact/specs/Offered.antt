@@ -25,9 +25,9 @@ IsOffer L S o =
 abbrev pub Before : Offer → Offer → Type 0
 Before o q = (o .thread < q .thread) ⊎ ((o .thread ≡ q .thread) × (o .partner < q .partner))
 
-abbrev pub InOrder : List Offer → Type 0
-InOrder [] = Unit {0}
-InOrder (o ∷ os) = All (Before o) os × InOrder os
+abbrev pub Ascending : List Offer → Type 0
+Ascending [] = Unit {0}
+Ascending (o ∷ os) = All (Before o) os × Ascending os
 
 -- a run through a list and one more choice does that choice, is answered so, and stands in this state
 pub record DoesNext (f seats ws : List ℕ) (o : Offer) : Type 0 where

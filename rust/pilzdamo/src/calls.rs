@@ -49,8 +49,9 @@ pub const SEATS: u16 = 32;
 /// [`ROLES`] lines.
 pub const ROW_WORDS: usize = 2 + 2 * 64 + 13 * 64 + ROLES * (1 + SESSIONS);
 
-/// Words that are enough for the output of [`offers`] in any state: of 64 threads at most 32
-/// can send to 32 others each.
+/// Words that are enough for the output of [`offers`] in any state: s threads at a send and r
+/// at a receive have at most s times r meetings, every other thread one choice, and s + r is at
+/// most 64. This is counted by hand and not proved; less room is answered 17.
 pub const OFFERS_ROOM: usize = 32 * 32 * (4 + ROW_WORDS);
 
 /// The records of the list that [`start`] and [`choose`] take.
@@ -580,10 +581,10 @@ pub fn seats(file: &[u8], choices: &[u16], seats: &[u16]) -> Seats {
 ///
 /// Accepts any input; never panics. Refusals, in this order: 17 for no row, or for 2^32 − 1
 /// rows or more; 1 to 10; 17 and 26 for the seats as in [`run_seated`]; 18 at place 0, with
-/// the row at fault, counted from 1. The row at fault is row 1 if it isn't the file's start;
-/// else the lowest row with a choice whose number in `next` is missing, names no row, names
-/// a new row that is not the next new one, or names a row with other words than the state
-/// that follows; else the first row that no choice leads to.
+/// the row at fault, counted from 1. The row at fault is the first if it isn't the file's
+/// start; else the lowest row that no choice of a row before it leads to, or that has a
+/// choice whose number in `next` is missing, names no row, names a new row that is not the
+/// next new one, or names a row with other words than the state that follows.
 ///
 /// ```
 /// # let words = [
@@ -622,21 +623,22 @@ pub fn closed(file: &[u8], seats: &[u16], states: &[u16], places: &[u32], next: 
 /// from 0, whose choices that are done have the numbers of `numbers` in `next`. Parts can be
 /// judged apart, also at once by several threads or computers.
 ///
-/// If every part of a chain is closed, the whole certificate is: the first part begins with
+/// If every part of a chain holds, the whole certificate does: the first part begins with
 /// row 0 and number 0, each begins where the one before ends, and the last ends with the last
-/// row. And if a certificate is closed, so is every part with the right numbers.
+/// row. And if a certificate holds, so does every part with the right numbers.
 ///
-/// The rows before the part aren't looked at. Known when it begins are row 0 and, of the rows
-/// that the numbers before it name, the highest and all below. Each row of the part has to be
-/// in order: it has all its words, with at most 64 threads, 64 made channels and [`SESSIONS`]
-/// sessions in a line; each thread's session is one of the file's; no role with a limit has
-/// more sessions than seats; a line has sessions of the file that aren't in the role, none
-/// twice, and a role without limit has no line.
+/// Rows outside the part aren't tried, but those that its choices lead to are compared: lend
+/// them, all of `places`, and `next` from its start. Known when the part begins are row 0 and,
+/// of the rows that the numbers before it name, the highest and all below. Each row of the
+/// part has to be in order: it has all its words, with at most 64 threads, 64 made channels
+/// and [`SESSIONS`] sessions in a line; each thread's session is one of the file's; no role
+/// with a limit has more sessions than seats; a line has sessions of the file that aren't in
+/// the role, none twice, and a role without limit has no line.
 ///
 /// Accepts any input; never panics. Refusals, in this order: 17 as in [`closed`], and for no
 /// row in `rows`, a row or number past the last, or `numbers` that end before they begin; 1 to
 /// 10; 17 and 26 for the seats as in [`run_seated`]; 18 at place 0, with the lowest row at
-/// fault, counted from 1: row 1 if it is in the part and isn't the file's start; a row that
+/// fault, counted from 1: the first if it is in the part and isn't the file's start; a row that
 /// isn't in order, isn't known yet, or has a choice at fault as in [`closed`]; the last row of
 /// the part if its choices don't end with `numbers`.
 ///
