@@ -40,8 +40,8 @@ use Rattle.rows.proofs.LoadLaws.{row-lines-past}
 use Rattle.rows.proofs.FitLaws.{rowFits-iff}
 use Rattle.ordering.specs.Order.{inOrder}
 use Rattle.ordering.proofs.OrderLaws.{inOrder-iff, past-seats}
-use Rattle.certifying.proofs.ExploreLaws.{ordered-readable}
-use Rattle.certifying_exact.proofs.ChoiceEight.{choice-eight}
+use Rattle.certifying.proofs.KnownLaws.{ordered-readable}
+use Rattle.certifying.proofs.ChoiceFits.{choice-eight}
 use Rattle.certifying_exact.proofs.Certified.{start-eight}
 use Rattle.offering.specs.Offers.{Offer, offersOf, offersPut, begun, isState, offeringOf, refusing, offeringIn, offeringBy, offering}
 use Rattle.offering_exact.specs.Offered.{StateWords}

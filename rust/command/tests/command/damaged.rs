@@ -188,6 +188,12 @@ fn calls<'a>(
     let begun = begun.map_or(2, |begins| u8::from(!begins));
     let shown = due(|_| true);
     let packed = if is_text(bytes) { shown } else { 2 };
+    // A sheet has a file's length in a word.
+    let is_long = |file: &[u8]| file.len() > usize::from(u16::MAX);
+    let summed = match &file {
+        Some((file, _)) if is_long(file) => 2,
+        _ => shown,
+    };
     vec![
         (vec!["check", text], Some(checked)),
         (vec!["check", "--json", text], Some(checked)),
@@ -211,7 +217,7 @@ fn calls<'a>(
         (vec!["rows", text, "-o", out], None),
         (vec!["notice", "0", text, "-o", out], Some(read)),
         (vec!["in-force", "0", text, text], Some(1)),
-        (vec!["sheet", text], Some(shown)),
+        (vec!["sheet", text], Some(summed)),
         (vec!["run", text, list], Some(begun)),
         (vec!["run", "--trace", text, list], Some(begun)),
         (vec!["run", "--json", text, list], Some(begun)),
