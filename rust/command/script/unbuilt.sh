@@ -314,6 +314,7 @@ answer_unbuilt() { # WORD...
         ;;
     esac
     is_word "$1" || no_word "$1"
+    [[ $1 == help ]] || way="pilzdamo help $1 says how to use it"
     sort_operands "$@"
     one_standard_input "$1"
     fit_options "$1"

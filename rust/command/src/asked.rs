@@ -25,7 +25,7 @@ pub struct Asked {
 
 impl Asked {
     pub fn read(at: &At) -> Result<Asked, WrongUse> {
-        let read = |hours: &Source| Ok((hours.name(), hours.read()?));
+        let read = |hours: &Source| Ok((hours.name(), hours.table()?));
         Ok(Asked {
             minute: at.minute,
             hours: at.hours.as_ref().map(read).transpose()?,

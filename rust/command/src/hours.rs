@@ -97,12 +97,20 @@ type Word<'a> = (&'a str, At);
 /// The role that a line names, and the words of its stretch.
 fn by_name<'a>(words: &[Word<'a>], roles: &[String]) -> Result<(u16, [Word<'a>; 2]), Flaw> {
     let flaw = |at, what| Err(Flaw { at, what });
-    if let [("role", first), (number, last), ..] = *words {
-        let number = number.parse().unwrap_or(1);
-        let role = named::example(roles, number);
-        let width = last.column + last.width - first.column;
-        let what = format!("a role by position, and roles go by name here: {role}");
-        return flaw(At { width, ..first }, what);
+    if let [("role", first), (role, last), ..] = *words {
+        let digits = role.bytes().all(|byte| byte.is_ascii_digit());
+        if digits {
+            let role = named::example(roles, role.parse().unwrap_or(1));
+            let width = last.column + last.width - first.column;
+            let what = format!("a role by position, and roles go by name here: {role}");
+            return flaw(At { width, ..first }, what);
+        }
+        if named::role(role.as_bytes(), roles).is_ok() {
+            let rest = words[2..].iter().take(2).map(|&(word, _)| shown(word));
+            let line: Vec<String> = [role.to_string()].into_iter().chain(rest).collect();
+            let what = format!("leave out the word role: {}", line.join(" "));
+            return flaw(first, what);
+        }
     }
     let &[(role, at), days, times] = words else {
         return flaw(over(words), count(words, "three"));
@@ -236,6 +244,14 @@ mod tests {
             (
                 "role 9 Mon 1:00-2:00",
                 "1:1+6: a role by position, and roles go by name here: admissions",
+            ),
+            (
+                " role night-desk Mon 1:00-2:00",
+                "1:2+4: leave out the word role: night-desk Mon 1:00-2:00",
+            ),
+            (
+                "role nobody Mon 1:00-2:00",
+                "1:1+25: 'role nobody Mon 1:00-2:00' doesn't have three words",
             ),
             (
                 "admissions Mon 7-8",

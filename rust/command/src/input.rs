@@ -33,7 +33,7 @@ pub struct Text {
 }
 
 /// A mark of the byte order.
-const MARK: &str = "\u{feff}";
+pub const MARK: &str = "\u{feff}";
 
 impl Text {
     /// The names of the sessions.

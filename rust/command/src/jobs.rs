@@ -123,6 +123,7 @@ fn turn_file(turn: Turn, file: &Source, out: &Out) -> Result<Outcome, WrongUse> 
     output::deliver(&room[..length.min(ROOM)], out)?;
     let into = out.told(" in");
     output::say(&format!("{name}: {}, {length} bytes{into}", turn.done()));
+    packing::say_lost(&bytes);
     Ok(Outcome::Answer)
 }
 
@@ -141,6 +142,7 @@ fn notice(first_day: u16, file: &Source, out: &Out) -> Result<Outcome, WrongUse>
     output::say(&format!(
         "{name}: a notice from {begins} on, {length} bytes{written}{planned}"
     ));
+    packing::say_lost(&bytes);
     Ok(Outcome::Answer)
 }
 

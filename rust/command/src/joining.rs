@@ -4,7 +4,7 @@ use crate::input::Text;
 use crate::jobs::refusal;
 use crate::merging::{self, Files};
 use crate::output::{self, Out};
-use crate::packing::without_records;
+use crate::packing::{self, without_records};
 use crate::report;
 use crate::{Outcome, WrongUse};
 use pilzdamo::{Verdict, ROOM_1};
@@ -59,6 +59,10 @@ pub fn join(
         lines.extend(renamed(&files[1].0, &apart));
     }
     output::say(&lines.join("\n  "));
+    if as_bytes {
+        // Both have the same.
+        packing::say_lost(files[0].1);
+    }
     Ok(Outcome::Answer)
 }
 

@@ -1,7 +1,9 @@
 //! A file with a list of choices for it, and a table of seats if there is one: what every
 //! word about runs begins with.
 
+use crate::called::Called;
 use crate::clinic::Clinic;
+use crate::course::Course;
 use crate::input::Input;
 use crate::jobs::{answer, refusal};
 use crate::lists::{self, List};
@@ -82,6 +84,19 @@ impl Listed {
         match verdict.number == 13 && Clinic::of(&self.input).is_bare() {
             true => format!("{message}\n  {}", report::UNPLACED),
             false => message,
+        }
+    }
+
+    /// Points to placing where the list leads, if a thread of a file without on and off
+    /// stands still there for want of a role.
+    pub fn say_unplaced(&self) {
+        let called = Called::of(&self.input);
+        let Ok(mut course) = Course::start(&called) else {
+            return;
+        };
+        course.through(&self.list.words, &self.waited());
+        if course.is_unplaced() {
+            output::say(&format!("{}: {}", self.input.name, report::UNPLACED));
         }
     }
 

@@ -7,6 +7,7 @@ use crate::jobs::refusal;
 use crate::joining;
 use crate::names::{carries, grants, items, planned, several};
 use crate::output::{self, Out};
+use crate::packing;
 use crate::report;
 use crate::source::Source;
 use crate::{Outcome, WrongUse};
@@ -42,6 +43,7 @@ pub fn merge(
     let (names, told) = (names(&files), size(merged));
     let into = out.told(" in");
     output::say(&format!("{names}: merged, {told}{into}"));
+    [&one, &other].into_iter().for_each(packing::say_lost);
     Ok(Outcome::Answer)
 }
 

@@ -53,7 +53,45 @@ pub fn pack(source: &Source, out: &Out, beside: &Beside) -> Result<Outcome, Wron
     let into = out.told(" in");
     let bytes = names::several(input.len(), "byte");
     output::say(&format!("{}: packed, {bytes}{into}", input.name));
+    if beside.names.is_none() {
+        let kept = [&beside.seats, &beside.hours].map(Option::is_some);
+        lost(&input, kept, "")
+            .iter()
+            .for_each(|told| output::say(told));
+    }
     Ok(Outcome::Answer)
+}
+
+/// Says of a text that was written as bytes that these don't have its seats and hours.
+pub fn say_lost(input: &Input) {
+    let told = lost(input, [false; 2], "pack ");
+    told.iter().for_each(|told| output::say(told));
+}
+
+/// What is said of the seats and hours of a text that aren't in its bytes and aren't kept
+/// elsewhere, and which options, of this command, write them.
+fn lost(input: &Input, [seats, hours]: [bool; 2], command: &str) -> Option<String> {
+    let names = &input.source_text()?.packed.names;
+    let (mut with_seats, mut with_hours) = (false, false);
+    let mut roles = Vec::new();
+    for (role, limits) in names.roles.iter().zip(&names.limits) {
+        let has_seats = !seats && limits.seats != 0;
+        let has_hours = !hours && !limits.open.is_empty();
+        with_seats |= has_seats;
+        with_hours |= has_hours;
+        roles.extend((has_seats || has_hours).then_some(role.as_str()));
+    }
+    let (what, options) = match (with_seats, with_hours) {
+        (false, false) => return None,
+        (true, false) => ("seats", "--names or --seats"),
+        (false, true) => ("hours", "--names or --hours"),
+        (true, true) => ("seats and hours", "--names, --seats or --hours"),
+    };
+    let many = if roles.len() == 1 { "" } else { "s" };
+    let (name, roles) = (&input.name, roles.join(", "));
+    Some(format!(
+        "{name}: the {what} of role{many} {roles} aren't in the bytes; {command}{options} write them"
+    ))
 }
 
 /// The bytes of words, the low byte first.

@@ -70,6 +70,7 @@ fn deliver(
         }
         _ => {
             output::deliver(placed, out)?;
+            packing::say_lost(input);
             Ok("bytes")
         }
     }

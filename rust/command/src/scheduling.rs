@@ -83,7 +83,10 @@ pub fn ready(
     }
     match told.pair() {
         _ if !verdict.is_clean() => listed.answered(verdict, String::new),
-        None => answer("no two threads can meet\n"),
+        None => {
+            listed.say_unplaced();
+            answer("no two threads can meet\n")
+        }
         Some((sender, receiver)) => {
             let [sender, receiver] = [sender, receiver].map(|number| thread(&listed, number));
             answer(&format!("{sender} can send to {receiver}\n"))
@@ -143,7 +146,10 @@ pub fn round(file: &NamedFile, list: &Source, table: Option<&Source>) -> Result<
         let done = list.words.len() / 2..both.len() / 2;
         match round.choices() {
             _ if !verdict.is_clean() => state,
-            [] => format!("round: no choice can be done\n{state}"),
+            [] => {
+                listed.say_unplaced();
+                format!("round: no choice can be done\n{state}")
+            }
             _ => {
                 let told = lists::line(input, &followed, &both, done);
                 format!("round: {told}\n{state}")
@@ -211,9 +217,10 @@ fn stopped(input: &Input, rounds: &Rounds) -> Vec<String> {
         desk: rounds.run.desk.clone(),
         roll: rounds.run.roll.clone(),
     };
-    let spared = rounds.spared().map(|spared| {
+    let spared = rounds.spared().filter(|spared| spared.left_out > 0);
+    let spared = spared.map(|spared| {
         let times = names::several(spared.left_out, "time");
-        format!("with --sparing these are not the rounds of `round` (K5): a repeat was left out {times}")
+        format!("with --sparing these are not the rounds of `round`: a repeat was left out {times}")
     });
     let mut told: Vec<String> = spared.into_iter().collect();
     told.extend(standing::lines(&course, rounds));

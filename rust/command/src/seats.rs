@@ -22,7 +22,7 @@ impl Table {
     /// The table that a source has for a file: by the names of the roles, or for bytes without
     /// names a number for each role.
     pub fn read(seats: &Source, input: &Input) -> Result<Table, WrongUse> {
-        let (name, bytes) = (seats.name(), seats.read()?);
+        let (name, bytes) = (seats.name(), seats.table()?);
         let (read, form) = match named::roles(input) {
             Some(roles) => (by_name(&bytes, roles), by_name_form(roles)),
             None => (choices::numbers(&bytes), BY_NUMBER.to_string()),

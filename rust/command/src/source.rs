@@ -1,6 +1,6 @@
 //! Where a file comes from.
 
-use crate::input::Input;
+use crate::input::{Input, MARK};
 use crate::output;
 use crate::reading::{self, Start, LONGEST_LIST, LONGEST_TEXT};
 use crate::WrongUse;
@@ -19,7 +19,8 @@ const NOT_OPEN: i32 = 9;
 pub enum Source {
     StandardInput,
     File(PathBuf),
-    /// One of these that is refused if it has no bytes.
+    /// One of these that is refused if it has no bytes; a list or a table only if it is a
+    /// stream.
     NotEmpty(Box<Source>),
 }
 
@@ -73,35 +74,53 @@ impl Source {
     pub fn clinic(&self) -> Result<Input, WrongUse> {
         let start = self.start()?;
         if start.is_empty() {
-            self.empty()?;
+            self.empty("a clinic with nothing planned")?;
         }
         Input::of(self.name(), start)
     }
 
-    /// What becomes of a file of zero bytes. In a pipe it is mostly what a command that
-    /// failed has left.
-    fn empty(&self) -> Result<(), WrongUse> {
-        let name = self.name();
-        let failed = "did the command before the pipe fail?";
-        match self {
-            Source::StandardInput if is_pipe(io::stdin()) => {
-                let planned = "taken for a clinic with nothing planned";
-                output::say(&format!(
-                    "pilzdamo: {name}: warning: zero bytes, {planned}; {failed}\n  --not-empty refuses zero bytes"
-                ));
-                Ok(())
-            }
-            Source::StandardInput | Source::File(_) => Ok(()),
-            Source::NotEmpty(source) => {
-                let why = match source.is_standard_input() {
-                    true => format!("\n  {failed}"),
-                    false => String::new(),
-                };
-                Err(WrongUse::refused(&format!(
-                    "pilzdamo: {name}: refused: it has no bytes, and --not-empty asks for some{why}"
-                )))
-            }
+    /// What becomes of zero bytes, which are taken for this. In a stream they are mostly what
+    /// a command that failed has left.
+    fn empty(&self, taken: &str) -> Result<(), WrongUse> {
+        let (name, streams) = (self.name(), self.is_stream());
+        let failed = match self.is_standard_input() {
+            true => "did the command before the pipe fail?",
+            false => "did the command that writes it fail?",
+        };
+        if let Source::NotEmpty(_) = self {
+            let why = match streams {
+                true => format!("\n  {failed}"),
+                false => String::new(),
+            };
+            return Err(WrongUse::refused(&format!(
+                "pilzdamo: {name}: refused: it has no bytes, and --not-empty asks for some{why}"
+            )));
         }
+        if streams {
+            output::say(&format!(
+                "pilzdamo: {name}: warning: zero bytes, taken for {taken}; {failed}\n  --not-empty refuses zero bytes"
+            ));
+        }
+        Ok(())
+    }
+
+    /// What becomes of a list or a table of zero bytes: one of an ordinary file may be empty.
+    fn empty_beside(&self, taken: &str) -> Result<(), WrongUse> {
+        match self.is_stream() {
+            true => self.empty(taken),
+            false => Ok(()),
+        }
+    }
+
+    /// Whether its bytes come from elsewhere: it is neither an ordinary file nor the null
+    /// device.
+    fn is_stream(&self) -> bool {
+        let about = match self {
+            Source::StandardInput => about(io::stdin()),
+            Source::File(path) => fs::metadata(path),
+            Source::NotEmpty(source) => return source.is_stream(),
+        };
+        about.is_ok_and(|about| !about.is_file() && !is_null(&about))
     }
 
     /// Its bytes, or the start of them that any longer file is answered by.
@@ -118,7 +137,23 @@ impl Source {
 
     /// All its bytes, if a list of choices can have as many.
     pub fn choices(&self) -> Result<Vec<u8>, WrongUse> {
-        self.read_up_to(LONGEST_LIST)
+        let bytes = self.read_up_to(LONGEST_LIST)?;
+        if bytes.is_empty() {
+            self.empty_beside("an empty list of choices")?;
+        }
+        Ok(bytes)
+    }
+
+    /// All bytes of a table, without a mark of the byte order.
+    pub fn table(&self) -> Result<Vec<u8>, WrongUse> {
+        let bytes = self.read()?;
+        if bytes.is_empty() {
+            self.empty_beside("an empty table")?;
+        }
+        match bytes.strip_prefix(MARK.as_bytes()) {
+            Some(unmarked) => Ok(unmarked.to_vec()),
+            None => Ok(bytes),
+        }
     }
 
     /// All its bytes, at most so many.
@@ -199,8 +234,7 @@ impl Identity {
 
     /// Of the file that a stream is connected to.
     pub fn of_open(stream: impl AsFd) -> Option<Identity> {
-        let file = File::from(stream.as_fd().try_clone_to_owned().ok()?);
-        Identity::of(file.metadata().ok()?)
+        Identity::of(about(stream).ok()?)
     }
 
     fn of(file: Metadata) -> Option<Identity> {
@@ -211,11 +245,16 @@ impl Identity {
     }
 }
 
-/// Whether another program writes what a stream has.
-fn is_pipe(stream: impl AsFd) -> bool {
-    let file = stream.as_fd().try_clone_to_owned().map(File::from);
-    let about = file.and_then(|file| file.metadata());
-    about.is_ok_and(|about| about.file_type().is_fifo() || about.file_type().is_socket())
+/// What is known of a stream.
+fn about(stream: impl AsFd) -> io::Result<Metadata> {
+    File::from(stream.as_fd().try_clone_to_owned()?).metadata()
+}
+
+/// Whether it is the device that has no bytes.
+fn is_null(about: &Metadata) -> bool {
+    let null = fs::metadata("/dev/null");
+    null.is_ok_and(|null| null.file_type().is_char_device() && null.rdev() == about.rdev())
+        && about.file_type().is_char_device()
 }
 
 /// Said of a text that is longer than any.

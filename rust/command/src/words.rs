@@ -183,14 +183,20 @@ impl Beside {
 /// The job that the arguments name.
 pub fn job(mut words: impl Iterator<Item = OsString>) -> Result<Job, WrongUse> {
     let Some(first) = words.next() else {
-        return misused(&format!("no command; one of {}", table::all_words()));
+        let why = format!("no command; one of {}", table::all_words());
+        return misused(&why).map_err(|wrong| shown_way(wrong, None));
     };
     match first.as_encoded_bytes() {
         b"-h" | b"--help" => return Ok(Job::Help(None)),
         b"-V" | b"--version" => return Ok(Job::Version),
         _ => (),
     }
-    let word = known(&first)?;
+    let word = known(&first).map_err(|wrong| shown_way(wrong, None))?;
+    asked(word, words).map_err(|wrong| shown_way(wrong, Some(word)))
+}
+
+/// The job of a command with these arguments.
+fn asked(word: &'static Word, words: impl Iterator<Item = OsString>) -> Result<Job, WrongUse> {
     let given = Given::sorted(word, words)?;
     if given.help {
         return Ok(Job::Help(Some(word)));
@@ -221,6 +227,14 @@ fn shown(word: &OsStr) -> String {
 }
 
 fn misused<T>(why: &str) -> Result<T, WrongUse> {
-    let way = "pilzdamo --help lists all commands";
-    Err(WrongUse(format!("{why}\n  {way}")))
+    Err(WrongUse(why.to_string()))
+}
+
+/// Wrong use, with the help that is next to it: that of the command if it is known.
+fn shown_way(WrongUse(why): WrongUse, word: Option<&Word>) -> WrongUse {
+    let way = match word.filter(|word| word.name != "help") {
+        Some(word) => format!("pilzdamo help {} says how to use it", word.name),
+        None => "pilzdamo --help lists all commands".to_string(),
+    };
+    WrongUse(format!("{why}\n  {way}"))
 }

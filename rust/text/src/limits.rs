@@ -92,6 +92,11 @@ fn seats(cursor: &mut Cursor) -> Result<u16, Flaw> {
 
 fn stretch(cursor: &mut Cursor) -> Result<Stretch, Flaw> {
     let days = cursor.spaced("a day or days, such as Mon-Fri")?;
+    if days.text.starts_with(|c: char| c.is_ascii_digit()) {
+        let (at, time) = (days.at, shown(&days.text));
+        let what = format!("a day or days, such as Mon-Fri, are due before '{time}'");
+        return Err(Flaw { at, what });
+    }
     let times = cursor.spaced("a stretch of the day, such as 07:00-15:00")?;
     Stretch::of((&days.text, days.at), (&times.text, times.at))
 }

@@ -85,11 +85,24 @@ impl Given {
     fn operand(&mut self, word: OsString) -> Result<(), WrongUse> {
         let text = shown(&word);
         if text.starts_with('-') && text != "-" && !self.word.hyphens {
-            let hint = near::hint(&text, self.word.options.iter().map(|option| option.long()));
+            let hint = match self.operand_of(word.as_bytes()) {
+                Some(operand) => format!("; {operand}"),
+                None => near::hint(&text, self.word.options.iter().map(|option| option.long())),
+            };
             return misused(&format!("{} has no option '{text}'{hint}", self.word.name));
         }
         self.plain.push(word);
         Ok(())
+    }
+
+    /// Where the file of an option of other commands goes, if it is an operand here.
+    fn operand_of(&self, word: &[u8]) -> Option<String> {
+        let (option, _) = Opt::begun(word, &[Opt::Seats])?;
+        let name = option.source()?;
+        let mut operands = ["first", "second", "third"].iter().zip(self.word.operands);
+        let bare = |operand: &str| operand.trim_matches(['[', ']', '.']) == name;
+        let (which, _) = operands.find(|(_, operand)| bare(operand))?;
+        Some(format!("{name} is its {which} operand"))
     }
 
     pub fn has(&self, option: Opt) -> bool {
@@ -104,7 +117,7 @@ impl Given {
 
     /// The file to read that an option names.
     pub fn source(&self, option: Opt) -> Option<Source> {
-        self.value(option).cloned().map(Source::named)
+        self.value(option).cloned().map(|word| self.file(word))
     }
 
     /// Where the output goes.
@@ -124,7 +137,7 @@ impl Given {
         })
     }
 
-    /// A clinic's file.
+    /// A file to read.
     pub fn file(&self, word: OsString) -> Source {
         let source = Source::named(word);
         match self.has(Opt::NotEmpty) {

@@ -132,7 +132,7 @@ fn interactive(mut given: Given) -> Result<Job, WrongUse> {
         0 | 1 => (file(&mut given)?, None),
         _ => {
             let [file, choices] = given.exactly()?;
-            (given.file(file), Some(Source::named(choices)))
+            (given.file(file), Some(given.file(choices)))
         }
     };
     let (names, seats) = (given.source(Opt::Names), given.source(Opt::Seats));
@@ -187,7 +187,7 @@ pub fn seats(mut given: Given) -> Result<Job, WrongUse> {
         }
         _ => {
             let [file, choices, seats] = given.exactly()?;
-            let [choices, seats] = [choices, seats].map(Source::named);
+            let [choices, seats] = [choices, seats].map(|word| given.file(word));
             (given.named(file), choices, Some(seats))
         }
     };
@@ -319,7 +319,7 @@ fn named_file(given: &mut Given) -> Result<NamedFile, WrongUse> {
 
 fn file_and_choices(given: &mut Given) -> Result<(NamedFile, Source), WrongUse> {
     let [file, choices] = given.exactly()?;
-    Ok((given.named(file), Source::named(choices)))
+    Ok((given.named(file), given.file(choices)))
 }
 
 /// One operand or more.

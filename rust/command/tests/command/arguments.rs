@@ -6,8 +6,12 @@ use std::fs;
 /// Fails as wrong use, with this message.
 fn wrong(words: &[&str], due: &str) {
     let answer = pilzdamo(words);
-    let way = "\n  pilzdamo --help lists all commands\n";
-    let due = format!("pilzdamo: {due}{way}");
+    let help = pilzdamo(&["help", words[0]]).status == 0 && words[0] != "help";
+    let way = match help {
+        true => format!("pilzdamo help {} says how to use it", words[0]),
+        false => "pilzdamo --help lists all commands".to_string(),
+    };
+    let due = format!("pilzdamo: {due}\n  {way}\n");
     assert_eq!((answer.status, answer.text()), (2, ""), "{words:?}");
     assert_eq!(answer.err, due, "{words:?}");
 }

@@ -285,7 +285,7 @@ ask  serve.2
     assert_eq!((answer.status, answer.text()), (0, due));
     let told = "\
 placed.txt: 6 rounds, 15 choices; then nothing is left to do, 2 threads left
-  with --sparing these are not the rounds of `round` (K5): a repeat was left out 5 times
+  with --sparing these are not the rounds of `round`: a repeat was left out 5 times
   serve at line 24 (repeat): left out until serve.3 meets another thread or ends
   serve.3 at line 26 (receive back on inbox): waits for a sender on inbox
 ";
@@ -300,6 +300,8 @@ placed.txt: 6 rounds, 15 choices; then nothing is left to do, 2 threads left
     ]
     .map(|words| pilzdamo(words).out);
     assert_eq!(plain, spared);
+    let told = pilzdamo(&["dispatch", &desks, "--sparing"]).err;
+    assert!(!told.contains("--sparing"), "{told}");
     let help = pilzdamo(&["help", "dispatch"]);
-    assert!(help.text().contains("not the rounds of round (K5)"));
+    assert!(help.text().contains("not the rounds of round, and"));
 }

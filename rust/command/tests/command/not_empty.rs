@@ -90,6 +90,88 @@ fn a_pipe_gets_a_warning() {
     }
 }
 
+/// Every call that reads a list or a table, with this name for it.
+fn calls_beside<'a>(file: &'a str, other: &'a str) -> Vec<Vec<&'a str>> {
+    let list = "/dev/null";
+    let mut calls = vec![
+        vec!["seats", other, list, file],
+        vec!["seats", other, file, list],
+        vec!["dispatch", other, "1", "--seats", file],
+    ];
+    for verb in ["check", "place", "measure"] {
+        calls.push(vec![verb, other, "--at", "Mon 07:30", "--hours", file]);
+    }
+    for verb in ["run", "choices", "ready", "waiting", "round"] {
+        calls.push(vec![verb, other, file]);
+        calls.push(vec![verb, other, list, "--seats", file]);
+    }
+    calls
+}
+
+/// Lists and tables of zero bytes from a pipe get the warning too, and are refused; those of
+/// an ordinary file or the null device may be empty.
+#[test]
+fn lists_and_tables() {
+    let folder = Folder::new("empty tables");
+    let (empty, other) = (folder.file("empty", ""), example("hours/desk.txt"));
+    for named in ["/dev/null", &empty] {
+        let plain = calls_beside(named, &other).into_iter();
+        for (mut words, mut fed) in plain.zip(calls_beside("-", &other)) {
+            let answer = pilzdamo(&words);
+            assert!(
+                !answer.err.contains("zero bytes"),
+                "{words:?}: {}",
+                answer.err
+            );
+            words.push("--not-empty");
+            let asked = pilzdamo(&words);
+            assert_eq!((asked.status, &asked.out), (answer.status, &answer.out));
+            let piped = pilzdamo_piped(&fed, b"");
+            let told = piped
+                .err
+                .strip_prefix("pilzdamo: standard input: warning: zero bytes, ");
+            let told = told.unwrap_or_else(|| panic!("{fed:?}: {}", piped.err));
+            assert!(told.starts_with("taken for an empty "), "{told}");
+            let failed = "; did the command before the pipe fail?\n  --not-empty refuses zero";
+            assert!(told.contains(failed), "{told}");
+            assert_eq!((piped.status, piped.out), (answer.status, answer.out));
+            fed.push("--not-empty");
+            let refused = pilzdamo_piped(&fed, b"");
+            assert_eq!((refused.status, refused.text()), (1, ""), "{fed:?}");
+            let due = "pilzdamo: standard input: refused: it has no bytes, and --not-empty asks \
+                       for some\n  did the command before the pipe fail?\n";
+            assert_eq!(refused.err, due, "{fed:?}");
+        }
+    }
+}
+
+/// A pipe may have a name.
+#[test]
+fn a_pipe_by_its_name() {
+    let warning = "pilzdamo: /dev/stdin: warning: zero bytes, taken for a clinic with nothing \
+                   planned; did the command that writes it fail?\n  --not-empty refuses zero \
+                   bytes\n";
+    let answer = pilzdamo_piped(&["check", "/dev/stdin"], b"");
+    assert_eq!((answer.status, &*answer.err), (0, warning));
+    let refused = pilzdamo_piped(&["check", "/dev/stdin", "--not-empty"], b"");
+    let due = "pilzdamo: /dev/stdin: refused: it has no bytes, and --not-empty asks for some\n  \
+               did the command that writes it fail?\n";
+    assert_eq!((refused.status, &*refused.err), (1, due));
+    // The null device is none, by any name.
+    let answer = pilzdamo(&["check", "/dev/stdin"]);
+    assert_eq!((answer.status, &*answer.err), (0, ""));
+    let script = "mkfifo \"$1\" && { : >\"$1\" & \"$0\" check \"$1\"; wait; }";
+    let folder = Folder::new("fifo");
+    let output = Command::new("sh")
+        .args(["-c", script, env!("CARGO_BIN_EXE_pilzdamo")])
+        .arg(folder.at("pipe"))
+        .output()
+        .expect("a shell");
+    let told = String::from_utf8(output.stderr).expect("text");
+    let named = warning.replace("/dev/stdin", &folder.at("pipe"));
+    assert_eq!((output.status.code(), told), (Some(0), named));
+}
+
 /// What has bytes is answered as without it: also 26 of them, and a text of nothing planned.
 #[test]
 fn nothing_else_is_refused() {

@@ -554,3 +554,112 @@ fn packed_and_unpacked() {
         }
     }
 }
+
+/// Who writes a text as bytes hears which roles have seats or hours that aren't in them.
+#[test]
+fn bytes_without_seats_and_hours() {
+    let folder = Folder::new("lost limits");
+    let desk = example("hours/desk.txt");
+    let both = text("hours/desk.txt").replacen("; open", "; 2 seats; open", 1);
+    let both = folder.file("both.txt", both);
+    let asked = example("seats/asked.txt");
+    let out = folder.at("out");
+    let other = folder.at("other");
+    let lost = |file: &str, what: &str| format!("{file}: the {what} write them\n");
+    let hours = "hours of roles admissions, night-desk aren't in the bytes; ";
+    let seats = "seats of role admissions aren't in the bytes; ";
+    let all = "seats and hours of roles admissions, night-desk aren't in the bytes; ";
+    for (file, option, due) in [
+        (&desk, "", Some(format!("{hours}--names or --hours"))),
+        (&desk, "--seats", Some(format!("{hours}--names or --hours"))),
+        (&desk, "--hours", None),
+        (&desk, "--names", None),
+        (&both, "", Some(format!("{all}--names, --seats or --hours"))),
+        (&both, "--hours", Some(format!("{seats}--names or --seats"))),
+        (&both, "--seats", Some(format!("{hours}--names or --hours"))),
+        (&both, "--names", None),
+    ] {
+        let mut words = vec!["pack", file, "-o", &out];
+        if !option.is_empty() {
+            words.extend([option, &other]);
+        }
+        let answer = pilzdamo(&words);
+        assert_eq!(answer.status, 0, "{}", answer.err);
+        let (_, told) = answer.err.split_once('\n').expect("a line");
+        let due = due.map_or(String::new(), |due| lost(file, &due));
+        assert_eq!(told, due, "{words:?}");
+    }
+    let bytes = example("hours/desk.clinic");
+    let due = lost(&desk, &format!("{hours}pack --names or --hours"));
+    for words in [
+        &["place", &desk, "--bytes", "-o", &out][..],
+        &["notice", "0", &desk, "-o", &out],
+        &["merge", &desk, &bytes, "-o", &out],
+        &["merge", &bytes, &desk, "-o", &out],
+        &["merge", &desk, &desk, "--bytes", "-o", &out],
+    ] {
+        let answer = pilzdamo(words);
+        assert_eq!(answer.status, 0, "{}", answer.err);
+        assert_eq!(answer.err.matches(&due).count(), 1, "{}", answer.err);
+    }
+    let due = lost(
+        &asked,
+        "seats of role holder aren't in the bytes; pack --names or --seats",
+    );
+    let answer = pilzdamo(&["place", &asked, "--bytes", "-o", &out]);
+    assert!(answer.err.contains(&due), "{}", answer.err);
+    // Texts keep them, and bytes have none to lose.
+    let names = folder.at("names");
+    assert_eq!(
+        pilzdamo(&["pack", &desk, "-o", &out, "--names", &names]).status,
+        0
+    );
+    for words in [
+        &["place", &desk][..],
+        &["merge", &desk, &desk],
+        &["place", &out, "--names", &names],
+        &["pack", &example("booking.txt")],
+    ] {
+        let answer = pilzdamo(words);
+        assert_eq!(answer.status, 0, "{}", answer.err);
+        assert!(!answer.err.contains("aren't in the bytes"), "{words:?}");
+    }
+}
+
+/// A mark of the byte order before a table changes nothing.
+#[test]
+fn a_mark_before_a_table() {
+    let folder = Folder::new("marked tables");
+    let file = folder.file("placed.txt", placed("seats/asked.txt"));
+    let list = example("seats/both-ask.choices");
+    let [plain, marked] = ["", "\u{feff}"].map(|mark| {
+        let seats = folder.file("a.seats", format!("{mark}holder 2\n"));
+        let hours = folder.file("a.hours", format!("{mark}admissions Mon 07:00-15:00\n"));
+        let desk = example("hours/desk.txt");
+        let words = ["check", &desk, "--at", "Mon 07:30", "--hours", &hours];
+        [pilzdamo(&["seats", &file, &list, &seats]), pilzdamo(&words)]
+            .map(|answer| (answer.status, answer.out, answer.err))
+    });
+    assert_eq!(plain, marked);
+    assert_eq!(plain[0].0, 0, "{}", plain[0].2);
+}
+
+/// The line of a table as it should be, and a day that was forgotten.
+#[test]
+fn lines_that_are_nearly_right() {
+    let folder = Folder::new("nearly hours");
+    let desk = example("hours/desk.txt");
+    let hours = folder.file("a.hours", "role night-desk Mon-Fri 07:00-15:00\n");
+    let answer = pilzdamo(&["check", &desk, "--at", "Mon 07:30", "--hours", &hours]);
+    let due = ":1:1: leave out the word role: night-desk Mon-Fri 07:00-15:00\n";
+    assert_eq!(answer.status, 2, "{}", answer.err);
+    assert!(answer.err.contains(due), "{}", answer.err);
+    let file = folder.file(
+        "a.txt",
+        "clinic 1\nkind a\nrole r: send a; open 07:00-15:00\n",
+    );
+    let answer = pilzdamo(&["check", &file]);
+    let due = ":3:22: a day or days, such as Mon-Fri, are due before '07:00-15:00'\n";
+    assert_eq!(answer.status, 2, "{}", answer.err);
+    assert!(answer.err.contains(due), "{}", answer.err);
+}

@@ -8,7 +8,7 @@ const LONGEST: usize = 4_000_000;
 
 /// Built for release each answer takes under 2 seconds; this is for a busy machine, and for a
 /// build that isn't optimized.
-const SOON: Duration = Duration::from_secs(30);
+const SOON: Duration = Duration::from_secs(120);
 
 /// As many lines as a text may have after these.
 fn filled(start: &str, line: impl Fn(usize) -> String) -> String {

@@ -45,7 +45,20 @@ fn the_state_is_the_runs() {
 fn choices_on_standard_input() {
     let file = example("booking.clinic");
     let answer = pilzdamo_fed(&["round", &file, "-"], b"# nothing\n");
-    assert_eq!((answer.status, answer.err.as_str()), (0, ""));
+    let unplaced = format!("{file}: the routine has no on or off yet: pilzdamo place adds them\n");
+    assert_eq!((answer.status, &answer.err), (0, &unplaced));
+    // So does ready, and neither says it of a placed file.
+    let ready = pilzdamo(&["ready", &file, "/dev/null"]);
+    assert_eq!(
+        (ready.status, ready.text()),
+        (0, "no two threads can meet\n")
+    );
+    assert_eq!(ready.err, unplaced);
+    for verb in ["round", "ready"] {
+        let words = [verb, "-", "/dev/null"];
+        let answer = pilzdamo_fed(&words, &placed("booking.clinic"));
+        assert_eq!((answer.status, &*answer.err), (0, ""), "{verb}");
+    }
     let due = "round: no choice can be done\nchoices done: 0\nthreads: 1\n  \
                thread 1: user 1, node 1 (send user 2 on channel 1), no role\nmade channels: 0\n";
     assert_eq!(answer.text(), due);

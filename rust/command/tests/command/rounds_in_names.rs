@@ -58,12 +58,13 @@ fn a_round_is_run() {
         let mut list = String::new();
         for _ in 0..12 {
             let round = pilzdamo_fed(&["round", &file, "-"], list.as_bytes());
-            assert_eq!((round.status, &*round.err), (0, ""), "{name}");
+            assert_eq!(round.status, 0, "{name}: {}", round.err);
             let (first, state) = round.text().split_once('\n').expect("lines");
             let choices = first.strip_prefix("round: ").expect("its choices");
             if choices == "no choice can be done" {
                 break;
             }
+            assert_eq!(round.err, "", "{name}");
             list += choices;
             list.push('\n');
             let run = pilzdamo_fed(&["run", &file, "-"], list.as_bytes());

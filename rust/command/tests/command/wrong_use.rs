@@ -18,7 +18,7 @@ fn help_and_version() {
 
 #[test]
 fn words() {
-    let wrong: [(&[&str], &str); 91] = [
+    let wrong: [(&[&str], &str); 92] = [
         (&[], "no command; one of check, "),
         (&[""], "there is no command ''"),
         (&["judge", "a"], "there is no command 'judge'"),
@@ -237,6 +237,10 @@ fn words() {
             &["pack", "a", "-o", "b", "--seats", "-", "--hours", "-"],
             "pack: only one of SEATS and HOURS can be standard output",
         ),
+        (
+            &["seats", "a", "b", "--seats=c"],
+            "seats has no option '--seats=c'; SEATS is its third operand\n",
+        ),
         (&["show"], "show: FILE is missing"),
         (&["show", "a", "b"], "show: 'b' is too many"),
         (&["explain"], "explain: N is missing"),
@@ -252,7 +256,14 @@ fn words() {
             "{}",
             answer.err
         );
-        assert!(answer.err.ends_with("pilzdamo --help lists all commands\n"));
+        // A command that is known has a help of its own.
+        let way = match words.first() {
+            Some(&word) if word != "help" && pilzdamo(&["help", word]).status == 0 => {
+                format!("\n  pilzdamo help {word} says how to use it\n")
+            }
+            _ => "\n  pilzdamo --help lists all commands\n".to_string(),
+        };
+        assert!(answer.err.ends_with(&way), "{}", answer.err);
     }
 }
 
