@@ -1,5 +1,6 @@
 // A certificate for all schedules: a table of states is checked to have every state that a run can come to, and no
 // other.
+#![tactic(auto)]
 pub mod explore;
 pub mod parts;
 pub mod words;
@@ -29,21 +30,21 @@ use steps::records::TABLE;
 use words::{number_at, short};
 
 // How many rows are known to be reached, and the next word of the list of targets.
-#[derive(Drop)]
+#[derive(Clone, Copy)]
 pub struct Search {
     pub known: usize,
     pub cursor: usize,
 }
 
 // A choice fails where no row is named for it that has the state it leads to.
-#[derive(Drop)]
+#[derive(Clone, Copy)]
 pub enum Trial {
     Fails,
     Passes(Search),
 }
 
 // The rows from one to another, which is not one of them, and the words of the list of targets that their choices have.
-#[derive(Drop)]
+#[derive(Clone, Copy)]
 pub struct Part {
     pub from: usize,
     pub to: usize,
@@ -52,7 +53,7 @@ pub struct Part {
 }
 
 // All rows, or only a part of them.
-#[derive(Drop)]
+#[derive(Clone, Copy)]
 pub enum Asked {
     All,
     Only(Part),
@@ -60,7 +61,7 @@ pub enum Asked {
 
 // The refusal, 0 if none, its place in the file, and with 18 the row at fault, from 1 on.
 #[repr(C)]
-#[derive(Drop)]
+#[derive(Clone, Copy)]
 pub struct Closing {
     pub number: u16,
     pub place: u16,

@@ -1,4 +1,5 @@
 // The check of a clinic file: the refusals 1 to 8 (21 among them), then 9 and 10 together by node, then 11 to 13 by node.
+#![tactic(auto)]
 ghost use Rattle.std.specs.Prelude.{◌≡◌, length};
 ghost use Rattle.checking.specs.Check.{reading_names, checking, entered, scoped, examined, surveyed, Admitted, examined_from, surveyed_from};
 
@@ -8,7 +9,7 @@ use reading::{Opened, open, with_head};
 use rules::judge::judge;
 
 // The file's head or the first of 1 to 10, and where these refuse nothing the first of 11 to 13.
-#[derive(Drop)]
+#[derive(Clone, Copy)]
 pub struct Examined {
     pub names: Opened,
     pub roles: Verdict,

@@ -1,4 +1,5 @@
 // Dispatching: a round asked for after a run's choices.
+#![tactic(auto)]
 pub mod marks;
 pub mod visits;
 
@@ -31,7 +32,7 @@ use visits::go_round;
 
 // A visit: whether it added a choice to the round, and with which partner; the thread that is visited next; how many threads are present from the
 // round's start, and which of them have moved.
-#[derive(Drop)]
+#[derive(Clone, Copy)]
 pub struct Visit {
     pub is_done: bool,
     pub partner: u16,
@@ -42,7 +43,7 @@ pub struct Visit {
 
 // The answer of the run through the input's choices and then the round's, the bytes of its output, and the round's choices, 0 past the last.
 #[repr(C)]
-#[derive(Drop)]
+#[derive(Clone, Copy)]
 pub struct Round {
     pub number: u16,
     pub place: u16,

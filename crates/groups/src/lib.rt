@@ -1,4 +1,5 @@
 // The placed file: where each node's group starts, and its words.
+#![tactic(auto)]
 ghost use Rattle.std.specs.Prelude.{◌≡◌, cond, [], ◌∷◌, ◌++◌, ◌+◌, ◌*◌, ◌-◌, ◌≤◌, ◌<◌, length, get_or};
 ghost use Rattle.std.proofs.lemmas.List.Edits.{sets};
 ghost use Rattle.format.specs.Words.{bytes_of};
@@ -16,7 +17,7 @@ use format::{Head, Node, Session, Six};
 use masks::UserRole;
 
 // How many nodes the groups have, and how many of them switch a role on.
-#[derive(Drop)]
+#[derive(Clone, Copy)]
 pub struct Sums {
     pub nodes: u16,
     pub on_steps: u16,

@@ -1,4 +1,5 @@
 // Opening hours: the table's refusals 22 and 23, and the roles that are shut at a minute.
+#![tactic(auto)]
 ghost use Rattle.std.specs.Prelude.{◌≡◌, cond, ◌+◌, ◌*◌, ◌/◌, ◌≤◌, ◌<◌, length};
 ghost use Rattle.hours.specs.Hours.{row_at, table_answer, row_fits, rows_answer, contains, put, shut};
 
@@ -7,7 +8,7 @@ use format::words::narrow;
 use masks::{UserRole, roles_minus, with_role};
 
 // A role, and the minutes of the week in which it is open: from the first to the last before the end.
-#[derive(Drop)]
+#[derive(Clone, Copy)]
 pub struct Row {
     pub role: u16,
     pub first: u16,

@@ -1,6 +1,7 @@
 // The plan in force: standard input holds the day as one word, low byte first, then two notices one after the other, the first as long as its own length word says and
 // the second to the end. Writes the file of the notice that is in force, or the line `refused N P` with the refusal's number and its place.
 // 16,384 bytes are kept of an input, which is room for any two sound notices: what is longer has one of over 6,912 bytes, which is refused however much of it is kept.
+#![tactic(auto)]
 ghost use Rattle.std.specs.Prelude.{◌≡◌, ◌≤◌, length};
 ghost use Rattle.inforce.specs.FirstNotice.{first_end};
 

@@ -1,5 +1,6 @@
 // Judges the clinic file on standard input: writes the line `passes`, or `refused N P` with the refusal's number and its place.
 // Where the input cannot be read, it says so on standard error and writes nothing else.
+#![tactic(auto)]
 fn main() {
     let mut buffer = [0u8; 16384];
     let input = streams::read_input(0, &mut buffer);

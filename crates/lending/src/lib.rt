@@ -1,5 +1,6 @@
 // The live desk's own list of threads: what lets a list through, the judging of its records, one choice in it and its start. The list is a slice of
 // records; what is here takes and gives back its records by value.
+#![tactic(auto)]
 pub mod judging;
 pub mod starting;
 pub mod stepping;
@@ -22,7 +23,7 @@ use steps::beside::{BESIDE, made_count, thread_count};
 use steps::{Acted, Answer};
 
 // What judging the records one by one has come to: whether all so far are as their nodes ask, and how many of them wait for each kind.
-#[derive(Drop)]
+#[derive(Clone, Copy)]
 pub struct Tally {
     pub fits: bool,
     pub totals: [u16; 32],

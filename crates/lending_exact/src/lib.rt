@@ -1,1 +1,2 @@
 // No code: what may be lent, in the words of the paper, and the theorems about it.
+#![tactic(auto)]

@@ -1,4 +1,5 @@
 // Two clinic files of version 1 in one.
+#![tactic(auto)]
 mod counts;
 mod file;
 mod moves;
@@ -23,7 +24,7 @@ use reading::Opened;
 use same::same_tables;
 
 // How many users, channels and nodes stand before a file's own.
-#[derive(Drop)]
+#[derive(Clone, Copy)]
 pub struct Shift {
     pub users: u16,
     pub channels: u16,

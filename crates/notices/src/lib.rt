@@ -1,4 +1,5 @@
 // Which of two lent notices is in force on a day. A notice: one word with its first day of validity, one word with the file's length in bytes, then the file.
+#![tactic(auto)]
 ghost use Rattle.std.specs.Prelude.{◌≡◌};
 ghost use Rattle.notices.specs.Notices.{is_sound, second_holds, unheld, held, plan_in_force, part_of, place_of};
 
@@ -7,7 +8,7 @@ use format::words::{wide, word};
 
 // What a caller gets: a refusal's number and place, or 0 and 0; and the part that is handed back: of which notice (1 or 2), at which byte of it, how many bytes.
 #[repr(C)]
-#[derive(Drop)]
+#[derive(Clone, Copy)]
 pub struct InForce {
     pub number: u16,
     pub place: u16,

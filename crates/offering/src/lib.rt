@@ -1,4 +1,5 @@
 // All choices of one lent state: each that is done is offered, with the state it leads to.
+#![tactic(auto)]
 pub mod choose;
 pub mod write;
 
@@ -26,7 +27,7 @@ use steps::records::TABLE;
 use write::row_length;
 
 // How many offers stand in the output, in how many words, and whether one had no room.
-#[derive(Drop)]
+#[derive(Clone, Copy)]
 pub struct Noted {
     pub full: bool,
     pub count: u16,
@@ -35,7 +36,7 @@ pub struct Noted {
 
 // The refusal, 0 if none, and its place; how many offers were written, and how many words.
 #[repr(C)]
-#[derive(Drop)]
+#[derive(Clone, Copy)]
 pub struct Offers {
     pub number: u16,
     pub place: u16,

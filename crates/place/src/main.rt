@@ -1,5 +1,6 @@
 // Places the clinic file on standard input: writes the placed file's bytes, or the line `refused N P` with the refusal's number and its place.
 // Where the input cannot be read, it says so on standard error and writes nothing else.
+#![tactic(auto)]
 use format::header::LARGEST;
 use format::words::wide;
 

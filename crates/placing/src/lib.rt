@@ -1,4 +1,5 @@
 // Placing: the refusals 14 to 17, and the placed file.
+#![tactic(auto)]
 mod bare;
 pub mod decide;
 mod served;
@@ -20,7 +21,7 @@ use reading::Opened;
 
 // What a caller gets: a refusal's number and place, or 0 and 0 with the length of the placed file in bytes and its on steps.
 #[repr(C)]
-#[derive(Drop)]
+#[derive(Clone, Copy)]
 pub struct Placed {
     pub number: u16,
     pub place: u16,
@@ -29,7 +30,7 @@ pub struct Placed {
 }
 
 // What is decided before anything is written.
-#[derive(Drop)]
+#[derive(Clone, Copy)]
 pub struct Decision {
     pub verdict: Verdict,
     pub sums: Sums,

@@ -1,4 +1,5 @@
 // Reading a clinic file: the refusals 1 to 8, 21 after 6, in order.
+#![tactic(auto)]
 pub mod long;
 
 ghost use Rattle.std.specs.Prelude.{◌≡◌};
@@ -11,7 +12,7 @@ use format::header::read_head;
 use format::{Head, HeadAnswer, Verdict};
 
 // A file's head, or what refuses the file.
-#[derive(Drop)]
+#[derive(Clone, Copy)]
 pub enum Opened {
     Fine(Head),
     Refused(Verdict),

@@ -1,4 +1,5 @@
 // Reasons in words: the sentence of a refusal, and what a sentence says.
+#![tactic(auto)]
 pub mod digits;
 
 ghost use Rattle.std.specs.Prelude.{◌≡◌, true, false, cond, ◌+◌, ◌-◌, ◌<◌, ◌≤◌, length, drop};
@@ -10,7 +11,7 @@ use phrases::{phrase_at, phrase_length, phrase_starts, phrase_text, put_phrase, 
 
 // A refusal's number, what its place counts (0 none, 1 word, 2 session, 3 node, 4 choice, 5 row, 6 notice), the place, and the tag of the node there, 9 where none belongs.
 #[repr(C)]
-#[derive(Drop)]
+#[derive(Clone, Copy)]
 pub struct Reason {
     pub number: u16,
     pub counts: u16,

@@ -1,6 +1,7 @@
 // Runs a clinic file through a list of choices: the arguments name the file, and the choices as words, low byte first. It writes the state that
 // the run leaves, if there is one, and after it, if anything is refused, the line `refused N P` with the refusal's number and its place. Where the
 // arguments are not two, or a file cannot be read, it says so on standard error and writes nothing else.
+#![tactic(auto)]
 mod lines;
 mod list;
 

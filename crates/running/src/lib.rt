@@ -1,4 +1,5 @@
 // Running: a file through a list of choices, with its output; the ready pair.
+#![tactic(auto)]
 pub mod out;
 pub mod pairs;
 
@@ -27,7 +28,7 @@ use steps::records::TABLE;
 
 // The ready pair, or the refusal that stopped the run.
 #[repr(C)]
-#[derive(Drop)]
+#[derive(Clone, Copy)]
 pub struct Ready {
     pub number: u16,
     pub place: u16,
@@ -37,7 +38,7 @@ pub struct Ready {
 
 // How many threads wait for each of the kinds 1 to 32, or the refusal that stopped the run.
 #[repr(C)]
-#[derive(Drop)]
+#[derive(Clone, Copy)]
 pub struct Totals {
     pub number: u16,
     pub place: u16,
@@ -53,7 +54,7 @@ const SHORT: usize = 530;
 const FEW: usize = 85;
 
 // A sender and a receiver, 0 and 0 for none.
-#[derive(Drop)]
+#[derive(Clone, Copy)]
 pub struct Two {
     pub sender: u16,
     pub receiver: u16,

@@ -1,4 +1,5 @@
 // Runs with seats: a choice that may have to wait, lists of such choices, and what a caller asks of them.
+#![tactic(auto)]
 mod choice;
 pub mod list;
 mod read;
@@ -29,7 +30,7 @@ use steps::records::TABLE;
 use table::seats_bar;
 
 // What a seated choice comes to: refused; its session waits; a step that ends the thread; any other step.
-#[derive(Drop)]
+#[derive(Clone, Copy)]
 pub enum Sat {
     Refused(u16),
     Waits,
@@ -38,7 +39,7 @@ pub enum Sat {
 }
 
 // How many choices were done, the refusal of the next (0 if none), how many were answered 26, and what the last done was answered, 26 or 0.
-#[derive(Drop)]
+#[derive(Clone, Copy)]
 pub struct SeatedWent {
     pub count: u16,
     pub refusal: u16,

@@ -1,1 +1,2 @@
 // Seats for each role, and lines for them. There is no code here: specs/ has the definitions, proofs/ the theorems.
+#![tactic(auto)]

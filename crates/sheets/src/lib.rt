@@ -1,4 +1,5 @@
 // The group's quarterly sheet.
+#![tactic(auto)]
 mod entries;
 mod most;
 
@@ -12,7 +13,7 @@ use format::words::{wide, word};
 
 // What a caller gets; files refused at number n are counted in place n - 1.
 #[repr(C)]
-#[derive(Drop)]
+#[derive(Clone, Copy)]
 pub struct Sheet {
     pub files: u32,
     pub refused: [u32; 28],
@@ -24,7 +25,7 @@ pub struct Sheet {
 }
 
 // What a file adds to it: the number of its refusal, or 0 with its sessions, its on steps, and the most of these in one session.
-#[derive(Drop)]
+#[derive(Clone, Copy)]
 pub struct Entry {
     pub number: u16,
     pub sessions: u16,

@@ -5,7 +5,7 @@ ghost use Rattle.states.specs.States.{up};
 ghost use Rattle.states.specs.Kept.{Small, added, worth_at, rank, highest, powers, above, left_over, saving_by, saving_of, word_by, word_of};
 
 // A row, and what is kept for the way from the left.
-#[derive(Drop)]
+#[derive(Clone, Copy)]
 pub struct Kept {
     pub row: [u16; 16],
     pub word: u32,

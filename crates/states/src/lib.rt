@@ -1,4 +1,5 @@
 // The state of each node: the costs of the trees from the right, the states from the left.
+#![tactic(auto)]
 mod costs;
 mod pass;
 
@@ -14,7 +15,7 @@ use format::Head;
 use pass::{decide, follow};
 
 // What becomes of a node: the state of its parent, 0 above a root, and its own. 0 is no role.
-#[derive(Drop)]
+#[derive(Clone, Copy)]
 pub struct Turn {
     pub from: u16,
     pub to: u16,

@@ -1,4 +1,5 @@
 // Threads, and one choice by value on what it touches.
+#![tactic(auto)]
 pub mod act;
 pub mod beside;
 pub mod records;
@@ -8,7 +9,7 @@ use masks::ChannelKind;
 
 // A thread: its user, its node, its active mask, and the values of its eight variables, 0 where nothing is bound.
 #[repr(C)]
-#[derive(Drop)]
+#[derive(Clone, Copy)]
 pub struct Thread {
     pub user: u16,
     pub node: u16,
@@ -17,14 +18,14 @@ pub struct Thread {
 }
 
 // A made channel.
-#[derive(Drop)]
+#[derive(Clone, Copy)]
 pub struct Made {
     pub owner: u16,
     pub kind: ChannelKind,
 }
 
 // The partner that a choice names: none, a thread, or no thread of the list.
-#[derive(Drop)]
+#[derive(Clone, Copy)]
 pub enum Partner {
     Alone,
     With(Thread),
@@ -32,14 +33,14 @@ pub enum Partner {
 }
 
 // Two threads after a choice.
-#[derive(Drop)]
+#[derive(Clone, Copy)]
 pub struct Pair {
     pub first: Thread,
     pub second: Thread,
 }
 
 // A thread after new, and the channel made.
-#[derive(Drop)]
+#[derive(Clone, Copy)]
 pub struct Making {
     pub thread: Thread,
     pub made: Made,
@@ -47,7 +48,7 @@ pub struct Making {
 
 // What a choice comes to: refused; a thread moves on alone; it goes on and a new last thread with it; it goes on with a made channel;
 // it is removed; sender and receiver both move on.
-#[derive(Drop)]
+#[derive(Clone, Copy)]
 pub enum Outcome {
     Refused(u16),
     Moves(Thread),
@@ -58,7 +59,7 @@ pub enum Outcome {
 }
 
 // What a choice comes to, but for the threads that it leaves: an enum may hold no array.
-#[derive(Drop)]
+#[derive(Clone, Copy)]
 pub enum Answer {
     Refused(u16),
     Moves,
@@ -69,7 +70,7 @@ pub enum Answer {
 }
 
 // What a choice comes to, by value: the answer and the threads that it leaves, all 0 where there is none.
-#[derive(Drop)]
+#[derive(Clone, Copy)]
 pub struct Acted {
     pub answer: Answer,
     pub first: Thread,

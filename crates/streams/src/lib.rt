@@ -1,4 +1,5 @@
 // What the programs share: an input of any length, and a refusal's line.
+#![tactic(auto)]
 pub mod line;
 
 ghost use Rattle.std.specs.Prelude.{◌+◌, ◌-◌, ◌≤◌, ◌≡◌, length, take, drop};
@@ -10,7 +11,7 @@ ghost use Rattle.streams.specs.Kept.{kept_of};
 use line::refused_line;
 
 // An input, once read to its end: how many bytes at the start of the buffer stand for it, and whether a read failed.
-#[derive(Drop)]
+#[derive(Clone, Copy)]
 pub struct Input {
     pub kept: usize,
     pub failed: bool,
