@@ -10,7 +10,7 @@ use lib.ListN.{length}
 use borrow.Author.Tests.{eq-eqb, ne_eqb, leb-true}
 use Rattle.format.specs.Contents.{in_count}
 use Rattle.format.specs.declared.Node.{Node}
-use Rattle.format.proofs.ContentsLaws.{in_count}
+use Rattle.format.proofs.ContentsLaws.{in_count_lem}
 use Rattle.steps.specs.declared.Thread.{Thread}
 use Rattle.steps.specs.declared.Partner.TheVariants.{Alone, With, Missing}
 use Rattle.steps.specs.declared.Outcome.{Outcome}
@@ -31,7 +31,7 @@ not_counted n i h = go (in_count n i) refl
     go : (b : Bool) → in_count n i ≡ b → in_count n i ≡ false
     go false e = e
     go true e =
-        let (one, most) = in_count n i e in
+        let (one, most) = in_count_lem n i e in
         absurd (⊎_elim (λ z. let no : ⊥ = omega (arith, z, one) in no) (λ z. let no : ⊥ = omega (arith, z, most) in no) h)
 
 not_within : (n p : ℕ) → n < p → leb p n ≡ false

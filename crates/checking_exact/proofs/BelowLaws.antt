@@ -11,7 +11,7 @@ use Rattle.masks.specs.Mask.{has, with, without}
 use Rattle.masks.proofs.Laws.{extensional, has_with, has_without}
 use Rattle.format.specs.Contents.{in_count}
 use Rattle.format.specs.declared.Node.{Node}
-use Rattle.format.proofs.ContentsLaws.{in_count, in_count_iff}
+use Rattle.format.proofs.ContentsLaws.{in_count_lem, in_count_iff}
 use Rattle.rules.specs.Schema.{Schema}
 use Rattle.rules.specs.Names.{Bound, named, kind_of}
 use Rattle.rules.specs.Rules.{Context, child_of}
@@ -73,7 +73,7 @@ module _ (D : Schema) (R : Ranged D) (c : Context) where
   is_a_role n t fit = go (in_count D.roles n.f1) refl
     where
       go : (b : Bool) → in_count D.roles n.f1 ≡ b → 1 ≤ n.f1
-      go true e = (in_count D.roles n.f1 e).0
+      go true e = (in_count_lem D.roles n.f1 e).0
       go false e = absurd (fit (on_role t (λ w. false≢true (sym e ∙ (in_count_iff D.roles n.f1).1 w))))
 
   left_below : (t a b : ℕ) → t ≤ 8 → 2 ≤ t → (Nameless D c.vars (words t a b) → ⊥) → Below D c (words t a b) (child_of D c (words t a b))

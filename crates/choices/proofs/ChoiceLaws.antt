@@ -10,7 +10,7 @@ use borrow.Author.Tests.{eqb-false, leb-true, ltb-true, lt-ltb}
 use Rattle.masks.specs.Mask.{has}
 use Rattle.format.specs.Contents.{in_count}
 use Rattle.format.specs.declared.Node.{Node}
-use Rattle.format.proofs.ContentsLaws.{in_count}
+use Rattle.format.proofs.ContentsLaws.{in_count_lem}
 use Rattle.rules.specs.declared.Way.TheVariants.{Sends, Receives}
 use Rattle.steps.specs.declared.Thread.{Thread}
 use Rattle.steps.specs.declared.Made.{Made}
@@ -129,8 +129,8 @@ pub looked : (n i p q : ℕ) → in_count n i ≡ true → q ≡ cond (in_count 
 looked n i p q h e = go (in_count n p) refl e
   where
     go : (x : Bool) → in_count n p ≡ x → q ≡ cond x p i → (0 < q) × (q ≤ n)
-    go true w f = subst (λ (k : ℕ). (0 < k) × (k ≤ n)) (sym f) (in_count n p w)
-    go false w f = subst (λ (k : ℕ). (0 < k) × (k ≤ n)) (sym f) (in_count n i h)
+    go true w f = subst (λ (k : ℕ). (0 < k) × (k ≤ n)) (sym f) (in_count_lem n p w)
+    go false w f = subst (λ (k : ℕ). (0 < k) × (k ≤ n)) (sym f) (in_count_lem n i h)
 
 partner_read : (ts : List Thread) (n i p q at to : ℕ) (own other : Thread) → q ≡ cond (in_count n p) p i → at ≡ i - 1 → own ≡ get_or ts at no_thread → to ≡ q - 1
     → other ≡ get_or ts to no_thread → other ≡ cond (in_count n p) (get_or ts (p - 1) no_thread) own

@@ -19,8 +19,8 @@ use Rattle.format.proofs.BoolLaws.{and_fails, le_iff, and_iff}
 pub in_count_iff : (n x : ℕ) → (in_count n x ≡ true) ↔ ((1 ≤ x) × (x ≤ n))
 in_count_iff n x = and_iff (ltb-true 0 x, lt-ltb 0 x) (λ p. le_iff x n)
 
-pub in_count : (n x : ℕ) → in_count n x ≡ true → (1 ≤ x) × (x ≤ n)
-in_count n x = (in_count_iff n x).0
+pub in_count_lem : (n x : ℕ) → in_count n x ≡ true → (1 ≤ x) × (x ≤ n)
+in_count_lem n x = (in_count_iff n x).0
 
 pub count_past : (n x : ℕ) → n < x → in_count n x ≡ false
 count_past n x past = rw (lt-ltb 0 x (omega arith), lt-leb x n past)
@@ -67,7 +67,7 @@ module _ {A : Type 0} where
 
   -- as code reads it: what is in count, else nothing
   pub item_there : (z : A) (g : ℕ → A) (k n : ℕ) → in_count k n ≡ true → item z (tabled g 1 k) n ≡ g n
-  item_there z g k n e = let (pos, le) = in_count k n e in item_made z g k n pos le
+  item_there z g k n e = let (pos, le) = in_count_lem k n e in item_made z g k n pos le
 
   pub item_none : (z : A) (g : ℕ → A) (k n : ℕ) → in_count k n ≡ false → item z (tabled g 1 k) n ≡ z
   unfolding item

@@ -10,7 +10,7 @@ use lib.Seq.{get_or-set_same, get_or-set_other, get_or_at}
 use borrow.Author.Tests.{eqb-true, eqb-false, ne_eqb, lt-ltb, le-leb}
 use Rattle.format.specs.Contents.{in_count}
 use Rattle.format.specs.declared.Node.{Node}
-use Rattle.format.proofs.ContentsLaws.{in_count}
+use Rattle.format.proofs.ContentsLaws.{in_count_lem}
 use Rattle.steps.specs.declared.Thread.{Thread}
 use Rattle.steps.specs.declared.Made.{Made}
 use Rattle.steps.specs.declared.Partner.TheVariants.{Alone, With, Missing}
@@ -166,7 +166,7 @@ module _ (C : Clinic) (w v u b : List ℕ) (size : Sized w b) (i p q at to : ℕ
   x = outcome_on C b i own p other
 
   bounds : (1 ≤ i) × (i ≤ c)
-  bounds = in_count c i inside
+  bounds = in_count_lem c i inside
 
   looked_low : (1 ≤ q) × (q ≤ c)
   looked_low = looked c i p q inside seen
@@ -195,7 +195,7 @@ module _ (C : Clinic) (w v u b : List ℕ) (size : Sized w b) (i p q at to : ℕ
           same is ∙ own_there ∙ ap (λ (k : ℕ). get_or (threads_in u 0 c) (k - 1) no_thread) (sym is)
       go false z =
           let apart : p ≡ i → ⊥ = eqb-false p i z in
-          let some = in_count c p e in
+          let some = in_count_lem c p e in
           let partner : q ≡ p = seen ∙ ap (λ (y : Bool). cond y p i) e in
           let here : 12 * to ≡ 0 + 12 * (p - 1) = omega (arith, et, partner) in
           let kept : thread_in v (12 * to) ≡ thread_in u (0 + 12 * (p - 1)) =

@@ -10,7 +10,7 @@ use lib.Seq.{sets, length-sets, ext_get_or, get_or-set_same, get_or-set_other, g
 use mir.Val.{bool_byte}
 use borrow.Author.Tests.{eqb-true, eqb-false, eq-eqb, ltb-true, ltb-false}
 use Rattle.format.specs.Contents.{Contents, in_count}
-use Rattle.format.proofs.ContentsLaws.{in_count, in_count_iff}
+use Rattle.format.proofs.ContentsLaws.{in_count_lem, in_count_iff}
 use Rattle.naming.specs.Scopes.{awaited_by, awaits}
 use Rattle.steps.specs.Threads.{no_thread}
 use Rattle.steps.specs.declared.Thread.{Thread}
@@ -100,7 +100,7 @@ pub one_none : (l : List ℕ) (a : ℕ) → l ≡ one_upto l a 0
 one_none l a = go (in_count 0 a) refl
   where
     go : (b : Bool) → in_count 0 a ≡ b → l ≡ cond b (set l (a - 1) ((get_or l (a - 1) 0 + 1) % 65536)) l
-    go true q = let some = in_count 0 a q in let no : ⊥ = omega (arith, some.0, some.1) in absurd no
+    go true q = let some = in_count_lem 0 a q in let no : ⊥ = omega (arith, some.0, some.1) in absurd no
     go false q = refl
 
 -- so for the next one: its total gets 1 where it is the kind, and else 0
@@ -114,7 +114,7 @@ one_on l m a k at v w e there is small one = go (eqb a (k + 1)) refl
     count_off n h = off (in_count n a) refl
       where
         off : (b : Bool) → in_count n a ≡ b → b ≡ false
-        off true q = absurd (h (in_count n a q))
+        off true q = absurd (h (in_count_lem n a q))
         off false q = refl
 
     go : (b : Bool) → eqb a (k + 1) ≡ b → set m at ((v + w) % 65536) ≡ one_upto l a (k + 1)
@@ -135,7 +135,7 @@ one_on l m a k at v w e there is small one = go (eqb a (k + 1)) refl
         ∙ ap (λ (p : Bool). cond p (set l (a - 1) ((get_or l (a - 1) 0 + 1) % 65536)) l) (same_count (in_count k a) refl)
       where
         same_count : (b : Bool) → in_count k a ≡ b → b ≡ in_count (k + 1) a
-        same_count true h = let some = in_count k a h in sym ((in_count_iff (k + 1) a).1 (some.0, omega (arith, some.1)))
+        same_count true h = let some = in_count_lem k a h in sym ((in_count_iff (k + 1) a).1 (some.0, omega (arith, some.1)))
         same_count false h = sym (count_off (k + 1) (λ some. false≢true (sym h ∙ (in_count_iff k a).1 (some.0, small_one (eqb-false a (k + 1) q) some.1))))
           where
             small_one : (a ≡ k + 1 → ⊥) → a ≤ k + 1 → a ≤ k
@@ -158,7 +158,7 @@ in-get l a j long lt small = go (eqb a (1 + j)) refl
     v = (get_or l (a - 1) 0 + 1) % 65536
 
     apart : (p : Bool) → in_count 32 a ≡ p → (a ≡ 1 + j → ⊥) → get_or (cond p (set l (a - 1) v) l) j 0 ≡ get_or l j 0
-    apart true e n = let some = in_count 32 a e in get_or-set_other l (a - 1) j v 0 (λ q. n (omega (arith, q, some.0)))
+    apart true e n = let some = in_count_lem 32 a e in get_or-set_other l (a - 1) j v 0 (λ q. n (omega (arith, q, some.0)))
     apart false e n = refl
 
     go : (p : Bool) → eqb a (1 + j) ≡ p → get_or (cond (in_count 32 a) (set l (a - 1) v) l) j 0 ≡ get_or l j 0 + cond p 1 0

@@ -8,7 +8,7 @@ use lib.ListN.{length, get_or, set, take, drop, length-append, length-set}
 use lib.Seq.{sets, length-take-le, get_or-take, get_or-drop}
 use Rattle.format.specs.Contents.{Contents, in_count}
 use Rattle.format.specs.Answers.{refused}
-use Rattle.format.proofs.ContentsLaws.{in_count}
+use Rattle.format.proofs.ContentsLaws.{in_count_lem}
 use Rattle.steps.specs.declared.Thread.{Thread}
 use Rattle.steps.specs.declared.Acted.{Acted}
 use Rattle.steps.specs.declared.Outcome.{Outcome}
@@ -55,7 +55,7 @@ module _ (C : Clinic) (l : List Thread) (b : List ℕ) (fit : Fitting (length l)
   -- the records that are looked at are the state's threads
   read_at : (j : ℕ) → in_count n j ≡ true → get_or l (index_of n j) no_thread ≡ thread_at s j
   read_at j e =
-      let (pos, le) = in_count n j e in
+      let (pos, le) = in_count_lem n j e in
       ap (λ (x : Bool). get_or l (cond x (j - 1) 0) no_thread) e ∙ sym (get_or-take n l (j - 1) no_thread (omega (arith, pos, le)))
 
   -- so the step by value is the state's
@@ -81,7 +81,7 @@ module _ (C : Clinic) (l : List Thread) (b : List ℕ) (fit : Fitting (length l)
   by_step P none some = go (in_count n i) refl
     where
       go : (x : Bool) → in_count n i ≡ x → P o
-      go true e = let (pos, le) = in_count n i e in some pos le o (room e)
+      go true e = let (pos, le) = in_count_lem n i e in some pos le o (room e)
       go false e = subst P (sym (no_step e)) none
 
   pub storable : Storable (length l) n i p (acted_of o).answer
@@ -210,5 +210,5 @@ pub place-within : (l : List Thread) (b : List ℕ) → Fitting (length l) b →
 place-within l b fit j = go (in_count (thread_count b) j) refl
   where
     go : (x : Bool) → in_count (thread_count b) j ≡ x → cond x (j - 1) 0 < length l
-    go true e = let (pos, le) = in_count (thread_count b) j e in omega (arith, pos, le, fit.list, fit.threads)
+    go true e = let (pos, le) = in_count_lem (thread_count b) j e in omega (arith, pos, le, fit.list, fit.threads)
     go false e = omega (arith, fit.list)

@@ -12,7 +12,7 @@ use borrow.Author.Tests.{eqb-true, eqb-false, eq-eqb, ne_eqb, leb-true, le-leb, 
 use Rattle.masks.specs.Mask.{has, with, held}
 use Rattle.masks.proofs.Laws.{has_with}
 use Rattle.format.specs.Contents.{Contents, in_count}
-use Rattle.format.proofs.ContentsLaws.{in_count, in_count_iff}
+use Rattle.format.proofs.ContentsLaws.{in_count_lem, in_count_iff}
 use Rattle.reading_exact.specs.Lists.{All}
 use Rattle.reading_exact.specs.File.{InCount}
 use Rattle.steps.specs.Records.{threads_in}
@@ -47,7 +47,7 @@ counted_iff n [] = ((λ e. tt), λ u. refl)
 counted_iff n (x ∷ l) =
     let both = and-eq-true_iff (in_count n x) (all_counted n l) in
     let rest = counted_iff n l in
-    ((λ e. let (a, b) = both.0 e in (in_count n x a, rest.0 b)), λ (a, b). both.1 ((in_count_iff n x).1 a, rest.1 b))
+    ((λ e. let (a, b) = both.0 e in (in_count_lem n x a, rest.0 b)), λ (a, b). both.1 ((in_count_iff n x).1 a, rest.1 b))
 
 -- the first of a line from i on
 module _ (w : List ℕ) (n at waiting i seen : ℕ) (lt : i < waiting) (fits : at + i < length w) where
@@ -69,7 +69,7 @@ module _ (w : List ℕ) (n at waiting i seen : ℕ) (lt : i < waiting) (fits : a
 
   pub line_same : (in_count n first && not (has seen first)) ≡ true → line_fits n (has seen) (take (waiting - i) (drop (at + i) w)) ≡ line_fits n (has (with seen first)) rest
   line_same e =
-      let one : 1 ≤ first = (in_count n first ((and-eq-true_iff (in_count n first) (not (has seen first))).0 e).0).0 in
+      let one : 1 ≤ first = (in_count_lem n first ((and-eq-true_iff (in_count n first) (not (has seen first))).0 e).0).0 in
       let more : has (with seen first) ≡ (λ j. eqb j first || has seen j) = fun_ext (λ j. has_with seen first j one) in
       line_step ∙ ap (λ (b : Bool). b && line_fits n (λ j. eqb j first || has seen j) rest) e ∙ sym (ap (λ (q : ℕ → Bool). line_fits n q rest) more)
 
@@ -114,7 +114,7 @@ line_fits_iff n q (x ∷ l) = let rest = line_fits_iff n (λ j. eqb j x || q j) 
       where
         member : (k : ℕ) (b : Bool) → eqb x k ≡ b → (eqb x k || in_line k l) ≡ true → ((j : ℕ) → in_line j l ≡ true → InCount n j × ((eqb j x || q j) ≡ false))
             → in_count n x ≡ true → not (q x) ≡ true → InCount n k × (q k ≡ false)
-        member k true s t each c d = subst (λ (y : ℕ). InCount n y × (q y ≡ false)) (eqb-true x k s) (in_count n x c, (not_iff (q x)).0 d)
+        member k true s t each c d = subst (λ (y : ℕ). InCount n y × (q y ≡ false)) (eqb-true x k s) (in_count_lem n x c, (not_iff (q x)).0 d)
         member k false s t each c d =
             let (counted, none) = each k (sym (ap (λ (y : Bool). y || in_line k l) s) ∙ t) in
             (counted, (or-false (eqb k x) (q k) none).1)
@@ -284,7 +284,7 @@ in_order_iff L S others = (to, from)
     parts = and-eq-true_iff (all_counted n S.owners) (roles_fit n L.seats S 16)
 
     role : ((r : ℕ) → 1 ≤ r → r ≤ 16 → RoleOrdered n S (L.seats r) r) → (r : ℕ) (b : Bool) → in_count 16 r ≡ b → RoleOrdered n S (L.seats r) r
-    role f r true e = let (one, most) = in_count 16 r e in f r one most
+    role f r true e = let (one, most) = in_count_lem 16 r e in f r one most
     role f r false e =
         let (none, empty) = others r e in (
           (λ one. let no_way : ⊥ = omega (arith, one, none) in absurd no_way),

@@ -11,7 +11,7 @@ use lib.Seq.{paste, paste-suc, length-paste, length_paste_head, drop-paste, leng
 use borrow.Author.Count.{below_more}
 use borrow.Author.Tests.{eqb-true, eqb-false, ltb-true, ltb-false}
 use Rattle.format.specs.Contents.{in_count}
-use Rattle.format.proofs.ContentsLaws.{in_count, in_count_iff}
+use Rattle.format.proofs.ContentsLaws.{in_count_lem, in_count_iff}
 use Rattle.steps.specs.declared.Thread.{Thread}
 use Rattle.steps.specs.declared.Made.{Made}
 use Rattle.steps.specs.Beside.{made_at, made_in, thread_count, made_count}
@@ -230,7 +230,7 @@ lines_done s at roles on r ls P e few = (P.rows, fun_ext each)
         go : (b : Bool) → in_count 16 (suc j) ≡ b → lines_in ls (suc j) ≡ get_or (row_lines s at roles) j []
         go true q =
             let less : suc j - 1 ≡ j = omega arith in
-            let low : j < 16 = omega (arith, (in_count 16 (suc j) q).1) in
+            let low : j < 16 = omega (arith, (in_count_lem 16 (suc j) q).1) in
             rw q (ap (line_row ls) less ∙ row j low (ltb j roles) refl)
         go false q = rw q (sym (row_lines_past s at roles j (past (ltb j 16) refl)))
           where

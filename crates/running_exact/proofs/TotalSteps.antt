@@ -11,7 +11,7 @@ use borrow.Author.Tests.{eqb-true, eqb-false, leb-true, ltb-true}
 use Rattle.masks.specs.Mask.{has, with, without}
 use Rattle.format.specs.Contents.{in_count}
 use Rattle.format.specs.declared.Node.{Node}
-use Rattle.format.proofs.ContentsLaws.{in_count}
+use Rattle.format.proofs.ContentsLaws.{in_count_lem}
 use Rattle.rules.specs.declared.Way.TheVariants.{Sends, Receives}
 use Rattle.steps.specs.declared.Thread.{Thread}
 use Rattle.steps.specs.declared.Made.{Made}
@@ -90,7 +90,7 @@ module _ (C : Clinic) (kind : ℕ → ℕ) (by : ByReceives C kind) (threads : �
   unfolding acting
   acting_leaves p =
       either p (in_count C.nodes t.node) _ _
-      (λ e. tagged (in_count C.nodes t.node e) (eqb (C.node t.node).tag 6) refl (eqb (C.node t.node).tag 5) refl) (none p 18)
+      (λ e. tagged (in_count_lem C.nodes t.node e) (eqb (C.node t.node).tag 6) refl (eqb (C.node t.node).tag 5) refl) (none p 18)
     where
       tagged : InCount C.nodes t.node → (a : Bool) → eqb (C.node t.node).tag 6 ≡ a → (b : Bool) → eqb (C.node t.node).tag 5 ≡ b
           → Says p (cond a (sending C made t (C.node t.node) p) (cond b (Refused 18) (alone_only p (lone C threads (length made) t (C.node t.node)))))
@@ -253,5 +253,5 @@ module _ (C : Clinic) (kind : ℕ → ℕ) (by : ByReceives C kind) (b : List �
     where
       go : (a : Bool) → in_count (length ts) i ≡ a
           → let o : Outcome = cond a (acting C (length ts) s.made own (partner_at s p)) (Refused 18) in TalliedAfter kind (beside_by kind b o) (done s i p o)
-      go true e = done_tallied (in_count (length ts) i e) (partner_at s p) refl (acting C (length ts) s.made own (partner_at s p)) (acting_leaves C kind by (length ts) s.made own (partner_at s p)).leaves
+      go true e = done_tallied (in_count_lem (length ts) i e) (partner_at s p) refl (acting C (length ts) s.made own (partner_at s p)) (acting_leaves C kind by (length ts) s.made own (partner_at s p)).leaves
       go false e = tt

@@ -9,7 +9,7 @@ use lib.ListN.{length, get_or, set, take, drop, length-set}
 use lib.Seq.{get_or-set_same, get_or-set_other}
 use borrow.Author.Tests.{eqb-true, eqb-false, eq-eqb, ne_eqb}
 use Rattle.format.specs.Contents.{in_count}
-use Rattle.format.proofs.ContentsLaws.{in_count, in_count_iff}
+use Rattle.format.proofs.ContentsLaws.{in_count_lem, in_count_iff}
 use Rattle.steps.specs.declared.Thread.{Thread}
 use Rattle.steps.specs.declared.Made.{Made}
 use Rattle.steps.specs.Threads.{no_thread}

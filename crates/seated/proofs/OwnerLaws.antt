@@ -11,7 +11,7 @@ use lib.Seq.{paste, get_or-take, take-suc-set, take-take, take-paste}
 use borrow.Author.Tests.{eqb-true, ltb-true}
 use Rattle.masks.specs.Mask.{has, with, without}
 use Rattle.format.specs.Contents.{in_count}
-use Rattle.format.proofs.ContentsLaws.{in_count}
+use Rattle.format.proofs.ContentsLaws.{in_count_lem}
 use Rattle.format.specs.declared.Node.{Node}
 use Rattle.rules.specs.declared.Way.TheVariants.{Sends, Receives}
 use Rattle.steps.specs.declared.Thread.{Thread}
@@ -91,7 +91,7 @@ pub outcome_fits : (C : Clinic) (s : State) (i p : ℕ) → Fits (length s.threa
 unfolding outcome
 outcome_fits C s i p =
     by_test (λ o. Fits (length s.threads) i (C.node (thread_at s i).node).tag (acted_of o).answer) (in_count (length s.threads) i) _ (Refused 18) (λ e.
-    let (one, most) = in_count (length s.threads) i e in
+    let (one, most) = in_count_lem (length s.threads) i e in
     acting_fits C (length s.threads) s.made i one most (thread_at s i) (partner_at s p)) (λ _. tt)
 
 -- there is room for what is passed on

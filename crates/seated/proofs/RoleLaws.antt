@@ -10,7 +10,7 @@ use borrow.Author.Tests.{eq-eqb, ne_eqb, eqb-true, eqb-false, ltb-true, ltb-fals
 use Rattle.masks.specs.Mask.{has}
 use Rattle.format.specs.Contents.{Contents, item, no_node, in_count}
 use Rattle.format.specs.declared.Node.{Node}
-use Rattle.format.proofs.ContentsLaws.{in_count_iff, in_count, item_zero, item_past}
+use Rattle.format.proofs.ContentsLaws.{in_count_iff, in_count_lem, item_zero, item_past}
 use Rattle.steps.specs.declared.Thread.{Thread}
 use Rattle.steps.specs.Choice.{State, thread_at}
 use Rattle.steps.specs.Kept.{state_in}
@@ -83,7 +83,7 @@ module _ (L : Limited) (s : State) (i p : ℕ) where
           let both = (and-eq-true_iff (in_count (length s.threads) i) (eqb p 0)).0 a in
           let pos : (L.seats node.f1 ≡ 0) → ⊥ = eqb-false (L.seats node.f1) 0 d in
           record {
-            thread = in_count (length s.threads) i both.0;
+            thread = in_count_lem (length s.threads) i both.0;
             alone = eqb-true p 0 both.1;
             tag = eqb-true node.tag 7 t;
             assigned = m;
@@ -171,7 +171,7 @@ module _ (C : Contents) (table w b : List ℕ) (i p : ℕ) (t : Bool) (count : �
 
   pub asked_there : not (t && eqb p 0) ≡ false → (1 ≤ i) × (i ≤ thread_count b)
   asked_there h =
-      let (one, most) = in_count (length s.threads) i ((and-eq-true_iff (in_count (length s.threads) i) (eqb p 0)).0 (sym test ∙ not-false (t && eqb p 0) h)).0 in
+      let (one, most) = in_count_lem (length s.threads) i ((and-eq-true_iff (in_count (length s.threads) i) (eqb p 0)).0 (sym test ∙ not-false (t && eqb p 0) h)).0 in
       (one, omega (arith, most, threads_length w 0 (thread_count b)))
 
   module _ (yes : not (t && eqb p 0) ≡ false) (at : ℕ) (own : Thread) (nd : Node) (ea : at ≡ i - 1) (eo : own ≡ thread_in w (record_at at)) (en : nd ≡ item no_node C.nodes own.node) where

@@ -10,7 +10,7 @@ use lib.Seq.{get_or-take, length-take-le}
 use borrow.Author.Tests.{eq-eqb, ne_eqb, eqb-true, eqb-false}
 use Rattle.masks.specs.Mask.{has, held}
 use Rattle.format.specs.Contents.{Contents, in_count}
-use Rattle.format.proofs.ContentsLaws.{in_count_iff, in_count}
+use Rattle.format.proofs.ContentsLaws.{in_count_iff, in_count_lem}
 use Rattle.steps.specs.declared.Thread.{Thread}
 use Rattle.steps.specs.Records.{threads_in}
 use Rattle.steps.specs.Beside.{thread_count}
@@ -40,7 +40,7 @@ relined_by w v r l pos low at others = λ j. λ x. each x (eqb x r) refl (in_cou
     each x true e c h = subst (λ (y : ℕ). lines_in v y ≡ relined (lines_in w) r l y) (sym (eqb-true x r e)) mine
     each x false e true h =
         let z : (x ≡ r) → ⊥ = eqb-false x r e in
-        let (one, most) = in_count 16 x h in
+        let (one, most) = in_count_lem 16 x h in
         rw (e, h) (others (x - 1) (omega (arith, one, most)) (λ q. z (omega (arith, q, one, pos))))
     each x false e false h = rw (e, h)
 

@@ -8,7 +8,7 @@ use lib.ListN.{length, get_or, set, take, drop, replicate, length-set, length-dr
 use mir.Val.{bool_byte}
 use lib.Seq.{sets, length-sets, set-get_or, get_or-set_same, get_or-set_other, get_or-drop, take-suc, take-suc-set, take_all}
 use Rattle.format.specs.Contents.{in_count}
-use Rattle.format.proofs.ContentsLaws.{in_count}
+use Rattle.format.proofs.ContentsLaws.{in_count_lem}
 use Rattle.naming.specs.Scopes.{awaited_in, awaited_by}
 use Rattle.steps.specs.declared.Thread.{Thread}
 use Rattle.steps.specs.declared.Made.{Made}
@@ -73,7 +73,7 @@ module _ (v : ℕ → ℕ) (b : List ℕ) (k : ℕ) where
   put_length false = refl
 
   put_other : (j : ℕ) → j < 130 → (p : Bool) → in_count 32 k ≡ p → get_or (put p) j 0 ≡ get_or b j 0
-  put_other j lt true e = let some = in_count 32 k e in get_or-set_other b (129 + k) j (v (get_or b (129 + k) 0)) 0 (λ q. omega (arith, q, lt, some.0))
+  put_other j lt true e = let some = in_count_lem 32 k e in get_or-set_other b (129 + k) j (v (get_or b (129 + k) 0)) 0 (λ q. omega (arith, q, lt, some.0))
   put_other j lt false e = refl
 
 pub more_length : (b : List ℕ) (k : ℕ) → length (one_more b k) ≡ length b
@@ -153,7 +153,7 @@ below_bool x n true h = omega arith
 below_bool x n false h = omega arith
 
 pub in_place : (k : ℕ) (b : Bool) → b ≡ in_count 32 k → k * bool_byte b < 33
-in_place k true e = let some = in_count 32 k (sym e) in omega (arith, some.1)
+in_place k true e = let some = in_count_lem 32 k (sym e) in omega (arith, some.1)
 in_place k false e = omega arith
 
 pub added_to : (l : List ℕ) (k by at c v w : ℕ) (t : Bool) → t ≡ in_count 32 k → c ≡ bool_byte t → at ≡ 129 + k * c → v ≡ get_or l at 0 → v < 65536 → w ≡ c

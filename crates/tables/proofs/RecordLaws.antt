@@ -15,7 +15,7 @@ use Rattle.format.specs.declared.Head.{Head}
 use Rattle.format.specs.declared.Section.{Section}
 use Rattle.format.specs.declared.Section.TheVariants.{Users, Roles, Juniors, Kinds, Channels, Sessions}
 use Rattle.format.proofs.AnswerLaws.{NoRefusal, first_quiet, both_quiet}
-use Rattle.format.proofs.ContentsLaws.{in_count, item_past, users_held, roles_held, juniors_held, kinds_held, channels_held, sessions_held}
+use Rattle.format.proofs.ContentsLaws.{in_count_lem, item_past, users_held, roles_held, juniors_held, kinds_held, channels_held, sessions_held}
 use Rattle.tables.specs.Records.{count_in, record_fits, refusal_of, section_answer, records_answer}
 
 pub counted : (f : List ℕ) (h : Head) (s : Section) → count_in s (contents_at f h) ≡ part s h.count
@@ -74,10 +74,10 @@ module _ (h : Head) (C : Contents) where
   unfolding record_fits
   owners_are_users q =
       any_item no_channel C.channels (λ c. c.owner ≤ length C.users) (omega arith) (λ n low high.
-      (in_count (length C.users) _ ((and-eq-true_iff _ _).0 (fitting Channels (sections_quiet q).0 n low high)).0).1)
+      (in_count_lem (length C.users) _ ((and-eq-true_iff _ _).0 (fitting Channels (sections_quiet q).0 n low high)).0).1)
 
   pub seated_are_users : NoRefusal (records_answer h C) → (n : ℕ) → (item no_session C.sessions n).user ≤ length C.users
   unfolding record_fits
   seated_are_users q =
       any_item no_session C.sessions (λ s. s.user ≤ length C.users) (omega arith) (λ n low high.
-      (in_count (length C.users) _ ((and-eq-true_iff _ _).0 (fitting Sessions (sections_quiet q).2 n low high)).0).1)
+      (in_count_lem (length C.users) _ ((and-eq-true_iff _ _).0 (fitting Sessions (sections_quiet q).2 n low high)).0).1)

@@ -7,7 +7,7 @@ use native.Mathlib.Omega.{arith}
 use borrow.Author.Rules.{rules}
 use borrow.Author.Tests.{not-true, not-false}
 use Rattle.masks.specs.Mask.{has}
-use Rattle.format.proofs.ContentsLaws.{in_count}
+use Rattle.format.proofs.ContentsLaws.{in_count_lem}
 use Rattle.seating.specs.SeatTables.{line_row}
 use Rattle.ordering.specs.Order.{line_fits}
 use Rattle.ordering.proofs.OrderLaws.{line_other, line_same, line-end}
@@ -49,7 +49,7 @@ with-waiting-requires c κs =
     let a = c.before.before.before.before.before.before.before.before.args in
     let l = c.before.before.before.before.loop in
     let k = get_or a.lines.now (33 * a.row + 1 + l.i) 0 in
-    let counted = in_count a.n k ((and-eq-true_iff _ _).0 (sym c.before.may-wait.ensures ∙ not-false c.before.may-wait.result c.if1.false)).0 in
+    let counted = in_count_lem a.n k ((and-eq-true_iff _ _).0 (sym c.before.may-wait.ensures ∙ not-false c.before.may-wait.result c.if1.false)).0 in
     (counted.0, omega (arith, counted.1, c.before.before.before.before.before.before.before.before.requires.2))
 
 loop-again : tie.Need-loop-preserved invariant-loop decreases-loop

@@ -5,7 +5,7 @@ use native.Mathlib.Omega.{arith}
 use lib.ListN.{get_or}
 use borrow.Author.Tests.{not-true, not-false}
 use Rattle.format.specs.Contents.{in_count, contents_at}
-use Rattle.format.proofs.ContentsLaws.{in_count}
+use Rattle.format.proofs.ContentsLaws.{in_count_lem}
 use Rattle.steps.specs.declared.Outcome.{Outcome}
 use Rattle.steps.specs.declared.Answer.TheVariants as answers
 use Rattle.steps.specs.Choice.{clinic_of, done}
@@ -45,13 +45,13 @@ returns c =
 sub_wide : tie.Need-overflow-sub-wide
 sub_wide c =
     let a = c.before.before.before.before.before.before.before.before.before.before.before.args in
-    let some = in_count (get_or a.beside.now 0 0) a.i (inside c.before) in
+    let some = in_count_lem (get_or a.beside.now 0 0) a.i (inside c.before) in
     omega (arith, some.0)
 
 thread-at-requires : tie.Need-thread-at-requires
 thread-at-requires c κs =
     let s = c.before.before.before.before.before.before.before.before.before.before.before.before in
-    let some = in_count (get_or s.args.beside.now 0 0) s.args.i (inside c.before.before) in
+    let some = in_count_lem (get_or s.args.beside.now 0 0) s.args.i (inside c.before.before) in
     omega (arith, some.0, some.1, c.wide.ensures.0, s.requires.3.words, s.requires.3.threads)
 
 sub-wide-2 : tie.Need-overflow-sub-wide-2
@@ -72,7 +72,7 @@ store-requires c κs =
     let s = c.before.before.before.before.before.before.before.before.before.before.before.before.before.before.before.before.before.before.before.before.before in
     let a = s.args in
     let C = clinic_of (contents_at a.file.now a.head) in
-    let some = in_count (get_or a.beside.now 0 0) a.i (inside c.before.before.before.before.before.before.before.before.before.before.before) in (
+    let some = in_count_lem (get_or a.beside.now 0 0) a.i (inside c.before.before.before.before.before.before.before.before.before.before.before) in (
       s.requires.3,
       some.0,
       some.1,
@@ -96,7 +96,7 @@ returns-2 c =
     let n = get_or a.beside.now 0 0 in
     let w = a.threads.now in
     let within-i = inside c.before.before.before.before.before.before.before.before.before.before.before.before.before.before.before.before.before.before.before.before in
-    let some = in_count n a.i within-i in
+    let some = in_count_lem n a.i within-i in
     let look = seen c.before.before.before.before.before.before.before.before.before.before.before.before.before.before.before.before in
     let some-q = looked n a.i a.p q.result within-i look in
     let mine = thread_read w n at.result own.result (omega (arith, some.0, some.1, at.ensures.0)) own.ensures in

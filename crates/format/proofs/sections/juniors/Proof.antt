@@ -5,7 +5,7 @@ use Rattle.format.specs.Words.{word_at}
 use Rattle.format.specs.Sections.{juniors_of}
 use Rattle.format.specs.Contents.{in_count, contents_at}
 use Rattle.format.proofs.HeadLaws.{junior_there}
-use Rattle.format.proofs.ContentsLaws.{in_count, item_there, item_none}
+use Rattle.format.proofs.ContentsLaws.{in_count_lem, item_there, item_none}
 use borrow.Author.Rules.{rules}
 use Rattle.format.proofs.sections.juniors.Statement.{statement}
 use Rattle.format.proofs.sections.juniors.Tie as tie
@@ -27,13 +27,13 @@ returns-2 c =
 place-of-requires : tie.Need-place-of-requires
 place-of-requires c κs =
     let a = c.before.before.before.before.before.args in
-    let (pos, le) = in_count a.head.count.roles a.n (sym c.before.before.before.in_count.ensures ∙ not-false c.before.before.before.in_count.result c.before.before.if1.false) in
+    let (pos, le) = in_count_lem a.head.count.roles a.n (sym c.before.before.before.in_count.ensures ∙ not-false c.before.before.before.in_count.result c.before.before.if1.false) in
     pos
 
 inner-word-requires : tie.Need-inner-word-requires
 inner-word-requires c κs =
     let a = c.before.before.before.before.before.before.args in
-    let (pos, le) = in_count a.head.count.roles a.n (sym c.before.before.before.before.in_count.ensures ∙ not-false c.before.before.before.before.in_count.result c.before.before.before.if1.false) in
+    let (pos, le) = in_count_lem a.head.count.roles a.n (sym c.before.before.before.before.in_count.ensures ∙ not-false c.before.before.before.before.in_count.result c.before.before.before.if1.false) in
     junior_there a.file.now a.head c.before.before.before.before.before.before.requires (sym c.before.before.has-juniors.ensures ∙ not-false c.before.before.has-juniors.result c.before.if2.false) a.n c.place-of.result pos le c.place-of.ensures.0
 
 returns-3 : tie.Need-returns-3

@@ -6,7 +6,7 @@ use Rattle.format.specs.Words.{word_at}
 use Rattle.format.specs.Sections.{node_of}
 use Rattle.format.specs.Contents.{in_count, no_node, contents_at}
 use Rattle.format.specs.declared.Node.{Node}
-use Rattle.format.proofs.ContentsLaws.{in_count, item_there, item_none}
+use Rattle.format.proofs.ContentsLaws.{in_count_lem, item_there, item_none}
 use Rattle.format.proofs.SpotLaws.{node_there}
 use borrow.Author.Rules.{rules}
 use Rattle.format.proofs.sections.node_tag.Statement.{statement}
@@ -22,13 +22,13 @@ returns c =
 node-spot-requires : tie.Need-node-spot-requires
 node-spot-requires c κs =
     let a = c.before.before.before.args in
-    let (pos, le) = in_count a.head.count.nodes a.n (sym c.before.in_count.ensures ∙ not-false c.before.in_count.result c.if1.false) in
+    let (pos, le) = in_count_lem a.head.count.nodes a.n (sym c.before.in_count.ensures ∙ not-false c.before.in_count.result c.if1.false) in
     (pos, omega arith)
 
 inner-word-requires : tie.Need-inner-word-requires
 inner-word-requires c κs =
     let a = c.before.before.before.before.args in
-    let (pos, le) = in_count a.head.count.nodes a.n (sym c.before.before.in_count.ensures ∙ not-false c.before.before.in_count.result c.before.if1.false) in
+    let (pos, le) = in_count_lem a.head.count.nodes a.n (sym c.before.before.in_count.ensures ∙ not-false c.before.before.in_count.result c.before.if1.false) in
     omega (arith, c.node-spot.ensures.0, node_there a.file.now a.head c.before.before.before.before.requires a.n 0 pos le (omega arith))
 
 returns-2 : tie.Need-returns-2

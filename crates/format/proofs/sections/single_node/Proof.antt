@@ -4,7 +4,7 @@ use mathlib.Core.Bool.{true, false}
 use borrow.Author.Tests.{not-true, not-false}
 use Rattle.format.specs.Sections.{node_of}
 use Rattle.format.specs.Contents.{in_count, no_node, contents_at}
-use Rattle.format.proofs.ContentsLaws.{in_count, item_there, item_none}
+use Rattle.format.proofs.ContentsLaws.{in_count_lem, item_there, item_none}
 use Rattle.format.proofs.SpotLaws.{row_node, row_there, column_node, column_there}
 use borrow.Author.Rules.{rules}
 use Rattle.format.proofs.sections.single_node.Statement.{statement}
@@ -24,7 +24,7 @@ within c = sym c.before.in_count.ensures ∙ not-false c.before.in_count.result 
 column-node-requires : tie.Need-column-node-requires
 column-node-requires c κs =
     let a = c.before.before.before.before.before.args in
-    let (pos, le) = in_count a.head.count.nodes a.n (within c.before.before) in
+    let (pos, le) = in_count_lem a.head.count.nodes a.n (within c.before.before) in
     (pos, column_there a.file.now a.head c.before.before.before.before.before.requires c.if2.true a.n pos le)
 
 returns-2 : tie.Need-returns-2
@@ -38,7 +38,7 @@ row-node-requires : tie.Need-row-node-requires
 row-node-requires c κs =
     let a = c.before.before.before.before.before.args in
     let other : a.head.version ≢ 3 = c.if2.false in
-    let (pos, le) = in_count a.head.count.nodes a.n (within c.before.before) in
+    let (pos, le) = in_count_lem a.head.count.nodes a.n (within c.before.before) in
     (pos, row_there a.file.now a.head c.before.before.before.before.before.requires other a.n pos le)
 
 returns-3 : tie.Need-returns-3

@@ -6,7 +6,7 @@ use borrow.Author.Tests.{not-true, not-false}
 use borrow.Author.Rules.{rules}
 use Rattle.masks.specs.Mask.{within}
 use Rattle.format.specs.Contents.{in_count, contents_at}
-use Rattle.format.proofs.ContentsLaws.{in_count, nodes_held, nodes_counted}
+use Rattle.format.proofs.ContentsLaws.{in_count_lem, nodes_held, nodes_counted}
 use Rattle.steps.specs.Beside.{made_in}
 use Rattle.lending.proofs.JudgeLaws.{thread_nowhere, thread_user, thread_mask, thread_vars}
 use Rattle.lending.proofs.judging.thread_fits.Statement.{statement}
@@ -24,7 +24,7 @@ returns c =
 shared-slice-read-scope-in : tie.Need-shared-slice-read-scope-in
 shared-slice-read-scope-in c =
     let a = c.before.before.before.before.before.before.before.args in
-    let few = in_count (length (contents_at a.file.now a.head).nodes) a.t.node (counted c.before.before.before (not-false _ c.before.before.if1.false)) in
+    let few = in_count_lem (length (contents_at a.file.now a.head).nodes) a.t.node (counted c.before.before.before (not-false _ c.before.before.if1.false)) in
     omega (arith, few, nodes_held a.file.now a.head, c.before.before.before.before.before.before.before.requires.0.nodes, c.before.wide.ensures)
 
 returns-2 : tie.Need-returns-2

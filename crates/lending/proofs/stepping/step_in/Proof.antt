@@ -4,7 +4,7 @@ use mathlib.Core.Bool.{true, false, cond}
 use native.Mathlib.Omega.{arith}
 use borrow.Author.Tests.{not-true, not-false}
 use Rattle.format.specs.Contents.{in_count, contents_at}
-use Rattle.format.proofs.ContentsLaws.{in_count}
+use Rattle.format.proofs.ContentsLaws.{in_count_lem}
 use Rattle.steps.specs.declared.Answer.TheVariants as answers
 use Rattle.naming.specs.Scopes.{awaited_by}
 use Rattle.steps.specs.Choice.{clinic_of}
@@ -32,7 +32,7 @@ returns c =
     step-none (awaited_by a.table.now) (clinic_of (contents_at a.file.now a.head)) a.beside.now a.i a.p a.own a.other _ outside (λ j. record { answer = answers.Refused 18; first = none j; second = none j })
 
 sub_wide : tie.Need-overflow-sub-wide
-sub_wide c = let some = in_count (thread_count c.before.before.before.before.before.before.before.before.before.before.args.beside.now) c.before.before.before.before.before.before.before.before.before.before.args.i (inside c) in omega (arith, some.0)
+sub_wide c = let some = in_count_lem (thread_count c.before.before.before.before.before.before.before.before.before.before.args.beside.now) c.before.before.before.before.before.before.before.before.before.before.args.i (inside c) in omega (arith, some.0)
 
 sub-wide-2 : tie.Need-overflow-sub-wide-2
 sub-wide-2 c =
@@ -51,7 +51,7 @@ put-thread-requires-2 : tie.Need-put-thread-requires-2
 put-thread-requires-2 c κs =
     let a = c.before.before.before.before.before.before.before.before.before.before.before.before.before.before.before.before.before.before.args in
     let q = c.before.before.before.before.before.before.before.before.before.before.before.before.before.before.before.before.before.before.requires in
-    let some = in_count (thread_count a.beside.now) a.i (inside c.before.before.before.before.before.before.before.before) in
+    let some = in_count_lem (thread_count a.beside.now) a.i (inside c.before.before.before.before.before.before.before.before) in
     omega (arith, some.0, some.1, c.before.before.before.before.before.before.before.wide.ensures.0, q.3.words, q.3.threads, laid_long a.words.now _ _ a.other c.before.before.before.put-thread.ensures)
 
 go-through-requires : tie.Need-go-through-requires
@@ -73,7 +73,7 @@ read-back-requires c κs =
     let look = c.before.before.before.before.before.before.before.before.before.before.before.before.before.before.before.before.before.before.before.looked-at in
     let to = c.before.before.before.before.before.before.before.before.before.before.before.before.before.before.before.before.before.before.wide2 in
     let did = c.before.before.before.before.before.before.go-through in
-    let some = in_count (thread_count a.beside.now) a.i (inside c.before.before.before.before.before.before.before.before.before.before.before.before.before.before.before.before.before.before.before.before.before) in (
+    let some = in_count_lem (thread_count a.beside.now) a.i (inside c.before.before.before.before.before.before.before.before.before.before.before.before.before.before.before.before.before.before.before.before.before) in (
       did.ensures.3.words,
       omega (arith, some.0, some.1, at.ensures.0, q.3.threads),
       step_second C a.words.now _ _ a.beside.now q.3 a.i a.p look.result at.result to.result a.own a.other (inside c.before.before.before.before.before.before.before.before.before.before.before.before.before.before.before.before.before.before.before.before.before) (seen c.before.before.before.before.before.before.before.before.before.before.before.before.before.before.before.before.before.before.before) at.ensures.0 to.ensures.0 q.4 c.before.before.before.before.before.before.before.before.before.before.before.before.before.before.before.before.put-thread.ensures c.before.before.before.before.before.before.before.before.before.before.before.before.put-thread2.ensures (awaited_by a.table.now) did.result.last _ _ (one_chose (awaited_by a.table.now) C _ a.beside.now _ _ a.i a.p did.result did.ensures) c.wide3.result (c.wide3.ensures.0 ∙ c.before.before.before.before.before.before.before.before.before.before.before.before.before.before.before.before.before.before.before.before.before.before.before.thread-count.ensures),

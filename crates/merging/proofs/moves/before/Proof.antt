@@ -1,6 +1,6 @@
 use mathlib.Core.Path.{sym, ◌∙◌}
 use native.Mathlib.Omega.{arith}
-use Rattle.format.proofs.ContentsLaws.{in_count}
+use Rattle.format.proofs.ContentsLaws.{in_count_lem}
 use Rattle.merging.proofs.SectionLaws.{shifts_user, shifts_channel, shifts_none, few_channels}
 use borrow.Author.Rules.{rules}
 use Rattle.merging.proofs.moves.before.Statement.{statement}
@@ -10,7 +10,7 @@ returns : tie.Need-returns
 returns c =
     let a = c.before.before.args in
     let is = sym c.before.in_count.ensures ∙ c.if1.true in
-    (shifts_user a.by.users a.by.channels a.x is, omega arith, omega (arith, in_count 32 a.x is))
+    (shifts_user a.by.users a.by.channels a.x is, omega arith, omega (arith, in_count_lem 32 a.x is))
 
 returns-2 : tie.Need-returns-2
 returns-2 c =

@@ -4,7 +4,7 @@ use native.Mathlib.Omega.{arith}
 use lib.ListN.{length, get_or}
 use borrow.Author.Tests.{not-true, not-false}
 use Rattle.format.specs.Contents.{in_count, contents_at}
-use Rattle.format.proofs.ContentsLaws.{in_count, nodes_held, nodes_counted}
+use Rattle.format.proofs.ContentsLaws.{in_count_lem, nodes_held, nodes_counted}
 use Rattle.steps.specs.Choice.{clinic_of}
 use Rattle.steps.specs.Beside.{made_in}
 use Rattle.steps.proofs.ActLaws.{answered, sending_alone, sending_missing, sending_out, sending_elsewhere, sending_received}
@@ -40,7 +40,7 @@ returns-4 c =
 meets-requires : tie.Need-meets-requires
 meets-requires c κs =
     let a = c.before.before.before.before.before.before.before.before.before.before.before.before.args in
-    let w = in_count (length (contents_at a.file.now a.head).nodes) a.other.node (counted c.before.before.before.before (not-false _ c.before.before.before.if3.false)) in
+    let w = in_count_lem (length (contents_at a.file.now a.head).nodes) a.other.node (counted c.before.before.before.before (not-false _ c.before.before.before.if3.false)) in
     let p = c.before.before.before.before.before.before.before.before.before.before.before.before.requires in
     (p.0, p.1, omega (arith, p.0.nodes, nodes_held a.file.now a.head, w.1), p.2, p.3, p.4, p.5)
 

@@ -2,7 +2,7 @@ use mathlib.Core.Path.{sym, ◌∙◌}
 use native.Mathlib.Omega.{arith}
 use borrow.Author.Rules.{rules}
 use borrow.Author.Tests.{not-true, not-false, eq-eqb, ne_eqb}
-use Rattle.format.proofs.ContentsLaws.{in_count}
+use Rattle.format.proofs.ContentsLaws.{in_count_lem}
 use Rattle.steps.specs.Beside.{total_in}
 use Rattle.steps.proofs.beside.total.Statement.{statement}
 use Rattle.steps.proofs.beside.total.Tie as tie
@@ -12,7 +12,7 @@ unfolding total_in
 returns c = rw (sym c.before.in_count.ensures ∙ not-true _ c.if1.true)
 
 shared-slice-read-result : tie.Need-shared-slice-read-result
-shared-slice-read-result c = let some = in_count 32 c.before.before.before.before.before.before.args.kind (sym c.before.before.before.before.in_count.ensures ∙ not-false _ c.before.before.before.if1.false) in omega (arith, some.1, c.before.wide.ensures.0, c.before.before.if2.true)
+shared-slice-read-result c = let some = in_count_lem 32 c.before.before.before.before.before.before.args.kind (sym c.before.before.before.before.in_count.ensures ∙ not-false _ c.before.before.before.if1.false) in omega (arith, some.1, c.before.wide.ensures.0, c.before.before.if2.true)
 
 returns-2 : tie.Need-returns-2
 unfolding total_in
