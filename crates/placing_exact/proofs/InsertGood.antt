@@ -108,8 +108,10 @@ module _ (D : Schema) (u : ℕ) where
   unfolding choose best Ends
   choose_ends p vs end =
       zero_first 16 (λ s. cost p (label D u vs (words 0 0 0)) s + (best cost 16 s nil + best cost 16 s nil)) (omega (arith, end_free p vs))
-  choose_ends p vs (fork x y) = (choose_ends _ vs x, choose_ends _ vs y)
-  choose_ends p vs (step s t) = choose_ends _ (vars_below D u vs s) t
+  choose_ends p vs (fork x y) =
+      let s = (choose cost 16 p (labels D u vs (fork x y))).0 in
+      (choose_ends s vs x, choose_ends s vs y)
+  choose_ends p vs (step s t) = choose_ends (choose cost 16 p (labels D u vs (step s t))).0 (vars_below D u vs s) t
   choose_ends p vs (switch w r t) = choose_ends p vs t
 
   module _ (R : Ranged D) (fit : (r : ℕ) → has (D.assigned u) r ≡ true → InCount D.roles r) where

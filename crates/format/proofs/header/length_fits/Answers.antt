@@ -1,0 +1,7 @@
+use mathlib.Core.Path.{ap}
+use lib.Dec.{eqb}
+use borrow.Author.Rules.{rules}
+use Rattle.format.proofs.header.length_fits.Goals as goal
+
+pub returns : goal.returns
+returns c = ap (eqb c.args.len) c.length_for.ensures.0

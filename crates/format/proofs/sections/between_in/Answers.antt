@@ -1,0 +1,10 @@
+use native.Mathlib.Omega.{arith}
+use borrow.Author.Tests.{eq-eqb, ne_eqb}
+use borrow.Author.Rules.{rules}
+use Rattle.format.proofs.sections.between_in.Goals as goal
+
+pub returns-then-version-eq3 : goal.returns-then-version-eq3
+returns-then-version-eq3 c = (rw (eq-eqb _ _ c.if-version-eq3.true) c.wide.ensures.0, c.wide.ensures.1)
+
+pub returns : goal.returns
+returns c = (rw (ne_eqb _ _ c.if-version-eq3.false), omega arith)

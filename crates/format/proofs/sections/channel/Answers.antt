@@ -1,0 +1,45 @@
+use native.Mathlib.Omega.{arith}
+use Prim.Native.Nat.{◌+◌}
+use mathlib.Core.Path.{◌≡◌, sym, ap, ◌∙◌}
+use mathlib.Core.Bool.{false}
+use borrow.Author.Tests.{not-true, not-false}
+use Rattle.format.specs.Words.{word_at}
+use Rattle.format.specs.Sections.{channel_of}
+use Rattle.format.specs.Contents.{in_count, no_channel, contents_at}
+use Rattle.format.specs.declared.Section.TheVariants.{Channels}
+use Rattle.format.proofs.HeadLaws.{all_there}
+use Rattle.format.proofs.ContentsLaws.{in_count_lem, item_there, item_none}
+use borrow.Author.Rules.{rules}
+use Rattle.format.proofs.sections.channel.Goals as goal
+
+pub returns-then-not-in_count : goal.returns-then-not-in_count
+unfolding contents_at
+returns-then-not-in_count c =
+    let a = c.args in
+    let no : in_count a.head.count.channels a.n ≡ false = sym c.in_count.ensures ∙ c.if-not-in_count.true in
+    sym (item_none no_channel (channel_of a.file.now a.head) a.head.count.channels a.n no)
+
+pub place_of-at-requires : goal.place_of-at-requires
+place_of-at-requires c =
+    let a = c.args in
+    let (pos, le) = in_count_lem a.head.count.channels a.n (sym c.in_count.ensures ∙ c.if-not-in_count.false) in
+    pos
+
+pub inner_word-requires : goal.inner_word-requires
+inner_word-requires c =
+    let a = c.args in
+    let (pos, le) = in_count_lem a.head.count.channels a.n (sym c.in_count.ensures ∙ c.if-not-in_count.false) in
+    omega (arith, all_there a.file.now a.head c.requires Channels a.n pos le)
+
+pub inner_word-requires-2 : goal.inner_word-requires-2
+inner_word-requires-2 c =
+    let a = c.args in
+    let (pos, le) = in_count_lem a.head.count.channels a.n (sym c.in_count.ensures ∙ c.if-not-in_count.false) in
+    omega (arith, all_there a.file.now a.head c.requires Channels a.n pos le)
+
+pub returns : goal.returns
+unfolding contents_at
+returns c =
+    let a = c.args in
+    (λ i. record { owner = (c.inner_word.ensures ∙ ap (λ p. word_at a.file.now (p)) c.place_of-at.ensures.0) i; kind = record { 0 = (c.inner_word-2.ensures ∙ ap (λ p. word_at a.file.now (p + 1)) c.place_of-at.ensures.0) i } })
+    ∙ sym (item_there no_channel (channel_of a.file.now a.head) a.head.count.channels a.n (sym c.in_count.ensures ∙ c.if-not-in_count.false))

@@ -1,0 +1,22 @@
+use Prim.Native.Nat.{◌*◌, ◌-◌}
+use mathlib.Core.Path.{ap, ap₂, ◌∙◌}
+use lib.Seq.{sets}
+use Rattle.format.specs.Words.{bytes_of}
+use Rattle.format.specs.Sections.{words_from}
+use Rattle.format.proofs.WriteLaws.{tables_words}
+use native.Mathlib.Omega.{arith}
+use Rattle.format.proofs.HeadLaws.{some_there}
+use borrow.Author.Rules.{rules}
+use Rattle.format.proofs.writing.put_tables.Goals as goal
+
+pub put_words-requires : goal.put_words-requires
+put_words-requires c =
+    let a = c.args in
+    (omega arith, λ some. omega (arith, some, some_there a.file.now a.head c.requires.0 (omega (arith, some))), omega arith)
+
+pub returns : goal.returns
+returns c =
+    let a = c.args in
+    c.put_words.ensures
+    ∙ ap₂ (λ p q. sets a.out.now (2 * p) (bytes_of (words_from a.file.now p (q - p)))) c.wide.ensures.0 c.wide-2.ensures.0
+    ∙ ap (λ ws. sets a.out.now (2 * a.head.at.users) (bytes_of ws)) (tables_words a.file.now a.head c.requires.0 (λ x. (c.shared_slice_known-1.given x).fits))

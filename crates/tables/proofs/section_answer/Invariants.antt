@@ -1,0 +1,22 @@
+use Rattle.format.proofs.HeadLaws.{few, place_fits_lem}
+use mathlib.Core.Bool.{true, false}
+use Rattle.format.proofs.AnswerLaws.{first_stops, first_goes_on, first_ends}
+use Rattle.tables.specs.Records.{record_fits, refusal_of, section_answer, count_in}
+use Rattle.tables.proofs.RecordLaws.{counted}
+use Rattle.format.specs.Contents.{contents_at}
+use Rattle.format.specs.Sections.{part}
+use Rattle.format.specs.Answers.{first_of}
+use borrow.Author.Tests.{not-true, not-false}
+use native.Mathlib.Omega.{arith}
+use Prim.Native.Nat.{◌+◌, ◌-◌, ◌≤◌}
+use mathlib.Core.Path.{◌≡◌, sym, ap, ◌∙◌}
+use borrow.Author.Rules.{rules}
+use Rattle.tables.proofs.section_answer.Given as goal
+
+abbrev pub invariant-loop-n : goal.invariant-loop-n
+invariant-loop-n l = (1 ≤ l.n) × (l.count ≡ part l.section l.head.count) × (l.n ≤ l.count + 1) × (first_of (record_fits (contents_at l.file l.head) l.section) (refusal_of l.head l.section) l.n (l.count + 1 - l.n) ≡ section_answer l.head (contents_at l.file l.head) l.section)
+
+
+abbrev pub decreases-loop-n : goal.decreases-loop-n
+decreases-loop-n l = l.count + 1 - l.n
+
