@@ -40,8 +40,8 @@ module _ (L : Limited) where
     stepped = λ S i p S'. seated_agrees L S i p (steps S');
     waiting = λ S i S'. seated_agrees L S i 0 (waits S');
     apart = apart;
-    lone_count = λ S i S' st. (base.lawful C).lone-count S.state i S'.state (on_base S i 0 S' st);
-    meet_count = λ S i p S' l st. (base.lawful C).meet-count S.state i p S'.state l (on_base S i p S' st);
+    lone_count = λ S i S' st. (base.lawful C).lone_count S.state i S'.state (on_base S i 0 S' st);
+    meet_count = λ S i p S' l st. (base.lawful C).meet_count S.state i p S'.state l (on_base S i p S' st);
     wait_count = λ S i S' st. ap (λ (s : State). length s.threads) (none_same S i S' st);
     counted = λ S i p S' st. (base.lawful C).counted S.state i p S'.state (on_base S i p S' st);
     wait_counted = λ S i S' st. (none_asks S i S' st).thread;
@@ -66,7 +66,7 @@ module _ (L : Limited) where
     after = λ S i j S' st m l. (base.recorded C).after S.state i j S'.state (on_base S i 0 S' st) m l;
     unmet = λ S i p j S' l st lj z y. (base.recorded C).unmet S.state i p j S'.state l (on_base S i p S' st) lj z y;
     unmoved = λ S i j S' st. ap (λ (s : State). thread_at s j) (none_same S i S' st);
-    able_counted = λ S j able. (base.recorded C).able-counted S.state j able;
+    able_counted = λ S j able. (base.recorded C).able_counted S.state j able;
     no_receiver = λ S S₁ j i p S'' able l on e.
         (base.recorded C).no_receiver S.state S₁.state j i p S''.state able l (on_base S₁ i p S'' on) e;
     again = λ S S₁ j i able l h e. again S₁ i ((base.recorded C).again S.state S₁.state j i able l h e);

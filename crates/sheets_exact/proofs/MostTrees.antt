@@ -85,6 +85,7 @@ all_most D at m (s ∷ ss) a f =
 -- no tree has more, and one has as many unless none has any
 pub peak_above : (ts : List Tree) (t : Tree) → Memᴰ t ts → on_steps t ≤ peak ts
 unfolding peak
+peak_above [] t x' = elim x' [ ]
 peak_above (x ∷ ts) t (Memᴰ.head e) = omega (arith, ap on_steps e)
 peak_above (x ∷ ts) t (Memᴰ.tail m) = omega (arith, peak_above ts t m)
 

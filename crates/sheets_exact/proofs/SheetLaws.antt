@@ -130,5 +130,6 @@ greatest_reached g (f ∷ fs) = go (leb (greatest g fs) (g f)) refl (greatest_re
 
 pub greatest_above : (g : List ℕ → ℕ) (fs : List (List ℕ)) (f : List ℕ) → Memᴰ f fs → g f ≤ greatest g fs
 unfolding greatest
+greatest_above g [] f x' = elim x' [ ]
 greatest_above g (x ∷ fs) f (Memᴰ.head e) = omega (arith, ap g e)
 greatest_above g (x ∷ fs) f (Memᴰ.tail m) = omega (arith, greatest_above g fs f m)

@@ -42,6 +42,7 @@ total_same g h e (f ∷ fs) = ap₂ (λ (x y : ℕ). x + y) (e f) (total_same g 
 
 -- one of the files
 all_member : (P : List ℕ → Type 0) (fs : List (List ℕ)) (f : List ℕ) → All P fs → Memᴰ f fs → P f
+all_member P [] f h x' = elim x' [ ]
 all_member P (x ∷ fs) f h (Memᴰ.head e) = subst P (sym e) h.0
 all_member P (x ∷ fs) f h (Memᴰ.tail m) = all_member P fs f h.1 m
 

@@ -1,0 +1,16 @@
+use mathlib.Core.Path.{◌≡◌, refl, ◌∙◌}
+use Prim.Native.Nat.{◌+◌, ◌≤◌}
+use native.Mathlib.Omega.{arith}
+use borrow.Author.Rules.{rules}
+use lib.ListN.{drop, get_or}
+use Rattle.reasons.specs.Reasons.{digits_at}
+use Rattle.reasons.proofs.DigitsRead.{digits_past, digits-stop, low, high, digits_turn, digits_none}
+use Rattle.reasons.proofs.digits.digits_end.Given as goal
+
+abbrev pub invariant-loop-left : goal.invariant-loop-left
+invariant-loop-left l = (l.left ≤ 5) × (l.i + digits_at l.left (drop l.i l.s) ≡ l.at + digits_at 5 (drop l.at l.s))
+
+
+abbrev pub decreases-loop-left : goal.decreases-loop-left
+decreases-loop-left l = l.left
+

@@ -1,0 +1,16 @@
+use mathlib.Core.Path.{◌≡◌, refl, ◌∙◌}
+use Prim.Native.Nat.{◌≤◌}
+use native.Mathlib.Omega.{arith}
+use borrow.Author.Rules.{rules}
+use lib.ListN.{drop, get_or}
+use Rattle.reasons.specs.Reasons.{numeral}
+use Rattle.reasons.proofs.DigitsRead.{numeral_end, numeral_no, low, high, numeral_turn, numeral_none, cap, cap_five, cap_top, cap_turn}
+use Rattle.reasons.proofs.digits.numeral_at.Given as goal
+
+abbrev pub invariant-loop-left : goal.invariant-loop-left
+invariant-loop-left l = (l.left ≤ 5) × (numeral l.left l.a (drop l.i l.s) ≡ numeral 5 0 (drop l.at l.s)) × (l.a ≤ cap l.left)
+
+
+abbrev pub decreases-loop-left : goal.decreases-loop-left
+decreases-loop-left l = l.left
+

@@ -1,0 +1,13 @@
+use mathlib.Core.Path.{sym}
+use mathlib.Core.Bool.{and-true, ◌&&◌}
+use native.Mathlib.Omega.{arith}
+use borrow.Author.Rules.{rules}
+use Rattle.reasons.specs.Reasons.{may_count, is_reason, place_fits, tag_fits}
+use borrow.Author.Tests.{le-leb}
+use Rattle.reasons.proofs.is_reason.Goals as goal
+
+pub returns : goal.returns
+unfolding is_reason place_fits tag_fits
+returns c =
+    let a = c.args in
+    rw (c.may_count.ensures, c.at_node-node.ensures, le-leb a.p 65535 (omega arith)) (sym (and-true (may_count a.n a.c && place_fits a.c a.p && tag_fits a.n a.c a.t)))

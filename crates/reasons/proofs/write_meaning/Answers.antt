@@ -1,0 +1,39 @@
+use mathlib.Core.Path.{◌≡◌, sym, ◌∙◌}
+use mathlib.Core.Bool.{true}
+use native.Mathlib.Omega.{arith}
+use borrow.Author.Rules.{rules}
+use borrow.Author.Tests.{not-true, not-false}
+use Rattle.reasons.specs.Reasons.{has_meaning}
+use Rattle.reasons.proofs.TableBounds.{meaning_room}
+use Rattle.reasons.proofs.ReasonAnswers.{meant_short, meant_not, meant_yes, meaning_in}
+use Rattle.reasons.proofs.write_meaning.Goals as goal
+
+pub returns-then-out-lt120 : goal.returns-then-out-lt120
+returns-then-out-lt120 c = meant_short c.args.number c.args.out.now c.if-out-lt120.true
+
+pub returns-then-not-has_meaning : goal.returns-then-not-has_meaning
+returns-then-not-has_meaning c = meant_not c.args.number c.args.out.now c.if-out-lt120.false (sym c.has_meaning.ensures ∙ c.if-not-has_meaning.true)
+
+pub put_phrase-requires : goal.put_phrase-requires
+put_phrase-requires c =
+    let a = c.args in
+    let v : has_meaning a.number ≡ true = sym c.has_meaning.ensures ∙ c.if-not-has_meaning.false in
+    let w = meaning_in a.number v in
+    let room = meaning_room a.number w.0 w.1 in
+    (c.phrase_text-text.ensures, c.phrase_starts-starts.ensures, omega (arith, w.1), omega (arith, room.1, c.if-out-lt120.false))
+
+pub overflow_cast-result : goal.overflow_cast-result
+overflow_cast-result c =
+    let a = c.args in
+    let v : has_meaning a.number ≡ true = sym c.has_meaning.ensures ∙ c.if-not-has_meaning.false in
+    let w = meaning_in a.number v in
+    let room = meaning_room a.number w.0 w.1 in
+    omega (arith, c.put_phrase.ensures.0, room.1)
+
+pub returns : goal.returns
+returns c =
+    let a = c.args in
+    let v : has_meaning a.number ≡ true = sym c.has_meaning.ensures ∙ c.if-not-has_meaning.false in
+    let w = meaning_in a.number v in
+    let room = meaning_room a.number w.0 w.1 in
+    meant_yes a.number a.out.now c.put_phrase.new.out c.put_phrase.result c.if-out-lt120.false v c.put_phrase.ensures.0 c.put_phrase.ensures.1

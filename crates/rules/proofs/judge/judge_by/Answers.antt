@@ -1,0 +1,24 @@
+use native.Mathlib.Omega.{arith}
+use Rattle.format.specs.Contents.{contents_at}
+use Rattle.rules.specs.Schema.{schema_of}
+use Rattle.rules.specs.declared.Way.TheVariants.{Sends, Receives}
+use Rattle.rules.proofs.GrantLaws.{granting}
+use borrow.Author.Rules.{rules}
+use Rattle.rules.proofs.judge.judge_by.Goals as goal
+
+pub walk-requires : goal.walk-requires
+walk-requires c =
+    let a = c.args in
+    let p = c.requires in
+    let D = schema_of (contents_at a.file.now a.head) in
+    let filled = c.fill_grants.ensures in
+    let names = c.name_all.ensures in (
+      p.0,
+      p.1,
+      granting D Sends _ _ filled.0 p.2 filled.2,
+      granting D Receives _ _ filled.1 p.3 filled.3,
+      omega (arith, names.0, p.4),
+      names.1,
+      p.5,
+      p.6,
+    )

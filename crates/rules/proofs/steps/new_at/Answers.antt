@@ -1,0 +1,6 @@
+use mathlib.Core.Path.{◌∙◌}
+use borrow.Author.Rules.{rules}
+use Rattle.rules.proofs.steps.new_at.Goals as goal
+
+pub returns : goal.returns
+returns c = c.binding.ensures ∙ rw (c.paired.ensures, c.graded.ensures, c.in_count.ensures)

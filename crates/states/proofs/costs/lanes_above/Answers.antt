@@ -1,0 +1,34 @@
+use Prim.Native.Nat.{◌-◌, ◌≤◌}
+use mathlib.Core.Path.{◌≡◌, refl, ap, ◌∙◌}
+use native.Mathlib.Omega.{arith}
+use lib.Dec.{ltb}
+use lib.ListN.{get_or}
+use Rattle.states.specs.Kept.{gather}
+use Rattle.states.proofs.LaneLaws.{lane_bit, gather_more, gather_fits}
+use Rattle.states.proofs.costs.lanes_above.Goals as goal
+
+pub loop-q-init : goal.loop-q-init
+unfolding gather
+loop-q-init c = (omega arith, refl)
+
+pub overflow_add-set : goal.overflow_add-set
+overflow_add-set c =
+    let l = c.loop-q in
+    let a = c.args in
+    omega (
+      arith,
+      gather_fits l.q (λ q. ltb a.least (get_or a.lanes.now q 0)) (omega arith) l.set c.either-set.result l.invariant.1
+          (c.either-set.ensures ∙ lane_bit a.bits.now c.requires (ltb a.least (get_or a.lanes.now l.q 0)) l.q (omega arith)),
+    )
+
+pub loop-q-preserved : goal.loop-q-preserved
+loop-q-preserved c =
+    let l = c.loop-q in
+    let a = c.args in (
+      omega arith,
+      gather_more l.q (λ q. ltb a.least (get_or a.lanes.now q 0)) l.set c.either-set.result l.invariant.1
+          (c.either-set.ensures ∙ lane_bit a.bits.now c.requires (ltb a.least (get_or a.lanes.now l.q 0)) l.q (omega arith)),
+    )
+
+pub returns : goal.returns
+returns c = let e : c.loop-q.q ≡ 16 = omega arith in c.loop-q.invariant.1 ∙ ap (λ k. gather k (λ q. ltb c.args.least (get_or c.args.lanes.now q 0))) e

@@ -1,0 +1,16 @@
+use Prim.Native.Nat.{◌-◌, ◌≤◌}
+use mathlib.Core.Path.{◌≡◌, refl, ap, ◌∙◌}
+use native.Mathlib.Omega.{arith}
+use lib.Dec.{ltb}
+use lib.ListN.{get_or}
+use Rattle.states.specs.Kept.{gather}
+use Rattle.states.proofs.LaneLaws.{lane_bit, gather_more, gather_fits}
+use Rattle.states.proofs.costs.lanes_above.Given as goal
+
+abbrev pub invariant-loop-q : goal.invariant-loop-q
+invariant-loop-q l = (l.q ≤ 16) × (l.set ≡ gather l.q (λ q. ltb l.least (get_or l.lanes q 0)))
+
+
+abbrev pub decreases-loop-q : goal.decreases-loop-q
+decreases-loop-q l = 16 - l.q
+

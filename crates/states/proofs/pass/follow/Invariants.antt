@@ -1,0 +1,26 @@
+use Prim.Native.Nat.{◌+◌, ◌*◌, ◌-◌, ◌≤◌}
+use mathlib.Core.Path.{◌≡◌, refl, ap, ◌∙◌}
+use mathlib.Core.Bool.{cond}
+use mathlib.Core.List.{[], ◌∷◌, map}
+use native.Mathlib.Omega.{arith}
+use lib.Dec.{eqb}
+use lib.ListN.{length, get_or, drop, set, length-set}
+use lib.Seq.{sets}
+use Rattle.format.specs.Contents.{item, no_node, contents_at}
+use Rattle.format.specs.Stacks.{stacked}
+use Rattle.format.proofs.ContentsLaws.{nodes_held}
+use Rattle.states.specs.States.{states_after, packed}
+use Rattle.states.specs.Kept.{followed}
+use Rattle.states.proofs.PassLaws.{Same, Under, under_onward, under_same, same_followed, left_stack, left_turn, left_begins, left_ends, left_depth, first-kept}
+use Rattle.states.proofs.pass.follow.Given as goal
+
+abbrev pub invariant-loop-i : goal.invariant-loop-i
+invariant-loop-i l = (l.n ≡ l.head.count.nodes) × (l.i ≤ l.n) × (l.depth ≤ l.i) × (length l.stack ≡ length l.initial.stack) × (get_or l.stack 0 0 ≡ 0) × (length l.turns ≡ 1025)
+    × Under 31 (l.from ∷ stacked 0 l.stack (l.depth + 1))
+    × (sets l.turns (l.i + 1) (map packed (followed (drop l.i (contents_at l.file l.head).nodes) (drop l.i l.words) (l.from ∷ stacked 0 l.stack (l.depth + 1))))
+    ≡ sets l.initial.turns 1 (map packed (followed (contents_at l.file l.head).nodes l.words [])))
+
+
+abbrev pub decreases-loop-i : goal.decreases-loop-i
+decreases-loop-i l = l.n - l.i
+
