@@ -1,5 +1,6 @@
 // Names and kinds alone: a shorter pass over the nodes for 9 and 10, which also tells what each node is reached with.
 #![tactic(auto)]
+
 pub mod pass;
 pub mod scopes;
 

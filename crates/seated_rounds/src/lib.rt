@@ -1,5 +1,6 @@
 // Rounds with seats, and what a caller asks of them.
 #![tactic(auto)]
+
 pub mod visits;
 
 ghost use Rattle.std.specs.Prelude.{◌≡◌, ◌≤◌, length, replicate};

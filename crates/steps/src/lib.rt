@@ -1,5 +1,6 @@
 // Threads, and one choice by value on what it touches.
 #![tactic(auto)]
+
 pub mod act;
 pub mod beside;
 pub mod records;

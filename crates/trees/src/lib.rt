@@ -1,5 +1,6 @@
 // Refusal 8: the shape of the trees.
 #![tactic(auto)]
+
 mod ends;
 pub mod shape;
 mod sound;

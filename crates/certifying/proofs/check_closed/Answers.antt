@@ -1,0 +1,7 @@
+use Rattle.certifying.specs.Certificate.{closing}
+use borrow.Author.Rules.{rules}
+use Rattle.certifying.proofs.check_closed.Goals as goal
+
+pub returns : goal.returns
+unfolding closing
+returns c = c.check_asked.ensures

@@ -1,0 +1,22 @@
+use Prim.Native.Nat.{◌+◌, ◌-◌, ◌≤◌}
+use mathlib.Core.Path.{◌≡◌, refl, sym, ap, ap₂, ◌∙◌}
+use mathlib.Core.List.{[], ◌∷◌, ◌++◌}
+use native.Mathlib.Omega.{arith}
+use lib.ListN.{length, get_or}
+use Rattle.format.specs.Contents.{contents_at}
+use Rattle.format.specs.Writing.{nodes_put}
+use Rattle.format.proofs.ContentsLaws.{nodes_held}
+use Rattle.states.specs.States.{unpacked}
+use Rattle.groups.specs.Groups.{before, size_of, sizes_of, moved, groups_from, turns_in}
+use Rattle.groups.proofs.WriteLaws.{turns_after, turns_all, sizes_more, groups_after, groups_all, groups_end, groups_turn}
+use borrow.Author.Rules.{rules}
+use Rattle.groups.proofs.put_groups.Given as goal
+
+abbrev pub invariant-loop-n : goal.invariant-loop-n
+invariant-loop-n l = (l.n ≤ l.head.count.nodes) × (1 ≤ l.at) × (length l.out ≡ length l.initial.out)
+    × (l.at + sizes_of (turns_after l.turns l.n l.head.count.nodes) ≡ 1 + sizes_of (turns_in l.turns l.head.count.nodes))
+    × (nodes_put l.whole l.at (groups_after (contents_at l.file l.head).nodes l.head.count.nodes l.turns l.starts l.n) l.out
+    ≡ nodes_put l.whole 1 (groups_from l.starts (contents_at l.file l.head).nodes (turns_in l.turns l.head.count.nodes)) l.initial.out)
+
+abbrev pub decreases-loop-n : goal.decreases-loop-n
+decreases-loop-n l = l.head.count.nodes - l.n

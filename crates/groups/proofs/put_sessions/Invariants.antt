@@ -1,0 +1,23 @@
+use Prim.Native.Nat.{◌+◌, ◌*◌, ◌-◌, ◌≤◌}
+use mathlib.Core.Path.{◌≡◌, refl, ap, ◌∙◌}
+use mathlib.Core.List.{[], ◌∷◌}
+use native.Mathlib.Omega.{arith}
+use lib.ListN.{length, drop}
+use lib.Seq.{sets}
+use Rattle.format.specs.Words.{bytes_of}
+use Rattle.format.specs.Contents.{contents_at}
+use Rattle.format.specs.Writing.{session_words}
+use Rattle.format.proofs.ContentsLaws.{sessions_held}
+use Rattle.groups.specs.Groups.{rerooted, sessions_from}
+use Rattle.format.proofs.PutRuns.{puts_end}
+use Rattle.groups.proofs.WriteLaws.{sessions_none, sessions_turn}
+use borrow.Author.Rules.{rules}
+use Rattle.groups.proofs.put_sessions.Given as goal
+
+abbrev pub invariant-loop-n : goal.invariant-loop-n
+invariant-loop-n l = (l.n ≤ l.head.count.sessions) × (length l.out ≡ length l.initial.out)
+    × (sets l.out (2 * (l.head.at.sessions + 3 * l.n)) (bytes_of (session_words (sessions_from l.starts (drop l.n (contents_at l.file l.head).sessions))))
+    ≡ sets l.initial.out (2 * l.head.at.sessions) (bytes_of (session_words (sessions_from l.starts (contents_at l.file l.head).sessions))))
+
+abbrev pub decreases-loop-n : goal.decreases-loop-n
+decreases-loop-n l = l.head.count.sessions - l.n

@@ -1,0 +1,43 @@
+use borrow.Author.Rules.{rules}
+use Prim.Native.Nat.{ℕ, ◌+◌, ◌-◌, ◌≤◌, ◌<◌}
+use mathlib.Core.Path.{◌≡◌, refl, sym, ap, ap₂, subst, ◌∙◌}
+use mathlib.Core.Bool.{cond}
+use mathlib.Core.List.{List, [], ◌∷◌, map}
+use native.Mathlib.Omega.{arith}
+use lib.Dec.{eqb}
+use borrow.Author.Tests.{lt-ltb}
+use lib.ListN.{length, get_or, set, length-set}
+use Rattle.format.specs.Contents.{contents_at}
+use Rattle.format.specs.Stacks.{stacked}
+use Rattle.format.proofs.ContentsLaws.{users_held, channels_held, nodes_held}
+use Rattle.naming.specs.declared.NameStep.{NameStep}
+use Rattle.rules.specs.declared.Point.{Point}
+use Rattle.rules.specs.Schema.{schema_of}
+use Rattle.rules.specs.Rules.{Context, wrong, waiting_after}
+use Rattle.rules.specs.Checking.{openings}
+use Rattle.naming.specs.Scopes.{bind_scope, scope_of, marked, awaited}
+use Rattle.rules.specs.Kept.{kind_in, NameTable, context_of, Waits, unmasked, Ownable}
+use Rattle.naming.specs.Kept.{bare_point, unpaired, queued}
+use Rattle.rules.proofs.NameLaws.{Held, held_less, named_kept}
+use Rattle.rules.proofs.StepLaws.{step_right}
+use Rattle.naming.proofs.NamingLaws.{NamesJudged, told, awaited_right}
+use Rattle.format.proofs.StackLaws.{read_none, read_top, read_push}
+use Rattle.rules.proofs.StackLaws.{waits_push, waits_more, contexts_kept, contexts_bare}
+use Rattle.naming.proofs.ScopeLaws.{scope_next, scope_pushed, scope_popped}
+use Rattle.rules.proofs.PassLaws.{after_step}
+use Rattle.naming.proofs.ScopePass.{Scoping, scoping_begins, scoping_out, scoping_ends, scoping_refused, scoping_on, scoping_tree, scoping_fork}
+use Rattle.naming.proofs.pass.walk_names.Given as goal
+
+-- The invariant: i is the node due, `user` and `bound` are its context's, the contexts on the stack have fewer and fewer variables from its top down,
+-- and what is left from here gives the first of 9 and 10 of all, and the table. Where there is room for the node, `here` is its context as one number,
+-- and so are those that wait beside the stack.
+abbrev pub invariant-loop-i : goal.invariant-loop-i
+invariant-loop-i l = (1 ≤ l.i + 1) × (l.i + 1 ≤ l.nodes + 1) × (length l.stack ≡ length l.initial.stack) × (length l.names ≡ length l.initial.names) × (l.depth + 2 ≤ l.head.count.sessions + (l.i + 1)) × (l.bound < l.i + 1) × (l.user < 65534)
+    × NameTable (schema_of (contents_at l.file l.head)) l.head.count.users l.head.count.channels l.names × Held l.names l.bound
+    × Waits Ownable l.bound (queued (schema_of (contents_at l.file l.head)) l.stack l.depth)
+    × Scoping (contents_at l.file l.head) l.initial.scopes (l.i + 1) (context_of l.names (bare_point (schema_of (contents_at l.file l.head)) l.user l.bound) ∷ map (context_of l.names) (queued (schema_of (contents_at l.file l.head)) l.stack l.depth)) l.scopes
+    × (length l.waits ≡ length l.initial.waits) × (l.i + 1 < length l.scopes → l.here ≡ scope_of (context_of l.names (bare_point (schema_of (contents_at l.file l.head)) l.user l.bound)))
+    × (l.i + 1 < length l.scopes → stacked 0 l.waits l.depth ≡ map scope_of (map (context_of l.names) (queued (schema_of (contents_at l.file l.head)) l.stack l.depth))) × (length l.scopes ≡ length l.initial.scopes)
+
+abbrev pub decreases-loop-i : goal.decreases-loop-i
+decreases-loop-i l = l.nodes + 1 - (l.i + 1)

@@ -1,0 +1,7 @@
+use Rattle.steps.specs.Beside.{one_more}
+use borrow.Author.Rules.{rules}
+use Rattle.steps.proofs.beside.one_more.Goals as goal
+
+pub returns : goal.returns
+unfolding one_more
+returns c = c.add_to.ensures

@@ -1,0 +1,14 @@
+use borrow.Author.Tests.{eq-eqb, ne_eqb, le-leb, lt-leb}
+use Rattle.trees.proofs.ends.end_of.Goals as goal
+
+pub returns-then-tag-eq0 : goal.returns-then-tag-eq0
+returns-then-tag-eq0 c = rw (eq-eqb _ _ c.if-tag-eq0.true)
+
+pub returns-then-tag-eq1 : goal.returns-then-tag-eq1
+returns-then-tag-eq1 c = rw (ne_eqb _ _ c.if-tag-eq0.false, eq-eqb _ _ c.if-tag-eq1.true)
+
+pub returns-then-tag-le8 : goal.returns-then-tag-le8
+returns-then-tag-le8 c = rw (ne_eqb _ _ c.if-tag-eq0.false, ne_eqb _ _ c.if-tag-eq1.false, le-leb _ _ c.if-tag-le8.true)
+
+pub returns : goal.returns
+returns c = rw (ne_eqb _ _ c.if-tag-eq0.false, ne_eqb _ _ c.if-tag-eq1.false, lt-leb _ _ c.if-tag-le8.false)

@@ -1,0 +1,17 @@
+use Prim.Native.Nat.{suc, ◌+◌, ◌-◌, ◌≤◌}
+use mathlib.Core.Path.{◌≡◌, refl, ap, ◌∙◌}
+use native.Mathlib.Omega.{arith}
+use borrow.Author.Rules.{rules}
+use lib.ListN.{length, get_or, drop, length-set}
+use Rattle.format.specs.Contents.{contents_at, item, no_node}
+use Rattle.format.proofs.ContentsLaws.{nodes_held}
+use Rattle.trees.specs.Ends.{table_from}
+use Rattle.trees.proofs.EndsLaws.{in_table, same_end, again, begin, finish, keep_first}
+use Rattle.trees.proofs.ends.ends.Given as goal
+
+abbrev pub invariant-loop-i : goal.invariant-loop-i
+invariant-loop-i l = (l.n ≡ l.head.count.nodes) × (l.i ≤ l.n) × (length l.ends ≡ l.n + 2) × (get_or l.ends 0 0 ≡ 0)
+    × (drop (suc l.i) l.ends ≡ table_from (suc l.i) (drop l.i (contents_at l.file l.head).nodes))
+
+abbrev pub decreases-loop-i : goal.decreases-loop-i
+decreases-loop-i l = l.i

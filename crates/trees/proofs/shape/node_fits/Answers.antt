@@ -1,0 +1,7 @@
+use Rattle.trees.specs.Shape.{node_fits}
+use borrow.Author.Rules.{rules}
+use Rattle.trees.proofs.shape.node_fits.Goals as goal
+
+pub returns : goal.returns
+unfolding node_fits
+returns c = cc
