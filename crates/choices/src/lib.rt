@@ -1,5 +1,6 @@
 // Lists of choices: the state of a run in tables, one choice carried out in them, and the choices in order.
 #![tactic(auto)]
+
 pub mod list;
 pub mod state;
 

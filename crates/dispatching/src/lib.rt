@@ -1,5 +1,6 @@
 // Dispatching: a round asked for after a run's choices.
 #![tactic(auto)]
+
 pub mod marks;
 pub mod visits;
 

@@ -1,0 +1,31 @@
+use Prim.Native.Nat.{◌+◌, ◌*◌}
+use mathlib.Core.Path.{ap, ap₂}
+use native.Mathlib.Omega.{arith}
+use Rattle.merging.proofs.JoinLaws.{tables_fit, second_channels, tables_put}
+use borrow.Author.Rules.{rules}
+use Rattle.merging.proofs.file.put_tables.Goals as goal
+
+pub move_words-requires : goal.move_words-requires
+move_words-requires c =
+    let a = c.args in
+    let p = c.requires in
+    tables_fit a.first.now a.second.now a.one a.two p.0 a.whole p.1 _ (omega arith) _ _ _ c.wide-5.ensures.0 c.wide-4.ensures.0
+    (ap₂ ◌+◌ (ap₂ (λ x y. 4 * x + y) c.wide.ensures.0 c.wide-2.ensures.0) (ap (λ x. 2 * x) c.wide-3.ensures.0))
+
+pub put_channels-requires : goal.put_channels-requires
+put_channels-requires c =
+    let a = c.args in
+    let p = c.requires in
+    second_channels a.first.now a.second.now a.one a.two p.0 a.whole p.1 _ (omega (arith, p.2)) _ c.shift_after.ensures
+
+pub returns : goal.returns
+returns c =
+    let a = c.args in
+    let p = c.requires in
+    let one = c.put_users in
+    let two = c.move_words in
+    let three = c.put_channels in
+    tables_put a.first.now a.second.now a.one a.two p.0 a.whole p.1 a.out.now one.new.out two.new.out three.new.out _ _ _ _
+    (λ x. (c.shared_slice_known-1.given x).fits) c.wide-5.ensures.0 c.wide-4.ensures.0
+    (ap₂ ◌+◌ (ap₂ (λ x y. 4 * x + y) c.wide.ensures.0 c.wide-2.ensures.0) (ap (λ x. 2 * x) c.wide-3.ensures.0)) c.shift_after.ensures
+    one.ensures two.ensures three.ensures

@@ -1,0 +1,15 @@
+use mathlib.Core.Path.{sym, ◌∙◌}
+use Rattle.merging.proofs.MergeLaws.{second_refused}
+use borrow.Author.Rules.{rules}
+use Rattle.merging.proofs.join_second.Goals as goal
+
+pub join-requires : goal.join-requires
+join-requires c =
+    let p = c.requires in
+    (p.0, sym c.own-answer.ensures ∙ c.in-Fine.is, p.1)
+
+pub returns-in-Refused : goal.returns-in-Refused
+returns-in-Refused c =
+    let a = c.args in
+    let p = c.requires in
+    second_refused a.first.now a.second.now a.out.now p.1 a.one _ p.0 (sym c.own-answer.ensures ∙ c.in-Refused.is) _ c.not_written.ensures

@@ -1,0 +1,26 @@
+use Prim.Native.Nat.{◌+◌, ◌*◌, ◌-◌, ◌≤◌}
+use mathlib.Core.Path.{◌≡◌, refl, sym, ap, subst, ◌∙◌}
+use mathlib.Core.List.{map}
+use native.Mathlib.Omega.{arith}
+use lib.ListN.{length, drop}
+use lib.Seq.{sets}
+use borrow.Author.Rules.{rules}
+use Rattle.format.specs.Words.{bytes_of}
+use Rattle.format.specs.Contents.{contents_at}
+use Rattle.format.specs.Writing.{session_words}
+use Rattle.format.specs.declared.Session.{Session}
+use Rattle.format.proofs.ContentsLaws.{sessions_held}
+use Rattle.merging.specs.Merged.{moved_session}
+use Rattle.merging.specs.Writers.{shifts_by}
+use Rattle.merging.proofs.SectionLaws.{sessions_turn, sessions_end}
+use Rattle.merging.proofs.writers.put_sessions.Given as goal
+
+abbrev pub invariant-loop-n : goal.invariant-loop-n
+invariant-loop-n l = (l.n ≤ l.head.count.sessions) × (length l.out ≡ length l.initial.out)
+    × (sets l.out (2 * (l.whole.at.sessions + 3 * (l.others + l.n))) (bytes_of (session_words (map (moved_session (shifts_by l.by)) (drop l.n (contents_at l.file l.head).sessions))))
+    ≡ sets l.initial.out (2 * (l.whole.at.sessions + 3 * l.others)) (bytes_of (session_words (map (moved_session (shifts_by l.by)) (contents_at l.file l.head).sessions))))
+
+
+abbrev pub decreases-loop-n : goal.decreases-loop-n
+decreases-loop-n l = l.head.count.sessions - l.n
+
