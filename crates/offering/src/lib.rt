@@ -1,5 +1,6 @@
 // All choices of one lent state: each that is done is offered, with the state it leads to.
 #![tactic(auto)]
+
 pub mod choose;
 pub mod write;
 

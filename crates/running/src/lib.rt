@@ -1,5 +1,6 @@
 // Running: a file through a list of choices, with its output; the ready pair.
 #![tactic(auto)]
+
 pub mod out;
 pub mod pairs;
 

@@ -1,0 +1,42 @@
+use mathlib.Core.Path.{◌≡◌, sym, ◌∙◌}
+use mathlib.Core.Bool.{true}
+use lib.ListN.{length}
+use borrow.Author.Tests.{not-true, not-false}
+use Rattle.reading.specs.declared.Opened.TheVariants.{Fine}
+use Rattle.checking.specs.Check.{entered}
+use Rattle.checking.proofs.CheckLaws.{entered_fine}
+use Rattle.running.specs.Run.{listed}
+use Rattle.running.proofs.EntryLaws.{listed_word, ready_unfit, ready_refused, ready_done}
+use borrow.Author.Rules.{rules}
+use Rattle.running.proofs.ready_after.Goals as goal
+use Rattle.running.proofs.ready_after.Lts as lts
+use Rattle.running.proofs.ready_after.Tie as tie
+use Rattle.running.proofs.ready_after.Reads as reads
+
+-- the list fits
+fits : (c : lts.Else1 tie.the-claims reads.Pre reads.Post) → listed (length c.args.choices.now) ≡ true
+fits c = sym c.is_listed.ensures ∙ c.if-not-is_listed.false
+
+-- the head that was read
+told : (c : lts.Past-After-known_told2 tie.the-claims reads.Pre reads.Post) → entered c.args.file.now ≡ Fine c.in-Fine.head
+told c = sym c.enter-answer.ensures ∙ c.in-Fine.is
+
+pub returns-then-not-is_listed : goal.returns-then-not-is_listed
+returns-then-not-is_listed c =
+    let a = c.args in
+    ready_unfit a.file.now a.choices.now c.no_pair.result (sym c.is_listed.ensures ∙ c.if-not-is_listed.true) c.no_pair.ensures
+
+pub ready_in-requires : goal.ready_in-requires
+ready_in-requires c =
+    let a = c.args in
+    ((entered_fine a.file.now _ (told c.before)).0, listed_word (length a.choices.now) (fits c.before.before.before))
+
+pub returns-in-Refused : goal.returns-in-Refused
+returns-in-Refused c =
+    let a = c.args in
+    ready_refused a.file.now a.choices.now (fits c.before.before.before.before) _ c.no_pair-in-Refused.result (sym c.enter-answer.ensures ∙ c.in-Refused.is) c.no_pair-in-Refused.ensures
+
+pub returns-in-Fine : goal.returns-in-Fine
+returns-in-Fine c =
+    let a = c.args in
+    ready_done a.file.now a.choices.now (fits c.before.before.before.before) _ c.ready_in.result (told c.before.before) c.ready_in.ensures
