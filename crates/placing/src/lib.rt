@@ -1,5 +1,6 @@
 // Placing: the refusals 14 to 17, and the placed file.
 #![tactic(auto)]
+
 mod bare;
 pub mod decide;
 mod served;

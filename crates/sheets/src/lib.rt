@@ -1,5 +1,6 @@
 // The group's quarterly sheet.
 #![tactic(auto)]
+
 mod entries;
 mod most;
 

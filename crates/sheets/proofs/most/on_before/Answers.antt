@@ -5,13 +5,9 @@ use Rattle.states.specs.declared.Turn.{Turn}
 use Rattle.states.specs.States.{unpacked}
 use Rattle.groups.proofs.WriteLaws.{switch_counted, one_at_most, on_switch}
 use borrow.Author.Rules.{rules}
-use Rattle.sheets.proofs.most.on_before.Statement.{statement}
-use Rattle.sheets.proofs.most.on_before.Tie as tie
+use Rattle.sheets.proofs.most.on_before.Goals as goal
 
-returns : tie.Need-returns
+pub returns : goal.returns
 returns c =
     let t : Turn = unpacked c.args.turn in
     (switch_counted 7 t.from t.to t.to ∙ sym (on_switch t), one_at_most (not (eqb t.from t.to) && not (eqb t.to 0)))
-
-pub on-before-spec : {M : Type 1} → statement M
-on-before-spec = tie.close (tie.spec (λ c. search rules) returns)
