@@ -5,8 +5,8 @@ use mathlib.Core.Bool.{Bool, true, false, cond, and-eq-true_iff}
 use mathlib.Core.List.{List, ◌++◌}
 use native.Mathlib.Omega.{arith}
 use lib.Dec.{eqb, ltb}
-use lib.ListN.{length, get_or, length-append, get_or-append}
-use borrow.Author.Tests.{eqb-true, ltb-true, ltb-false, lt-ltb, le-ltb}
+use lib.ListN.{length, length-append, get_or-append}
+use borrow.Author.Tests.{eqb-true, ltb-false, lt-ltb, le-ltb}
 use Rattle.checking.specs.Check.{reading_names}
 use Rattle.notices.specs.Notices.{length_word, file_of, is_sound}
 use Rattle.inforce.specs.FirstNotice.{first_end}

@@ -2,11 +2,15 @@
 // the second to the end. Writes the file of the notice that is in force, or the line `refused N P` with the refusal's number and its place.
 // 16,384 bytes are kept of an input, which is room for any two sound notices: what is longer has one of over 6,912 bytes, which is refused however much of it is kept.
 #![tactic(auto)]
+
 ghost use Rattle.std.specs.Prelude.{◌≡◌, ◌≤◌, length};
+ghost use Rattle.io.specs.Counts.{IsPrefixLen};
 ghost use Rattle.inforce.specs.FirstNotice.{first_end};
 
 use format::words::{wide, word};
 use notices::{in_force, plan_in_force};
+use std::io::Read;
+use streams::{read_behind, write_bytes, write_refused};
 
 // Where the first notice ends: as its length word says, or with the input.
 fn first_end(both: &[u8]) -> usize
@@ -16,27 +20,42 @@ fn first_end(both: &[u8]) -> usize
     if end < both.len() { end } else { both.len() }
 }
 
-fn write_plan<'a>(first: &'a [u8], second: &'a [u8], day: u16) {
+fn write_plan<'a>(rt: HostRuntime, first: &'a [u8], second: &'a [u8], day: u16) {
     let plan = plan_in_force(first, second, day);
     if plan.number != 0 {
-        streams::write_refused(plan.number, plan.place);
+        write_refused(&rt, plan.number, plan.place);
         return;
     }
-    io::write_all(1, in_force(first, second, day));
+    write_bytes(&rt, in_force(first, second, day));
 }
 
-fn answer(input: &[u8]) {
+fn answer(rt: HostRuntime, input: &[u8]) {
     if input.len() < 2 {
-        io::write_all(2, b"inforce: standard input holds no day\n");
+        write_bytes(&rt.stderr(), b"inforce: standard input holds no day\n");
         return;
     }
     let both = &input[2..];
     let end = first_end(both);
-    write_plan(&both[..end], &both[end..], word(input, 0));
+    write_plan(rt, &both[..end], &both[end..], word(input, 0));
 }
 
-fn main() {
+// Reads until the buffer is full, the input ends or a read fails; the answer is how many bytes it put at the start of the buffer.
+fn read_full<R: Read>(reader: &mut R, buffer: &mut [u8]) -> usize
+    ensures { IsPrefixLen result buffer.new }
+{
+    let mut done = 0;
+    while done < buffer.len() {
+        match read_behind(reader, buffer, done) {
+            Ok(0) => break,
+            Ok(more) => done += more,
+            Err(_) => break,
+        }
+    }
+    done
+}
+
+fn main(rt: HostRuntime) {
     let mut buffer = [0u8; 16384];
-    let kept = io::read_full(0, &mut buffer);
-    answer(&buffer[..kept]);
+    let kept = read_full(&mut rt.stdin(), &mut buffer);
+    answer(rt, &buffer[..kept]);
 }

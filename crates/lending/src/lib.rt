@@ -1,6 +1,7 @@
 // The live desk's own list of threads: what lets a list through, the judging of its records, one choice in it and its start. The list is a slice of
 // records; what is here takes and gives back its records by value.
 #![tactic(auto)]
+
 pub mod judging;
 pub mod starting;
 pub mod stepping;

@@ -1,5 +1,6 @@
 // Which of two lent notices is in force on a day. A notice: one word with its first day of validity, one word with the file's length in bytes, then the file.
 #![tactic(auto)]
+
 ghost use Rattle.std.specs.Prelude.{◌≡◌};
 ghost use Rattle.notices.specs.Notices.{is_sound, second_holds, unheld, held, plan_in_force, part_of, place_of};
 

@@ -1,23 +1,24 @@
 // Places the clinic file on standard input: writes the placed file's bytes, or the line `refused N P` with the refusal's number and its place.
 // Where the input cannot be read, it says so on standard error and writes nothing else.
 #![tactic(auto)]
+
 use format::header::LARGEST;
 use format::words::wide;
 
-fn main() {
+fn main(rt: HostRuntime) {
     let mut buffer = [0u8; 16384];
-    let input = streams::read_input(0, &mut buffer);
+    let input = streams::read_input(&mut rt.stdin(), &mut buffer);
     if input.failed {
-        io::write_all(2, b"place: standard input cannot be read\n");
+        streams::write_bytes(&rt.stderr(), b"place: standard input cannot be read\n");
         return;
     }
     let kept = input.kept;
     let mut out = [0u8; LARGEST];
     let placed = placing::place(&buffer[..kept], &mut out);
     if placed.number != 0 {
-        streams::write_refused(placed.number, placed.place);
+        streams::write_refused(&rt, placed.number, placed.place);
         return;
     }
     let length = wide(placed.length);
-    io::write_all(1, &out[..length]);
+    streams::write_bytes(&rt, &out[..length]);
 }

@@ -7,6 +7,7 @@ ghost use Rattle.run.specs.WordList.{list_words, words_of_bytes};
 ghost use Rattle.run.specs.WordList.{enough_bytes as WordList·enough};
 
 use format::words::inner_word;
+use std::io::Read;
 use streams::{Input, read_behind};
 
 // Room for more bytes than any list has, and for what a read puts behind them.
@@ -43,7 +44,7 @@ fn keep(buffer: &[u8], kept: usize, piece: usize) -> usize
 
 // Reads the choices to their end, of whatever length. Each piece is read behind what is kept, and of both enough is kept.
 // A loop has to end, so the turns count down, from a number that no run uses up.
-pub fn read_choices(descriptor: i32, buffer: &mut [u8]) -> Input
+pub fn read_choices<R: Read>(reader: &mut R, buffer: &mut [u8]) -> Input
     requires { length buffer.old ≡ 278528 }
     ensures prefix_len { IsPrefixLen result.kept buffer.new }
     ensures kept_bound { result.kept ≤ 262144 }
@@ -51,15 +52,11 @@ pub fn read_choices(descriptor: i32, buffer: &mut [u8]) -> Input
     let mut kept = 0;
     let mut turns = u64::MAX;
     while turns > 0 {
-        let got = read_behind(descriptor, buffer, kept);
-        if got <= 0 {
-            return Input {
-                kept,
-                failed: got < 0,
-            };
+        match read_behind(reader, buffer, kept) {
+            Ok(0) => break,
+            Ok(piece) => kept = keep(buffer, kept, piece),
+            Err(_) => return Input { kept, failed: true },
         }
-        let piece = io::count(got, buffer);
-        kept = keep(buffer, kept, piece);
         turns -= 1;
     }
     Input {

@@ -2,6 +2,7 @@
 // the run leaves, if there is one, and after it, if anything is refused, the line `refused N P` with the refusal's number and its place. Where the
 // arguments are not two, or a file cannot be read, it says so on standard error and writes nothing else.
 #![tactic(auto)]
+
 mod lines;
 mod list;
 
@@ -14,36 +15,45 @@ use format::words::word;
 use lines::write_state;
 use list::{list_words, no_bytes, no_words, put_words, read_choices};
 use running::run;
-use streams::Input;
+use std::env::{Env, FillError};
+use std::fs::{File, Files};
+use std::str::from_utf8;
+use streams::{Input, write_bytes, write_refused};
 
-// Opens the file that an argument names: a descriptor, or -1. An argument that is too long for a path counts as the empty one, which names no file.
-fn open_argument(i: usize) -> i32 {
-    let mut path = io::buffer();
-    let length = os::arg(i, &mut path);
-    os::open_read(&path[..length])
+// Opens the file that an argument names. An argument that is missing, too long for a path or no text counts as the empty one, which names no file.
+fn open_argument<R: Env + Files>(rt: &R, i: usize) -> std::io::Result<R::File> {
+    let mut path = [0u8; 4096];
+    let length = rt.arg(i, &mut path).unwrap_or(0);
+    File::open(rt, from_utf8(&path[..length]).unwrap_or(""))
 }
 
-// Reads the clinic file. A read fails at a file that could not be opened, whose descriptor is -1.
-fn load_file(buffer: &mut [u8]) -> Input
+// Reads the clinic file. A file that could not be opened counts as one whose read fails.
+fn load_file<R: Env + Files>(rt: &R, buffer: &mut [u8]) -> Input
     requires { length buffer.old ≡ 16384 }
     ensures { IsPrefixLen result.kept buffer.new }
 {
-    let descriptor = open_argument(1);
-    let input = streams::read_input(descriptor, buffer);
-    libc::close(descriptor);
-    input
+    match open_argument(rt, 1) {
+        Ok(mut file) => streams::read_input(&mut file, buffer),
+        Err(_) => Input {
+            kept: 0,
+            failed: true,
+        },
+    }
 }
 
 // Reads the choices, likewise.
-fn load_choices(buffer: &mut [u8]) -> Input
+fn load_choices<R: Env + Files>(rt: &R, buffer: &mut [u8]) -> Input
     requires { length buffer.old ≡ 278528 }
     ensures prefix_len { IsPrefixLen result.kept buffer.new }
     ensures kept_bound { result.kept ≤ 262144 }
 {
-    let descriptor = open_argument(2);
-    let input = read_choices(descriptor, buffer);
-    libc::close(descriptor);
-    input
+    match open_argument(rt, 2) {
+        Ok(mut file) => read_choices(&mut file, buffer),
+        Err(_) => Input {
+            kept: 0,
+            failed: true,
+        },
+    }
 }
 
 // Whether a run into an output of zeros has left a state there: it went to the end of the list, or was halted at a choice, whose refusal is the
@@ -55,7 +65,7 @@ fn has_state(verdict: Verdict, out: &[u8]) -> bool
 }
 
 // Runs the file through the choices, and writes what comes of it.
-fn run_through(file: &[u8], bytes: &[u8])
+fn run_through(rt: HostRuntime, file: &[u8], bytes: &[u8])
     requires { length bytes.now ≤ 262144 }
 {
     let mut words = no_words();
@@ -64,36 +74,41 @@ fn run_through(file: &[u8], bytes: &[u8])
     let mut out = [0u8; 1800];
     let verdict = run(file, &words[..count], &mut out);
     if has_state(verdict, &out) {
-        write_state(&out);
+        write_state(&rt, &out);
     }
     if verdict.number != 0 {
-        streams::write_refused(verdict.number, verdict.place);
+        write_refused(&rt, verdict.number, verdict.place);
     }
 }
 
 // Reads the choices for a file that could be read.
-fn run_file(file: &[u8]) {
+fn run_file(rt: HostRuntime, file: &[u8]) {
     let mut buffer = no_bytes();
-    let input = load_choices(&mut buffer);
+    let input = load_choices(&rt, &mut buffer);
     if input.failed {
-        io::write_all(2, b"run: the choices cannot be read\n");
+        write_bytes(&rt.stderr(), b"run: the choices cannot be read\n");
         return;
     }
     let kept = input.kept;
-    run_through(file, &buffer[..kept]);
+    run_through(rt, file, &buffer[..kept]);
 }
 
-fn main() {
-    if os::arg_count() != 3 {
-        io::write_all(2, b"usage: run FILE CHOICES\n");
+// Whether there is an argument of this number.
+fn has_argument(rt: &impl Env, i: usize) -> bool {
+    !matches!(rt.arg(i, &mut [0u8; 1]), Err(FillError::NotPresent))
+}
+
+fn main(rt: HostRuntime) {
+    if !has_argument(&rt, 2) || has_argument(&rt, 3) {
+        write_bytes(&rt.stderr(), b"usage: run FILE CHOICES\n");
         return;
     }
     let mut buffer = [0u8; 16384];
-    let input = load_file(&mut buffer);
+    let input = load_file(&rt, &mut buffer);
     if input.failed {
-        io::write_all(2, b"run: the clinic file cannot be read\n");
+        write_bytes(&rt.stderr(), b"run: the clinic file cannot be read\n");
         return;
     }
     let kept = input.kept;
-    run_file(&buffer[..kept]);
+    run_file(rt, &buffer[..kept]);
 }

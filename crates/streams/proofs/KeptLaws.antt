@@ -1,13 +1,9 @@
 -- What is kept of an input that comes in pieces stands for the whole of it.
 use Prim.Native.Nat.{ℕ, ◌+◌, ◌≤◌}
-use mathlib.Core.Path.{◌≡◌, sym, ap, subst, ◌∙◌}
+use mathlib.Core.Path.{◌≡◌, sym, subst}
 use mathlib.Core.List.{List, [], ◌∷◌, ◌++◌, flatten, append-nil, append_assoc}
-use native.Mathlib.Omega.{arith}
 use lib.ListN.{length, take, drop}
-use lib.IntN.{ℤ, pos, negsuc}
 use lib.Seq.{length-take-le, take-add, take-take}
-use Rattle.libc.specs.Io.{Moved}
-use Rattle.io.specs.Counts.{clamp_len}
 use Rattle.reading.proofs.LongLaws.{StandsFor, start_stands, stands_on}
 use Rattle.streams.specs.Kept.{kept_by, kept_of, kept_of_pieces}
 
@@ -18,14 +14,6 @@ keeps most b kept piece r fits e small =
     let both : take kept b ++ take piece (drop kept b) ≡ take (kept + piece) b = sym (take-add kept piece b) in
     let size : length (take (kept + piece) b) ≡ kept + piece = length-take-le (kept + piece) b fits in
     rw (both, size, sym e) (sym (take-take r (kept + piece) b small))
-
--- a read moves no more than there is room for
-pub moved_count : (z z' : ℤ) (room most n : ℕ) → z' ≡ z → Moved room z → n ≡ clamp_len z' most → n ≤ room
-moved_count z z' room most n same m e = subst (λ (k : ℕ). k ≤ room) (sym (e ∙ ap (λ (x : ℤ). clamp_len x most) same)) (go z m)
-  where
-    go : (x : ℤ) → Moved room x → clamp_len x most ≤ room
-    go (pos k) h = omega (arith, h)
-    go (negsuc k) h = omega arith
 
 stands_behind : (ps : List (List ℕ)) (kept input : List ℕ) → StandsFor kept input → StandsFor (kept_of_pieces kept ps) (input ++ flatten ps)
 unfolding kept_of_pieces flatten

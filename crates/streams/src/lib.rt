@@ -1,14 +1,15 @@
 // What the programs share: an input of any length, and a refusal's line.
 #![tactic(auto)]
+
 pub mod line;
 
-ghost use Rattle.std.specs.Prelude.{◌+◌, ◌-◌, ◌≤◌, ◌≡◌, length, take, drop};
-ghost use Rattle.libc.specs.Io.{Moved};
+ghost use Rattle.std.specs.Prelude.{◌+◌, ◌-◌, ◌≤◌, ◌≡◌, IfOk, length, take, drop};
 ghost use Rattle.io.specs.Counts.{IsPrefixLen};
 ghost use Rattle.format.specs.Header.{largest};
 ghost use Rattle.streams.specs.Kept.{kept_of};
 
 use line::refused_line;
+use std::io::Read;
 
 // An input, once read to its end: how many bytes at the start of the buffer stand for it, and whether a read failed.
 #[derive(Clone, Copy)]
@@ -17,13 +18,17 @@ pub struct Input {
     pub failed: bool,
 }
 
-// One read of a descriptor into the buffer behind what is kept, which stays; the answer is that of `libc::read`.
-pub fn read_behind(descriptor: i32, buffer: &mut [u8], kept: usize) -> isize
+// One read into the buffer behind what is kept, which stays; the answer is the read's: how many bytes came, none at the input's end, or why it failed.
+pub fn read_behind<R: Read>(
+    reader: &mut R,
+    buffer: &mut [u8],
+    kept: usize,
+) -> std::io::Result<usize>
     requires { kept ≤ length buffer.old }
-    ensures moved { Moved (length buffer.old - kept) result }
+    ensures moved { IfOk result (λ n. n ≤ length buffer.old - kept) }
     ensures buffer_unchanged { take kept buffer.new ≡ take kept buffer.old }
 {
-    libc::read(descriptor, &mut buffer[kept..])
+    reader.read(&mut buffer[kept..])
 }
 
 // How many bytes are kept, where a piece of so many stands behind those kept so far: so much of both that it stands for the whole input
@@ -36,27 +41,23 @@ pub fn keep(buffer: &[u8], kept: usize, piece: usize) -> usize
     reading::long::enough(kept + piece)
 }
 
-// Reads a descriptor to its end, of whatever length. Each piece is read behind what is kept, and of both enough is kept; of an input
+// Reads an input to its end, of whatever length. Each piece is read behind what is kept, and of both enough is kept; of an input
 // longer than any file the start stays, and what comes is read over the rest of the buffer again and again. That what is kept has the
 // answer of the whole input is `stands_check` of checking/proofs/CheckLaws, `stands_placed` of placing/proofs/PlaceLaws, and `stands_run` and
 // `stands_over` of running/proofs/StandLaws.
 // A loop has to end, so the turns count down, from a number that no run uses up.
-pub fn read_input(descriptor: i32, buffer: &mut [u8]) -> Input
+pub fn read_input<R: Read>(reader: &mut R, buffer: &mut [u8]) -> Input
     requires { length buffer.old ≡ 16384 }
     ensures { IsPrefixLen result.kept buffer.new }
 {
     let mut kept = 0;
     let mut turns = u64::MAX;
     while turns > 0 {
-        let got = read_behind(descriptor, buffer, kept);
-        if got <= 0 {
-            return Input {
-                kept,
-                failed: got < 0,
-            };
+        match read_behind(reader, buffer, kept) {
+            Ok(0) => break,
+            Ok(piece) => kept = keep(buffer, kept, piece),
+            Err(_) => return Input { kept, failed: true },
         }
-        let piece = io::count(got, buffer);
-        kept = keep(buffer, kept, piece);
         turns -= 1;
     }
     Input {
@@ -65,9 +66,14 @@ pub fn read_input(descriptor: i32, buffer: &mut [u8]) -> Input
     }
 }
 
+// Writes the bytes. What a write that fails leaves out stays unwritten, and nothing is said of it.
+pub fn write_bytes(out: &impl Print, bytes: &[u8]) {
+    let _ = out.write_all(bytes);
+}
+
 // Writes the line `refused N P`.
-pub fn write_refused(number: u16, place: u16) {
+pub fn write_refused(out: &impl Print, number: u16, place: u16) {
     let mut line = [0u8; 20];
     let length = refused_line(number, place, &mut line);
-    io::write_all(1, &line[..length]);
+    write_bytes(out, &line[..length]);
 }
