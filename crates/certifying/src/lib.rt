@@ -1,6 +1,7 @@
 // A certificate for all schedules: a table of states is checked to have every state that a run can come to, and no
 // other.
 #![tactic(auto)]
+
 pub mod explore;
 pub mod parts;
 pub mod words;

@@ -1,5 +1,6 @@
 // The check of a clinic file: the refusals 1 to 8 (21 among them), then 9 and 10 together by node, then 11 to 13 by node.
 #![tactic(auto)]
+
 ghost use Rattle.std.specs.Prelude.{◌≡◌, length};
 ghost use Rattle.checking.specs.Check.{reading_names, checking, entered, scoped, examined, surveyed, Admitted, examined_from, surveyed_from};
 

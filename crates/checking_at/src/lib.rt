@@ -1,5 +1,6 @@
 // The check of a clinic file for a minute of the week: 22, then 1 to 8, 23, 9 and 10 together by node, then 11 to 13 and 24 by node.
 #![tactic(auto)]
+
 mod shut_on;
 
 ghost use Rattle.std.specs.Prelude.{◌≡◌, ◌/◌, ◌≤◌, length};

@@ -1,5 +1,6 @@
 // Opening hours: the table's refusals 22 and 23, and the roles that are shut at a minute.
 #![tactic(auto)]
+
 ghost use Rattle.std.specs.Prelude.{◌≡◌, cond, ◌+◌, ◌*◌, ◌/◌, ◌≤◌, ◌<◌, length};
 ghost use Rattle.hours.specs.Hours.{row_at, table_answer, row_fits, rows_answer, contains, put, shut};
 

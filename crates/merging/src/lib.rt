@@ -1,5 +1,6 @@
 // Two clinic files of version 1 in one.
 #![tactic(auto)]
+
 mod counts;
 mod file;
 mod moves;

@@ -1,5 +1,6 @@
 // Whether the tables hold a state that is in order: what a choice with seats asks of the state it is made in.
 #![tactic(auto)]
+
 ghost use Rattle.std.specs.Prelude.{◌≡◌, not, ◌&&◌, ◌+◌, ◌≤◌, ◌<◌, length, take};
 ghost use Rattle.masks.specs.Mask.{has, with};
 ghost use Rattle.format.specs.Contents.{in_count};

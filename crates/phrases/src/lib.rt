@@ -1,5 +1,6 @@
 // The phrases of which the sentences are made.
 #![tactic(auto)]
+
 ghost use Rattle.std.specs.Prelude.{◌≡◌, ◌+◌, ◌<◌, ◌≤◌, length, get_or, drop};
 ghost use Rattle.std.proofs.Math.Seq.{paste, slice};
 ghost use Rattle.phrases.specs.Table.{row_count};

@@ -1,5 +1,6 @@
 // Placing for a minute of the week: the open roles of each node's candidates, and then as without hours.
 #![tactic(auto)]
+
 ghost use Rattle.std.specs.Prelude.{◌≡◌, map, length};
 ghost use Rattle.masks.specs.Mask.{minus};
 ghost use Rattle.placing_at.specs.PlaceAt.{measuring_at, placing_at, placed_over_at};

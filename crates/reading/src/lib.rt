@@ -1,5 +1,6 @@
 // Reading a clinic file: the refusals 1 to 8, 21 after 6, in order.
 #![tactic(auto)]
+
 pub mod long;
 
 ghost use Rattle.std.specs.Prelude.{◌≡◌};

@@ -1,5 +1,6 @@
 // Reasons in words: the sentence of a refusal, and what a sentence says.
 #![tactic(auto)]
+
 pub mod digits;
 
 ghost use Rattle.std.specs.Prelude.{◌≡◌, true, false, cond, ◌+◌, ◌-◌, ◌<◌, ◌≤◌, length, drop};

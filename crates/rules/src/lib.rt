@@ -1,5 +1,6 @@
 // The rules of the check: grants, operands, the rules at one node, and the pass over the nodes that finds 9 to 13.
 #![tactic(auto)]
+
 pub mod grants;
 pub mod judge;
 pub mod names;

@@ -1,5 +1,6 @@
 // Seats for each role: who has a role, and the lines.
 #![tactic(auto)]
+
 pub mod lines;
 pub mod seat;
 pub mod sessions;

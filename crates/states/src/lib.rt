@@ -1,5 +1,6 @@
 // The state of each node: the costs of the trees from the right, the states from the left.
 #![tactic(auto)]
+
 mod costs;
 mod pass;
 

@@ -1,5 +1,6 @@
 // Refusals 6, 21 and 7: records that name what isn't there, and juniors that are not lower than their senior.
 #![tactic(auto)]
+
 ghost use Rattle.std.specs.Prelude.{◌≡◌, ℕ, ◌+◌, ◌*◌, ◌≤◌, ◌<◌};
 ghost use Rattle.format.specs.Answers.{or_else};
 ghost use Rattle.format.specs.Header.{Laid};

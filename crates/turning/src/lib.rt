@@ -1,5 +1,6 @@
 // A file turned to columns, and back to rows.
 #![tactic(auto)]
+
 ghost use Rattle.std.specs.Prelude.{◌≡◌, true, cond, ◌||◌, ◌≤◌, eqb, length};
 ghost use Rattle.std.proofs.lemmas.List.Edits.{sets};
 ghost use Rattle.format.specs.Header.{Laid, has_juniors, length_for, head_of};

@@ -12,7 +12,5 @@ use Rattle.hours.proofs.rows_answer.Given as goal
 abbrev pub invariant-loop-n : goal.invariant-loop-n
 invariant-loop-n l = (1 ≤ l.n) × (l.count ≡ rows l.hours) × (l.n ≤ l.count + 1) × (first_of (λ n. row_fits l.roles (row_at l.hours (n - 1))) (λ n. refused 23 n) l.n (l.count + 1 - l.n) ≡ rows_answer l.roles l.hours)
 
-
 abbrev pub decreases-loop-n : goal.decreases-loop-n
 decreases-loop-n l = l.count + 1 - l.n
-

@@ -11,7 +11,5 @@ use Rattle.hours.proofs.shut.Given as goal
 abbrev pub invariant-loop-i : goal.invariant-loop-i
 invariant-loop-i l = (l.count ≡ rows l.hours) × (l.i ≤ l.count) × (l.named ≡ roles_of l.hours any_row l.i) × (l.inside ≡ roles_of l.hours (contains l.minute) l.i)
 
-
 abbrev pub decreases-loop-i : goal.decreases-loop-i
 decreases-loop-i l = l.count - l.i
-

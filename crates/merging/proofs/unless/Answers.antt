@@ -1,4 +1,3 @@
-
 use Rattle.merging.proofs.unless.Goals as goal
 
 pub returns-then-holds : goal.returns-then-holds

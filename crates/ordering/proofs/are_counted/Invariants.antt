@@ -13,7 +13,5 @@ use Rattle.ordering.proofs.are_counted.Given as goal
 abbrev pub invariant-loop-k : goal.invariant-loop-k
 invariant-loop-k l = (l.k ≤ l.count) × (l.count ≤ length l.owners) × (all_counted l.n (take l.count l.owners) ≡ all_counted l.n (take (l.count - l.k) (drop l.k l.owners)))
 
-
 abbrev pub decreases-loop-k : goal.decreases-loop-k
 decreases-loop-k l = l.count - l.k
-

@@ -15,7 +15,5 @@ use Rattle.ordering.proofs.in_order.Given as goal
 abbrev pub invariant-loop-r : goal.invariant-loop-r
 invariant-loop-r l = (l.r ≤ 16) × (roles_fit l.n (seats_in l.seats) (seated_in l.threads l.beside l.owners l.lines) 16 ≡ roles_fit l.n (seats_in l.seats) (seated_in l.threads l.beside l.owners l.lines) l.r)
 
-
 abbrev pub decreases-loop-r : goal.decreases-loop-r
 decreases-loop-r l = l.r
-

@@ -16,7 +16,5 @@ use Rattle.ordering.proofs.line_fits.Given as goal
 abbrev pub invariant-loop-i : goal.invariant-loop-i
 invariant-loop-i l = (l.i ≤ l.waiting) × (line_fits l.n (has l.mask) (line_row l.lines l.row) ≡ line_fits l.n (has l.seen) (take (l.waiting - l.i) (drop (l.at + l.i) l.lines)))
 
-
 abbrev pub decreases-loop-i : goal.decreases-loop-i
 decreases-loop-i l = l.waiting - l.i
-

@@ -12,7 +12,5 @@ use Rattle.phrases.proofs.phrase_at.Given as goal
 abbrev pub invariant-loop-i : goal.invariant-loop-i
 invariant-loop-i l = (l.i ≤ row_count) × (l.i + leading (drop l.i phrases) (drop l.at l.s) ≡ leading phrases (drop l.at l.s))
 
-
 abbrev pub decreases-loop-i : goal.decreases-loop-i
 decreases-loop-i l = row_count - l.i
-

@@ -10,7 +10,5 @@ use Rattle.placing_at.proofs.close.Given as goal
 abbrev pub invariant-loop-i : goal.invariant-loop-i
 invariant-loop-i l = (l.count ≡ length l.initial.roles) × (length l.roles ≡ length l.initial.roles) × (l.i ≤ length l.initial.roles) × (l.roles ≡ map_to (λ m. minus m l.shut) l.initial.roles l.i)
 
-
 abbrev pub decreases-loop-i : goal.decreases-loop-i
 decreases-loop-i l = length l.initial.roles - l.i
-

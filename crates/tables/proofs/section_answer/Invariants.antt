@@ -16,7 +16,5 @@ use Rattle.tables.proofs.section_answer.Given as goal
 abbrev pub invariant-loop-n : goal.invariant-loop-n
 invariant-loop-n l = (1 ≤ l.n) × (l.count ≡ part l.section l.head.count) × (l.n ≤ l.count + 1) × (first_of (record_fits (contents_at l.file l.head) l.section) (refusal_of l.head l.section) l.n (l.count + 1 - l.n) ≡ section_answer l.head (contents_at l.file l.head) l.section)
 
-
 abbrev pub decreases-loop-n : goal.decreases-loop-n
 decreases-loop-n l = l.count + 1 - l.n
-

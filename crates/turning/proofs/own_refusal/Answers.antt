@@ -1,4 +1,3 @@
-
 use Rattle.turning.proofs.own_refusal.Goals as goal
 
 pub returns-then-number-version : goal.returns-then-number-version

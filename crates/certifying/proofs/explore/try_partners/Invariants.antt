@@ -16,7 +16,5 @@ invariant-loop-p l = let K : Certificate = certificate_at l.file l.head l.seats 
     let S : SeatedState = seated_at (length l.seats) l.states l.at in
     (l.p ≤ l.count + 1) × (l.count ≤ 64) × Trying K l.at l.threads l.beside l.owners l.lines × (partners_tried K S l.i 0 (l.count + 1) l.initial.on ≡ partners_tried K S l.i l.p (l.count + 1 - l.p) l.on)
 
-
 abbrev pub decreases-loop-p : goal.decreases-loop-p
 decreases-loop-p l = l.count + 1 - l.p
-

@@ -22,7 +22,5 @@ invariant-loop-j l = let K : Certificate = certificate_at l.file l.head l.seats 
     (l.j ≤ l.on.known) × (length l.threads ≡ thread_table_words) × (length l.beside ≡ beside_words) × (length l.owners ≡ 64) × (length l.lines ≡ 528) × KnownRows K l.on.known
     × (rows_tried K 0 (length l.places) l.initial.on ≡ rows_tried K l.j (length l.places - l.j) l.on)
 
-
 abbrev pub decreases-loop-j : goal.decreases-loop-j
 decreases-loop-j l = length l.places - l.j
-

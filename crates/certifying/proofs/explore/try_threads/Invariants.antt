@@ -16,7 +16,5 @@ invariant-loop-i l = let K : Certificate = certificate_at l.file l.head l.seats 
     let S : SeatedState = seated_at (length l.seats) l.states l.at in
     (l.i ≤ l.count) × (l.count ≤ 64) × Trying K l.at l.threads l.beside l.owners l.lines × (row_tried K S l.initial.on ≡ threads_tried K S (l.i + 1) (l.count - l.i) l.on) × (l.count ≡ length S.state.threads)
 
-
 abbrev pub decreases-loop-i : goal.decreases-loop-i
 decreases-loop-i l = l.count - l.i
-

@@ -10,7 +10,5 @@ use Rattle.certifying.proofs.parts.known_by.Given as goal
 abbrev pub invariant-loop-c : goal.invariant-loop-c
 invariant-loop-c l = (l.c ≤ l.count) × (l.known ≡ known_by l.next l.c)
 
-
 abbrev pub decreases-loop-c : goal.decreases-loop-c
 decreases-loop-c l = l.count - l.c
-

@@ -17,7 +17,5 @@ invariant-loop-j l = let K : Certificate = certificate_at l.file l.head l.seats 
     (l.j ≤ l.to) × (length l.threads ≡ thread_table_words) × (length l.beside ≡ beside_words) × (length l.owners ≡ 64) × (length l.lines ≡ 528)
     × (part_tried K l.part.end l.part.from (l.part.to - l.part.from) (search_at l.next l.part.begin) ≡ part_tried K l.part.end l.j (l.to - l.j) l.on)
 
-
 abbrev pub decreases-loop-j : goal.decreases-loop-j
 decreases-loop-j l = l.to - l.j
-

@@ -14,7 +14,5 @@ abbrev pub invariant-loop-n : goal.invariant-loop-n
 invariant-loop-n l = (1 ≤ l.n) × (l.count ≡ l.head.count.nodes) × (l.n ≤ l.count + 1)
     × (first_of (λ k. not (opens_shut l.shut (item no_node (contents_at l.file l.head).nodes k))) (λ k. refused 24 k) l.n (l.count + 1 - l.n) ≡ shut_answer l.shut (contents_at l.file l.head))
 
-
 abbrev pub decreases-loop-n : goal.decreases-loop-n
 decreases-loop-n l = l.count + 1 - l.n
-

@@ -1,4 +1,3 @@
-
 use Rattle.merging.proofs.own.own_refusal.Goals as goal
 
 pub returns-then-first-version : goal.returns-then-first-version

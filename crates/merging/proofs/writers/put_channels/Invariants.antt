@@ -20,7 +20,5 @@ invariant-loop-n l = (l.n ≤ l.head.count.channels) × (length l.out ≡ length
     × (sets l.out (2 * (l.whole.at.channels + 2 * (l.others + l.n))) (bytes_of (channel_words (map (moved_channel (shifts_by l.by)) (drop l.n (contents_at l.file l.head).channels))))
     ≡ sets l.initial.out (2 * (l.whole.at.channels + 2 * l.others)) (bytes_of (channel_words (map (moved_channel (shifts_by l.by)) (contents_at l.file l.head).channels))))
 
-
 abbrev pub decreases-loop-n : goal.decreases-loop-n
 decreases-loop-n l = l.head.count.channels - l.n
-

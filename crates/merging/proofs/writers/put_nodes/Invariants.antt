@@ -22,7 +22,5 @@ invariant-loop-n l = (l.n ≤ l.head.count.nodes) × (length l.out ≡ length l.
     × (sets l.out (2 * (l.whole.at.nodes + 3 * (l.others + l.n))) (bytes_of (node_rows (map (moved_node (shifts_by l.by)) (drop l.n (contents_at l.file l.head).nodes))))
     ≡ sets l.initial.out (2 * (l.whole.at.nodes + 3 * l.others)) (bytes_of (node_rows (map (moved_node (shifts_by l.by)) (contents_at l.file l.head).nodes))))
 
-
 abbrev pub decreases-loop-n : goal.decreases-loop-n
 decreases-loop-n l = l.head.count.nodes - l.n
-

@@ -20,7 +20,5 @@ invariant-loop-n l = (l.n ≤ l.head.count.sessions) × (length l.out ≡ length
     × (sets l.out (2 * (l.whole.at.sessions + 3 * (l.others + l.n))) (bytes_of (session_words (map (moved_session (shifts_by l.by)) (drop l.n (contents_at l.file l.head).sessions))))
     ≡ sets l.initial.out (2 * (l.whole.at.sessions + 3 * l.others)) (bytes_of (session_words (map (moved_session (shifts_by l.by)) (contents_at l.file l.head).sessions))))
 
-
 abbrev pub decreases-loop-n : goal.decreases-loop-n
 decreases-loop-n l = l.head.count.sessions - l.n
-

@@ -13,7 +13,5 @@ invariant-loop-k l = (l.k ≤ 33) × (length l.sends ≡ 33) × (length l.receiv
     × (add_from l.it.sends l.juniors l.role.0 l.k l.sends ≡ add_role l.it.sends l.juniors l.role.0 0 l.initial.sends)
     × (add_from l.it.receives l.juniors l.role.0 l.k l.receives ≡ add_role l.it.receives l.juniors l.role.0 0 l.initial.receives)
 
-
 abbrev pub decreases-loop-k : goal.decreases-loop-k
 decreases-loop-k l = 33 - l.k
-

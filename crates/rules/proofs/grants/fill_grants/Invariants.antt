@@ -18,7 +18,5 @@ invariant-loop-n l = (l.n ≤ l.head.count.roles) × (length l.sends ≡ length 
     × (l.sends ≡ grants_to (schema_of (contents_at l.file l.head)) Sends l.n 0 (length l.initial.sends)) × (l.receives ≡ grants_to (schema_of (contents_at l.file l.head)) Receives l.n 0 (length l.initial.receives))
     × Beyond (schema_of (contents_at l.file l.head)) Sends l.n × Beyond (schema_of (contents_at l.file l.head)) Receives l.n
 
-
 abbrev pub decreases-loop-n : goal.decreases-loop-n
 decreases-loop-n l = l.head.count.roles - l.n
-

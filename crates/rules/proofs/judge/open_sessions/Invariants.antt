@@ -19,7 +19,5 @@ abbrev pub invariant-loop-depth : goal.invariant-loop-depth
 invariant-loop-depth l = (l.depth ≤ l.sessions) × (length l.stack ≡ length l.initial.stack) × Waits (Given (schema_of (contents_at l.file l.head))) 0 (waiting l.stack l.depth)
     × (map (context_of []) (waiting l.stack l.depth) ≡ openings_from (drop (l.sessions - l.depth) (contents_at l.file l.head).sessions))
 
-
 abbrev pub decreases-loop-depth : goal.decreases-loop-depth
 decreases-loop-depth l = l.sessions - l.depth
-

@@ -29,7 +29,5 @@ invariant-loop-i l = (1 ≤ l.i + 1) × (l.i + 1 ≤ l.nodes + 1) × (length l.s
     × Held l.names l.here.bound × Waits (Given (schema_of (contents_at l.file l.head))) l.here.bound (waiting l.stack l.depth)
     × Left (contents_at l.file l.head) l.initial.roles (l.i + 1) (context_of l.names l.here ∷ map (context_of l.names) (waiting l.stack l.depth)) l.first l.roles
 
-
 abbrev pub decreases-loop-i : goal.decreases-loop-i
 decreases-loop-i l = l.nodes + 1 - (l.i + 1)
-

@@ -14,7 +14,5 @@ use Rattle.seating.proofs.lines.in_line.Given as goal
 abbrev pub invariant-loop-i : goal.invariant-loop-i
 invariant-loop-i l = (l.i ≤ l.n) × (in_line l.k (take (l.n - l.i) (drop (l.at + l.i) l.lines)) ≡ in_line l.k (line_row l.lines l.row))
 
-
 abbrev pub decreases-loop-i : goal.decreases-loop-i
 decreases-loop-i l = l.n - l.i
-

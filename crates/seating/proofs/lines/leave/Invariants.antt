@@ -12,7 +12,5 @@ use Rattle.seating.proofs.lines.leave.Given as goal
 abbrev pub invariant-loop-i : goal.invariant-loop-i
 invariant-loop-i l = (l.at + 1 ≤ l.i) × (l.i ≤ l.end) × (l.end < length l.initial.lines) × (length l.lines ≡ length l.initial.lines) × (l.lines ≡ down l.initial.lines (l.at + 1) 1 (l.i - (l.at + 1)))
 
-
 abbrev pub decreases-loop-i : goal.decreases-loop-i
 decreases-loop-i l = l.end - l.i
-

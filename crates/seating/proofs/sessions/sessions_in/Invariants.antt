@@ -12,7 +12,5 @@ use Rattle.seating.proofs.sessions.sessions_in.Given as goal
 abbrev pub invariant-loop-i : goal.invariant-loop-i
 invariant-loop-i l = (l.i ≤ l.count) × (gathered (threads_in l.threads (record_at l.i) (l.count - l.i)) (drop l.i l.owners) l.role.0 l.m ≡ gathered (threads_in l.threads 0 l.count) l.owners l.role.0 0)
 
-
 abbrev pub decreases-loop-i : goal.decreases-loop-i
 decreases-loop-i l = l.count - l.i
-

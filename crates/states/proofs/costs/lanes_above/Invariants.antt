@@ -10,7 +10,5 @@ use Rattle.states.proofs.costs.lanes_above.Given as goal
 abbrev pub invariant-loop-q : goal.invariant-loop-q
 invariant-loop-q l = (l.q ≤ 16) × (l.set ≡ gather l.q (λ q. ltb l.least (get_or l.lanes q 0)))
 
-
 abbrev pub decreases-loop-q : goal.decreases-loop-q
 decreases-loop-q l = 16 - l.q
-

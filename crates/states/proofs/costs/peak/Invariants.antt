@@ -9,7 +9,5 @@ use Rattle.states.proofs.costs.peak.Given as goal
 abbrev pub invariant-loop-q : goal.invariant-loop-q
 invariant-loop-q l = (l.q ≤ 16) × (l.high ≡ highest l.base l.q (λ q. get_or l.lanes q 0))
 
-
 abbrev pub decreases-loop-q : goal.decreases-loop-q
 decreases-loop-q l = 16 - l.q
-

@@ -17,7 +17,5 @@ invariant-loop-i l = (l.i ≤ l.head.count.nodes) × (l.depth ≤ l.head.count.n
     × Same no_saving (l.row ∷ stacked no_saving l.stack (l.depth + 1)) (savings (labels_from (contents_at l.file l.head).nodes l.roles l.i))
     × (drop l.i l.words ≡ kept_all (labels_from (contents_at l.file l.head).nodes l.roles l.i) ++ drop l.head.count.nodes l.initial.words)
 
-
 abbrev pub decreases-loop-i : goal.decreases-loop-i
 decreases-loop-i l = l.i
-

@@ -20,7 +20,5 @@ invariant-loop-i l = (l.n ≡ l.head.count.nodes) × (l.i ≤ l.n) × (l.depth �
     × (sets l.turns (l.i + 1) (map packed (followed (drop l.i (contents_at l.file l.head).nodes) (drop l.i l.words) (l.from ∷ stacked 0 l.stack (l.depth + 1))))
     ≡ sets l.initial.turns 1 (map packed (followed (contents_at l.file l.head).nodes l.words [])))
 
-
 abbrev pub decreases-loop-i : goal.decreases-loop-i
 decreases-loop-i l = l.n - l.i
-
