@@ -1,7 +1,7 @@
 -- The check of a file's bytes for a minute of the week: 22, then 1 to 8, 23, 9 and 10 together, then 11 to 13 and 24 by node.
 use Rattle.std.specs.Prelude.{ℕ, Bool, cond, not, ◌&&◌, List, eqb, ltb, length}
 use Rattle.masks.specs.Mask.{has}
-use Rattle.format.specs.Answers.{fine, refused, or_else, first_of}
+use Rattle.format.specs.Answers.{refused, or_else, first_of}
 use Rattle.format.specs.Header.{head_at}
 use Rattle.format.specs.Contents.{Contents, item, no_node, contents_of}
 use Rattle.format.specs.declared.Verdict.{Verdict}

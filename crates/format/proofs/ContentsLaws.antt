@@ -10,7 +10,7 @@ use lib.ListN.{length, get_or, take, drop, set, drop_of_length-le, get_or-eq_def
 use lib.Seq.{drop-cons, drop_at, set_split, length-take-le}
 use borrow.Author.Tests.{lt-ltb, lt-leb, ltb-true, ltb-false, leb-false}
 use Rattle.format.specs.Sections.{user_roles, role_of, juniors_of, carried, channel_of, session_of, node_of}
-use Rattle.format.specs.Contents.{Contents, tabled, in_count, item, no_node, contents_at}
+use Rattle.format.specs.Contents.{tabled, in_count, item, no_node, contents_at}
 use Rattle.format.specs.declared.Head.{Head}
 use Rattle.format.specs.declared.Node.{Node}
 use Rattle.format.proofs.BoolLaws.{and_fails, le_iff, and_iff}

@@ -12,7 +12,7 @@ use borrow.Author.Tests.{eqb-true, eqb-false, ltb-true, ltb-false}
 use Rattle.format.specs.Words.{bytes_of}
 use Rattle.format.specs.Header.{length_for}
 use Rattle.format.specs.Sections.{by_column, spot, node_spot}
-use Rattle.format.specs.Contents.{item, no_node}
+use Rattle.format.specs.Contents.{no_node}
 use Rattle.format.specs.Writing.{node_rows, node_words, word_put, node_put, nodes_put}
 use Rattle.format.specs.declared.Head.{Head}
 use Rattle.format.specs.declared.Node.{Node}

@@ -1,16 +1,16 @@
 -- The mask of shut roles says exactly which roles have rows and none that contains the minute.
 use mathlib.Core.Path.{◌≡◌, refl, sym, ap, ap₂, ◌∙◌}
-use mathlib.Core.Logic.{◌↔◌, ◌⊎◌, inl, inr}
+use mathlib.Core.Logic.{◌↔◌, inl, inr}
 use mathlib.Core.Bool.{Bool, true, false, cond, not, ◌&&◌, ◌||◌, false≢true, and-eq-true_iff, not-eq-not}
 use mathlib.Core.List.{List}
-use Prim.Native.Nat.{ℕ, zero, suc, ◌+◌, ◌*◌, ◌≤◌, ◌<◌, max}
+use Prim.Native.Nat.{ℕ, zero, suc, ◌≤◌, ◌<◌}
 use native.Mathlib.Omega.{arith}
 use lib.Dec.{eqb, leb, ltb}
 use borrow.Author.Tests.{eqb-true, eqb-false, eq-eqb, ne_eqb, leb-true, leb-false, le-leb, ltb-true, lt-ltb}
 use Rattle.masks.specs.Mask.{has, with, minus}
 use Rattle.masks.proofs.Laws.{has_none, has_with}
 use Rattle.masks.proofs.Minus.{has_minus}
-use Rattle.hours.specs.Hours.{rows, row_at, contains, put, roles_of, any_row, shut, HasRows, HasHour, Open}
+use Rattle.hours.specs.Hours.{rows, row_at, contains, put, roles_of, any_row, shut, HasRows, Open}
 use Rattle.hours.specs.declared.Row.{Row}
 
 -- a role put in

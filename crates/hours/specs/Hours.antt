@@ -1,5 +1,5 @@
 -- Opening hours: a table of rows, three words each: a role, and the first and the end minute of the week in which it is open, counted from Monday 00:00.
-use Rattle.std.specs.Prelude.{ℕ, zero, suc, ◌+◌, ◌-◌, ◌*◌, ◌/◌, ◌%◌, ◌≤◌, ◌<◌, ◌≡◌, ◌⊎◌, Bool, true, false, cond, ◌&&◌, List, length, get_or, eqb, leb, ltb}
+use Rattle.std.specs.Prelude.{ℕ, zero, suc, ◌+◌, ◌-◌, ◌*◌, ◌/◌, ◌%◌, ◌≤◌, ◌<◌, ◌≡◌, ◌⊎◌, Bool, true, cond, ◌&&◌, List, length, get_or, eqb, leb, ltb}
 use Rattle.masks.specs.Mask.{with, minus}
 use Rattle.format.specs.Answers.{fine, refused, first_of}
 use Rattle.format.specs.declared.Verdict.{Verdict}

@@ -1,11 +1,11 @@
 -- A mask without the items of another, for any width.
-use mathlib.Core.Path.{◌≡◌, refl, sym, ap, ap₂, ◌∙◌}
+use mathlib.Core.Path.{◌≡◌, refl, sym, ap, ◌∙◌}
 use mathlib.Core.Logic.{◌↔◌}
-use mathlib.Core.Bool.{Bool, true, false, not, ◌&&◌, and-eq-true_iff, not-eq-not}
+use mathlib.Core.Bool.{Bool, true, false, not, ◌&&◌, and-eq-true_iff}
 use Prim.Native.Nat.{ℕ, zero, suc, ◌<◌, max}
 use native.Mathlib.Omega.{arith}
 use lib.Dec.{eqb}
-use lib.Bits.{bit_and, bit_or, bit_xor, differ}
+use lib.Bits.{bit_and, bit_or, differ}
 use Rattle.masks.specs.Mask.{has, minus, Within, NamesOnly}
 use Rattle.masks.proofs.Bits.{bit, bit_lt, bit_or_lem, bit_xor_lem}
 use Rattle.masks.proofs.Laws.{has_none, has_and, extensional, empty}

@@ -16,7 +16,6 @@ use Rattle.format.specs.declared.Six.{Six}
 use Rattle.format.specs.declared.Head.{Head}
 use Rattle.format.specs.declared.Channel.{Channel}
 use Rattle.format.specs.declared.Session.{Session}
-use Rattle.format.specs.declared.Node.{Node}
 use Rattle.format.proofs.BoolLaws.{le_iff, and_iff}
 use Rattle.format.proofs.ContentsLaws.{users_held, roles_held, kinds_held, channels_held, sessions_held, nodes_held}
 use Rattle.format.proofs.PutRuns.{puts_then}

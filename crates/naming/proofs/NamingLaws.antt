@@ -14,7 +14,7 @@ use Rattle.rules.specs.declared.RuleStep.{RuleStep}
 use Rattle.naming.specs.declared.NameStep.{NameStep}
 use Rattle.rules.specs.Schema.{Schema}
 use Rattle.rules.specs.Names.{named}
-use Rattle.rules.specs.Rules.{names_fit, kinds_fit, wrong, child_of}
+use Rattle.rules.specs.Rules.{names_fit, wrong, child_of}
 use Rattle.rules.specs.Kept.{kind_in, look, NameTable, vars_of, context_of, graded, staying, turning, step_of, unmasked}
 use Rattle.naming.specs.Kept.{bare_point, naming_from, naming_of, awaited_at}
 use Rattle.naming.specs.Scopes.{awaited}

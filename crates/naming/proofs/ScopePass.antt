@@ -17,7 +17,7 @@ use Rattle.rules.specs.Rules.{Context, names_fit, kinds_fit, wrong, waiting_afte
 use Rattle.rules.specs.Checking.{reached, rightly, openings, names_answer}
 use Rattle.naming.specs.Scopes.{scope_of, marked, awaited, node_scope, scopes_in}
 use Rattle.rules.specs.Kept.{unmasked}
-use Rattle.rules.proofs.PassLaws.{bare_after, due, tells, tells_at, tells_none, none_told, none_waits, none_left, Names, names_begin, names_on, names_refused, names_out, names_end}
+use Rattle.rules.proofs.PassLaws.{bare_after, tells, tells_at, tells_none, none_told, none_waits, none_left, Names, names_begin, names_on, names_refused, names_out, names_end}
 
 -- a context as one number has no active set
 module _ (D : Schema) where

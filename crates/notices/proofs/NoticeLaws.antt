@@ -1,7 +1,7 @@
 -- A sound notice by its tests, the stages of the answer, and the part that is cut out of whichever notice holds it.
 use Prim.Native.Nat.{ℕ, ◌+◌, ◌-◌, ◌≤◌, ◌<◌}
 use mathlib.Core.Path.{◌≡◌, refl, sym, ap, ap₂, ◌∙◌, subst}
-use mathlib.Core.Bool.{Bool, true, false, cond, ◌&&◌, and-eq-true_iff}
+use mathlib.Core.Bool.{Bool, true, false, cond, and-eq-true_iff}
 use mathlib.Core.List.{List}
 use native.Mathlib.Omega.{arith}
 use lib.Dec.{eqb, leb}
@@ -10,7 +10,7 @@ use lib.Seq.{take_all}
 use borrow.Author.Tests.{eqb-true, eq-eqb, ne_eqb, le-leb, lt-leb}
 use Rattle.format.specs.declared.Verdict.{Verdict}
 use Rattle.checking.specs.Check.{reading_names}
-use Rattle.notices.specs.Notices.{first_day, length_word, file_of, is_sound, second_holds, unheld, held, plan_in_force, of_notice, part_of, place_of}
+use Rattle.notices.specs.Notices.{first_day, length_word, file_of, is_sound, second_holds, unheld, held, plan_in_force, of_notice, place_of}
 use Rattle.notices.specs.declared.InForce.{InForce}
 
 module _ (n : List ℕ) where

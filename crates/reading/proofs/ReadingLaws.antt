@@ -15,7 +15,6 @@ use Rattle.format.specs.declared.Head.{Head}
 use Rattle.format.specs.declared.Verdict.{Verdict}
 use Rattle.format.specs.declared.HeadAnswer.{HeadAnswer}
 use Rattle.format.specs.declared.HeadAnswer.TheVariants.{Fine, Refused}
-use Rattle.reading.specs.declared.Opened.{Opened}
 use Rattle.reading.specs.declared.Opened.TheVariants.{Fine as Opened-as-Fine, Refused as Opened-as-Refused}
 use Rattle.format.proofs.AnswerLaws.{NoRefusal}
 use Rattle.format.proofs.HeadLaws.{Headed, headed, headed_fine, head_number_lem}

@@ -2,7 +2,6 @@
 use mathlib.Core.Path.{◌≡◌, refl, sym, ap, subst}
 use mathlib.Core.List.{List, [], ◌∷◌}
 use Rattle.format.specs.Answers.{fine}
-use Rattle.format.specs.Contents.{Contents}
 use Rattle.format.specs.declared.Role.{Role}
 use Rattle.reading.specs.Reading.{reading}
 use Rattle.reading_exact.specs.File.{Grants, first, second, third, version_of, roles_of, juniors_of, masks_none, as_second, File, WellFormed, contents_for, encode}

@@ -1,13 +1,13 @@
 -- Reading gives the first refusal in the paper's order: the least number that objects to the file, and its lowest place.
-use Prim.Native.Nat.{ℕ, suc, ◌+◌, ◌*◌, ◌%◌, ◌≤◌, ◌<◌}
+use Prim.Native.Nat.{ℕ, suc, ◌*◌, ◌%◌, ◌≤◌, ◌<◌}
 use mathlib.Core.Path.{◌≡◌, refl, sym, ◌∙◌}
 use mathlib.Core.Logic.{◌⊎◌, inl, inr, ◌≢◌, ◌↔◌}
-use mathlib.Core.Bool.{Bool, true, false, cond, ◌||◌, false≢true}
+use mathlib.Core.Bool.{Bool, true, false, cond, false≢true}
 use mathlib.Core.List.{List}
 use native.Mathlib.Omega.{arith}
 use lib.ListN.{length}
 use lib.Dec.{eqb, ltb}
-use borrow.Author.Tests.{eqb-true, eqb-false, eq-eqb, ne_eqb, ltb-true, lt-ltb}
+use borrow.Author.Tests.{eqb-true, eqb-false, ne_eqb, ltb-true, lt-ltb}
 use Rattle.format.specs.Words.{word_at}
 use Rattle.format.specs.Answers.{fine, refused}
 use Rattle.format.specs.Contents.{Contents, contents_at, contents_of}
@@ -19,7 +19,7 @@ use Rattle.format.specs.declared.Head.{Head}
 use Rattle.format.specs.declared.HeadAnswer.{HeadAnswer}
 use Rattle.format.specs.declared.HeadAnswer.TheVariants.{Fine, Refused}
 use Rattle.format.proofs.BoolLaws.{eq_iff}
-use Rattle.format.proofs.HeadLaws.{juniors_iff, IsVersion, version_iff, counts_iff, offsets_iff, laid_iff, more_few}
+use Rattle.format.proofs.HeadLaws.{juniors_iff, IsVersion, version_iff, counts_iff, offsets_iff, laid_iff}
 use Rattle.reading_exact.specs.Order.{in_turn, First}
 use Rattle.format.specs.Header.{Counted, BackToBack}
 use Rattle.reading_exact.specs.Refusals.{Refusable, short, short_second, odd, version, count, offset, size, misnamed, misranked, unassigned, misshapen, length_of, reading_order}

@@ -12,7 +12,7 @@ use Rattle.format.specs.declared.Session.{Session}
 use Rattle.trees.specs.declared.Due.{Due}
 use Rattle.trees.specs.declared.Due.TheVariants.{Root}
 use Rattle.reading_exact.specs.Lists.{All}
-use Rattle.reading_exact.specs.Tree.{Tree, past, height, write, flatten}
+use Rattle.reading_exact.specs.Tree.{Tree, past, height, flatten}
 use Rattle.reading_exact.proofs.TreeEnds.{past_more, write_rest}
 
 -- the sessions' root words, which are what is due at the start

@@ -4,10 +4,6 @@ use Rattle.std.specs.Prelude.{ℕ, ◌+◌, ◌*◌, ◌-◌, ◌≡◌, ◌≢�
 use Rattle.format.specs.Words.{word_at}
 use Rattle.format.specs.Header.{WithJuniors, more}
 use Rattle.format.specs.Contents.{item, no_role, no_channel, no_session, no_node, contents_of}
-use Rattle.format.specs.declared.Role.{Role}
-use Rattle.format.specs.declared.Channel.{Channel}
-use Rattle.format.specs.declared.Session.{Session}
-use Rattle.format.specs.declared.Node.{Node}
 use Rattle.reading_exact.specs.File.{InCount}
 
 -- word j, from 0, of the record of number n in the section that begins where the head's word `at` says, with so many words to a record

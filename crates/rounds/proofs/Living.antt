@@ -8,7 +8,7 @@ use native.Mathlib.Omega.{arith}
 use lib.Dec.{eqb, ltb}
 use lib.ListN.{length, get_or, take, drop, replicate}
 use borrow.Author.Tests.{eqb-true, eqb-false, ltb-true, ltb-false, lt-ltb, le-ltb}
-use Rattle.rounds.specs.Round.{Taken, waits, Visited, alone, met, without_item, Going, visited, visit, round_from, round}
+use Rattle.rounds.specs.Round.{Taken, Visited, alone, met, without_item, Going, visited, visit, round_from, round}
 use Rattle.rounds.specs.Rounds.{RoundState, Here, relabelled, numbers, Visits, lone, wait, VisitsFrom, begun, Path}
 use Rattle.rounds.proofs.PlaceLaws.{without_item_below, without_item_above, get_d_snoc, numbers_at, numbers_past}
 use Rattle.rounds.proofs.Laws.{Lawful, Recorded}

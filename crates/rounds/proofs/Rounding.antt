@@ -1,17 +1,17 @@
 -- A computed round is a round of the relation, and there is no other. Its choices are done, and there are at most two words a thread of its start.
 use Prim.Native.Nat.{ℕ, zero, suc, ◌+◌, ◌*◌, ◌-◌, ◌%◌, ◌≤◌, ◌<◌}
 use mathlib.Core.Path.{◌≡◌, refl, sym, ap, ◌∙◌, subst}
-use mathlib.Core.Logic.{◌↔◌, ◌⊎◌, inl, inr, ◌≢◌}
-use mathlib.Core.Bool.{Bool, true, false, cond, false≢true}
+use mathlib.Core.Logic.{◌↔◌, ◌⊎◌, inl, inr}
+use mathlib.Core.Bool.{Bool, true, false, false≢true}
 use mathlib.Core.List.{List, [], ◌∷◌, ◌++◌}
 use native.Mathlib.Omega.{arith}
 use lib.Dec.{eqb}
 use lib.ListN.{length, get_or, replicate, length-append, length-replicate, get_or-replicate}
 use borrow.Author.Tests.{eqb-true, eqb-false}
-use Rattle.rounds.specs.Round.{Taken, refuses, waits, steps, Visited, nothing_done, waited, alone, met, is_step, Going, Rounded, going, visited, visit, round_from, round}
-use Rattle.rounds.specs.Rounds.{In, RoundState, Here, relabelled, Visits, lone, wait, meet, nothing, VisitsFrom, begun, Rounds, Path}
+use Rattle.rounds.specs.Round.{Taken, refuses, waits, steps, Visited, nothing_done, is_step, Going, Rounded, going, visited, visit, round_from, round}
+use Rattle.rounds.specs.Rounds.{RoundState, Visits, lone, wait, meet, nothing, VisitsFrom, begun, Rounds, Path}
 use Rattle.rounds.proofs.Laws.{Lawful}
-use Rattle.rounds.proofs.RoundStates.{Keeping, keeping_start}
+use Rattle.rounds.proofs.RoundStates.{keeping_start}
 use Rattle.rounds.proofs.Searching.{View, steps_alone, waits_alone, meets_first, does_nothing, view}
 use Rattle.rounds.proofs.Visiting.{Keeps, stood, stood_state, related, unrivalled, keeps}
 

@@ -1,14 +1,14 @@
 -- A computed visit is a visit of the relation, and there is no other.
-use Prim.Native.Nat.{ℕ, zero, suc, ◌+◌, ◌-◌, ◌≤◌, ◌<◌}
+use Prim.Native.Nat.{ℕ, suc, ◌-◌, ◌≤◌, ◌<◌}
 use mathlib.Core.Path.{◌≡◌, refl, sym, ap, ◌∙◌, subst}
-use mathlib.Core.Logic.{◌↔◌, ◌⊎◌, inl, inr, ◌≢◌}
-use mathlib.Core.Bool.{Bool, true, false, cond, false≢true}
+use mathlib.Core.Logic.{◌⊎◌, inl, inr}
+use mathlib.Core.Bool.{Bool, true, false, false≢true}
 use mathlib.Core.List.{List, [], ◌∷◌, ◌++◌}
 use native.Mathlib.Omega.{arith}
-use lib.Dec.{eqb, ltb}
+use lib.Dec.{ltb}
 use lib.ListN.{length, get_or, set, take, drop, length-set}
 use borrow.Author.Tests.{ltb-true, ltb-false, lt-ltb, le-ltb}
-use Rattle.rounds.specs.Round.{Taken, refuses, waits, steps, Visited, nothing_done, waited, alone, met, is_step, without_item, Going, going}
+use Rattle.rounds.specs.Round.{Taken, refuses, waits, steps, Visited, nothing_done, waited, alone, met, is_step, without_item, going}
 use Rattle.rounds.specs.Rounds.{In, RoundState, Here, relabelled, Visits, lone, wait, meet, nothing}
 use Rattle.rounds.proofs.PlaceLaws.{length_without_item}
 use Rattle.rounds.proofs.Laws.{Lawful}

@@ -6,7 +6,7 @@ use Prim.Native.Nat.{ℕ, zero, suc, ◌≤◌, ◌<◌}
 use native.Mathlib.Omega.{arith}
 use lib.Bits.{bit_or, or_zero_r}
 use lib.Dec.{eqb}
-use borrow.Author.Tests.{eqb-true, eqb-false, eq-eqb, ne_eqb}
+use borrow.Author.Tests.{eqb-true, eqb-false, ne_eqb}
 use Rattle.masks.specs.Mask.{has, NamesOnly}
 use Rattle.masks.proofs.Laws.{has_none, has_pos}
 use Rattle.masks.proofs.OrLaws.{or_left, or_right, or_split}

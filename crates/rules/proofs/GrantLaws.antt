@@ -1,5 +1,5 @@
 -- Grants: a lookup, a mask of roles, and the table of these masks.
-use Prim.Native.Nat.{ℕ, zero, suc, ◌+◌, ◌-◌, ◌^◌, ◌≤◌, ◌<◌}
+use Prim.Native.Nat.{ℕ, zero, suc, ◌+◌, ◌^◌, ◌≤◌, ◌<◌}
 use mathlib.Core.Path.{◌≡◌, refl, sym, ap, ◌∙◌}
 use mathlib.Core.Bool.{Bool, true, false, cond, not, ◌||◌}
 use mathlib.Core.List.{List, [], ◌∷◌, ◌++◌, append_assoc, append-nil}
@@ -10,7 +10,7 @@ use lib.Bits.{bit_and, and_zero_l}
 use lib.Dec.{eqb, ltb}
 use lib.Seq.{take_all, drop-cons, take-suc-set, drop-set-lt}
 use borrow.Author.Tests.{ltb-true, ltb-false}
-use Rattle.masks.specs.Mask.{has, with}
+use Rattle.masks.specs.Mask.{with}
 use Rattle.masks.proofs.Laws.{has_above}
 use Rattle.masks.specs.declared.ChannelKind.{ChannelKind}
 use Rattle.format.specs.Contents.{Contents}

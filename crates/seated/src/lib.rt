@@ -1,5 +1,6 @@
 // Runs with seats: a choice that may have to wait, lists of such choices, and what a caller asks of them.
 #![tactic(auto)]
+
 mod choice;
 pub mod list;
 mod read;

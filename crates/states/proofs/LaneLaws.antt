@@ -15,7 +15,7 @@ use lib.Seq.{take-suc-set, take_all}
 use borrow.Author.Tests.{eqb-true, eqb-false, ne_eqb, ltb-true, ltb-false, lt-ltb, le-ltb}
 use Rattle.masks.proofs.Bits.{bit, bit_lt, bit_and_lem, bit_same, bit_other, same_bits}
 use Rattle.states.specs.States.{up, needs}
-use Rattle.states.specs.Kept.{Small, no_saving, added, kids, extra, worth_at, worths_of, rank, floor, highest, peak, gather, powers, above, stays, left_over, saving_by, word_by, saving_of, word_of}
+use Rattle.states.specs.Kept.{Small, no_saving, added, worth_at, worths_of, rank, floor, highest, peak, gather, powers, above, stays, left_over, saving_by, word_by, saving_of, word_of}
 use Rattle.states.proofs.BitLaws.{gather_lt, highest_is}
 use Rattle.states.proofs.AgreeLaws.{lane, up_past, none_saved}
 

@@ -1,7 +1,7 @@
 -- Refusals 6, 21 and 7: records that name what isn't there, and juniors that are not lower than their senior.
-use Rattle.std.specs.Prelude.{ℕ, ◌-◌, Bool, true, false, cond, ◌&&◌, ◌||◌, leb, eqb, length}
+use Rattle.std.specs.Prelude.{ℕ, ◌-◌, Bool, cond, ◌&&◌, ◌||◌, leb, eqb, length}
 use Rattle.masks.specs.Mask.{names_only, within}
-use Rattle.format.specs.Answers.{fine, refused, or_else, first_of}
+use Rattle.format.specs.Answers.{refused, or_else, first_of}
 use Rattle.format.specs.Sections.{place_of}
 use Rattle.format.specs.Contents.{Contents, in_count, item, no_role, no_channel, no_session}
 use Rattle.format.specs.declared.Verdict.{Verdict}

@@ -1,31 +1,30 @@
 -- A turned file, section by section, and what turning answers.
-use Prim.Native.Nat.{ℕ, suc, ◌+◌, ◌*◌, ◌≤◌, ◌<◌}
-use mathlib.Core.Path.{◌≡◌, refl, sym, ap, subst, ◌∙◌}
+use Prim.Native.Nat.{ℕ, ◌+◌, ◌*◌, ◌≤◌, ◌<◌}
+use mathlib.Core.Path.{◌≡◌, refl, sym, ap, ◌∙◌}
 use mathlib.Core.Bool.{Bool, true, false, cond, ◌||◌}
 use mathlib.Core.List.{List, [], ◌∷◌, ◌++◌, append_assoc}
 use native.Mathlib.Omega.{arith}
 use native.Mathlib.Numerals.{add-one}
-use lib.Dec.{eqb, ltb}
+use lib.Dec.{eqb}
 use lib.ListN.{length, drop, length-append}
 use lib.Seq.{sets, length-sets}
-use borrow.Author.Tests.{eq-eqb, ne_eqb, eqb-true, lt-ltb, le-ltb}
+use borrow.Author.Tests.{eq-eqb, ne_eqb, lt-ltb, le-ltb}
 use Rattle.format.specs.Words.{word_at, bytes_of}
 use Rattle.format.specs.Answers.{not_written}
 use Rattle.format.specs.Header.{has_juniors, junior_records, more, head_at, version_at, length_for, head_words, Laid, head_of}
-use Rattle.format.specs.Contents.{Contents, item, no_node, contents_at, contents_of}
+use Rattle.format.specs.Contents.{Contents, item, no_node, contents_at}
 use Rattle.format.specs.Writing.{head_for, role_words, channel_words, table_words, session_words, node_words, junior_words, file_words, encoded, node_put, nodes_put}
 use Rattle.format.specs.declared.Head.{Head}
 use Rattle.format.specs.declared.Six.{Six}
 use Rattle.format.specs.declared.Node.{Node}
 use Rattle.format.specs.declared.Written.{Written}
-use Rattle.format.specs.declared.HeadAnswer.{HeadAnswer}
 use Rattle.format.specs.declared.HeadAnswer.TheVariants.{Fine, Refused}
-use Rattle.format.proofs.HeadLaws.{Headed, headed, head_number_lem, head_laid, none_read}
+use Rattle.format.proofs.HeadLaws.{headed, head_number_lem, head_laid, none_read}
 use Rattle.format.proofs.ContentsLaws.{next-item, none_past, users_held, roles_held, juniors_held, kinds_held, channels_held, sessions_held, nodes_held}
 use Rattle.format.proofs.PutRuns.{puts_then}
 use Rattle.format.proofs.WriteLaws.{head_length, session_words_length, table_words_length}
 use Rattle.format.proofs.NodesPut.{no_nodes, section_put}
-use Rattle.turning.specs.Turning.{head_number, turn_refusal, turned_to, turning, turned_over, with_version}
+use Rattle.turning.specs.Turning.{head_number, turn_refusal, turning, turned_over, with_version}
 
 -- a turn of the loop, and its end
 pub nodes_turn : (h : Head) (ns : List Node) (l m whole : List ℕ) (i : ℕ) (it : Node) → i < length ns → it ≡ item no_node ns (i + 1) → m ≡ node_put h (i + 1) it l

@@ -1,23 +1,23 @@
 -- The refusals 1 to 5 of a head are the first of what objects to it.
-use Prim.Native.Nat.{ℕ, ◌+◌, ◌*◌, ◌%◌, ◌≤◌, ◌<◌}
-use mathlib.Core.Path.{◌≡◌, refl, sym, ap, subst, ◌∙◌}
-use mathlib.Core.Logic.{◌⊎◌, inl, inr, ◌≢◌}
+use Prim.Native.Nat.{ℕ, ◌*◌, ◌%◌, ◌≤◌}
+use mathlib.Core.Path.{◌≡◌, sym, ap, subst, ◌∙◌}
+use mathlib.Core.Logic.{inl, inr}
 use mathlib.Core.Bool.{Bool, true, false, cond}
-use mathlib.Core.List.{List, [], ◌∷◌}
+use mathlib.Core.List.{List}
 use native.Mathlib.Omega.{arith}
 use lib.Dec.{eqb, ltb}
 use lib.ListN.{length}
 use borrow.Author.Tests.{ne_eqb}
 use Rattle.format.specs.Words.{word_at}
-use Rattle.format.specs.Answers.{fine, refused}
-use Rattle.format.specs.Header.{is_version, WithJuniors, more, six_at, offsets_at, head_in, as_read, head_at, version_at, head_bytes, counts_fit, offsets_fit, length_fits, Laid, from1, from2, from3, from4, from5, head_of}
+use Rattle.format.specs.Answers.{refused}
+use Rattle.format.specs.Header.{is_version, more, six_at, offsets_at, head_in, as_read, head_at, version_at, head_bytes, counts_fit, offsets_fit, length_fits, Laid, from1, from2, from3, from4, from5, head_of}
 use Rattle.format.specs.declared.HeadAnswer.{HeadAnswer}
 use Rattle.format.specs.declared.HeadAnswer.TheVariants.{Fine, Refused}
 use Rattle.format.proofs.HeadLaws.{juniors_iff, IsVersion, Headed, head_number_lem}
 use Rattle.reading.specs.Reading.{reading}
 use Rattle.reading.proofs.ReadingLaws.{refused_by_head}
-use Rattle.reading_exact.specs.Order.{in_turn, Sooner, FirstAt, First}
-use Rattle.reading_exact.specs.Refusals.{Refusable, short, short_second, odd, version, count, offset, size, misnamed, misranked, unassigned, misshapen, length_of, reading_order}
+use Rattle.reading_exact.specs.Order.{in_turn, Sooner, First}
+use Rattle.reading_exact.specs.Refusals.{Refusable, short, short_second, odd, version, count, offset, size, misnamed, misranked, unassigned, misshapen, reading_order}
 use Rattle.reading_exact.proofs.FirstLaws.{number_of}
 use Rattle.reading_exact.proofs.FirstRefusal.{first_refusal}
 

@@ -1,19 +1,19 @@
 -- What turning answers is what the request says, and nothing else.
-use Prim.Native.Nat.{ℕ, ◌≤◌, ◌<◌}
-use mathlib.Core.Path.{◌≡◌, refl, sym, ap, subst, ◌∙◌}
+use Prim.Native.Nat.{ℕ, ◌≤◌}
+use mathlib.Core.Path.{◌≡◌, refl, ap, subst}
 use mathlib.Core.Logic.{◌↔◌, ◌≢◌}
 use mathlib.Core.Bool.{Bool, true, false, cond, ◌||◌}
 use mathlib.Core.List.{List}
 use native.Mathlib.Omega.{arith}
 use lib.Dec.{eqb, ltb}
 use lib.ListN.{length}
-use borrow.Author.Tests.{eqb-true, eqb-false, eq-eqb, ne_eqb, lt-ltb, le-ltb, ltb-true, ltb-false}
+use borrow.Author.Tests.{eqb-true, eqb-false, ltb-true, ltb-false}
 use Rattle.format.specs.Answers.{not_written}
 use Rattle.format.specs.Header.{version_at, head_of}
 use Rattle.format.specs.declared.HeadAnswer.{HeadAnswer}
 use Rattle.format.specs.declared.HeadAnswer.TheVariants.{Fine, Refused}
 use Rattle.format.specs.declared.Written.{Written}
-use Rattle.format.proofs.HeadLaws.{Headed, headed, head_number_lem}
+use Rattle.format.proofs.HeadLaws.{headed, head_number_lem}
 use Rattle.reading_exact.specs.Refusals.{Refusable}
 use Rattle.reading_exact.proofs.FirstRefusal.{refusable_turn}
 use Rattle.turning.specs.Turning.{head_number, turn_refusal, turning}

@@ -1,16 +1,16 @@
 -- A file turned holds what it held, is read as it was, and turned back is the same bytes.
-use Prim.Native.Nat.{ℕ, ◌+◌, ◌*◌, ◌%◌, ◌≤◌, ◌<◌}
+use Prim.Native.Nat.{ℕ, ◌+◌, ◌%◌, ◌≤◌, ◌<◌}
 use mathlib.Core.Path.{◌≡◌, refl, sym, ap, ap₂, subst, ◌∙◌}
-use mathlib.Core.Logic.{◌⊎◌, inl, inr}
+use mathlib.Core.Logic.{inl, inr}
 use mathlib.Core.Bool.{Bool, true, false, cond, false≢true, ◌||◌}
 use mathlib.Core.List.{List, [], ◌∷◌, ◌++◌, map, append_assoc}
 use native.Mathlib.Omega.{arith}
 use lib.Dec.{eqb, ltb}
 use lib.ListN.{length, drop, take}
-use lib.Seq.{sets, sets-eq}
-use borrow.Author.Tests.{eqb-true, eqb-false, eq-eqb, ne_eqb, ltb-true, ltb-false}
+use lib.Seq.{sets-eq}
+use borrow.Author.Tests.{eqb-true, eq-eqb, ne_eqb, ltb-true, ltb-false}
 use Rattle.format.specs.Words.{word_at, bytes_of}
-use Rattle.format.specs.Answers.{not_written, or_else}
+use Rattle.format.specs.Answers.{not_written}
 use Rattle.format.specs.Header.{has_juniors, six_words, offset_words, more, junior_records, six_at, offsets_at, head_in, counts_fit, offsets_fit, length_fits, nothing_planned, as_read, head_at, version_at, length_for, Laid, from1, from2, from3, from4, from5, head_of}
 use Rattle.format.specs.Sections.{spot}
 use Rattle.format.specs.Contents.{Contents, tabled, contents_at, contents_of}
@@ -19,18 +19,16 @@ use Rattle.format.specs.declared.Head.{Head}
 use Rattle.format.specs.declared.Node.{Node}
 use Rattle.format.specs.declared.HeadAnswer.{HeadAnswer}
 use Rattle.format.specs.declared.HeadAnswer.TheVariants.{Fine, Refused}
-use Rattle.format.specs.declared.Verdict.{Verdict}
 use Rattle.format.specs.declared.Written.{Written}
-use Rattle.format.proofs.HeadLaws.{juniors_iff, IsVersion, Headed, headed, headed_fine, head_number_lem, more_few, juniors_few, read_whole}
+use Rattle.format.proofs.HeadLaws.{juniors_iff, IsVersion, Headed, headed, headed_fine, head_number_lem, more_few, juniors_few}
 use Rattle.format.proofs.ContentsLaws.{roles_held, juniors_held, nodes_held}
 use Rattle.tables.specs.Records.{records_answer, section_answer}
-use Rattle.trees.specs.Shape.{shape_answer}
 use Rattle.reading.specs.Reading.{body_answer, reading_by, reading}
 use Rattle.reading_exact.specs.Lists.{All}
 use Rattle.reading_exact.proofs.Places.{Formed, length_encoded, encoded_back}
 use Rattle.reading_exact.proofs.SectionRows.{written_read, head_back}
 use Rattle.reading_exact.proofs.WholeFile.{bytes_back}
-use Rattle.turning.specs.Turning.{head_number, turn_refusal, turned_to, in_columns, in_rows, turning, turned_over, with_version}
+use Rattle.turning.specs.Turning.{head_number, turn_refusal, turned_to, turning, turned_over, with_version}
 use Rattle.turning.proofs.TurnLaws.{head_turned}
 use Rattle.turning_exact.specs.ColumnWords.{row_booking, column_booking}
 

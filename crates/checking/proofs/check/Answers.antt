@@ -1,7 +1,6 @@
 use mathlib.Core.Path.{sym, ap, ◌∙◌}
 use Rattle.checking.specs.declared.Examined.{Examined}
 use Rattle.checking.proofs.CheckLaws.{check_early, check_late}
-use borrow.Author.Rules.{rules}
 use Rattle.checking.proofs.check.Goals as goal
 
 pub returns-in-Refused : goal.returns-in-Refused

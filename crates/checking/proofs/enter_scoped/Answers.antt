@@ -3,7 +3,6 @@ use Rattle.reading.specs.Reading.{with_head, opened}
 use Rattle.reading.specs.declared.Opened.TheVariants.{Fine}
 use Rattle.reading.proofs.ReadingLaws.{opened_fine}
 use Rattle.checking.proofs.CheckLaws.{entered_early, scoped_early, entered_late, scoped_late, owned}
-use borrow.Author.Rules.{rules}
 use Rattle.checking.proofs.enter_scoped.Goals as goal
 use Rattle.checking.proofs.enter_scoped.Lts as lts
 use Rattle.checking.proofs.enter_scoped.Tie as tie

@@ -1,6 +1,5 @@
 use mathlib.Core.Path.{sym, ◌∙◌}
 use Rattle.checking.proofs.CheckLaws.{admitted, examined_from_lem, surveyed_from_lem}
-use borrow.Author.Rules.{rules}
 use Rattle.checking.proofs.examine.Goals as goal
 
 pub examine_opened-requires : goal.examine_opened-requires

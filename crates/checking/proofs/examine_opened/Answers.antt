@@ -6,7 +6,6 @@ use Rattle.reading.proofs.ReadingLaws.{opened_fine}
 use Rattle.rules.specs.declared.Judged.{Judged}
 use Rattle.checking.specs.Check.{Admitted, examined_from, surveyed_from}
 use Rattle.checking.proofs.CheckLaws.{owned}
-use borrow.Author.Rules.{rules}
 use Rattle.checking.proofs.examine_opened.Goals as goal
 
 pub judge-judged-requires : goal.judge-judged-requires

@@ -1,6 +1,5 @@
 use mathlib.Core.Path.{sym, ◌∙◌}
 use Rattle.checking.proofs.CheckLaws.{entered_fine, entered_refused}
-use borrow.Author.Rules.{rules}
 use Rattle.checking.proofs.read_names.Goals as goal
 
 pub returns-in-Refused : goal.returns-in-Refused

@@ -1,7 +1,6 @@
 use mathlib.Core.Path.{sym, ap, ◌∙◌}
 use Rattle.reading.specs.Reading.{with_head}
 use Rattle.checking_at.proofs.CheckAtLaws.{opened_at_early, opened_at_late}
-use borrow.Author.Rules.{rules}
 use Rattle.checking_at.proofs.open_at.Goals as goal
 
 pub returns-in-Refused : goal.returns-in-Refused

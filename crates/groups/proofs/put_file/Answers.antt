@@ -8,7 +8,6 @@ use Rattle.format.specs.Writing.{nodes_put}
 use Rattle.format.specs.declared.Head.{Head}
 use Rattle.groups.specs.Groups.{groups_from, with_nodes, turns_in}
 use Rattle.groups.proofs.WriteLaws.{turns_counted, file_put}
-use borrow.Author.Rules.{rules}
 use Rattle.groups.proofs.put_file.Goals as goal
 
 pub put_groups-requires : goal.put_groups-requires

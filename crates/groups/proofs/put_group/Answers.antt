@@ -5,7 +5,6 @@ use Rattle.states.specs.declared.Turn.{Turn}
 use Rattle.states.specs.States.{unpacked}
 use Rattle.groups.specs.Groups.{moved}
 use Rattle.groups.proofs.WriteLaws.{size_switches, group_put}
-use borrow.Author.Rules.{rules}
 use Rattle.groups.proofs.put_group.Goals as goal
 
 pub put_switch-off-requires : goal.put_switch-off-requires

@@ -1,14 +1,14 @@
-use Prim.Native.Nat.{◌+◌, ◌-◌, ◌≤◌}
-use mathlib.Core.Path.{◌≡◌, refl, sym, ap, ap₂, ◌∙◌}
+use Prim.Native.Nat.{◌+◌}
+use mathlib.Core.Path.{refl, sym, ap, ap₂, ◌∙◌}
 use mathlib.Core.List.{[], ◌∷◌, ◌++◌}
 use native.Mathlib.Omega.{arith}
-use lib.ListN.{length, get_or}
+use lib.ListN.{get_or}
 use Rattle.format.specs.Contents.{contents_at}
 use Rattle.format.specs.Writing.{nodes_put}
 use Rattle.format.proofs.ContentsLaws.{nodes_held}
 use Rattle.states.specs.States.{unpacked}
-use Rattle.groups.specs.Groups.{before, size_of, sizes_of, moved, groups_from, turns_in}
-use Rattle.groups.proofs.WriteLaws.{turns_after, turns_all, sizes_more, groups_after, groups_all, groups_end, groups_turn}
+use Rattle.groups.specs.Groups.{before, size_of, sizes_of, moved}
+use Rattle.groups.proofs.WriteLaws.{turns_all, sizes_more, groups_all, groups_end, groups_turn}
 use borrow.Author.Rules.{rules}
 use Rattle.groups.proofs.put_groups.Goals as goal
 

@@ -1,15 +1,10 @@
 use Prim.Native.Nat.{◌+◌, ◌-◌, ◌≤◌}
-use mathlib.Core.Path.{◌≡◌, refl, sym, ap, ap₂, ◌∙◌}
-use mathlib.Core.List.{[], ◌∷◌, ◌++◌}
-use native.Mathlib.Omega.{arith}
-use lib.ListN.{length, get_or}
+use mathlib.Core.Path.{◌≡◌}
+use lib.ListN.{length}
 use Rattle.format.specs.Contents.{contents_at}
 use Rattle.format.specs.Writing.{nodes_put}
-use Rattle.format.proofs.ContentsLaws.{nodes_held}
-use Rattle.states.specs.States.{unpacked}
-use Rattle.groups.specs.Groups.{before, size_of, sizes_of, moved, groups_from, turns_in}
-use Rattle.groups.proofs.WriteLaws.{turns_after, turns_all, sizes_more, groups_after, groups_all, groups_end, groups_turn}
-use borrow.Author.Rules.{rules}
+use Rattle.groups.specs.Groups.{sizes_of, groups_from, turns_in}
+use Rattle.groups.proofs.WriteLaws.{turns_after, groups_after}
 use Rattle.groups.proofs.put_groups.Given as goal
 
 abbrev pub invariant-loop-n : goal.invariant-loop-n

@@ -1,17 +1,11 @@
 use Prim.Native.Nat.{◌+◌, ◌*◌, ◌-◌, ◌≤◌}
-use mathlib.Core.Path.{◌≡◌, refl, ap, ◌∙◌}
-use mathlib.Core.List.{[], ◌∷◌}
-use native.Mathlib.Omega.{arith}
+use mathlib.Core.Path.{◌≡◌}
 use lib.ListN.{length, drop}
 use lib.Seq.{sets}
 use Rattle.format.specs.Words.{bytes_of}
 use Rattle.format.specs.Contents.{contents_at}
 use Rattle.format.specs.Writing.{session_words}
-use Rattle.format.proofs.ContentsLaws.{sessions_held}
-use Rattle.groups.specs.Groups.{rerooted, sessions_from}
-use Rattle.format.proofs.PutRuns.{puts_end}
-use Rattle.groups.proofs.WriteLaws.{sessions_none, sessions_turn}
-use borrow.Author.Rules.{rules}
+use Rattle.groups.specs.Groups.{sessions_from}
 use Rattle.groups.proofs.put_sessions.Given as goal
 
 abbrev pub invariant-loop-n : goal.invariant-loop-n

@@ -2,7 +2,6 @@ use mathlib.Core.Path.{refl}
 use native.Mathlib.Omega.{arith}
 use borrow.Author.Tests.{eq-eqb, ne_eqb}
 use Rattle.format.specs.Writing.{nodes_put}
-use borrow.Author.Rules.{rules}
 use Rattle.groups.proofs.put_switch.Goals as goal
 
 pub returns-then-from-to : goal.returns-then-from-to

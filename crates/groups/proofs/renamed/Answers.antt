@@ -3,7 +3,6 @@ use Rattle.groups.proofs.WriteLaws.{stays, moves}
 use lib.ListN.{get_or, get_or-eq_default}
 use native.Mathlib.Omega.{arith}
 use mathlib.Core.Path.{sym, ap}
-use borrow.Author.Rules.{rules}
 use Rattle.groups.proofs.renamed.Goals as goal
 
 pub returns-then-not-names : goal.returns-then-not-names

@@ -2,15 +2,13 @@ use mathlib.Core.Bool.{not, ◌&&◌}
 use lib.Dec.{eqb}
 use mir.Val.{bool_byte}
 use native.Mathlib.Omega.{arith}
-use Prim.Native.Nat.{ℕ, ◌+◌, ◌*◌, ◌-◌, ◌≤◌, ◌<◌}
+use Prim.Native.Nat.{ℕ, ◌+◌, ◌-◌, ◌≤◌, ◌<◌}
 use mathlib.Core.Path.{◌≡◌, refl}
 use lib.ListN.{length, get_or, length-set}
-use lib.Seq.{sets}
 use Rattle.states.specs.declared.Turn.{Turn}
 use Rattle.states.specs.States.{unpacked}
-use Rattle.groups.specs.Groups.{size_of, sizes_of, ons_of, starts_from, turns_in}
-use Rattle.groups.proofs.WriteLaws.{off, on, size_switches, switch_counted, one_at_most, on_switch, turns_after, turns_all, sizes_more, ons_more, starts_turn, starts_end, sums_end}
-use borrow.Author.Rules.{rules}
+use Rattle.groups.specs.Groups.{size_of, sizes_of, ons_of, turns_in}
+use Rattle.groups.proofs.WriteLaws.{off, on, size_switches, switch_counted, one_at_most, on_switch, turns_all, sizes_more, ons_more, starts_turn, starts_end, sums_end}
 use Rattle.groups.proofs.starts.Goals as goal
 use Rattle.groups.proofs.starts.Lts as lts
 use Rattle.groups.proofs.starts.Tie as tie

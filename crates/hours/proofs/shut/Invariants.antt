@@ -1,11 +1,6 @@
-use borrow.Author.Rules.{rules}
-use mathlib.Core.Path.{◌≡◌, refl, ap, ap₂, ◌∙◌}
-use mathlib.Core.Bool.{true}
+use mathlib.Core.Path.{◌≡◌}
 use Prim.Native.Nat.{◌-◌, ◌≤◌}
-use native.Mathlib.Omega.{arith}
-use Rattle.masks.specs.Mask.{minus}
-use Rattle.hours.specs.Hours.{rows, contains, roles_of, any_row, shut}
-use Rattle.hours.proofs.StepLaws.{roles_more}
+use Rattle.hours.specs.Hours.{rows, contains, roles_of, any_row}
 use Rattle.hours.proofs.shut.Given as goal
 
 abbrev pub invariant-loop-i : goal.invariant-loop-i

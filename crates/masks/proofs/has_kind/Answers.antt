@@ -3,7 +3,6 @@ use native.Mathlib.Omega.{arith}
 use Rattle.masks.specs.Mask.{has}
 use Rattle.masks.proofs.Laws.{has_above}
 use Rattle.masks.proofs.Forms.{has_form}
-use borrow.Author.Rules.{rules}
 use Rattle.masks.proofs.has_kind.Goals as goal
 
 -- `masks::has_kind` meets its contract, as `has_role` does, at 32 bits.

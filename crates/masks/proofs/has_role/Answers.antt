@@ -3,7 +3,6 @@ use native.Mathlib.Omega.{arith}
 use Rattle.masks.specs.Mask.{has}
 use Rattle.masks.proofs.Laws.{has_above}
 use Rattle.masks.proofs.Forms.{has_form}
-use borrow.Author.Rules.{rules}
 use Rattle.masks.proofs.has_role.Goals as goal
 
 -- `masks::has_role` meets its contract. 0 is no item, a mask of 16 bits has none above 16, and the rest is the definition with the shift written out.

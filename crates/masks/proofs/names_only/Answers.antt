@@ -4,7 +4,6 @@ use native.Mathlib.Nat.{lt_of_lt_of_le}
 use lib.Pow.{pow_mono}
 use Rattle.masks.specs.Mask.{names_only}
 use Rattle.masks.proofs.Bounds.{names_only_lt}
-use borrow.Author.Rules.{rules}
 use Rattle.masks.proofs.names_only.Goals as goal
 
 -- `masks::names_only` meets its contract: a mask of 32 bits names nothing above 32, and the rest is the definition.

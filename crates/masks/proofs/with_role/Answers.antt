@@ -2,7 +2,6 @@ use mathlib.Core.Path.{◌≡◌, sym, ap}
 use native.Mathlib.Omega.{arith}
 use Rattle.masks.specs.Mask.{with}
 use Rattle.masks.proofs.Forms.{with_form}
-use borrow.Author.Rules.{rules}
 use Rattle.masks.proofs.with_role.Goals as goal
 
 -- `masks::with_role` meets its contract: 0 changes nothing, and the rest is the definition with the shift written out.

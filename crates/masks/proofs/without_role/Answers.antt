@@ -3,7 +3,6 @@ use native.Mathlib.Omega.{arith}
 use Rattle.masks.specs.Mask.{without}
 use Rattle.masks.proofs.Laws.{has_above, without_absent}
 use Rattle.masks.proofs.Forms.{without_form}
-use borrow.Author.Rules.{rules}
 use Rattle.masks.proofs.without_role.Goals as goal
 
 -- `masks::without_role` meets its contract: 0 and a role above 16 are in no mask of 16 bits, and the rest is the definition with the shift written out.

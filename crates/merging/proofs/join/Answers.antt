@@ -7,7 +7,6 @@ use Rattle.format.specs.Header.{Counted}
 use Rattle.merging.specs.Merged.{same_tables}
 use Rattle.merging.specs.Writers.{counts_of_both, sums_within, first_head}
 use Rattle.merging.proofs.MergeLaws.{first_laid, second_laid, counted, join_refused, join_clean, joining, merged, few_bytes, counted_sums}
-use borrow.Author.Rules.{rules}
 use Rattle.merging.proofs.join.Goals as goal
 use Rattle.merging.proofs.join.Lts as lts
 use Rattle.merging.proofs.join.Tie as tie

@@ -1,6 +1,5 @@
 use mathlib.Core.Path.{sym, ◌∙◌}
 use Rattle.merging.proofs.MergeLaws.{second_refused}
-use borrow.Author.Rules.{rules}
 use Rattle.merging.proofs.join_second.Goals as goal
 
 pub join-requires : goal.join-requires

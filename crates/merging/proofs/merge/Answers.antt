@@ -1,7 +1,6 @@
 use mathlib.Core.Path.{sym, ◌∙◌}
 use native.Mathlib.Omega.{arith}
 use Rattle.merging.proofs.MergeLaws.{too_small, first_refused}
-use borrow.Author.Rules.{rules}
 use Rattle.merging.proofs.merge.Goals as goal
 
 pub returns-then-out-lt-ROOM : goal.returns-then-out-lt-ROOM

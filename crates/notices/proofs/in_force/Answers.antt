@@ -1,7 +1,6 @@
 use Prim.Native.Nat.{ℕ, ◌+◌}
 use mathlib.Core.Path.{ap}
 use Rattle.notices.proofs.NoticeLaws.{of_first, of_second}
-use borrow.Author.Rules.{rules}
 use Rattle.notices.proofs.in_force.Goals as goal
 
 pub slice_bounds-result-end : goal.slice_bounds-result-end

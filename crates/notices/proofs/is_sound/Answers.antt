@@ -1,6 +1,5 @@
 use native.Mathlib.Omega.{arith}
 use Rattle.notices.proofs.NoticeLaws.{wrong_length, right_length}
-use borrow.Author.Rules.{rules}
 use Rattle.notices.proofs.is_sound.Goals as goal
 
 pub returns-then-notice-wide : goal.returns-then-notice-wide

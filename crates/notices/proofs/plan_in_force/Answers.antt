@@ -2,11 +2,9 @@ use Prim.Native.Nat.{ℕ}
 use mathlib.Core.Path.{◌≡◌, sym, ap, ap₂, ◌∙◌}
 use mathlib.Core.Bool.{true, false}
 use native.Mathlib.Omega.{arith}
-use borrow.Author.Tests.{not-true, not-false}
 use Rattle.format.specs.Words.{word_at}
 use Rattle.notices.specs.Notices.{is_sound, second_holds, held}
 use Rattle.notices.proofs.NoticeLaws.{first_wrong, second_wrong, second_later, first_later, neither_begun}
-use borrow.Author.Rules.{rules}
 use Rattle.notices.proofs.plan_in_force.Goals as goal
 
 pub returns-then-not-is_sound : goal.returns-then-not-is_sound

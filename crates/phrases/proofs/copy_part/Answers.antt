@@ -1,9 +1,9 @@
 use mathlib.Core.Path.{◌≡◌, refl, ap, ◌∙◌}
 use mathlib.Core.List.{List}
-use Prim.Native.Nat.{ℕ, ◌+◌, ◌-◌, ◌≤◌}
+use Prim.Native.Nat.{ℕ, ◌+◌}
 use native.Mathlib.Omega.{arith}
 use borrow.Author.Rules.{rules}
-use lib.ListN.{length, drop, get_or, set}
+use lib.ListN.{drop, get_or, set}
 use lib.Seq.{paste, paste-zero}
 use Rattle.phrases.proofs.PhraseLaws.{copy_step}
 use Rattle.phrases.proofs.copy_part.Goals as goal

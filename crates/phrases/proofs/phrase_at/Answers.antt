@@ -1,10 +1,10 @@
 use mathlib.Core.Path.{◌≡◌, sym, ap, ◌∙◌}
 use mathlib.Core.Bool.{true, false}
-use Prim.Native.Nat.{◌+◌, ◌-◌, ◌≤◌}
+use Prim.Native.Nat.{◌+◌}
 use native.Mathlib.Omega.{arith}
 use borrow.Author.Rules.{rules}
 use lib.ListN.{length, drop}
-use Rattle.phrases.specs.Table.{row_count, byte_count}
+use Rattle.phrases.specs.Table.{byte_count}
 use Rattle.phrases.specs.Phrases.{phrases, phrase, prefix, leading}
 use Rattle.phrases.proofs.PhraseLaws.{span, text_length, stands_here, stands_later, stands_nowhere, hit}
 use Rattle.phrases.proofs.phrase_at.Goals as goal

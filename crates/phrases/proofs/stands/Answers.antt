@@ -1,10 +1,6 @@
-use mathlib.Core.Path.{◌≡◌, refl, ◌∙◌}
-use Prim.Native.Nat.{◌-◌, ◌≤◌}
+use mathlib.Core.Path.{refl, ◌∙◌}
 use native.Mathlib.Omega.{arith}
 use borrow.Author.Rules.{rules}
-use lib.ListN.{drop}
-use lib.Seq.{slice}
-use Rattle.phrases.specs.Phrases.{prefix}
 use Rattle.phrases.proofs.PhraseLaws.{step_same, step_differ, step_short, step_whole}
 use Rattle.phrases.proofs.stands.Goals as goal
 

@@ -1,11 +1,8 @@
-use mathlib.Core.Path.{◌≡◌, refl, ◌∙◌}
+use mathlib.Core.Path.{◌≡◌}
 use Prim.Native.Nat.{◌-◌, ◌≤◌}
-use native.Mathlib.Omega.{arith}
-use borrow.Author.Rules.{rules}
 use lib.ListN.{drop}
 use lib.Seq.{slice}
 use Rattle.phrases.specs.Phrases.{prefix}
-use Rattle.phrases.proofs.PhraseLaws.{step_same, step_differ, step_short, step_whole}
 use Rattle.phrases.proofs.stands.Given as goal
 
 abbrev pub invariant-loop-i : goal.invariant-loop-i

@@ -1,6 +1,5 @@
 use Rattle.format.specs.Answers.{or_else}
 use mathlib.Core.Path.{ap₂, ◌∙◌}
-use borrow.Author.Rules.{rules}
 use Rattle.reading.proofs.body.Goals as goal
 
 pub returns : goal.returns

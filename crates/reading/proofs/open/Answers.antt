@@ -4,7 +4,6 @@ use Rattle.format.specs.declared.HeadAnswer.TheVariants.{Fine}
 use Rattle.format.proofs.HeadLaws.{head_laid}
 use Rattle.reading.specs.Reading.{with_head}
 use Rattle.reading.proofs.ReadingLaws.{opened_by_head, opened_by_body}
-use borrow.Author.Rules.{rules}
 use Rattle.reading.proofs.open.Goals as goal
 use Rattle.reading.proofs.open.Lts as lts
 use Rattle.reading.proofs.open.Tie as tie

@@ -1,6 +1,5 @@
 use mathlib.Core.Path.{sym, ap, ◌∙◌}
 use mathlib.Core.Bool.{Bool, cond}
-use borrow.Author.Rules.{rules}
 use Rattle.reasons.specs.Reasons.{reason_of, no_reason}
 use Rattle.reasons.proofs.confirmed.Goals as goal
 

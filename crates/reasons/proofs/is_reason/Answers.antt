@@ -1,7 +1,6 @@
 use mathlib.Core.Path.{sym}
 use mathlib.Core.Bool.{and-true, ◌&&◌}
 use native.Mathlib.Omega.{arith}
-use borrow.Author.Rules.{rules}
 use Rattle.reasons.specs.Reasons.{may_count, is_reason, place_fits, tag_fits}
 use borrow.Author.Tests.{le-leb}
 use Rattle.reasons.proofs.is_reason.Goals as goal

@@ -1,5 +1,4 @@
 use mathlib.Core.Path.{refl}
-use borrow.Author.Rules.{rules}
 use Rattle.reasons.specs.Reasons.{may_count}
 use Rattle.reasons.proofs.may_count.Goals as goal
 

@@ -1,5 +1,4 @@
 use native.Mathlib.Omega.{arith}
-use borrow.Author.Rules.{rules}
 use Rattle.reasons.specs.Reasons.{reason_of, digits_of, sentence}
 use Rattle.reasons.proofs.PartsWritten.{four_parts}
 use Rattle.reasons.proofs.DigitLaws.{digits_length}

@@ -1,7 +1,6 @@
 use mathlib.Core.Path.{◌≡◌, refl, ◌∙◌}
 use Prim.Native.Nat.{◌-◌}
 use native.Mathlib.Omega.{arith}
-use borrow.Author.Rules.{rules}
 use lib.ListN.{drop}
 use Rattle.phrases.specs.Table.{count_row, meaning_row}
 use Rattle.phrases.proofs.PhraseLaws.{leading_most, phrase_most}

@@ -1,8 +1,6 @@
 use mathlib.Core.Path.{◌≡◌, sym, ◌∙◌}
 use mathlib.Core.Bool.{true}
 use native.Mathlib.Omega.{arith}
-use borrow.Author.Rules.{rules}
-use borrow.Author.Tests.{not-true, not-false}
 use Rattle.reasons.specs.Reasons.{has_meaning}
 use Rattle.reasons.proofs.TableBounds.{meaning_room}
 use Rattle.reasons.proofs.ReasonAnswers.{meant_short, meant_not, meant_yes, meaning_in}

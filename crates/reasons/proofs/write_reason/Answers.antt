@@ -1,12 +1,10 @@
 use mathlib.Core.Path.{◌≡◌, sym, ◌∙◌}
 use mathlib.Core.Bool.{true}
 use native.Mathlib.Omega.{arith}
-use borrow.Author.Rules.{rules}
 use Rattle.reasons.specs.Reasons.{is_reason, reason_of}
 use Rattle.reasons.proofs.ReasonAnswers.{said_short, said_not, said_yes}
 use Rattle.reasons.proofs.TableBounds.{sentence_length}
 use Rattle.reasons.proofs.ReasonTests.{reason_exactly}
-use borrow.Author.Tests.{not-true, not-false}
 use Rattle.reasons.proofs.write_reason.Goals as goal
 
 pub returns-then-out-lt120 : goal.returns-then-out-lt120

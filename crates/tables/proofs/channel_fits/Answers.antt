@@ -4,7 +4,6 @@ use mathlib.Core.Bool.{◌&&◌}
 use mathlib.Core.Path.{ap, ap₂, ◌∙◌}
 use Rattle.format.proofs.ContentsLaws.{users_held, kinds_held}
 use Rattle.tables.specs.Records.{record_fits}
-use borrow.Author.Rules.{rules}
 use Rattle.tables.proofs.channel_fits.Goals as goal
 
 pub returns : goal.returns

@@ -2,7 +2,6 @@ use Prim.Native.Nat.{◌-◌}
 use mathlib.Core.Path.{ap, ◌∙◌}
 use Rattle.masks.specs.Mask.{names_only}
 use Rattle.tables.specs.Records.{record_fits}
-use borrow.Author.Rules.{rules}
 use Rattle.tables.proofs.juniors_fit.Goals as goal
 
 pub returns : goal.returns

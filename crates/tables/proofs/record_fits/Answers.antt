@@ -2,7 +2,6 @@ use lib.Dec.{leb}
 use mathlib.Core.Path.{ap}
 use Rattle.format.proofs.ContentsLaws.{kinds_held}
 use Rattle.tables.specs.Records.{record_fits}
-use borrow.Author.Rules.{rules}
 use Rattle.tables.proofs.record_fits.Goals as goal
 
 pub returns-in-Kinds : goal.returns-in-Kinds

@@ -1,7 +1,6 @@
 use Rattle.tables.specs.Records.{records_answer}
 use Rattle.format.specs.Answers.{or_else}
 use mathlib.Core.Path.{ap₂, ◌∙◌}
-use borrow.Author.Rules.{rules}
 use Rattle.tables.proofs.records.Goals as goal
 
 pub returns : goal.returns

@@ -2,7 +2,6 @@ use Rattle.tables.specs.Records.{number_of, by_offset}
 use Rattle.format.specs.Answers.{refused}
 use mathlib.Core.Bool.{Bool}
 use mathlib.Core.Path.{◌≡◌, sym, ap, ap₂, ◌∙◌}
-use borrow.Author.Rules.{rules}
 use Rattle.tables.proofs.refusal_of.Goals as goal
 use Rattle.tables.proofs.refusal_of.Lts as lts
 use Rattle.tables.proofs.refusal_of.Tie as tie

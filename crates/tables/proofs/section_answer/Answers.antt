@@ -4,13 +4,10 @@ use Rattle.format.proofs.AnswerLaws.{first_stops, first_goes_on, first_ends}
 use Rattle.tables.specs.Records.{record_fits, refusal_of, section_answer, count_in}
 use Rattle.tables.proofs.RecordLaws.{counted}
 use Rattle.format.specs.Contents.{contents_at}
-use Rattle.format.specs.Sections.{part}
 use Rattle.format.specs.Answers.{first_of}
-use borrow.Author.Tests.{not-true, not-false}
 use native.Mathlib.Omega.{arith}
 use Prim.Native.Nat.{◌+◌, ◌-◌, ◌≤◌}
 use mathlib.Core.Path.{◌≡◌, sym, ap, ◌∙◌}
-use borrow.Author.Rules.{rules}
 use Rattle.tables.proofs.section_answer.Goals as goal
 
 pub loop-n-init : goal.loop-n-init

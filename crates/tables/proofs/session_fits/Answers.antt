@@ -2,11 +2,9 @@ use Rattle.masks.specs.Mask.{within}
 use Rattle.format.specs.Contents.{in_count, item, contents_at, no_session}
 use Rattle.format.specs.declared.Session.{Session}
 use mathlib.Core.Bool.{Bool}
-use borrow.Author.Tests.{not-true, not-false}
 use Rattle.tables.specs.Records.{record_fits}
 use Rattle.format.proofs.ContentsLaws.{users_held}
 use mathlib.Core.Path.{◌≡◌, sym, ap, ◌∙◌}
-use borrow.Author.Rules.{rules}
 use Rattle.tables.proofs.session_fits.Goals as goal
 use Rattle.tables.proofs.session_fits.Lts as lts
 use Rattle.tables.proofs.session_fits.Tie as tie

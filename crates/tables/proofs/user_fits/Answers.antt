@@ -2,7 +2,6 @@ use mathlib.Core.Path.{ap, ◌∙◌}
 use Rattle.masks.specs.Mask.{names_only}
 use Rattle.format.proofs.ContentsLaws.{roles_held}
 use Rattle.tables.specs.Records.{record_fits}
-use borrow.Author.Rules.{rules}
 use Rattle.tables.proofs.user_fits.Goals as goal
 
 pub returns : goal.returns

@@ -1,10 +1,7 @@
-use Prim.Native.Nat.{◌+◌, ◌-◌, ◌≤◌}
-use mathlib.Core.Path.{◌≡◌, refl}
+use mathlib.Core.Path.{refl}
 use native.Mathlib.Omega.{arith}
-use lib.ListN.{length, drop}
 use borrow.Author.Rules.{rules}
 use Rattle.format.specs.Contents.{contents_at}
-use Rattle.format.specs.Writing.{nodes_put}
 use Rattle.format.proofs.ContentsLaws.{nodes_held}
 use Rattle.turning.proofs.TurnLaws.{nodes_turn, nodes_end}
 use Rattle.turning.proofs.put_nodes.Goals as goal

@@ -2,7 +2,6 @@ use mathlib.Core.Path.{ap}
 use native.Mathlib.Omega.{arith}
 use Rattle.format.specs.declared.Head.{Head}
 use Rattle.turning.proofs.TurnLaws.{turned_put}
-use borrow.Author.Rules.{rules}
 use Rattle.turning.proofs.put_turned.Goals as goal
 
 pub put_nodes-requires : goal.put_nodes-requires

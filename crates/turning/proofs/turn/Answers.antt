@@ -4,7 +4,6 @@ use native.Mathlib.Omega.{arith}
 use lib.Dec.{eqb}
 use Rattle.format.specs.Answers.{not_written}
 use Rattle.turning.proofs.TurnLaws.{too_small, head_refused}
-use borrow.Author.Rules.{rules}
 use Rattle.turning.proofs.turn.Goals as goal
 
 pub returns-then-out-lt-LARGEST : goal.returns-then-out-lt-LARGEST

@@ -3,7 +3,6 @@ use native.Mathlib.Omega.{arith}
 use Rattle.format.specs.Header.{has_juniors}
 use Rattle.format.proofs.HeadLaws.{head_laid}
 use Rattle.turning.proofs.TurnLaws.{other_version, few_bytes, turned}
-use borrow.Author.Rules.{rules}
 use Rattle.turning.proofs.turn_headed.Goals as goal
 
 pub returns-then-head-from : goal.returns-then-head-from

@@ -1,12 +1,8 @@
 use Prim.Native.Nat.{◌+◌, ◌-◌, ◌≤◌}
-use mathlib.Core.Bool.{true, false, not}
-use mathlib.Core.Path.{◌≡◌, refl, sym, ap, ◌∙◌}
-use native.Mathlib.Omega.{arith}
-use borrow.Author.Rules.{rules}
+use mathlib.Core.Bool.{not}
+use mathlib.Core.Path.{◌≡◌}
 use Rattle.format.specs.Answers.{refused, first_of}
 use Rattle.format.specs.Contents.{item, no_node, contents_at}
-use Rattle.format.proofs.AnswerLaws.{first_stops, first_goes_on, first_ends}
-use Rattle.format.proofs.ContentsLaws.{nodes_held}
 use Rattle.checking_at.specs.CheckAt.{opens_shut, shut_answer}
 use Rattle.checking_at.proofs.shut_on.shut_on.Given as goal
 

@@ -1,4 +1,3 @@
-use borrow.Author.Rules.{rules}
 use Rattle.format.proofs.header.is_version.Goals as goal
 
 pub returns : goal.returns

@@ -1,4 +1,3 @@
-use borrow.Author.Rules.{rules}
 use Rattle.format.proofs.header.junior_records.Goals as goal
 
 pub returns-then-has_juniors : goal.returns-then-has_juniors

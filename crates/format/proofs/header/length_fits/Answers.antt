@@ -1,6 +1,5 @@
 use mathlib.Core.Path.{ap}
 use lib.Dec.{eqb}
-use borrow.Author.Rules.{rules}
 use Rattle.format.proofs.header.length_fits.Goals as goal
 
 pub returns : goal.returns

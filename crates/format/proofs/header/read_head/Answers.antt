@@ -1,4 +1,4 @@
-use borrow.Author.Tests.{lt-ltb, le-ltb, eq-eqb, ne_eqb, not-true, not-false}
+use borrow.Author.Tests.{lt-ltb, le-ltb, eq-eqb, ne_eqb}
 use Prim.Native.Nat.{ℕ}
 use mathlib.Core.Path.{◌≡◌, sym, ap, ◌∙◌, ap₂}
 use mathlib.Core.Bool.{Bool, false}
@@ -11,7 +11,6 @@ use Rattle.format.specs.declared.HeadAnswer.TheVariants.{Fine}
 use lib.ListN.{length}
 use Rattle.format.specs.Header.{is_version, counts_fit, offsets_fit, length_fits, six_at, offsets_at, head_in, as_read, head_bytes, head_of, from1, from2, from3, from4, from5}
 use Rattle.format.proofs.HeadLaws.{read_whole, none_read}
-use borrow.Author.Rules.{rules}
 use Rattle.format.proofs.header.read_head.Goals as goal
 use Rattle.format.proofs.header.read_head.Lts as lts
 use Rattle.format.proofs.header.read_head.Tie as tie

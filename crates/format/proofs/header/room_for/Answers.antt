@@ -3,7 +3,6 @@ use native.Mathlib.Omega.{arith}
 use mathlib.Core.Path.{sym, ap, ◌∙◌}
 use lib.ListN.{length}
 use Rattle.format.specs.Header.{has_juniors}
-use borrow.Author.Rules.{rules}
 use Rattle.format.proofs.header.room_for.Goals as goal
 
 pub returns-then-file-lt2 : goal.returns-then-file-lt2

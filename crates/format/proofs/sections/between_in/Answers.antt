@@ -1,6 +1,5 @@
 use native.Mathlib.Omega.{arith}
 use borrow.Author.Tests.{eq-eqb, ne_eqb}
-use borrow.Author.Rules.{rules}
 use Rattle.format.proofs.sections.between_in.Goals as goal
 
 pub returns-then-version-eq3 : goal.returns-then-version-eq3

@@ -2,7 +2,6 @@ use Prim.Native.Nat.{ℕ, ◌+◌, ◌-◌}
 use mathlib.Core.Path.{◌≡◌, ap, ◌∙◌}
 use native.Mathlib.Omega.{arith}
 use Rattle.format.specs.Words.{word_at}
-use borrow.Author.Rules.{rules}
 use Rattle.format.proofs.sections.column_node.Goals as goal
 
 pub returns : goal.returns

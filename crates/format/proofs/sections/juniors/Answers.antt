@@ -1,12 +1,10 @@
 use mathlib.Core.Path.{◌≡◌, sym, ap, ◌∙◌}
 use mathlib.Core.Bool.{true, false}
-use borrow.Author.Tests.{not-true, not-false}
 use Rattle.format.specs.Words.{word_at}
 use Rattle.format.specs.Sections.{juniors_of}
 use Rattle.format.specs.Contents.{in_count, contents_at}
 use Rattle.format.proofs.HeadLaws.{junior_there}
 use Rattle.format.proofs.ContentsLaws.{in_count_lem, item_there, item_none}
-use borrow.Author.Rules.{rules}
 use Rattle.format.proofs.sections.juniors.Goals as goal
 
 pub returns-then-not-in_count : goal.returns-then-not-in_count

@@ -3,7 +3,6 @@ use mathlib.Core.Path.{ap, ◌∙◌}
 use native.Mathlib.Omega.{arith}
 use Rattle.format.specs.Sections.{spot}
 use Rattle.format.proofs.SpotLaws.{product, spot_summed}
-use borrow.Author.Rules.{rules}
 use Rattle.format.proofs.sections.node_spot.Goals as goal
 
 pub overflow_mul-result : goal.overflow_mul-result

@@ -1,14 +1,12 @@
 use mathlib.Core.Path.{◌≡◌, sym, ap, ◌∙◌}
 use mathlib.Core.Bool.{false}
 use native.Mathlib.Omega.{arith}
-use borrow.Author.Tests.{not-true, not-false}
 use Rattle.format.specs.Words.{word_at}
 use Rattle.format.specs.Sections.{node_of}
 use Rattle.format.specs.Contents.{in_count, no_node, contents_at}
 use Rattle.format.specs.declared.Node.{Node}
 use Rattle.format.proofs.ContentsLaws.{in_count_lem, item_there, item_none}
 use Rattle.format.proofs.SpotLaws.{node_there}
-use borrow.Author.Rules.{rules}
 use Rattle.format.proofs.sections.node_tag.Goals as goal
 
 pub returns-then-not-in_count : goal.returns-then-not-in_count

@@ -1,6 +1,5 @@
 use Prim.Native.Nat.{ℕ, zero, suc, ◌*◌, ◌≤◌, ◌<◌}
 use native.Mathlib.Omega.{arith}
-use borrow.Author.Rules.{rules}
 use Rattle.format.proofs.sections.place_of.Goals as goal
 
 -- a record's words times a number below 65536

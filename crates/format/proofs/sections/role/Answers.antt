@@ -2,14 +2,12 @@ use native.Mathlib.Omega.{arith}
 use Prim.Native.Nat.{◌+◌, ◌*◌}
 use mathlib.Core.Path.{◌≡◌, sym, ap, ap₂, ◌∙◌}
 use mathlib.Core.Bool.{false}
-use borrow.Author.Tests.{not-true, not-false}
 use Rattle.format.specs.Words.{word_at, wide_at}
 use Rattle.format.specs.Sections.{place_of, role_of}
 use Rattle.format.specs.declared.Section.TheVariants.{Roles}
 use Rattle.format.specs.Contents.{in_count, no_role, contents_at}
 use Rattle.format.proofs.HeadLaws.{all_there}
 use Rattle.format.proofs.ContentsLaws.{in_count_lem, item_there, item_none}
-use borrow.Author.Rules.{rules}
 use Rattle.format.proofs.sections.role.Goals as goal
 
 pub returns-then-not-in_count : goal.returns-then-not-in_count

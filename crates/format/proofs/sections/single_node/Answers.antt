@@ -1,12 +1,10 @@
 use mathlib.Core.Path.{◌≡◌, sym, ◌∙◌}
 use mathlib.Core.Logic.{◌≢◌}
 use mathlib.Core.Bool.{true, false}
-use borrow.Author.Tests.{not-true, not-false}
 use Rattle.format.specs.Sections.{node_of}
 use Rattle.format.specs.Contents.{in_count, no_node, contents_at}
 use Rattle.format.proofs.ContentsLaws.{in_count_lem, item_there, item_none}
 use Rattle.format.proofs.SpotLaws.{row_node, row_there, column_node, column_there}
-use borrow.Author.Rules.{rules}
 use Rattle.format.proofs.sections.single_node.Goals as goal
 use Rattle.format.proofs.sections.single_node.Lts as lts
 use Rattle.format.proofs.sections.single_node.Tie as tie

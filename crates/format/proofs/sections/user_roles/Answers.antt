@@ -1,14 +1,12 @@
 use native.Mathlib.Omega.{arith}
 use mathlib.Core.Path.{◌≡◌, sym, ap, ◌∙◌}
 use mathlib.Core.Bool.{false}
-use borrow.Author.Tests.{not-true, not-false}
 use Rattle.format.specs.Words.{word_at}
 use Rattle.format.specs.Sections.{user_roles}
 use Rattle.format.specs.Contents.{in_count, contents_at}
 use Rattle.format.specs.declared.Section.TheVariants.{Users}
 use Rattle.format.proofs.HeadLaws.{all_there}
 use Rattle.format.proofs.ContentsLaws.{in_count_lem, item_there, item_none}
-use borrow.Author.Rules.{rules}
 use Rattle.format.proofs.sections.user_roles.Goals as goal
 
 pub returns-then-not-in_count : goal.returns-then-not-in_count

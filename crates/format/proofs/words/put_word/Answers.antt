@@ -1,6 +1,5 @@
 use native.Mathlib.Numerals.{add-one}
 use Rattle.format.specs.Words.{bytes_of}
-use borrow.Author.Rules.{rules}
 use Rattle.format.proofs.words.put_word.Goals as goal
 
 pub returns : goal.returns

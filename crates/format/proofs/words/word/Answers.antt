@@ -1,7 +1,6 @@
 use lib.ListN.{get_or-eq_default}
 use Prim.Native.Nat.{◌+◌, ◌*◌}
 use native.Mathlib.Omega.{arith}
-use borrow.Author.Rules.{rules}
 use Rattle.format.proofs.words.word.Goals as goal
 
 pub returns-then-low-file : goal.returns-then-low-file

@@ -1,5 +1,4 @@
 use Rattle.format.proofs.WriteLaws.{head_put}
-use borrow.Author.Rules.{rules}
 use Rattle.format.proofs.writing.put_head.Goals as goal
 
 pub returns : goal.returns

@@ -2,7 +2,6 @@ use mathlib.Core.Path.{ap, ◌∙◌}
 use native.Mathlib.Omega.{arith}
 use Rattle.format.specs.Writing.{word_put}
 use Rattle.format.proofs.SpotLaws.{spot_within}
-use borrow.Author.Rules.{rules}
 use Rattle.format.proofs.writing.put_node.Goals as goal
 
 pub put_word-requires : goal.put_word-requires

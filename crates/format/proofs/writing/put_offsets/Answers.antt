@@ -1,6 +1,5 @@
 use mathlib.Core.Path.{sym, ◌∙◌}
 use Rattle.format.proofs.WriteLaws.{offsets_put, offsets_put_first}
-use borrow.Author.Rules.{rules}
 use Rattle.format.proofs.writing.put_offsets.Goals as goal
 
 pub returns-then-has_juniors : goal.returns-then-has_juniors

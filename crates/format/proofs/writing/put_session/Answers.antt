@@ -4,7 +4,6 @@ use mathlib.Core.List.{[], ◌∷◌}
 use lib.Seq.{sets}
 use Rattle.format.specs.Words.{bytes_of}
 use Rattle.format.specs.Writing.{session_words}
-use borrow.Author.Rules.{rules}
 use Rattle.format.proofs.writing.put_session.Goals as goal
 
 pub returns : goal.returns

@@ -6,7 +6,6 @@ use Rattle.format.specs.Words.{bytes_of}
 use Rattle.format.specs.Sections.{words_from}
 use Rattle.format.proofs.HeadLaws.{some_there}
 use Rattle.format.proofs.WriteLaws.{sessions_words}
-use borrow.Author.Rules.{rules}
 use Rattle.format.proofs.writing.put_sessions.Goals as goal
 
 pub put_words-requires : goal.put_words-requires

@@ -6,7 +6,6 @@ use Rattle.format.specs.Sections.{words_from}
 use Rattle.format.proofs.WriteLaws.{tables_words}
 use native.Mathlib.Omega.{arith}
 use Rattle.format.proofs.HeadLaws.{some_there}
-use borrow.Author.Rules.{rules}
 use Rattle.format.proofs.writing.put_tables.Goals as goal
 
 pub put_words-requires : goal.put_words-requires

@@ -2,7 +2,6 @@ use Prim.Native.Nat.{◌+◌}
 use mathlib.Core.List.{[], ◌∷◌}
 use native.Mathlib.Omega.{arith}
 use Rattle.format.proofs.PutRuns.{puts_then}
-use borrow.Author.Rules.{rules}
 use Rattle.format.proofs.writing.put_three.Goals as goal
 
 pub returns : goal.returns

@@ -1,9 +1,8 @@
-use Prim.Native.Nat.{◌*◌, ◌-◌, ◌≤◌, ◌<◌}
-use mathlib.Core.Path.{◌≡◌, refl}
+use Prim.Native.Nat.{◌*◌}
+use mathlib.Core.Path.{refl}
 use native.Mathlib.Omega.{arith}
-use lib.ListN.{length, get_or, take, drop, set, length-set}
-use lib.Seq.{sets}
-use Rattle.format.proofs.WriteLaws.{Bytes, bytes_more, bytes_all}
+use lib.ListN.{get_or, set, length-set}
+use Rattle.format.proofs.WriteLaws.{bytes_more, bytes_all}
 use Rattle.format.proofs.writing.put_words.Goals as goal
 
 pub loop-i-init : goal.loop-i-init

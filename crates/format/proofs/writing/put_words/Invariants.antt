@@ -1,9 +1,8 @@
 use Prim.Native.Nat.{◌*◌, ◌-◌, ◌≤◌, ◌<◌}
-use mathlib.Core.Path.{◌≡◌, refl}
-use native.Mathlib.Omega.{arith}
-use lib.ListN.{length, get_or, take, drop, set, length-set}
+use mathlib.Core.Path.{◌≡◌}
+use lib.ListN.{length, take, drop}
 use lib.Seq.{sets}
-use Rattle.format.proofs.WriteLaws.{Bytes, bytes_more, bytes_all}
+use Rattle.format.proofs.WriteLaws.{Bytes}
 use Rattle.format.proofs.writing.put_words.Given as goal
 
 abbrev pub invariant-loop-i : goal.invariant-loop-i

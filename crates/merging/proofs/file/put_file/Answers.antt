@@ -1,5 +1,4 @@
 use Rattle.merging.proofs.JoinLaws.{file_put}
-use borrow.Author.Rules.{rules}
 use Rattle.merging.proofs.file.put_file.Goals as goal
 
 pub returns : goal.returns

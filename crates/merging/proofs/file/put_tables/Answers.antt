@@ -2,7 +2,6 @@ use Prim.Native.Nat.{◌+◌, ◌*◌}
 use mathlib.Core.Path.{ap, ap₂}
 use native.Mathlib.Omega.{arith}
 use Rattle.merging.proofs.JoinLaws.{tables_fit, second_channels, tables_put}
-use borrow.Author.Rules.{rules}
 use Rattle.merging.proofs.file.put_tables.Goals as goal
 
 pub move_words-requires : goal.move_words-requires

@@ -2,7 +2,6 @@ use Prim.Native.Nat.{◌*◌}
 use mathlib.Core.Path.{ap}
 use native.Mathlib.Omega.{arith}
 use Rattle.merging.proofs.JoinLaws.{sessions_fit, second_sessions, nodes_fit, second_nodes, trees_put}
-use borrow.Author.Rules.{rules}
 use Rattle.merging.proofs.file.put_trees.Goals as goal
 
 pub move_words-requires : goal.move_words-requires

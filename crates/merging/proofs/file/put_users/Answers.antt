@@ -1,7 +1,6 @@
 use Rattle.merging.proofs.JoinLaws.{users_put}
 use native.Mathlib.Omega.{arith}
 use Rattle.format.proofs.HeadLaws.{some_there}
-use borrow.Author.Rules.{rules}
 use Rattle.merging.proofs.file.put_users.Goals as goal
 
 pub move_words-requires : goal.move_words-requires

@@ -2,7 +2,6 @@ use mathlib.Core.Path.{sym, ◌∙◌}
 use native.Mathlib.Omega.{arith}
 use Rattle.format.proofs.ContentsLaws.{in_count_lem}
 use Rattle.merging.proofs.SectionLaws.{shifts_user, shifts_channel, shifts_none, few_channels}
-use borrow.Author.Rules.{rules}
 use Rattle.merging.proofs.moves.before.Goals as goal
 
 pub returns-then-in_count : goal.returns-then-in_count

@@ -6,7 +6,6 @@ use lib.Dec.{eqb}
 use Rattle.format.specs.declared.Node.{Node}
 use Rattle.merging.specs.Writers.{shifts_by}
 use Rattle.merging.proofs.SectionLaws.{node_moves, node_fits, cond_most, cond-fits}
-use borrow.Author.Rules.{rules}
 use Rattle.merging.proofs.moves.moved_node.Goals as goal
 
 pub overflow_add-result : goal.overflow_add-result

@@ -4,7 +4,6 @@ use lib.Dec.{eqb}
 use Rattle.format.specs.Answers.{refused}
 use Rattle.reading.specs.declared.Opened.TheVariants.{Refused}
 use Rattle.merging.proofs.OwnLaws.{own_refused, own_headed}
-use borrow.Author.Rules.{rules}
 use Rattle.merging.proofs.own.own.Goals as goal
 
 pub returns-in-Refused : goal.returns-in-Refused

@@ -5,7 +5,6 @@ use Rattle.format.specs.Sections.{words_from}
 use Rattle.format.proofs.ContentsLaws.{roles_held, kinds_held}
 use Rattle.merging.specs.Merged.{same_words}
 use Rattle.merging.proofs.TableLaws.{roles_kinds_words, tables_inside, roles_differ, kinds_differ, tables_compared}
-use borrow.Author.Rules.{rules}
 use Rattle.merging.proofs.same.same_tables.Goals as goal
 
 pub returns-then-roles-two : goal.returns-then-roles-two

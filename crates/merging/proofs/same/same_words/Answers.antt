@@ -1,8 +1,5 @@
-use Prim.Native.Nat.{◌+◌, ◌-◌, ◌≤◌}
-use mathlib.Core.Path.{◌≡◌, sym, ◌∙◌}
+use mathlib.Core.Path.{sym, ◌∙◌}
 use native.Mathlib.Omega.{arith}
-use Rattle.format.specs.Sections.{words_from}
-use Rattle.merging.specs.Merged.{same_words}
 use Rattle.merging.proofs.WordLaws.{same_begins, same_turn, same_stops, same_ends}
 use Rattle.merging.proofs.same.same_words.Goals as goal
 

@@ -1,9 +1,7 @@
-use Prim.Native.Nat.{◌+◌, ◌*◌, ◌-◌, ◌≤◌, ◌<◌}
-use mathlib.Core.Path.{◌≡◌, refl}
+use Prim.Native.Nat.{◌+◌, ◌*◌}
+use mathlib.Core.Path.{refl}
 use native.Mathlib.Omega.{arith}
-use lib.ListN.{length, get_or, take, drop, set, length-set}
-use lib.Seq.{sets}
-use Rattle.format.proofs.WriteLaws.{Bytes}
+use lib.ListN.{get_or, set, length-set}
 use Rattle.merging.proofs.WordLaws.{moved_begins, moved_turn, moved_ends}
 use Rattle.merging.proofs.writers.move_words.Goals as goal
 

@@ -6,7 +6,6 @@ use lib.Seq.{sets}
 use Rattle.format.specs.Words.{bytes_of}
 use Rattle.format.specs.Writing.{channel_words}
 use Rattle.format.proofs.PutRuns.{puts_then}
-use borrow.Author.Rules.{rules}
 use Rattle.merging.proofs.writers.put_channel.Goals as goal
 
 pub returns : goal.returns

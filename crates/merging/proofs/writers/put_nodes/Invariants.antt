@@ -1,20 +1,13 @@
 use Prim.Native.Nat.{◌+◌, ◌*◌, ◌-◌, ◌≤◌}
-use mathlib.Core.Path.{◌≡◌, refl, sym, ap, subst, ◌∙◌}
+use mathlib.Core.Path.{◌≡◌}
 use mathlib.Core.List.{map}
-use native.Mathlib.Omega.{arith}
 use lib.ListN.{length, drop}
 use lib.Seq.{sets}
-use borrow.Author.Rules.{rules}
 use Rattle.format.specs.Words.{bytes_of}
-use Rattle.format.specs.Sections.{by_column}
 use Rattle.format.specs.Contents.{contents_at}
 use Rattle.format.specs.Writing.{node_rows}
-use Rattle.format.specs.declared.Node.{Node}
-use Rattle.format.proofs.ContentsLaws.{nodes_held}
-use Rattle.format.proofs.NodesPut.{row_put}
 use Rattle.merging.specs.Merged.{moved_node}
 use Rattle.merging.specs.Writers.{shifts_by}
-use Rattle.merging.proofs.SectionLaws.{nodes_turn, nodes_end}
 use Rattle.merging.proofs.writers.put_nodes.Given as goal
 
 abbrev pub invariant-loop-n : goal.invariant-loop-n

@@ -1,18 +1,13 @@
 use Prim.Native.Nat.{◌+◌, ◌*◌, ◌-◌, ◌≤◌}
-use mathlib.Core.Path.{◌≡◌, refl, sym, ap, subst, ◌∙◌}
+use mathlib.Core.Path.{◌≡◌}
 use mathlib.Core.List.{map}
-use native.Mathlib.Omega.{arith}
 use lib.ListN.{length, drop}
 use lib.Seq.{sets}
-use borrow.Author.Rules.{rules}
 use Rattle.format.specs.Words.{bytes_of}
 use Rattle.format.specs.Contents.{contents_at}
 use Rattle.format.specs.Writing.{session_words}
-use Rattle.format.specs.declared.Session.{Session}
-use Rattle.format.proofs.ContentsLaws.{sessions_held}
 use Rattle.merging.specs.Merged.{moved_session}
 use Rattle.merging.specs.Writers.{shifts_by}
-use Rattle.merging.proofs.SectionLaws.{sessions_turn, sessions_end}
 use Rattle.merging.proofs.writers.put_sessions.Given as goal
 
 abbrev pub invariant-loop-n : goal.invariant-loop-n

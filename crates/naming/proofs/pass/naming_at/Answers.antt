@@ -8,7 +8,6 @@ use Rattle.rules.specs.Kept.{kind_in, entry}
 use Rattle.naming.specs.Kept.{bare_point, naming_from, awaited_at}
 use Rattle.rules.proofs.StepLaws.{step_repeat, step_new, step_compare, step_receive, step_send}
 use Rattle.naming.proofs.NamingLaws.{no_receive, its_channels, naming_other}
-use borrow.Author.Rules.{rules}
 use Rattle.naming.proofs.pass.naming_at.Goals as goal
 
 pub returns-in-2 : goal.returns-in-2

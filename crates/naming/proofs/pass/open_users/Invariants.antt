@@ -1,21 +1,14 @@
-use borrow.Author.Rules.{rules}
-use Prim.Native.Nat.{◌+◌, ◌-◌, ◌%◌, ◌≤◌, ◌<◌}
-use mathlib.Core.Path.{◌≡◌, refl, sym, ap, ap₂, subst, ◌∙◌}
+use Prim.Native.Nat.{◌-◌, ◌≤◌}
+use mathlib.Core.Path.{◌≡◌}
 use mathlib.Core.List.{[], map}
-use native.Mathlib.Omega.{arith}
-use lib.ListN.{length, drop, length-set}
-use Rattle.format.specs.Contents.{item, no_session, contents_at}
-use Rattle.format.specs.declared.Session.{Session}
-use Rattle.format.proofs.ContentsLaws.{sessions_held, from_item, none_past}
-use Rattle.rules.specs.declared.Point.{Point}
+use lib.ListN.{length, drop}
+use Rattle.format.specs.Contents.{contents_at}
 use Rattle.format.specs.Stacks.{stacked}
 use Rattle.rules.specs.Schema.{schema_of}
 use Rattle.rules.specs.Checking.{openings_from}
-use Rattle.naming.specs.Scopes.{scope_from, scope_of}
-use Rattle.rules.specs.Kept.{kind_in, owner_in, context_of, Waits, unmasked, Ownable}
-use Rattle.naming.specs.Kept.{bare_point, unpaired, queued}
-use Rattle.rules.proofs.StackLaws.{contexts_push, waits_push, context_bare}
-use Rattle.naming.proofs.ScopeLaws.{scope_pushed}
+use Rattle.naming.specs.Scopes.{scope_of}
+use Rattle.rules.specs.Kept.{context_of, Waits, unmasked, Ownable}
+use Rattle.naming.specs.Kept.{queued}
 use Rattle.naming.proofs.pass.open_users.Given as goal
 
 abbrev pub invariant-loop-depth : goal.invariant-loop-depth

@@ -1,4 +1,3 @@
-use borrow.Author.Rules.{rules}
 use Prim.Native.Nat.{ℕ, ◌+◌, ◌-◌, ◌≤◌, ◌<◌}
 use mathlib.Core.Path.{◌≡◌, refl, sym, ap, ap₂, subst, ◌∙◌}
 use mathlib.Core.Bool.{cond}
@@ -18,7 +17,7 @@ use Rattle.rules.specs.Checking.{openings}
 use Rattle.naming.specs.Scopes.{bind_scope, scope_of, marked, awaited}
 use Rattle.rules.specs.Kept.{kind_in, NameTable, context_of, Waits, unmasked, Ownable}
 use Rattle.naming.specs.Kept.{bare_point, unpaired, queued}
-use Rattle.rules.proofs.NameLaws.{Held, held_less, named_kept}
+use Rattle.rules.proofs.NameLaws.{held_less, named_kept}
 use Rattle.rules.proofs.StepLaws.{step_right}
 use Rattle.naming.proofs.NamingLaws.{NamesJudged, told, awaited_right}
 use Rattle.format.proofs.StackLaws.{read_none, read_top, read_push}

@@ -1,31 +1,15 @@
-use borrow.Author.Rules.{rules}
-use Prim.Native.Nat.{ℕ, ◌+◌, ◌-◌, ◌≤◌, ◌<◌}
-use mathlib.Core.Path.{◌≡◌, refl, sym, ap, ap₂, subst, ◌∙◌}
-use mathlib.Core.Bool.{cond}
-use mathlib.Core.List.{List, [], ◌∷◌, map}
-use native.Mathlib.Omega.{arith}
-use lib.Dec.{eqb}
-use borrow.Author.Tests.{lt-ltb}
-use lib.ListN.{length, get_or, set, length-set}
+use Prim.Native.Nat.{◌+◌, ◌-◌, ◌≤◌, ◌<◌}
+use mathlib.Core.Path.{◌≡◌}
+use mathlib.Core.List.{◌∷◌, map}
+use lib.ListN.{length}
 use Rattle.format.specs.Contents.{contents_at}
 use Rattle.format.specs.Stacks.{stacked}
-use Rattle.format.proofs.ContentsLaws.{users_held, channels_held, nodes_held}
-use Rattle.naming.specs.declared.NameStep.{NameStep}
-use Rattle.rules.specs.declared.Point.{Point}
 use Rattle.rules.specs.Schema.{schema_of}
-use Rattle.rules.specs.Rules.{Context, wrong, waiting_after}
-use Rattle.rules.specs.Checking.{openings}
-use Rattle.naming.specs.Scopes.{bind_scope, scope_of, marked, awaited}
-use Rattle.rules.specs.Kept.{kind_in, NameTable, context_of, Waits, unmasked, Ownable}
-use Rattle.naming.specs.Kept.{bare_point, unpaired, queued}
-use Rattle.rules.proofs.NameLaws.{Held, held_less, named_kept}
-use Rattle.rules.proofs.StepLaws.{step_right}
-use Rattle.naming.proofs.NamingLaws.{NamesJudged, told, awaited_right}
-use Rattle.format.proofs.StackLaws.{read_none, read_top, read_push}
-use Rattle.rules.proofs.StackLaws.{waits_push, waits_more, contexts_kept, contexts_bare}
-use Rattle.naming.proofs.ScopeLaws.{scope_next, scope_pushed, scope_popped}
-use Rattle.rules.proofs.PassLaws.{after_step}
-use Rattle.naming.proofs.ScopePass.{Scoping, scoping_begins, scoping_out, scoping_ends, scoping_refused, scoping_on, scoping_tree, scoping_fork}
+use Rattle.naming.specs.Scopes.{scope_of}
+use Rattle.rules.specs.Kept.{NameTable, context_of, Waits, Ownable}
+use Rattle.naming.specs.Kept.{bare_point, queued}
+use Rattle.rules.proofs.NameLaws.{Held}
+use Rattle.naming.proofs.ScopePass.{Scoping}
 use Rattle.naming.proofs.pass.walk_names.Given as goal
 
 -- The invariant: i is the node due, `user` and `bound` are its context's, the contexts on the stack have fewer and fewer variables from its top down,

@@ -1,7 +1,6 @@
 use mathlib.Core.Path.{ap, sym}
 use native.Mathlib.Omega.{arith}
 use lib.ListN.{get_or-eq_default}
-use borrow.Author.Rules.{rules}
 use Rattle.naming.specs.Scopes.{awaited_in, awaited_by}
 use Rattle.naming.proofs.scopes.awaited_by.Goals as goal
 

@@ -1,6 +1,5 @@
 use Prim.Native.Nat.{◌%◌}
 use native.Mathlib.Omega.{arith}
-use borrow.Author.Rules.{rules}
 use Rattle.naming.proofs.ScopeLaws.{digit_low, digit_kept, binds, binds_none}
 use Rattle.naming.proofs.scopes.bind.Goals as goal
 

@@ -1,7 +1,6 @@
 use mathlib.Core.Path.{sym, ap}
 use lib.Seq.{set_out}
 use lib.ListN.{set}
-use borrow.Author.Rules.{rules}
 use Rattle.naming.specs.Scopes.{marked}
 use Rattle.naming.proofs.scopes.keep.Goals as goal
 

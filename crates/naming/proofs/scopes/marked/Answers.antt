@@ -1,5 +1,4 @@
 use mathlib.Core.Path.{refl}
-use borrow.Author.Rules.{rules}
 use Rattle.naming.specs.Scopes.{marked}
 use Rattle.naming.proofs.scopes.marked.Goals as goal
 

@@ -1,8 +1,7 @@
 use mathlib.Core.Path.{◌∙◌, sym, ap}
 use mathlib.Core.Bool.{false≢true}
-use borrow.Author.Tests.{not-true, eq-eqb, ne_eqb}
+use borrow.Author.Tests.{eq-eqb, ne_eqb}
 use Rattle.naming.specs.Scopes.{bind_scope}
-use borrow.Author.Rules.{rules}
 use Rattle.naming.proofs.scopes.scope_after.Goals as goal
 
 pub returns-then-not-wanted : goal.returns-then-not-wanted

@@ -1,9 +1,7 @@
-use mathlib.Core.Path.{◌≡◌, refl, ◌∙◌}
-use Prim.Native.Nat.{◌+◌, ◌≤◌}
+use mathlib.Core.Path.{refl, ◌∙◌}
 use native.Mathlib.Omega.{arith}
 use borrow.Author.Rules.{rules}
-use lib.ListN.{drop, get_or}
-use Rattle.reasons.specs.Reasons.{digits_at}
+use lib.ListN.{get_or}
 use Rattle.reasons.proofs.DigitsRead.{digits_past, digits-stop, low, high, digits_turn, digits_none}
 use Rattle.reasons.proofs.digits.digits_end.Goals as goal
 

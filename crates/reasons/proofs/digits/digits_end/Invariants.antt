@@ -1,10 +1,7 @@
-use mathlib.Core.Path.{◌≡◌, refl, ◌∙◌}
+use mathlib.Core.Path.{◌≡◌}
 use Prim.Native.Nat.{◌+◌, ◌≤◌}
-use native.Mathlib.Omega.{arith}
-use borrow.Author.Rules.{rules}
-use lib.ListN.{drop, get_or}
+use lib.ListN.{drop}
 use Rattle.reasons.specs.Reasons.{digits_at}
-use Rattle.reasons.proofs.DigitsRead.{digits_past, digits-stop, low, high, digits_turn, digits_none}
 use Rattle.reasons.proofs.digits.digits_end.Given as goal
 
 abbrev pub invariant-loop-left : goal.invariant-loop-left

@@ -1,10 +1,8 @@
-use mathlib.Core.Path.{◌≡◌, refl, ◌∙◌}
-use Prim.Native.Nat.{◌≤◌}
+use mathlib.Core.Path.{refl, ◌∙◌}
 use native.Mathlib.Omega.{arith}
 use borrow.Author.Rules.{rules}
-use lib.ListN.{drop, get_or}
-use Rattle.reasons.specs.Reasons.{numeral}
-use Rattle.reasons.proofs.DigitsRead.{numeral_end, numeral_no, low, high, numeral_turn, numeral_none, cap, cap_five, cap_top, cap_turn}
+use lib.ListN.{get_or}
+use Rattle.reasons.proofs.DigitsRead.{numeral_end, numeral_no, low, high, numeral_turn, numeral_none, cap_five, cap_top, cap_turn}
 use Rattle.reasons.proofs.digits.numeral_at.Goals as goal
 
 pub loop-left-init : goal.loop-left-init

@@ -1,10 +1,8 @@
-use mathlib.Core.Path.{◌≡◌, refl, ◌∙◌}
+use mathlib.Core.Path.{◌≡◌}
 use Prim.Native.Nat.{◌≤◌}
-use native.Mathlib.Omega.{arith}
-use borrow.Author.Rules.{rules}
-use lib.ListN.{drop, get_or}
+use lib.ListN.{drop}
 use Rattle.reasons.specs.Reasons.{numeral}
-use Rattle.reasons.proofs.DigitsRead.{numeral_end, numeral_no, low, high, numeral_turn, numeral_none, cap, cap_five, cap_top, cap_turn}
+use Rattle.reasons.proofs.DigitsRead.{cap}
 use Rattle.reasons.proofs.digits.numeral_at.Given as goal
 
 abbrev pub invariant-loop-left : goal.invariant-loop-left

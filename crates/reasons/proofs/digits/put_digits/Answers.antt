@@ -1,6 +1,5 @@
 use Prim.Native.Nat.{◌/◌}
 use native.Mathlib.Omega.{arith}
-use borrow.Author.Rules.{rules}
 use Rattle.reasons.proofs.PartsWritten.{last_length, five}
 use Rattle.reasons.proofs.digits.put_digits.Goals as goal
 

@@ -1,10 +1,9 @@
-use borrow.Author.Rules.{rules}
-use mathlib.Core.Path.{◌≡◌, refl, sym, ap, ◌∙◌}
-use Prim.Native.Nat.{ℕ, ◌≤◌, ◌-◌}
+use mathlib.Core.Path.{refl, sym, ap, ◌∙◌}
+use Prim.Native.Nat.{ℕ}
 use native.Mathlib.Omega.{arith}
-use lib.ListN.{length, get_or, length-set}
-use Rattle.rules.specs.Kept.{joined, add_role}
-use Rattle.rules.proofs.GrantLaws.{add_from, add_next, add_done}
+use lib.ListN.{get_or, length-set}
+use Rattle.rules.specs.Kept.{joined}
+use Rattle.rules.proofs.GrantLaws.{add_next, add_done}
 use Rattle.rules.proofs.grants.add_role.Goals as goal
 
 pub loop-k-init : goal.loop-k-init

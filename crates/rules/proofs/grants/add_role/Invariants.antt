@@ -1,10 +1,8 @@
-use borrow.Author.Rules.{rules}
-use mathlib.Core.Path.{◌≡◌, refl, sym, ap, ◌∙◌}
-use Prim.Native.Nat.{ℕ, ◌≤◌, ◌-◌}
-use native.Mathlib.Omega.{arith}
-use lib.ListN.{length, get_or, length-set}
-use Rattle.rules.specs.Kept.{joined, add_role}
-use Rattle.rules.proofs.GrantLaws.{add_from, add_next, add_done}
+use mathlib.Core.Path.{◌≡◌}
+use Prim.Native.Nat.{◌≤◌, ◌-◌}
+use lib.ListN.{length}
+use Rattle.rules.specs.Kept.{add_role}
+use Rattle.rules.proofs.GrantLaws.{add_from}
 use Rattle.rules.proofs.grants.add_role.Given as goal
 
 -- The invariant: with the role added from k on, the tables are what they are to be.

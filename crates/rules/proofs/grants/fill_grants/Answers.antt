@@ -1,6 +1,5 @@
-use borrow.Author.Rules.{rules}
 use mathlib.Core.Path.{◌≡◌, refl, ap, ◌∙◌}
-use Prim.Native.Nat.{◌+◌, ◌≤◌, ◌<◌, ◌-◌}
+use Prim.Native.Nat.{◌+◌, ◌<◌}
 use native.Mathlib.Omega.{arith}
 use lib.ListN.{length}
 use Rattle.format.specs.Contents.{contents_at}
@@ -8,7 +7,7 @@ use Rattle.format.specs.declared.Role.{Role}
 use Rattle.format.proofs.ContentsLaws.{roles_held}
 use Rattle.rules.specs.declared.Way.TheVariants.{Sends, Receives}
 use Rattle.rules.specs.Schema.{schema_of}
-use Rattle.rules.specs.Kept.{grants_to, add_role, Beyond}
+use Rattle.rules.specs.Kept.{add_role}
 use Rattle.rules.proofs.GrantLaws.{grants_begin, grants_more, grants_length, beyond_none, beyond_more}
 use Rattle.rules.proofs.grants.fill_grants.Goals as goal
 

@@ -1,7 +1,6 @@
 use mathlib.Core.Path.{sym, ap, ◌∙◌}
 use mathlib.Core.Bool.{cond}
 use Rattle.masks.specs.Mask.{with}
-use borrow.Author.Rules.{rules}
 use Rattle.rules.proofs.grants.joined.Goals as goal
 
 pub returns-then-role_permits : goal.returns-then-role_permits

@@ -3,7 +3,6 @@ use mathlib.Core.Path.{ap}
 use mathlib.Core.Bool.{not}
 use lib.Dec.{eqb}
 use Rattle.rules.proofs.PermittedRoles.{may_iff}
-use borrow.Author.Rules.{rules}
 use Rattle.rules.proofs.grants.may.Goals as goal
 
 pub returns : goal.returns

@@ -3,7 +3,6 @@ use native.Mathlib.Omega.{arith}
 use mathlib.Core.Path.{sym, ap, ◌∙◌}
 use lib.Bits.{bit_and, and_zero_r}
 use Rattle.rules.proofs.PermittedRoles.{those_permitting}
-use borrow.Author.Rules.{rules}
 use Rattle.rules.proofs.grants.permitting.Goals as goal
 
 pub returns-then-k-table : goal.returns-then-k-table

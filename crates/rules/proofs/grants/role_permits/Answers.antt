@@ -4,7 +4,6 @@ use lib.Bits.{bit_and}
 use lib.Dec.{eqb}
 use Rattle.masks.specs.Mask.{has}
 use Rattle.rules.proofs.JuniorGrants.{joins_exactly}
-use borrow.Author.Rules.{rules}
 use Rattle.rules.proofs.grants.role_permits.Goals as goal
 
 pub returns : goal.returns

@@ -1,6 +1,5 @@
 use mathlib.Core.Path.{refl}
 use native.Mathlib.Omega.{arith}
-use borrow.Author.Rules.{rules}
 use Rattle.rules.proofs.judge.judge.Goals as goal
 
 pub judge_by-requires : goal.judge_by-requires

@@ -3,7 +3,6 @@ use Rattle.format.specs.Contents.{contents_at}
 use Rattle.rules.specs.Schema.{schema_of}
 use Rattle.rules.specs.declared.Way.TheVariants.{Sends, Receives}
 use Rattle.rules.proofs.GrantLaws.{granting}
-use borrow.Author.Rules.{rules}
 use Rattle.rules.proofs.judge.judge_by.Goals as goal
 
 pub walk-requires : goal.walk-requires

@@ -1,18 +1,11 @@
-use borrow.Author.Rules.{rules}
-use Prim.Native.Nat.{◌+◌, ◌-◌, ◌≤◌, ◌<◌}
-use mathlib.Core.Path.{◌≡◌, refl, sym, ap, subst, ◌∙◌}
+use Prim.Native.Nat.{◌-◌, ◌≤◌}
+use mathlib.Core.Path.{◌≡◌}
 use mathlib.Core.List.{[], map}
-use native.Mathlib.Omega.{arith}
-use lib.ListN.{length, drop, length-set}
-use Rattle.format.specs.Contents.{item, no_session, contents_at}
-use Rattle.format.specs.declared.Session.{Session}
-use Rattle.format.proofs.ContentsLaws.{sessions_held, from_item, none_past}
-use Rattle.format.specs.Stacks.{stacked}
+use lib.ListN.{length, drop}
+use Rattle.format.specs.Contents.{contents_at}
 use Rattle.rules.specs.Schema.{schema_of}
 use Rattle.rules.specs.Checking.{openings_from}
-use Rattle.rules.specs.declared.Point.{Point}
-use Rattle.rules.specs.Kept.{unpacking, context_of, waiting, Waits, Given}
-use Rattle.rules.proofs.StackLaws.{contexts_push, waits_push, context_bare}
+use Rattle.rules.specs.Kept.{context_of, waiting, Waits, Given}
 use Rattle.rules.proofs.judge.open_sessions.Given as goal
 
 abbrev pub invariant-loop-depth : goal.invariant-loop-depth

@@ -1,7 +1,6 @@
 use mathlib.Core.Path.{refl}
 use native.Mathlib.Omega.{arith}
 use Rattle.rules.proofs.StackLaws.{packed_back}
-use borrow.Author.Rules.{rules}
 use Rattle.rules.proofs.judge.packed.Goals as goal
 
 pub returns : goal.returns

@@ -2,7 +2,6 @@ use Prim.Native.Nat.{◌+◌, ◌-◌, ◌≤◌, ◌<◌}
 use mathlib.Core.Path.{◌≡◌, refl, sym, ap, subst, ◌∙◌}
 use mathlib.Core.List.{List, [], ◌∷◌, map}
 use native.Mathlib.Omega.{arith}
-use borrow.Author.Rules.{rules}
 use lib.ListN.{length, set, length-set}
 use Rattle.format.specs.Contents.{contents_at}
 use Rattle.format.specs.Answers.{fine, or_else}
@@ -14,7 +13,7 @@ use Rattle.rules.specs.Schema.{schema_of}
 use Rattle.rules.specs.Rules.{Context}
 use Rattle.rules.specs.Checking.{openings}
 use Rattle.rules.specs.Kept.{NameTable, unpacking, context_of, waiting, Waits, Given, answer_at}
-use Rattle.rules.proofs.NameLaws.{Held, held_less, named_kept}
+use Rattle.rules.proofs.NameLaws.{held_less, named_kept}
 use Rattle.rules.proofs.StepLaws.{Right, step_right}
 use Rattle.format.proofs.StackLaws.{read_none, read_top, read_push}
 use Rattle.rules.proofs.StackLaws.{waits_push, waits_more, contexts_kept, contexts_bare}

@@ -1,24 +1,12 @@
 use Prim.Native.Nat.{◌+◌, ◌-◌, ◌≤◌, ◌<◌}
-use mathlib.Core.Path.{◌≡◌, refl, sym, ap, subst, ◌∙◌}
-use mathlib.Core.List.{List, [], ◌∷◌, map}
-use native.Mathlib.Omega.{arith}
-use borrow.Author.Rules.{rules}
-use lib.ListN.{length, set, length-set}
+use mathlib.Core.Path.{◌≡◌}
+use mathlib.Core.List.{◌∷◌, map}
+use lib.ListN.{length}
 use Rattle.format.specs.Contents.{contents_at}
-use Rattle.format.specs.Answers.{fine, or_else}
-use Rattle.format.specs.declared.Verdict.{Verdict}
-use Rattle.format.proofs.ContentsLaws.{users_held, channels_held, nodes_held}
-use Rattle.rules.specs.declared.Point.{Point}
-use Rattle.rules.specs.declared.RuleStep.{RuleStep}
 use Rattle.rules.specs.Schema.{schema_of}
-use Rattle.rules.specs.Rules.{Context}
-use Rattle.rules.specs.Checking.{openings}
-use Rattle.rules.specs.Kept.{NameTable, unpacking, context_of, waiting, Waits, Given, answer_at}
-use Rattle.rules.proofs.NameLaws.{Held, held_less, named_kept}
-use Rattle.rules.proofs.StepLaws.{Right, step_right}
-use Rattle.format.proofs.StackLaws.{read_none, read_top, read_push}
-use Rattle.rules.proofs.StackLaws.{waits_push, waits_more, contexts_kept, contexts_bare}
-use Rattle.rules.proofs.PassLaws.{Left, begins, goes_on, after_step, refuses, runs_out, ends, ends_tree, forks}
+use Rattle.rules.specs.Kept.{NameTable, context_of, waiting, Waits, Given}
+use Rattle.rules.proofs.NameLaws.{Held}
+use Rattle.rules.proofs.PassLaws.{Left}
 use Rattle.rules.proofs.judge.walk.Given as goal
 
 -- The invariant: i is the node due, `here` is its context, the contexts on the stack have fewer and fewer variables from its top down, and what is

@@ -1,4 +1,3 @@
-use borrow.Author.Tests.{not-true, not-false}
 use Rattle.rules.proofs.names.graded.Goals as goal
 
 pub returns-then-not-names : goal.returns-then-not-names

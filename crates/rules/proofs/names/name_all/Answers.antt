@@ -1,13 +1,11 @@
-use borrow.Author.Rules.{rules}
-use Prim.Native.Nat.{◌+◌, ◌-◌, ◌≤◌, ◌<◌}
+use Prim.Native.Nat.{◌+◌, ◌<◌}
 use mathlib.Core.Path.{◌≡◌, refl, sym, ap, subst, ◌∙◌}
 use native.Mathlib.Omega.{arith}
-use lib.ListN.{length, drop, length-set}
+use lib.ListN.{length-set}
 use lib.Seq.{drop-set-lt}
 use Rattle.format.specs.Contents.{contents_at}
 use Rattle.format.specs.declared.Channel.{Channel}
 use Rattle.rules.specs.Schema.{schema_of}
-use Rattle.rules.specs.Kept.{NameTable}
 use Rattle.rules.proofs.NameLaws.{named_none, users_more, channels_more}
 use Rattle.rules.proofs.names.name_all.Goals as goal
 

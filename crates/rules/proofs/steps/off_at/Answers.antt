@@ -1,6 +1,4 @@
 use mathlib.Core.Path.{◌∙◌}
-use borrow.Author.Tests.{not-true, not-false}
-use borrow.Author.Rules.{rules}
 use Rattle.rules.proofs.steps.off_at.Goals as goal
 
 pub returns-then-not-in_count : goal.returns-then-not-in_count

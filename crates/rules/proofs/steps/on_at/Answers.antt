@@ -1,8 +1,6 @@
 use mathlib.Core.Path.{sym, ◌∙◌}
 use native.Mathlib.Omega.{arith}
-use borrow.Author.Tests.{not-true, not-false}
 use Rattle.rules.proofs.NameLaws.{between}
-use borrow.Author.Rules.{rules}
 use Rattle.rules.proofs.steps.on_at.Goals as goal
 
 pub returns-then-not-in_count : goal.returns-then-not-in_count

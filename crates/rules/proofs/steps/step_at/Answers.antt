@@ -5,7 +5,6 @@ use Rattle.format.proofs.ContentsLaws.{roles_held, kinds_held}
 use Rattle.rules.specs.Schema.{schema_of}
 use Rattle.rules.specs.Kept.{receive_step, send_step}
 use Rattle.rules.proofs.StepLaws.{step_repeat, step_new, step_compare, step_receive, step_send, step_on, step_off, step_other}
-use borrow.Author.Rules.{rules}
 use Rattle.rules.proofs.steps.step_at.Goals as goal
 
 pub returns-in-2 : goal.returns-in-2

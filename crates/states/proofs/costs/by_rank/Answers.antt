@@ -3,7 +3,6 @@ use mathlib.Core.Path.{◌≡◌, ap, ◌∙◌}
 use native.Mathlib.Omega.{arith}
 use Rattle.states.specs.Kept.{rank, highest, left_over, saving_by, word_by}
 use Rattle.states.proofs.LaneLaws.{ranked_peak, ranked_above, base_least}
-use borrow.Author.Rules.{rules}
 use Rattle.states.proofs.costs.by_rank.Goals as goal
 use Rattle.states.proofs.costs.by_rank.Lts as lts
 use Rattle.states.proofs.costs.by_rank.Tie as tie

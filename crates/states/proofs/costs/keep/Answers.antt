@@ -8,7 +8,6 @@ use borrow.Author.Tests.{ne_eqb}
 use Rattle.states.specs.States as states
 use Rattle.states.specs.Kept.{no_saving, added, worth_at, worths_of, rank, highest, saving_by, saving_of, word_by, word_of}
 use Rattle.states.proofs.LaneLaws.{kids_most, worth_most, extra_most, floor_is, floor_least, idle_tag, idle_saving, idle_word, end_saving, end_word}
-use borrow.Author.Rules.{rules}
 use Rattle.states.proofs.costs.keep.Goals as goal
 use Rattle.states.proofs.costs.keep.Lts as lts
 use Rattle.states.proofs.costs.keep.Tie as tie

@@ -1,6 +1,5 @@
 use mathlib.Core.Path.{refl}
 use borrow.Author.Tests.{eq-eqb, ne_eqb}
-use borrow.Author.Rules.{rules}
 use Rattle.states.proofs.costs.kids_of.Goals as goal
 
 pub returns-then-tag-eq1 : goal.returns-then-tag-eq1

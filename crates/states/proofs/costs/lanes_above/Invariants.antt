@@ -1,10 +1,8 @@
 use Prim.Native.Nat.{◌-◌, ◌≤◌}
-use mathlib.Core.Path.{◌≡◌, refl, ap, ◌∙◌}
-use native.Mathlib.Omega.{arith}
+use mathlib.Core.Path.{◌≡◌}
 use lib.Dec.{ltb}
 use lib.ListN.{get_or}
 use Rattle.states.specs.Kept.{gather}
-use Rattle.states.proofs.LaneLaws.{lane_bit, gather_more, gather_fits}
 use Rattle.states.proofs.costs.lanes_above.Given as goal
 
 abbrev pub invariant-loop-q : goal.invariant-loop-q

@@ -1,9 +1,7 @@
 use Prim.Native.Nat.{◌-◌, ◌≤◌}
-use mathlib.Core.Path.{◌≡◌, refl, ap, ◌∙◌}
-use native.Mathlib.Omega.{arith}
+use mathlib.Core.Path.{◌≡◌}
 use lib.ListN.{get_or}
 use Rattle.states.specs.Kept.{highest}
-use Rattle.states.proofs.LaneLaws.{highest_more}
 use Rattle.states.proofs.costs.peak.Given as goal
 
 abbrev pub invariant-loop-q : goal.invariant-loop-q

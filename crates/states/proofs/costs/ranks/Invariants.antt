@@ -1,10 +1,8 @@
 use Prim.Native.Nat.{◌-◌, ◌≤◌}
-use mathlib.Core.Path.{◌≡◌, refl}
-use native.Mathlib.Omega.{arith}
-use lib.ListN.{length, take, length-set}
+use mathlib.Core.Path.{◌≡◌}
+use lib.ListN.{length, take}
 use Rattle.states.specs.States.{up}
 use Rattle.states.specs.Kept.{rank}
-use Rattle.states.proofs.LaneLaws.{fill_more, filled}
 use Rattle.states.proofs.costs.ranks.Given as goal
 
 abbrev pub invariant-loop-q : goal.invariant-loop-q

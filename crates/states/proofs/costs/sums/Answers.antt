@@ -1,7 +1,7 @@
-use Prim.Native.Nat.{◌+◌, ◌-◌, ◌≤◌}
-use mathlib.Core.Path.{◌≡◌, refl}
+use Prim.Native.Nat.{◌+◌}
+use mathlib.Core.Path.{refl}
 use native.Mathlib.Omega.{arith}
-use lib.ListN.{length, get_or, take, length-set}
+use lib.ListN.{get_or, length-set}
 use Rattle.states.specs.States.{up}
 use Rattle.states.proofs.LaneLaws.{fill_more, filled}
 use Rattle.states.proofs.costs.sums.Goals as goal

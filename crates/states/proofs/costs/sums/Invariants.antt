@@ -1,9 +1,7 @@
 use Prim.Native.Nat.{◌+◌, ◌-◌, ◌≤◌}
-use mathlib.Core.Path.{◌≡◌, refl}
-use native.Mathlib.Omega.{arith}
-use lib.ListN.{length, get_or, take, length-set}
+use mathlib.Core.Path.{◌≡◌}
+use lib.ListN.{length, get_or, take}
 use Rattle.states.specs.States.{up}
-use Rattle.states.proofs.LaneLaws.{fill_more, filled}
 use Rattle.states.proofs.costs.sums.Given as goal
 
 abbrev pub invariant-loop-q : goal.invariant-loop-q

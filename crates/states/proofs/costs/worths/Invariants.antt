@@ -1,11 +1,8 @@
-use Prim.Native.Nat.{◌+◌, ◌-◌, ◌≤◌}
-use mathlib.Core.Bool.{cond}
-use mathlib.Core.Path.{◌≡◌, refl, ap, ◌∙◌}
-use native.Mathlib.Omega.{arith}
-use lib.ListN.{length, get_or, take, length-set}
+use Prim.Native.Nat.{◌-◌, ◌≤◌}
+use mathlib.Core.Path.{◌≡◌}
+use lib.ListN.{length, take}
 use Rattle.states.specs.States.{up}
 use Rattle.states.specs.Kept.{worth_at}
-use Rattle.states.proofs.LaneLaws.{fill_more, filled, lane_test}
 use Rattle.states.proofs.costs.worths.Given as goal
 
 abbrev pub invariant-loop-q : goal.invariant-loop-q

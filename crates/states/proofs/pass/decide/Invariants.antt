@@ -1,15 +1,11 @@
 use Prim.Native.Nat.{◌+◌, ◌-◌, ◌≤◌}
-use mathlib.Core.Path.{◌≡◌, refl, sym, ap, ◌∙◌}
-use mathlib.Core.Bool.{cond}
-use mathlib.Core.List.{[], ◌∷◌, ◌++◌}
-use native.Mathlib.Omega.{arith}
-use lib.Dec.{eqb}
-use lib.ListN.{length, get_or, drop, length-set}
-use Rattle.format.specs.Contents.{item, no_node, contents_at}
+use mathlib.Core.Path.{◌≡◌}
+use mathlib.Core.List.{◌∷◌, ◌++◌}
+use lib.ListN.{length, get_or, drop}
+use Rattle.format.specs.Contents.{contents_at}
 use Rattle.format.specs.Stacks.{stacked}
-use Rattle.format.proofs.ContentsLaws.{nodes_held}
 use Rattle.states.specs.Kept.{no_saving, savings, kept_all}
-use Rattle.states.proofs.PassLaws.{Same, labels_from, right_small, right_savings, right_words, right_begins, right_empty, right_depth, first-kept}
+use Rattle.states.proofs.PassLaws.{Same, labels_from}
 use Rattle.states.proofs.pass.decide.Given as goal
 
 abbrev pub invariant-loop-i : goal.invariant-loop-i

@@ -4,7 +4,7 @@ use mathlib.Core.Bool.{cond}
 use mathlib.Core.List.{[], ◌∷◌, map}
 use native.Mathlib.Omega.{arith}
 use lib.Dec.{eqb}
-use lib.ListN.{length, get_or, drop, set, length-set}
+use lib.ListN.{drop, set, length-set}
 use lib.Seq.{sets}
 use Rattle.format.specs.Contents.{item, no_node, contents_at}
 use Rattle.format.specs.Stacks.{stacked}

@@ -1,17 +1,13 @@
-use Prim.Native.Nat.{◌+◌, ◌*◌, ◌-◌, ◌≤◌}
-use mathlib.Core.Path.{◌≡◌, refl, ap, ◌∙◌}
-use mathlib.Core.Bool.{cond}
+use Prim.Native.Nat.{◌+◌, ◌-◌, ◌≤◌}
+use mathlib.Core.Path.{◌≡◌}
 use mathlib.Core.List.{[], ◌∷◌, map}
-use native.Mathlib.Omega.{arith}
-use lib.Dec.{eqb}
-use lib.ListN.{length, get_or, drop, set, length-set}
+use lib.ListN.{length, get_or, drop}
 use lib.Seq.{sets}
-use Rattle.format.specs.Contents.{item, no_node, contents_at}
+use Rattle.format.specs.Contents.{contents_at}
 use Rattle.format.specs.Stacks.{stacked}
-use Rattle.format.proofs.ContentsLaws.{nodes_held}
-use Rattle.states.specs.States.{states_after, packed}
+use Rattle.states.specs.States.{packed}
 use Rattle.states.specs.Kept.{followed}
-use Rattle.states.proofs.PassLaws.{Same, Under, under_onward, under_same, same_followed, left_stack, left_turn, left_begins, left_ends, left_depth, first-kept}
+use Rattle.states.proofs.PassLaws.{Under}
 use Rattle.states.proofs.pass.follow.Given as goal
 
 abbrev pub invariant-loop-i : goal.invariant-loop-i

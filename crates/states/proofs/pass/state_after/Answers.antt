@@ -1,6 +1,5 @@
 use borrow.Author.Tests.{eq-eqb, ne_eqb}
 use native.Mathlib.Omega.{arith}
-use borrow.Author.Rules.{rules}
 use Rattle.states.proofs.pass.state_after.Goals as goal
 
 pub returns-then-word-p-eq1 : goal.returns-then-word-p-eq1

@@ -1,11 +1,8 @@
-use Prim.Native.Nat.{suc, ◌+◌, ◌-◌, ◌≤◌}
 use mathlib.Core.Path.{◌≡◌, refl, ap, ◌∙◌}
 use native.Mathlib.Omega.{arith}
-use borrow.Author.Rules.{rules}
 use lib.ListN.{length, get_or, drop, length-set}
 use Rattle.format.specs.Contents.{contents_at, item, no_node}
 use Rattle.format.proofs.ContentsLaws.{nodes_held}
-use Rattle.trees.specs.Ends.{table_from}
 use Rattle.trees.proofs.EndsLaws.{in_table, same_end, again, begin, finish, keep_first}
 use Rattle.trees.proofs.ends.ends.Goals as goal
 

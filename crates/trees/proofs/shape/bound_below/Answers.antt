@@ -1,6 +1,5 @@
 use native.Mathlib.Omega.{arith}
 use mathlib.Core.Path.{sym, ◌∙◌}
-use borrow.Author.Rules.{rules}
 use Rattle.trees.proofs.shape.bound_below.Goals as goal
 
 pub overflow_add-result : goal.overflow_add-result

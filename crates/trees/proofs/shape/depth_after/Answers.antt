@@ -1,5 +1,4 @@
 use borrow.Author.Tests.{eq-eqb, ne_eqb}
-use borrow.Author.Rules.{rules}
 use Rattle.trees.proofs.shape.depth_after.Goals as goal
 
 pub returns-then-tag-eq0 : goal.returns-then-tag-eq0

@@ -1,5 +1,4 @@
 use Rattle.trees.specs.Shape.{node_fits}
-use borrow.Author.Rules.{rules}
 use Rattle.trees.proofs.shape.node_fits.Goals as goal
 
 pub returns : goal.returns

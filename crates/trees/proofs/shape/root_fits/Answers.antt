@@ -1,4 +1,3 @@
-use borrow.Author.Rules.{rules}
 use Rattle.trees.proofs.shape.root_fits.Goals as goal
 
 pub returns-in-Root : goal.returns-in-Root

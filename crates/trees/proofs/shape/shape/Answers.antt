@@ -3,7 +3,6 @@ use lib.Seq.{length-take-le}
 use lib.ListN.{replicate}
 use Prim.Native.Nat.{◌+◌}
 use native.Mathlib.Omega.{arith}
-use borrow.Author.Rules.{rules}
 use borrow.Author.Tests.{eqb-true}
 use Rattle.trees.proofs.SoundExact.{answer_quiet}
 use Rattle.trees.proofs.shape.shape.Goals as goal

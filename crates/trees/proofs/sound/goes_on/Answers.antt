@@ -4,7 +4,6 @@ use mathlib.Core.Bool.{Bool, cond, not, ◌&&◌}
 use lib.Dec.{eqb, leb, ltb}
 use Rattle.trees.specs.Shape.{binds, used}
 use Rattle.trees.proofs.SumLaws.{sum_exact}
-use borrow.Author.Rules.{rules}
 use Rattle.trees.proofs.sound.goes_on.Goals as goal
 
 pub returns : goal.returns

@@ -1,20 +1,10 @@
-use Prim.Native.Nat.{◌+◌, ◌-◌, ◌≤◌, ◌<◌}
-use mathlib.Core.Path.{◌≡◌, refl, sym, ap, ◌∙◌}
-use mathlib.Core.Bool.{Bool, true, false, not, ◌&&◌, and-eq-true_iff}
-use mathlib.Core.List.{[], ◌∷◌, map}
-use native.Mathlib.Omega.{arith}
-use borrow.Author.Rules.{rules}
-use borrow.Author.Tests.{not-false, not-true, eqb-true, eq-eqb, ne_eqb}
-use lib.ListN.{length, get_or, set, drop, length-set}
+use Prim.Native.Nat.{◌+◌, ◌-◌, ◌≤◌}
+use mathlib.Core.Path.{◌≡◌}
+use lib.ListN.{length, drop}
 use lib.Dec.{eqb}
-use Rattle.format.specs.Contents.{contents_at, item, no_session}
-use Rattle.format.proofs.ContentsLaws.{sessions_held, nodes_held, none_past}
-use Rattle.format.specs.Stacks.{stacked}
-use Rattle.format.proofs.StackLaws.{stacked_more, read_none, read_top}
-use Rattle.format.specs.declared.Session.{Session}
+use Rattle.format.specs.Contents.{contents_at}
 use Rattle.trees.specs.Shape.{shape_answer}
-use Rattle.trees.proofs.SoundLaws.{waiting, unpack, held, held_push, accepts, waits, waits_push, on_end, off_fields, off_none, off_number, on_fork, off_fork, on_other, off_other, has_room, on_last}
-use Rattle.trees.proofs.SoundExact.{look_exact}
+use Rattle.trees.proofs.SoundLaws.{held, accepts, waits}
 use Rattle.trees.proofs.sound.sound_by.Given as goal
 
 abbrev pub invariant-loop-depth : goal.invariant-loop-depth
