@@ -1,6 +1,7 @@
 // The engine's public face: one function for each thing that a caller asks, exported for C and Rust. A lent slice of bytes is a
 // pointer and a length there.
 #![tactic(auto)]
+
 mod choosing;
 mod starting;
 mod walk;
