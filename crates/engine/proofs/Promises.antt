@@ -32,7 +32,7 @@ use Rattle.reading_exact.specs.File.{InCount, roles_of, File, WellFormed, as_sec
 use Rattle.reading_exact.specs.ByWords.{CountedByWords, ByWords}
 use Rattle.reading_exact.specs.Order.{OfFile, First}
 use Rattle.reading_exact.specs.Refusals.{OneChild, length_of, Refusable, reading_order}
-use Rattle.checking.specs.Check.{reading_names, checking}
+use Rattle.checking.specs.Check.{reading_names, checking, entered}
 use Rattle.checking_exact.specs.Tables.{schema_for}
 use Rattle.checking_exact.specs.Typing.{WellKinded, ByRoles, Obeys}
 use Rattle.checking_exact.specs.Faults.{Nameless, Objection, check_order}
@@ -60,7 +60,7 @@ use Rattle.lending_exact.specs.Waiting.{waiting_in}
 use Rattle.lending_exact.proofs.WaitingCounts.{rule_one}
 use Rattle.lending_exact.proofs.RunTotals.{kept_totals, totals_answered, totals_unlisted, totals_unread, total_read_off, no_total}
 use Rattle.lending_exact.proofs.TotalCases.{ward, two_wait, one_is_met}
-use Rattle.steps.specs.Choice.{Clinic, clinic_of, State, thread_at, choice, halts, goes}
+use Rattle.steps.specs.Choice.{Clinic, clinic_of, State, thread_at, choice, halts, goes, done, outcome}
 use Rattle.choices.specs.Choices.{start, run, ran_of}
 use Rattle.naming.specs.Scopes.{awaits}
 use Rattle.rules.specs.Names.{kind_of}
@@ -74,7 +74,7 @@ use Rattle.running_exact.specs.Runs.{Seated, Refuses, Unlisted, Unfit, Listed, F
 use Rattle.running_exact.specs.Output.{Written}
 use Rattle.running_exact.specs.RunCases.{RunShown, run_cases}
 use Rattle.running_exact.specs.Keeps.{Reaches, Kept}
-use Rattle.lending.specs.Lent.{state_of, lending, choosing, records_over, beside_over}
+use Rattle.lending.specs.Lent.{state_of, lending, choosing, records_over, beside_over, chosen_answer}
 use Rattle.lending.specs.Starting.{starting, records_started, beside_started}
 use Rattle.lending_exact.specs.Lendable.{Lendable, Eight, Lends, in_turn}
 use Rattle.lending_exact.specs.LendCases.{LendShown, lend_cases}
@@ -258,6 +258,13 @@ use Rattle.sheets_exact.proofs.FilesLaws.{some_files, one_split}
 use Rattle.sheets_exact.proofs.Orders.{orders, orders_of_records, one_exchanged}
 use Rattle.sheets_exact.proofs.SheetOwed.{sheet_says, refused_alone, number_counted}
 use Rattle.sheets_exact.proofs.SheetsShown.{sheets_shown}
+use Rattle.format.specs.declared.Head.{Head}
+use Rattle.format.specs.declared.HeadAnswer.TheVariants.{Fine as Head-Fine}
+use Rattle.reading.specs.declared.Opened.TheVariants.{Fine as Opened-Fine}
+use Rattle.turning_exact.proofs.HeadCauses.{head_answered}
+use Rattle.lending_exact.proofs.AnswersByCase.{way_in, choice_answered}
+use Rattle.lending.specs.Walk.{verdict_of, answer_of}
+use Rattle.steps.specs.Acted.{acted_of, outcome_of}
 
 -- "The check passes a file exactly when it obeys the format and the role and channel rules": for all bytes, none of 1 to 13 is refused exactly when they read as a
 -- well formed file in which every session's tree is well typed.
@@ -347,6 +354,16 @@ first_of_names = names_first
 
 pub first_in_order : (f : List ℕ) → First reading_order (Refusable f) (reading f)
 first_in_order = first_refusal
+
+-- "Where the answer is an enum, there is a definition that gives this paper's number and values for each of its cases": of a head 1 to 5 at place 0, or
+-- the file's head (`head_number`); of the way in 1 to 10, or the file's head (`verdict_of`); of a choice it is `choice_by_case`.
+pub head_by_case : (f : List ℕ) → (head_number (head_of f) ≤ 5) × (head_number (head_of f) ≢ 0 → reading f ≡ refused (head_number (head_of f)) 0)
+    × ((h : Head) → head_of f ≡ Head-Fine h → h ≡ head_at f)
+head_by_case = head_answered
+
+pub way_in_by_case : (f : List ℕ) → (verdict_of (entered f) ≡ reading_names f) × ((h : Head) → entered f ≡ Opened-Fine h → h ≡ head_at f)
+    × (reading_names f ≡ fine → entered f ≡ Opened-Fine (head_at f))
+way_in_by_case = way_in
 
 -- A program that keeps only the start of a long input, never more than two bytes more than the largest file has, answers for the whole of it, whoever asks.
 pub long_input : (f : List ℕ) → Alike (take (enough (length f)) f) f
@@ -661,6 +678,12 @@ file_first = ten_first
 pub choice_has_place_one : (f : List ℕ) (l : List Thread) (b : List ℕ) (i p n : ℕ) → 10 < n → n ≢ 21
     → (choosing f l b i p ≡ refused n 1) ↔ ((lending f l b ≡ fine) × (choice (clinic_of (contents_of f)) (state_of l b) i p ≡ halts n))
 choice_has_place_one = past_ten_one
+
+-- "Where the answer is an enum ..": of a choice its refusal, at that place (`answer_of`), or the state after it (`outcome_of`).
+pub choice_by_case : (C : Clinic) (s : State) (i p : ℕ)
+    → (answer_of (acted_of (outcome C s i p)).answer ≡ chosen_answer (choice C s i p))
+    × (done s i p (outcome_of (acted_of (outcome C s i p))) ≡ choice C s i p)
+choice_by_case = choice_answered
 
 -- In any list that may be lent, state of a run or not, a choice is answered 0 exactly where it is done in the state that is lent.
 pub lent_choice_exactly : (f : List ℕ) (l : List Thread) (b : List ℕ) (i p : ℕ)

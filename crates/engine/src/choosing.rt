@@ -1,4 +1,4 @@
-// One choice in the lent list of threads. Proved by hand.
+// One choice in the lent list of threads.
 ghost use Rattle.std.specs.Prelude.{◌≡◌, length};
 ghost use Rattle.format.specs.Header.{Laid};
 ghost use Rattle.format.specs.Contents.{contents_at};

@@ -1,4 +1,4 @@
-// The lent list of threads as a file starts, record by record. Proved by hand.
+// The lent list of threads as a file starts, record by record.
 ghost use Rattle.std.specs.Prelude.{◌≡◌, ◌≤◌, ◌<◌, length};
 ghost use Rattle.std.proofs.Math.Seq.{paste};
 ghost use Rattle.format.specs.Header.{Laid};

@@ -1,4 +1,4 @@
-// The lent list of threads, record by record: each judged by value, and what a choice changes stored in place. These functions are proved by hand.
+// The lent list of threads, record by record: each judged by value, and what a choice changes stored in place.
 ghost use Rattle.std.specs.Prelude.{◌≡◌, ◌≤◌, ◌<◌, length};
 ghost use Rattle.format.specs.Header.{Laid};
 ghost use Rattle.format.specs.Contents.{contents_at};

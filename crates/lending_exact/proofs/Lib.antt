@@ -1,3 +1,4 @@
+pub mod AnswersByCase
 pub mod WaitingCounts
 pub mod LentAnswers
 pub mod LendableLaws

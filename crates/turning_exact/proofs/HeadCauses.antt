@@ -1,7 +1,7 @@
 -- The refusals 1 to 5 of a head are the first of what objects to it.
 use Prim.Native.Nat.{ℕ, ◌*◌, ◌%◌, ◌≤◌}
-use mathlib.Core.Path.{◌≡◌, sym, ap, subst, ◌∙◌}
-use mathlib.Core.Logic.{inl, inr}
+use mathlib.Core.Path.{◌≡◌, refl, sym, ap, subst, ◌∙◌}
+use mathlib.Core.Logic.{inl, inr, ◌≢◌}
 use mathlib.Core.Bool.{Bool, true, false, cond}
 use mathlib.Core.List.{List}
 use native.Mathlib.Omega.{arith}
@@ -11,11 +11,13 @@ use borrow.Author.Tests.{ne_eqb}
 use Rattle.format.specs.Words.{word_at}
 use Rattle.format.specs.Answers.{refused}
 use Rattle.format.specs.Header.{is_version, more, six_at, offsets_at, head_in, as_read, head_at, version_at, head_bytes, counts_fit, offsets_fit, length_fits, Laid, from1, from2, from3, from4, from5, head_of}
+use Rattle.format.specs.declared.Head.{Head}
 use Rattle.format.specs.declared.HeadAnswer.{HeadAnswer}
 use Rattle.format.specs.declared.HeadAnswer.TheVariants.{Fine, Refused}
-use Rattle.format.proofs.HeadLaws.{juniors_iff, IsVersion, Headed, head_number_lem}
+use Rattle.format.proofs.HeadLaws.{juniors_iff, IsVersion, Headed, headed, head_number_lem}
 use Rattle.reading.specs.Reading.{reading}
 use Rattle.reading.proofs.ReadingLaws.{refused_by_head}
+use Rattle.turning.specs.Turning.{head_number}
 use Rattle.reading_exact.specs.Order.{in_turn, Sooner, First}
 use Rattle.reading_exact.specs.Refusals.{Refusable, short, short_second, odd, version, count, offset, size, misnamed, misranked, unassigned, misshapen, reading_order}
 use Rattle.reading_exact.proofs.FirstLaws.{number_of}
@@ -90,3 +92,16 @@ module _ (f : List ℕ) where
   head_clean d n p few (misranked a m) = omega (arith, a, few)
   head_clean d n p few (unassigned a m) = omega (arith, a, few)
   head_clean d n p few (misshapen a m) = omega (arith, a, few)
+
+-- a head as code hands it back (`HeadAnswer`), by the number and the values of each case
+pub head_answered : (f : List ℕ) → (head_number (head_of f) ≤ 5) × (head_number (head_of f) ≢ 0 → reading f ≡ refused (head_number (head_of f)) 0)
+    × ((h : Head) → head_of f ≡ Fine h → h ≡ head_at f)
+head_answered f = (small (head_of f) refl, go (head_of f) refl, λ h e. (headed f h e).1)
+  where
+    small : (a : HeadAnswer) → head_of f ≡ a → head_number a ≤ 5
+    small (Fine h) e = omega arith
+    small (Refused n) e = head_few f n e
+
+    go : (a : HeadAnswer) → head_of f ≡ a → head_number a ≢ 0 → reading f ≡ refused (head_number a) 0
+    go (Fine h) e some = absurd (some refl)
+    go (Refused n) e some = refused_by_head f n e
