@@ -1,5 +1,5 @@
 -- What is kept of a long input, as many bytes of it as `enough` says, is answered as the whole is, to every caller.
-use Prim.Native.Nat.{ℕ, ◌<◌}
+use Prim.Native.Nat.{ℕ}
 use mathlib.Core.Path.{◌≡◌, refl, sym, subst}
 use mathlib.Core.Bool.{Bool, true, false}
 use mathlib.Core.List.{List}

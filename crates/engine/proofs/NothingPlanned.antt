@@ -1,5 +1,5 @@
 -- A clinic with nothing planned (02, K7): zero bytes have every answer of the 26 bytes that they read as, and these answers in numbers; fewer bytes than a head has are refused.
-use Prim.Native.Nat.{ℕ, zero, suc, ◌+◌, ◌≤◌, ◌<◌}
+use Prim.Native.Nat.{ℕ, zero, suc, ◌≤◌, ◌<◌}
 use mathlib.Core.Path.{◌≡◌, refl, sym, ap, ◌∙◌}
 use mathlib.Core.Logic.{inl, inr}
 use mathlib.Core.Bool.{false}

@@ -1,4 +1,4 @@
-use Rattle.std.proofs.Common.{◌∙◌, refl, rules}
+use Rattle.std.proofs.Common.{◌∙◌, refl}
 use Rattle.engine.proofs.StartLaws.{refusal_started, may_start, records_started_lem}
 use Rattle.engine.proofs.pilzdamo_start.Goals as goal
 

@@ -1,4 +1,4 @@
-use Rattle.std.proofs.Common.{◌≡◌, ◌≤◌, ◌<◌, ℕ, List, arith, length}
+use Rattle.std.proofs.Common.{◌<◌, List, arith, length}
 use Rattle.format.specs.Contents.{contents_at}
 use Rattle.steps.specs.Threads.{no_thread}
 use Rattle.steps.specs.declared.Thread.{Thread}

@@ -1,4 +1,4 @@
-use Rattle.std.proofs.Common.{◌≡◌, ◌≤◌, ◌<◌, ◌∙◌, refl, sym, ap, ℕ, List, arith, length, take, drop}
+use Rattle.std.proofs.Common.{◌≡◌, ◌≤◌, ◌∙◌, refl, sym, ap, arith, length, take}
 use Rattle.std.proofs.lemmas.List.{get_or_default}
 use Rattle.format.specs.Contents.{Contents, contents_at}
 use Rattle.steps.specs.Beside.{made_of}
