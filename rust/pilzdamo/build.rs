@@ -16,7 +16,7 @@ fn main() {
     let archive = folder.join("libengine.a");
     if !archive.is_file() {
         eprintln!("{} isn't there.", archive.display());
-        eprintln!("Build it with `rt staticlib engine` at the root of the project,");
+        eprintln!("Build it with `./staticlib` at the root of the project,");
         eprintln!("or name its folder in PILZDAMO_LIB.");
         std::process::exit(1);
     }

@@ -1,8 +1,8 @@
 /*
  * Pilzdamo, the proved engine for hospital-bed routines, for C and C++.
  *
- * Link with libengine.a, which `rt staticlib engine` writes to target/staticlib. It
- * calls memcpy and memset and nothing else.
+ * Link with libengine.a, which `./staticlib` writes to target/staticlib. It calls
+ * memcpy and memset and nothing else.
  *
  * The caller must provide valid memory, and nothing more:
  *

@@ -125,21 +125,87 @@ fn every_promise_is_listed_once() {
     assert!(twice.is_empty(), "listed more than once: {twice:?}");
 }
 
+/// Whether what stands between backticks is a name of several words: of a promise, a definition or an exported function.
+fn is_name(quoted: &str) -> bool {
+    let plain = |byte: u8| byte.is_ascii_lowercase() || byte.is_ascii_digit();
+    let is_word = |part: &str| !part.is_empty() && part.bytes().all(plain);
+    quoted.contains(['_', '-']) && quoted.split(['_', '-']).all(is_word)
+}
+
+/// The names that the crates' `specs` define.
+fn definitions() -> BTreeSet<String> {
+    let mut there = BTreeSet::new();
+    for (name, _) in crates() {
+        let folder = root().join("crates").join(name).join("specs");
+        let Ok(entries) = std::fs::read_dir(folder) else {
+            continue;
+        };
+        for entry in entries {
+            let file = std::fs::read_to_string(entry.expect("an entry").path()).expect("a file");
+            there.extend(file.lines().filter_map(defined).map(str::to_string));
+        }
+    }
+    there
+}
+
+/// The names of the exported functions, each with its contract.
+fn exported() -> BTreeMap<String, String> {
+    let source = text("crates/engine/src/lib.rt");
+    let mut exported = BTreeMap::new();
+    for part in source.split("pub extern \"C\" fn ").skip(1) {
+        let (name, _) = part.split_once('(').expect("a parameter list");
+        let (_, contract) = part.split_once("ensures").expect("a contract");
+        let (contract, _) = contract.split_once("\n{").expect("a body");
+        exported.insert(name.to_string(), contract.to_string());
+    }
+    exported
+}
+
+/// Where the pages name no definition, each name of several words is a promise or an exported function.
 #[test]
 fn every_theorem_named_exists() {
     let there: BTreeSet<String> = promises().into_iter().collect();
-    let plain = |byte: u8| byte.is_ascii_lowercase() || byte.is_ascii_digit();
-    let is_theorem = |name: &&str| {
-        name.contains('-')
-            && name
-                .split('-')
-                .all(|part| !part.is_empty() && part.bytes().all(plain))
-    };
-    for page in ["docs/PROMISES.md", "docs/SPECIFICATION.md"] {
-        for name in quoted(&text(page)).into_iter().filter(is_theorem) {
-            assert!(there.contains(name), "{page}: no promise {name}");
+    let exported = exported();
+    let promised = text("docs/PROMISES.md");
+    let answers = below(&promised, "## What each function answers");
+    let (_, pinned) = promised
+        .split_once("\n| definitions | pinned by |\n")
+        .expect("the table of definitions");
+    let (pinned, _) = pinned.split_once("\n\n").expect("its end");
+    let without = promised.replacen(answers, "", 1).replacen(pinned, "", 1);
+    let mut named: Vec<(&str, &str)> = Vec::new();
+    for name in quoted(&without) {
+        named.push(("docs/PROMISES.md", name));
+    }
+    let definitions = definitions();
+    for row in pinned.lines().skip(1) {
+        let (first, second) = row
+            .trim_matches('|')
+            .split_once('|')
+            .expect("a row of two cells");
+        for name in quoted(first) {
+            assert!(definitions.contains(name), "{row}: no definition {name}");
+        }
+        for name in quoted(second) {
+            assert!(there.contains(name), "{row}: no promise {name}");
         }
     }
+    let specification = text("docs/SPECIFICATION.md");
+    let (body, _) = specification
+        .split_once("\n## Map of clauses\n")
+        .expect("a map");
+    for name in quoted(body) {
+        named.push(("docs/SPECIFICATION.md", name));
+    }
+    let mut tried = 0;
+    for (page, name) in named.into_iter().filter(|(_, name)| is_name(name)) {
+        assert!(
+            there.contains(name) || exported.contains_key(name),
+            "{page}: no promise {name}"
+        );
+        tried += 1;
+    }
+    assert!(tried > there.len(), "{tried}");
 }
 
 #[test]
@@ -169,14 +235,7 @@ fn promises_cite_clauses_that_are_there() {
 
 #[test]
 fn every_exported_function_is_listed() {
-    let source = text("crates/engine/src/lib.rt");
-    let mut exported = BTreeMap::new();
-    for part in source.split("pub extern \"C\" fn ").skip(1) {
-        let (name, _) = part.split_once('(').expect("a parameter list");
-        let (_, contract) = part.split_once("ensures").expect("a contract");
-        let (contract, _) = contract.split_once("\n{").expect("a body");
-        exported.insert(name.to_string(), contract.to_string());
-    }
+    let exported = exported();
     let page = text("docs/PROMISES.md");
     let mut listed = BTreeSet::new();
     for row in rows(below(&page, "## What each function answers")) {
@@ -222,16 +281,19 @@ fn every_clause_is_mapped() {
     assert!(missing.is_empty(), "the map lacks {missing:?}");
 }
 
+/// The name that a line of a file of definitions defines.
+fn defined(line: &str) -> Option<&str> {
+    let mut words = line.split_whitespace().peekable();
+    while words
+        .next_if(|word| ["abbrev", "unfoldable", "pub", "data", "record"].contains(word))
+        .is_some()
+    {}
+    words.next().filter(|_| line.contains("pub "))
+}
+
 /// Whether a file of definitions defines a name.
 fn defines(definitions: &str, name: &str) -> bool {
-    definitions.lines().any(|line| {
-        let mut words = line.split_whitespace().peekable();
-        while words
-            .next_if(|word| ["abbrev", "unfoldable", "pub", "data", "record"].contains(word))
-            .is_some()
-        {}
-        line.contains("pub ") && words.next() == Some(name)
-    })
+    definitions.lines().any(|line| defined(line) == Some(name))
 }
 
 #[test]
@@ -291,7 +353,9 @@ fn decisions_cited_are_there() {
 fn crates() -> Vec<(String, BTreeSet<String>)> {
     let list = text("crates.txt");
     let line = |line: &str| {
-        let (name, used) = line.split_once(':').expect("a crate and what it uses");
+        let (head, used) = line.split_once(':').expect("a crate and what it uses");
+        let (name, kind) = head.split_once(' ').unwrap_or((head, ""));
+        assert!(["", "staticlib"].contains(&kind), "{line}");
         (
             name.to_string(),
             used.split_whitespace().map(str::to_string).collect(),

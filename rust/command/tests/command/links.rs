@@ -12,7 +12,9 @@ fn files(folder: &Path) -> Vec<PathBuf> {
     for entry in fs::read_dir(folder).expect("a folder") {
         let path = entry.expect("an entry").path();
         let name = path.file_name().unwrap_or_default();
-        if path.is_dir() && name != "target" && name != ".git" {
+        let is_of_crates = folder.parent().is_some_and(|it| it.ends_with("crates"));
+        let is_built = name == "target" || (name == "out" && is_of_crates);
+        if path.is_dir() && !is_built && name != ".git" {
             found.extend(files(&path));
         } else if path.is_file() {
             found.push(path);
@@ -73,7 +75,9 @@ fn named(text: &str) -> impl Iterator<Item = &str> {
 fn in_sources_help_and_the_man_page() {
     let root = repository(".").canonicalize().expect("a folder");
     let mut sources = files(&root.join("rust"));
-    sources.extend(["pilzdamo", "test", "bench", "docs/pilzdamo.1"].map(|name| root.join(name)));
+    sources.extend(
+        ["pilzdamo", "staticlib", "test", "bench", "docs/pilzdamo.1"].map(|name| root.join(name)),
+    );
     let mut tried = 0;
     for path in sources {
         let Ok(text) = fs::read_to_string(&path) else {

@@ -11,26 +11,29 @@ use std::time::Duration;
 
 /// Says what rt says when it proves and tests, and writes a library if asked to.
 pub const RT: &str = "#!/bin/sh
-if [ \"$1 $2\" = 'check engine' ]; then
-    echo called >>rt.calls
-    echo 'fn masks::with: proved'
-    echo 'rt: masks proved (3 s)' >&2
-    echo 'rt: engine proved (9 s)' >&2
-    echo 'rt: ok, 2 crates proved'
-    exit
-fi
-if [ \"$1\" = ci ]; then
+if [ \"$*\" = ci ]; then
+    echo 'rt: masks proved'
+    echo 'rt: ok; handles allowed: none; must-fail edits: 3 refused; every proof and must-fail edit was done in this run'
     echo '5 passed, 0 failed'
     exit
 fi
-[ \"$1 $2\" = 'staticlib engine' ] || exit 2
-mkdir -p target/staticlib
-echo engine >target/staticlib/libengine.a
-echo 'rt: target/staticlib/libengine.a has the functions of engine'
+[ \"$*\" = lib ] && [ -f src/lib.rt ] || exit 2
+echo called >>../../rt.calls
+for crate in masks engine; do
+    echo \"rt: chose --jobs 2 for $crate\"
+    echo \"fn $crate::with: proved\"
+    echo 'rt: rt check --fix-imports removes those imports'
+    echo \"crate $crate: modules loaded=2 checked=1\"
+    echo 'logic=proved functions=1'
+done
+mkdir -p out
+echo engine >out/libengine.a
 ";
 
 const RT_FAILS: &str = "#!/bin/sh
-echo 'rt: masks NOT PROVED (exit 1, 3 s)' >&2
+echo 'crate masks: modules loaded=2 checked=1'
+echo 'logic=not-proved'
+echo 'rt: the library masks did not build, so nothing above it was checked' >&2
 exit 1
 ";
 
@@ -82,8 +85,9 @@ impl Place {
         for file in files {
             place.write(file, "");
         }
-        place.write("crates.txt", "masks:\nengine: masks\n");
+        place.write("crates.txt", "masks:\nengine staticlib: masks\n");
         place.copy("pilzdamo");
+        place.copy("staticlib");
         place.copy("rust/Cargo.toml");
         place.copy("docs/pilzdamo.1");
         for page in ["GUIDE", "CLI", "FORMAT", "JSON"] {
@@ -199,9 +203,8 @@ fn builds_once_and_is_silent_then() {
     let lines: Vec<&str> = first.err.lines().collect();
     assert!(lines[0].starts_with("pilzdamo: proving and building the engine: "));
     let due_lines = [
-        "pilzdamo: crate 1 of 2: masks proved (3 s)",
-        "pilzdamo: crate 2 of 2: engine proved (9 s)",
-        "pilzdamo: writing the engine's library",
+        "pilzdamo: crate 1 of 2: masks proved",
+        "pilzdamo: crate 2 of 2: engine proved",
         "pilzdamo: building the command: up to a minute",
         "   Compiling command",
     ];
@@ -284,7 +287,9 @@ fn a_build_that_fails() {
     let due = ["the engine could not be proved", "pilzdamo.log"];
     fails(&place, false, &due);
     let err = place.call(&["check", "a"]).err;
-    assert!(err.contains("masks NOT PROVED"), "{err}");
+    let due = "\npilzdamo: crate 1 of 2: masks NOT PROVED\n\
+               pilzdamo: the library masks did not build, so nothing above it was checked\n";
+    assert!(err.contains(due), "{err}");
     let place = Place::new("cargo fails").with(&[("rt", RT), ("cargo", "#!/bin/sh\nexit 101\n")]);
     fails(&place, false, &["the command could not be built"]);
     let place = Place::new("no library").with(&[("rt", "#!/bin/sh\n"), ("cargo", CARGO)]);

@@ -1,4 +1,4 @@
-//! Running a program of `target/bin`.
+//! Running a program that rt built: `crates/NAME/out/NAME`, as the gate leaves it.
 
 use second::draft::Draft;
 use std::ffi::OsStr;
@@ -15,11 +15,11 @@ impl Program {
     /// The program with this standard input, not yet started.
     fn with(&self, input: Stdio) -> Command {
         let name = self.0;
-        let folder = Path::new(env!("CARGO_MANIFEST_DIR")).join("../../target/bin");
-        let path = folder.join(name);
+        let folder = Path::new(env!("CARGO_MANIFEST_DIR")).join("../../crates");
+        let path = folder.join(format!("{name}/out/{name}"));
         assert!(
             path.is_file(),
-            "{} isn't there. Build it with `rt check {name}` at the root of the project.",
+            "{} isn't there. Build it with `rt run` in crates/{name}, or with `rt ci`.",
             path.display()
         );
         let mut command = Command::new(path);
