@@ -480,8 +480,8 @@ choice_is_a_step = agree
 pub operands_stand_for : (t : Thread) (x : ℕ) → (x < 512 → value t x ≡ x) × ((i : ℕ) → value t (512 + i) ≡ get_or t.vars i 0)
 operands_stand_for = stands_for
 
-pub one-step : (C : Clinic) (s : State) (i p : ℕ) (s' s'' : State) → Steps C s i p s' → Steps C s i p s'' → s' ≡ s''
-one-step = one_result
+pub one_step : (C : Clinic) (s : State) (i p : ℕ) (s' s'' : State) → Steps C s i p s' → Steps C s i p s'' → s' ≡ s''
+one_step = one_result
 
 pub refused_in_order : (C : Clinic) (s : State) (i p n : ℕ) → (choice C s i p ≡ halts n) ↔ FirstRefusal C s i p n
 refused_in_order = refused_first
@@ -1295,8 +1295,8 @@ pub joins_once_at_the_end : (L : Limited) (S : SeatedState) (i p : ℕ) (S' : Se
 joins_once_at_the_end = waits_joins
 
 -- .. and to be in line is to be one of the line's sessions.
-pub in-line-is-membership : (k : ℕ) (l : List ℕ) → (in_line k l ≡ true) ↔ In k l
-in-line-is-membership = in-line-member
+pub in_line_is_membership : (k : ℕ) (l : List ℕ) → (in_line k l ≡ true) ↔ In k l
+in_line_is_membership = in-line-member
 
 -- "This answer does not stop the run and is not its refusal word: the choice counts as done, is no step of demand 2, and only the line changes": the state, the threads' sessions and every other line stay.
 pub only_the_line_changes : (L : Limited) (S : SeatedState) (i p : ℕ) (S' : SeatedState) → seated_choice L S i p ≡ waits S'
@@ -1753,8 +1753,8 @@ column_cases_lem = columned
 
 -- Request K12, the plan in force. "A notice is one word with the first day of validity (days since 1 January 2000), one word with the file's length in bytes, then the file, checked for 1 to 10 only. Of two lent notices and a day, the one with the later
 -- first day not after that day supersedes; with equal first days, the second": what is answered is what the request's words say (`Answers` of notices_exact), and nothing else.
-pub in-force-answers : (f g : List ℕ) (day : ℕ) (r : InForce) → Notice-as-Answers f g day r ↔ (r ≡ plan_in_force f g day)
-in-force-answers f g day r = (one_answer f g day r, λ e. subst (Notice-as-Answers f g day) (sym e) (notices-answered f g day))
+pub in_force_answers : (f g : List ℕ) (day : ℕ) (r : InForce) → Notice-as-Answers f g day r ↔ (r ≡ plan_in_force f g day)
+in_force_answers f g day r = (one_answer f g day r, λ e. subst (Notice-as-Answers f g day) (sym e) (notices-answered f g day))
 
 -- "27, a notice under 4 bytes, or whose length word is not the number of bytes after it, or whose file is refused, place 1 or 2 .., the lower first, before anything else" ..
 pub first_notice_refused : (f g : List ℕ) (day : ℕ) → (plan_in_force f g day ≡ record { number = 27; place = 1; notice = 1; at = 0; length = 0 }) ↔ Unsound f
@@ -1935,9 +1935,9 @@ pub parts_are_the_whole : (f seats states places next : List ℕ) (P : Part) (Ps
 parts_are_the_whole = chain_is_whole
 
 -- And where the whole is fine each part is, from any row to any later one, with the words of the choices that are done in its rows.
-pub the-whole-has-parts : (f seats states places next : List ℕ) → closing f seats states places next ≡ closed_fine → (j k : ℕ) → j < k → k ≤ length places
+pub the_whole_has_parts : (f seats states places next : List ℕ) → closing f seats states places next ≡ closed_fine → (j k : ℕ) → j < k → k ≤ length places
     → closing_part f seats states places next (part_between (certificate_of (contents_of f) seats states places next) j k) ≡ closed_fine
-the-whole-has-parts = whole_has_part
+the_whole_has_parts = whole_has_part
 
 -- In literal words: a certificate in two parts; parts whose words end elsewhere, with a row that isn't known or isn't in order, refused at their rows.
 pub parts_in_words : All PartShown part_cases
