@@ -1,8 +1,8 @@
 -- A choice leaves each thread its eight variables, and at most 64 threads and 64 made channels.
 use Prim.Native.Nat.{ℕ, zero, suc, ◌+◌, ◌-◌, ◌≤◌, ◌<◌}
-use mathlib.Core.Path.{◌≡◌, refl, sym, ap, ◌∙◌, subst}
+use mathlib.Core.Path.{◌≡◌, refl, ◌∙◌}
 use mathlib.Core.Bool.{Bool, true, false, cond, not, ◌&&◌}
-use mathlib.Core.List.{List, [], ◌∷◌, ◌++◌}
+use mathlib.Core.List.{List, [], ◌∷◌}
 use native.Mathlib.Omega.{arith}
 use lib.Dec.{eqb, leb, ltb}
 use lib.ListN.{length, get_or, set, take, drop, length-append, length-set, length-take, length-drop}
@@ -20,10 +20,10 @@ use Rattle.steps.specs.declared.Partner.TheVariants.{Alone, With, Missing}
 use Rattle.steps.specs.declared.Outcome.{Outcome}
 use Rattle.steps.specs.declared.Outcome.TheVariants.{Refused, Moves, Adds, Makes, Ends, Meets}
 use Rattle.steps.specs.Threads.{no_thread, value, moved_to, onward, masked, bound, first_free}
-use Rattle.steps.specs.Choice.{Clinic, State, Chosen, halts, goes, thread_at, partner_at, is_allowed, meeting, sending, lone, alone_only, acting, done, outcome, choice, changed, added, with_made, removed}
+use Rattle.steps.specs.Choice.{Clinic, State, Chosen, halts, goes, thread_at, partner_at, is_allowed, meeting, sending, lone, alone_only, acting, done, outcome, choice}
 use Rattle.running_exact.proofs.OutputWords.{Eight}
 use Rattle.running_exact.proofs.ThreadLists.{all_set}
-use Rattle.rounds.specs.Round.{Taken, refuses, waits, steps}
+use Rattle.rounds.specs.Round.{waits}
 use Rattle.seats.specs.Seats.{Limited, SeatedState, seated_choice, seated_by, asks_seat, gets_seat, stand_in_line, owners_by, thread_node, lines_left}
 use Rattle.schedules.specs.Tables.{LeadsTo}
 

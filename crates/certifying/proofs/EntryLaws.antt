@@ -1,16 +1,16 @@
 -- What each way through the entry answers.
+use Rattle.std.specs.Prelude.{Option, Some, None, Ok, Err}
 use Prim.Native.Nat.{ℕ, ◌≤◌, ◌<◌}
-use mathlib.Core.Path.{◌≡◌, refl, sym, ap, ap₂, ◌∙◌}
-use mathlib.Core.Bool.{Bool, true, false, cond, ◌&&◌, ◌||◌, and-eq-true_iff}
+use mathlib.Core.Path.{◌≡◌, sym, ap, ap₂, ◌∙◌}
+use mathlib.Core.Bool.{Bool, true, false, cond, ◌||◌, and-eq-true_iff}
 use mathlib.Core.List.{List, []}
 use lib.Dec.{eqb, leb, ltb}
 use lib.ListN.{length, get_or}
 use borrow.Author.Tests.{eq-eqb, ne_eqb, ltb-true, leb-true}
-use Rattle.format.specs.Answers.{fine, refused}
+use Rattle.format.specs.Answers.{refused}
 use Rattle.format.specs.declared.Head.{Head}
 use Rattle.format.specs.declared.Verdict.{Verdict}
 use Rattle.format.specs.Contents.{Contents, contents_at, contents_of}
-use Rattle.reading.specs.declared.Opened.TheVariants.{Fine, Refused}
 use Rattle.checking.specs.Check.{reading_names, entered}
 use Rattle.checking.proofs.CheckLaws.{entered_fine, entered_refused}
 use Rattle.running.specs.Run.{unready}
@@ -22,11 +22,9 @@ use Rattle.seated.specs.SeatedTables.{seated_in}
 use Rattle.rows.specs.Rows.{row_words, stands_at}
 use Rattle.certifying.specs.declared.Closing.{Closing}
 use Rattle.certifying.specs.declared.Part.{Part}
-use Rattle.certifying.specs.declared.Asked.{Asked}
-use Rattle.certifying.specs.declared.Asked.TheVariants.{All, Only}
-use Rattle.certifying.specs.Certificate.{Certificate, certificate_of, is_row, rows_tried, search_begins, row_at_fault, closed_by, fault_at, some_rows, after_seats, after_reading}
+use Rattle.certifying.specs.Certificate.{Certificate, certificate_of, is_row, row_at_fault, closed_by, fault_at, some_rows, after_seats, after_reading}
 use Rattle.certifying.specs.Kept.{KnownRows}
-use Rattle.certifying.specs.Parts.{part_tried, search_at, part_at_fault, some_part, asked_fits, asked_from, asked_tried, asked_fault}
+use Rattle.certifying.specs.Parts.{part_at_fault, some_part, asked_fits, asked_from, asked_tried, asked_fault}
 use Rattle.certifying.proofs.KnownLaws.{held_state, first-known}
 
 pub some_rows_lem : (n : ℕ) → some_rows n ≡ true → (0 < n) × (n < 4294967295)
@@ -57,9 +55,9 @@ part_of rows words P e =
       worded = leb-true P.end words worded;
     }
 
-pub asked_some : (rows words : ℕ) (a : Asked) → asked_fits rows words a ≡ true → 0 < rows
-asked_some rows words All e = (some_rows_lem rows e).0
-asked_some rows words (Only P) e = (part_of rows words P e).some
+pub asked_some : (rows words : ℕ) (a : Option Part) → asked_fits rows words a ≡ true → 0 < rows
+asked_some rows words None e = (some_rows_lem rows e).0
+asked_some rows words (Some P) e = (part_of rows words P e).some
 
 module _ (C : Contents) (seats states places next : List ℕ) where
   abbrev K : Certificate
@@ -67,7 +65,7 @@ module _ (C : Contents) (seats states places next : List ℕ) where
 
   -- the first row against the start
   module _ (kind : ℕ → ℕ) (b₀ : List ℕ) (r : SeatedWent) (w b os ls : List ℕ) (opened : SeatedThrough kind K.limited (seated_start C) b₀ [] r w b os ls)
-      (a : Asked) (from : ℕ) (its : from ≡ asked_from a) (begun : Bool) (is : begun ≡
+      (a : Option Part) (from : ℕ) (its : from ≡ asked_from a) (begun : Bool) (is : begun ≡
       (ltb 0 from || stands_at states (get_or places 0 0) (row_words (length seats) (seated_in w b os ls)))) where
     is_start : seated_in w b os ls ≡ seated_start C
     unfolding seated_run
@@ -76,10 +74,10 @@ module _ (C : Contents) (seats states places next : List ℕ) where
     first_row : begun ≡ (ltb 0 (asked_from a) || is_row K 0 (seated_start C))
     first_row = is ∙ ap₂ (λ (x : ℕ) (S : SeatedState). ltb 0 x || is_row K 0 S) its is_start
 
-    by_first : (a : Asked) (x : Bool) → x ≡ (ltb 0 (asked_from a) || is_row K 0 (seated_start C)) → cond x (asked_tried K a) 1 ≡ asked_fault K (seated_start C) a
+    by_first : (a : Option Part) (x : Bool) → x ≡ (ltb 0 (asked_from a) || is_row K 0 (seated_start C)) → cond x (asked_tried K a) 1 ≡ asked_fault K (seated_start C) a
     unfolding row_at_fault part_at_fault
-    by_first All x e = ap (λ (y : Bool). cond y (asked_tried K All) 1) e
-    by_first (Only P) x e = ap (λ (y : Bool). cond y (asked_tried K (Only P)) 1) e
+    by_first None x e = ap (λ (y : Bool). cond y (asked_tried K None) 1) e
+    by_first (Some P) x e = ap (λ (y : Bool). cond y (asked_tried K (Some P)) 1) e
 
     pub start_differs : begun ≡ false → 1 ≡ asked_fault K (seated_start C) a
     start_differs e = by_first a false (sym e ∙ first_row)
@@ -87,7 +85,7 @@ module _ (C : Contents) (seats states places next : List ℕ) where
     pub start-same : begun ≡ true → asked_tried K a ≡ asked_fault K (seated_start C) a
     start-same e = by_first a true (sym e ∙ first_row)
 
-    pub start-known : begun ≡ true → length C.sessions ≤ 32 → 0 < length places → a ≡ All → KnownRows K 1
+    pub start-known : begun ≡ true → length C.sessions ≤ 32 → 0 < length places → a ≡ None → KnownRows K 1
     start-known e few some all =
         first-known C seats states places next few (seated_in w b os ls) (held_state K.limited w b os ls opened.kept) some
         (sym (ap (λ (x : ℕ). ltb 0 x || is_row K 0 (seated_in w b os ls)) (its ∙ ap asked_from all)) ∙ sym is ∙ e)
@@ -118,10 +116,10 @@ module _ (f : List ℕ) (b : Bool) (x : Contents → Closing) where
     by_file : after_reading b f (x (contents_of f)) ≡ answered (reading_names f)
     by_file = ap (λ (c : Bool). answered (unready c f)) asked
 
-    pub file_refused : (v : Verdict) → entered f ≡ Refused v → closed_by v ≡ after_reading b f (x (contents_of f))
+    pub file_refused : (v : Verdict) → entered f ≡ Err v → closed_by v ≡ after_reading b f (x (contents_of f))
     file_refused v e =
         let (bad, is) = entered_refused f v e in
         ap closed_by is ∙ sym (by_file ∙ ap (λ (c : Bool). cond c (x (contents_of f)) (closed_by (reading_names f))) (ne_eqb (reading_names f).number 0 bad))
 
-    pub file_fine : (h : Head) → entered f ≡ Fine h → x (contents_at f h) ≡ after_reading b f (x (contents_of f))
+    pub file_fine : (h : Head) → entered f ≡ Ok h → x (contents_at f h) ≡ after_reading b f (x (contents_of f))
     file_fine h e = let (laid, is, clean) = entered_fine f h e in ap (λ (g : Head). x (contents_at f g)) is ∙ sym (by_file ∙ ap answered clean)

@@ -1,6 +1,6 @@
 -- The rows that are known are states in order, and stay so.
 use Prim.Native.Nat.{ℕ, zero, suc, ◌+◌, ◌≤◌, ◌<◌}
-use mathlib.Core.Path.{◌≡◌, refl, sym, ap, ◌∙◌, subst}
+use mathlib.Core.Path.{◌≡◌, refl, sym, ap, subst}
 use mathlib.Core.Bool.{Bool, true, false, cond, ◌&&◌}
 use mathlib.Core.List.{List, [], ◌∷◌}
 use native.Mathlib.Omega.{arith}
@@ -11,7 +11,7 @@ use borrow.Author.Tests.{eqb-true, eqb-false, leb-true, ltb-true}
 use Rattle.format.specs.Contents.{Contents}
 use Rattle.reading_exact.specs.Lists.{All}
 use Rattle.steps.specs.Records.{threads_in}
-use Rattle.steps.specs.Beside.{made_in, thread_count, made_count}
+use Rattle.steps.specs.Beside.{thread_count, made_count}
 use Rattle.steps.proofs.TableLaws.{threads_length}
 use Rattle.running_exact.proofs.OutputWords.{Eight}
 use Rattle.rounds.specs.Round.{Taken, refuses, waits, steps}
@@ -22,8 +22,7 @@ use Rattle.seats.proofs.SeatedKept.{choice_ordered}
 use Rattle.seats.proofs.SeatedRuns.{line_fits}
 use Rattle.seated.specs.SeatedTables.{seated_in, Seated}
 use Rattle.certifying.specs.declared.Search.{Search}
-use Rattle.certifying.specs.declared.Trial.{Trial}
-use Rattle.certifying.specs.declared.Trial.TheVariants.{Fails, Passes}
+use Rattle.std.specs.Prelude.{Option, None, Some}
 use Rattle.rows.specs.Rows.{row_threads, threads_from, RowFits}
 use Rattle.certifying.specs.Certificate.{Certificate, certificate_of, row_place, row_state, is_row, arrives, taken_tried, choice_tried, onward, partners_tried, threads_tried, row_tried, IfPasses}
 use Rattle.certifying.specs.Kept.{KnownRows}
@@ -31,9 +30,9 @@ use Rattle.rows.proofs.StandLaws.{made_length}
 use Rattle.rows.proofs.ReadLaws.{Readable, state_read, state_fits}
 use Rattle.certifying.proofs.ChoiceFits.{Few, choice_eight, choice_few}
 
-if_onward : (P : Search → Type 0) (t : Trial) (go : Search → Trial) → IfPasses t P → ((x : Search) → P x → IfPasses (go x) P) → IfPasses (onward t go) P
-if_onward P Fails go h more = tt
-if_onward P (Passes q) go h more = more q h
+if_onward : (P : Search → Type 0) (t : Option Search) (go : Search → Option Search) → IfPasses t P → ((x : Search) → P x → IfPasses (go x) P) → IfPasses (onward t go) P
+if_onward P None go h more = tt
+if_onward P (Some q) go h more = more q h
 
 -- what each choice of a state keeps, all of them keep
 module _ (K : Certificate) (S : SeatedState) (P : Search → Type 0) (each : (i p : ℕ) (q : Search) → P q → IfPasses (choice_tried K S i p q) P) where
@@ -50,8 +49,8 @@ module _ (K : Certificate) (S : SeatedState) (P : Search → Type 0) (each : (i 
       if_onward P (partners_tried K S i 0 (length S.state.threads + 1) q) (λ x. threads_tried K S (i + 1) n x)
       (partners_keep i 0 (length S.state.threads + 1) q h) (λ x g. threads_keep (i + 1) n x g)
 
-  pub row_keeps : (q q' : Search) → P q → row_tried K S q ≡ Passes q' → P q'
-  row_keeps q q' h e = subst (λ (t : Trial). IfPasses t P) e (threads_keep 1 (length S.state.threads) q h)
+  pub row_keeps : (q q' : Search) → P q → row_tried K S q ≡ Some q' → P q'
+  row_keeps q q' h e = subst (λ (t : Option Search). IfPasses t P) e (threads_keep 1 (length S.state.threads) q h)
 
 -- a choice that leads to the row that is named for it: an earlier one, or the next
 module _ (K : Certificate) (S : SeatedState) (q : Search) (P : Search → Type 0) where
@@ -69,7 +68,7 @@ module _ (K : Certificate) (S : SeatedState) (q : Search) (P : Search → Type 0
     where
       go : (a : Bool) → ltb q.cursor (length K.next) ≡ a → (b : Bool) → leb named q.known ≡ b → (c : Bool) → ltb named (length K.places) ≡ c
           → (d : Bool) → is_row K named S ≡ d → (e : Bool) → eqb named q.known ≡ e
-          → IfPasses (cond (a && (b && (c && d))) (Passes (record { known = cond e (q.known + 1) q.known; cursor = q.cursor + 1 })) Fails) P
+          → IfPasses (cond (a && (b && (c && d))) (Some (record { known = cond e (q.known + 1) q.known; cursor = q.cursor + 1 })) None) P
       go false ea b eb c ec d ed e ee = tt
       go true ea false eb c ec d ed e ee = tt
       go true ea true eb false ec d ed e ee = tt
@@ -185,7 +184,7 @@ module _ (C : Contents) (seats states places next : List ℕ) (sessions : length
   }
 
   -- a known row that passes: rows that are known then are states in order too
-  pub rows-known : (q q' : Search) (j : ℕ) → KnownRows K q.known → j < q.known → row_tried K (row_state K j) q ≡ Passes q' → KnownRows K q'.known
+  pub rows-known : (q q' : Search) (j : ℕ) → KnownRows K q.known → j < q.known → row_tried K (row_state K j) q ≡ Some q' → KnownRows K q'.known
   rows-known q q' j R lt e = row_keeps K (row_state K j) (λ x. KnownRows K x.known) each q q' R e
     where
       arrived : (x : Search) → KnownRows K x.known → (T : SeatedState) → RowState K.limited T
@@ -200,7 +199,7 @@ module _ (C : Contents) (seats states places next : List ℕ) (sessions : length
           (state_after K.limited (row_state K j) (known_state q.known j R lt) i p)
 
 -- a row that passes leaves no row less known
-pub row_grows : (K : Certificate) (S : SeatedState) (q q' : Search) → row_tried K S q ≡ Passes q' → q.known ≤ q'.known
+pub row_grows : (K : Certificate) (S : SeatedState) (q q' : Search) → row_tried K S q ≡ Some q' → q.known ≤ q'.known
 row_grows K S q q' e = row_keeps K S (λ x. q.known ≤ x.known) each q q' (omega arith) e
   where
     anything : (a : Taken SeatedState) → LeadsTo (λ T. Unit {0}) a

@@ -1,6 +1,6 @@
 -- A certificate for all schedules: the states that a search found, where each begins, and for each choice that is done
 -- the number of the state that follows.
-use Rattle.std.specs.Prelude.{ℕ, zero, suc, ◌+◌, Bool, cond, ◌&&◌, List, eqb, leb, ltb, length, get_or}
+use Rattle.std.specs.Prelude.{ℕ, zero, suc, ◌+◌, Bool, cond, ◌&&◌, List, eqb, leb, ltb, length, get_or, Option, None, Some}
 use Rattle.format.specs.declared.Verdict.{Verdict}
 use Rattle.format.specs.Contents.{Contents, contents_of}
 use Rattle.rounds.specs.Round.{Taken, refuses, waits, steps}
@@ -9,8 +9,6 @@ use Rattle.running.specs.Run.{unready}
 use Rattle.seated.specs.SeatedEntry.{seats_bar}
 use Rattle.certifying.specs.declared.Closing.{Closing}
 use Rattle.certifying.specs.declared.Search.{Search}
-use Rattle.certifying.specs.declared.Trial.{Trial}
-use Rattle.certifying.specs.declared.Trial.TheVariants.{Fails, Passes}
 use Rattle.rows.specs.Rows.{row_words, stands_at, seated_at}
 
 pub record Certificate : Type 0 where
@@ -42,47 +40,47 @@ is_row K k S = stands_at K.states (row_place K k) (row_words K.roles S)
 
 -- A choice leads to a state: the word at the cursor is the number of a known row, or of the first that isn't known yet,
 -- and the row has the state's words.
-unfoldable pub arrives : ℕ → List ℕ → List ℕ → List ℕ → SeatedState → Search → Trial
+unfoldable pub arrives : ℕ → List ℕ → List ℕ → List ℕ → SeatedState → Search → Option Search
 arrives roles states places next S q =
     let k : ℕ = get_or next q.cursor 0 in
     cond (ltb q.cursor (length next)
     && (leb k q.known && (ltb k (length places) && stands_at states (get_or places k 0) (row_words roles S))))
-    (Passes (record { known = cond (eqb k q.known) (q.known + 1) q.known; cursor = q.cursor + 1 })) Fails
+    (Some (record { known = cond (eqb k q.known) (q.known + 1) q.known; cursor = q.cursor + 1 })) None
 
-abbrev pub taken_tried : Certificate → Taken SeatedState → Search → Trial
-taken_tried K (refuses n) q = Passes q
+abbrev pub taken_tried : Certificate → Taken SeatedState → Search → Option Search
+taken_tried K (refuses n) q = Some q
 taken_tried K (waits S) q = arrives K.roles K.states K.places K.next S q
 taken_tried K (steps S) q = arrives K.roles K.states K.places K.next S q
 
-abbrev pub choice_tried : Certificate → SeatedState → ℕ → ℕ → Search → Trial
+abbrev pub choice_tried : Certificate → SeatedState → ℕ → ℕ → Search → Option Search
 choice_tried K S i p q = taken_tried K (seated_choice K.limited S i p) q
 
-abbrev pub onward : Trial → (Search → Trial) → Trial
-onward Fails go = Fails
-onward (Passes q) go = go q
+abbrev pub onward : Option Search → (Search → Option Search) → Option Search
+onward None go = None
+onward (Some q) go = go q
 
 -- what holds of a search that goes on
-abbrev pub IfPasses : Trial → (Search → Type 0) → Type 0
-IfPasses Fails P = Unit {0}
-IfPasses (Passes q) P = P q
+abbrev pub IfPasses : Option Search → (Search → Type 0) → Type 0
+IfPasses None P = Unit {0}
+IfPasses (Some q) P = P q
 
 -- the choices of thread i with so many partners from p on
-unfoldable pub partners_tried : Certificate → SeatedState → ℕ → ℕ → ℕ → Search → Trial
-partners_tried K S i p zero q = Passes q
+unfoldable pub partners_tried : Certificate → SeatedState → ℕ → ℕ → ℕ → Search → Option Search
+partners_tried K S i p zero q = Some q
 partners_tried K S i p (suc n) q = onward (choice_tried K S i p q) (λ x. partners_tried K S i (p + 1) n x)
 
 -- so many threads from i on, each alone and with each thread as partner
-unfoldable pub threads_tried : Certificate → SeatedState → ℕ → ℕ → Search → Trial
-threads_tried K S i zero q = Passes q
+unfoldable pub threads_tried : Certificate → SeatedState → ℕ → ℕ → Search → Option Search
+threads_tried K S i zero q = Some q
 threads_tried K S i (suc n) q =
     onward (partners_tried K S i 0 (length S.state.threads + 1) q) (λ x. threads_tried K S (i + 1) n x)
 
-abbrev pub row_tried : Certificate → SeatedState → Search → Trial
+abbrev pub row_tried : Certificate → SeatedState → Search → Option Search
 row_tried K S q = threads_tried K S 1 (length S.state.threads) q
 
-abbrev pub row_onward : Trial → ℕ → (Search → ℕ) → ℕ
-row_onward Fails j go = j + 1
-row_onward (Passes q) j go = go q
+abbrev pub row_onward : Option Search → ℕ → (Search → ℕ) → ℕ
+row_onward None j go = j + 1
+row_onward (Some q) j go = go q
 
 -- so many rows from j on, as far as they are known: 0, or the number from 1 on of the first that fails, or of the first
 -- that is never reached

@@ -1,5 +1,6 @@
 -- How the check keeps its tables, and which rows are known.
-use Rattle.std.specs.Prelude.{ℕ, ◌≤◌, ◌<◌, ◌≡◌, Bool, true, false, List, length}
+use Rattle.certifying.specs.declared.Search.{Search}
+use Rattle.std.specs.Prelude.{ℕ, ◌≤◌, ◌<◌, ◌≡◌, Bool, true, false, List, length, Option}
 use Rattle.format.specs.declared.Head.{Head}
 use Rattle.format.specs.Header.{Laid}
 use Rattle.format.specs.Contents.{contents_at}
@@ -11,7 +12,6 @@ use Rattle.seats.specs.SeatOrder.{Ordered}
 use Rattle.seated.specs.SeatedTables.{seated_in, Seated}
 use Rattle.seated.specs.declared.Sat.{Sat}
 use Rattle.seated.specs.declared.Sat.TheVariants as sat
-use Rattle.certifying.specs.declared.Trial.{Trial}
 use Rattle.rows.specs.Rows.{seated_at, RowFits}
 use Rattle.certifying.specs.Certificate.{Certificate, certificate_of, row_place, row_state}
 
@@ -40,7 +40,7 @@ pub record Trying (K : Certificate) (p : ℕ) (w b os ls : List ℕ) : Type 0 wh
   pub small : p < 4294967296
 
 -- what is answered about that row, whose state the tables hold again
-pub record Tries (K : Certificate) (p : ℕ) (given : Certificate → SeatedState → Trial) (answer : Trial)
+pub record Tries (K : Certificate) (p : ℕ) (given : Certificate → SeatedState → Option Search) (answer : Option Search)
     (w b os ls : List ℕ) : Type 0 where
   pub answered : answer ≡ given K (seated_at K.roles K.states p)
   pub trying : Trying K p w b os ls

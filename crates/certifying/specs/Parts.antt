@@ -1,17 +1,13 @@
 -- A certificate by parts: some of its rows, one after the other, with the words that their choices have in
 -- `next`.
-use Rattle.std.specs.Prelude.{ℕ, zero, suc, ◌+◌, ◌-◌, Bool, cond, ◌&&◌, ◌||◌, List, eqb, leb, ltb, length}
+use Rattle.std.specs.Prelude.{ℕ, zero, suc, ◌+◌, ◌-◌, Bool, cond, ◌&&◌, ◌||◌, List, eqb, leb, ltb, length, Option, None, Some}
 use Rattle.format.specs.Contents.{Contents, contents_of}
 use Rattle.seats.specs.Seats.{SeatedState, seated_start}
 use Rattle.rows.specs.Fits.{row_fits}
 use Rattle.ordering.specs.Order.{in_order}
 use Rattle.certifying.specs.declared.Closing.{Closing}
 use Rattle.certifying.specs.declared.Search.{Search}
-use Rattle.certifying.specs.declared.Trial.{Trial}
-use Rattle.certifying.specs.declared.Trial.TheVariants.{Fails}
 use Rattle.certifying.specs.declared.Part.{Part}
-use Rattle.certifying.specs.declared.Asked.{Asked}
-use Rattle.certifying.specs.declared.Asked.TheVariants.{All, Only}
 use Rattle.certifying.specs.Known.{known_by}
 use Rattle.certifying.specs.Certificate.{Certificate, certificate_of, row_place, row_state, is_row, row_tried, row_onward}
 use Rattle.certifying.specs.Certificate.{rows_tried, search_begins, row_at_fault, some_rows, after_seats, after_reading}
@@ -22,8 +18,8 @@ is_ordered K j =
     row_fits K.roles K.states (row_place K j) && in_order K.limited.sessions K.limited.seats (row_state K j)
 
 -- row j is known, is a state in order, and each of its choices passes
-abbrev pub row_tested : Certificate → ℕ → Search → Trial
-row_tested K j q = cond (ltb j q.known && is_ordered K j) (row_tried K (row_state K j) q) Fails
+abbrev pub row_tested : Certificate → ℕ → Search → Option Search
+row_tested K j q = cond (ltb j q.known && is_ordered K j) (row_tried K (row_state K j) q) None
 
 -- so many rows from j on, whose choices have the words up to `end`: 0, or the number from 1 on of the first at fault,
 -- the last one where the words don't end exactly there
@@ -56,27 +52,27 @@ closing_part f seats states places next P =
 
 -- How the code goes about both: all rows, or only a part of them.
 
-abbrev pub asked_fits : ℕ → ℕ → Asked → Bool
-asked_fits rows words All = some_rows rows
-asked_fits rows words (Only P) = some_part rows words P
+abbrev pub asked_fits : ℕ → ℕ → Option Part → Bool
+asked_fits rows words None = some_rows rows
+asked_fits rows words (Some P) = some_part rows words P
 
-abbrev pub asked_from : Asked → ℕ
-asked_from All = 0
-asked_from (Only P) = P.from
+abbrev pub asked_from : Option Part → ℕ
+asked_from None = 0
+asked_from (Some P) = P.from
 
-abbrev pub asked_tried : Certificate → Asked → ℕ
-asked_tried K All = rows_tried K 0 (length K.places) search_begins
-asked_tried K (Only P) = part_tried K P.end P.from (P.to - P.from) (search_at K.next P.begin)
+abbrev pub asked_tried : Certificate → Option Part → ℕ
+asked_tried K None = rows_tried K 0 (length K.places) search_begins
+asked_tried K (Some P) = part_tried K P.end P.from (P.to - P.from) (search_at K.next P.begin)
 
-abbrev pub asked_fault : Certificate → SeatedState → Asked → ℕ
-asked_fault K S All = row_at_fault K S
-asked_fault K S (Only P) = part_at_fault K S P
+abbrev pub asked_fault : Certificate → SeatedState → Option Part → ℕ
+asked_fault K S None = row_at_fault K S
+asked_fault K S (Some P) = part_at_fault K S P
 
-abbrev pub closing_asked_by : Contents → List ℕ → List ℕ → List ℕ → List ℕ → Asked → Closing
+abbrev pub closing_asked_by : Contents → List ℕ → List ℕ → List ℕ → List ℕ → Option Part → Closing
 closing_asked_by C seats states places next asked =
     after_seats C seats (asked_fault (certificate_of C seats states places next) (seated_start C) asked)
 
-abbrev pub closing_asked : List ℕ → List ℕ → List ℕ → List ℕ → List ℕ → Asked → Closing
+abbrev pub closing_asked : List ℕ → List ℕ → List ℕ → List ℕ → List ℕ → Option Part → Closing
 closing_asked f seats states places next asked =
     after_reading (asked_fits (length places) (length next) asked) f
     (closing_asked_by (contents_of f) seats states places next asked)

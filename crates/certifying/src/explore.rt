@@ -8,8 +8,8 @@ ghost use Rattle.seated.specs.SeatedTables.{seated_in};
 ghost use Rattle.certifying.specs.Certificate.{arrives, choice_tried, partners_tried, row_tried, rows_tried};
 ghost use Rattle.certifying.specs.Kept.{is_done, certificate_at, Prepared, KnownRows, Trying, Tries};
 
+use super::Search;
 use super::words::{index_after, number_at};
-use super::{Search, Trial};
 use format::Head;
 use rows::compare::same_row;
 use rows::load::load_row;
@@ -21,12 +21,7 @@ use steps::beside::thread_count;
 fn is_done(sat: Sat) -> bool
     ensures { result ≡ is_done sat }
 {
-    match sat {
-        Sat::Refused(_) => false,
-        Sat::Waits => true,
-        Sat::Ends => true,
-        Sat::Steps => true,
-    }
+    !matches!(sat, Sat::Refused(_))
 }
 
 // The tables hold the state that a choice led to: its row is looked up.
@@ -40,31 +35,31 @@ fn arrive(
     owners: &[u16],
     lines: &[u16],
     search: Search,
-) -> Trial
+) -> Option<Search>
     requires { (roles ≤ 16) × Sized threads.now beside.now × (length owners.now ≡ 64) × LineRows lines.now }
     ensures { result ≡ arrives roles states.now places.now next.now
         (seated_in threads.now beside.now owners.now lines.now) search }
 {
     if next.len() <= search.cursor {
-        return Trial::Fails;
+        return None;
     }
     let k = number_at(next, search.cursor);
     if search.known < k {
-        return Trial::Fails;
+        return None;
     }
     if places.len() <= k {
-        return Trial::Fails;
+        return None;
     }
     let at = number_at(places, k);
     if !same_row(states, at, roles, threads, beside, owners, lines) {
-        return Trial::Fails;
+        return None;
     }
     let cursor = index_after(next, search.cursor);
     let mut known = search.known;
     if k == known {
         known = index_after(places, k);
     }
-    Trial::Passes(Search { known, cursor })
+    Some(Search { known, cursor })
 }
 
 // One choice in the state of the row from a place on, which the tables hold before and after.
@@ -85,7 +80,7 @@ fn try_choice(
     i: u16,
     p: u16,
     search: Search,
-) -> Trial
+) -> Option<Search>
     requires { Prepared file.now head sends.now receives.now seats.now
         × Trying (certificate_at file.now head seats.now states.now places.now next.now) at
         threads.old beside.old owners.old lines.old }
@@ -98,7 +93,7 @@ fn try_choice(
         file, head, sends, receives, &table, seats, threads, beside, owners, lines, i, p,
     );
     if !is_done(sat) {
-        return Trial::Passes(search);
+        return Some(search);
     }
     let trial = arrive(
         seats.len(),
@@ -133,7 +128,7 @@ fn try_partners(
     i: u16,
     count: u16,
     search: Search,
-) -> Trial
+) -> Option<Search>
     requires { Prepared file.now head sends.now receives.now seats.now × (count ≤ 64)
         × Trying (certificate_at file.now head seats.now states.now places.now next.now) at
         threads.old beside.old owners.old lines.old }
@@ -142,23 +137,13 @@ fn try_partners(
         threads.new beside.new owners.new lines.new }
 {
     let mut on = search;
-    let mut p: u16 = 0;
-    while p <= count {
-        let trial = try_choice(
+    for p in 0..=count {
+        on = try_choice(
             file, head, sends, receives, seats, states, places, next, threads, beside, owners,
             lines, at, i, p, on,
-        );
-        p += 1;
-        match trial {
-            Trial::Fails => {
-                return Trial::Fails;
-            }
-            Trial::Passes(further) => {
-                on = further;
-            }
-        }
+        )?;
     }
-    Trial::Passes(on)
+    Some(on)
 }
 
 // The choices of all threads.
@@ -177,7 +162,7 @@ pub fn try_threads(
     lines: &mut [u16],
     at: usize,
     search: Search,
-) -> Trial
+) -> Option<Search>
     requires { Prepared file.now head sends.now receives.now seats.now
         × Trying (certificate_at file.now head seats.now states.now places.now next.now) at
         threads.old beside.old owners.old lines.old }
@@ -187,23 +172,13 @@ pub fn try_threads(
 {
     let count = thread_count(&*beside);
     let mut on = search;
-    let mut i: u16 = 0;
-    while i < count {
-        i += 1;
-        let trial = try_partners(
+    for i in 1..=count {
+        on = try_partners(
             file, head, sends, receives, seats, states, places, next, threads, beside, owners,
             lines, at, i, count, on,
-        );
-        match trial {
-            Trial::Fails => {
-                return Trial::Fails;
-            }
-            Trial::Passes(further) => {
-                on = further;
-            }
-        }
+        )?;
     }
-    Trial::Passes(on)
+    Some(on)
 }
 
 // The rows in order, as far as they are known to be reached: 0, or the number from 1 on of the first that fails, or
@@ -242,12 +217,8 @@ pub fn try_rows(
         );
         j = index_after(places, j);
         match trial {
-            Trial::Fails => {
-                return j;
-            }
-            Trial::Passes(further) => {
-                on = further;
-            }
+            None => return j,
+            Some(further) => on = further,
         }
     }
     if j < places.len() {

@@ -22,7 +22,6 @@ ghost use Rattle.certifying.specs.Parts.{closing_asked_by, closing_asked};
 use checking::enter;
 use format::Head;
 use parts::try_asked;
-use reading::Opened;
 use rows::compare::same_row;
 use seated::runs::run_seated_by;
 use seated::table::seats_bar;
@@ -37,13 +36,6 @@ pub struct Search {
     pub cursor: usize,
 }
 
-// A choice fails where no row is named for it that has the state it leads to.
-#[derive(Clone, Copy)]
-pub enum Trial {
-    Fails,
-    Passes(Search),
-}
-
 // The rows from one to another, which is not one of them, and the words of the list of targets that their choices have.
 #[derive(Clone, Copy)]
 pub struct Part {
@@ -51,13 +43,6 @@ pub struct Part {
     pub to: usize,
     pub begin: usize,
     pub end: usize,
-}
-
-// All rows, or only a part of them.
-#[derive(Clone, Copy)]
-pub enum Asked {
-    All,
-    Only(Part),
 }
 
 // The refusal, 0 if none, its place in the file, and with 18 the row at fault, from 1 on.
@@ -91,10 +76,7 @@ fn fault_at(row: usize) -> Closing
 fn has_rows(n: usize) -> bool
     ensures { result ≡ some_rows n }
 {
-    if 0 < n {
-        return n < 4294967295;
-    }
-    false
+    0 < n && n < 4294967295
 }
 
 fn has_part(rows: usize, words: usize, part: Part) -> bool
@@ -131,21 +113,21 @@ fn begins_fine(
     same_row(states, at, roles, threads, beside, owners, lines)
 }
 
-fn fits_asked(rows: usize, words: usize, asked: Asked) -> bool
+fn fits_asked(rows: usize, words: usize, asked: Option<Part>) -> bool
     ensures { result ≡ asked_fits rows words asked }
 {
     match asked {
-        Asked::All => has_rows(rows),
-        Asked::Only(part) => has_part(rows, words, part),
+        None => has_rows(rows),
+        Some(part) => has_part(rows, words, part),
     }
 }
 
-fn from_asked(asked: Asked) -> usize
+fn from_asked(asked: Option<Part>) -> usize
     ensures { result ≡ asked_from asked }
 {
     match asked {
-        Asked::All => 0,
-        Asked::Only(part) => part.from,
+        None => 0,
+        Some(part) => part.from,
     }
 }
 
@@ -158,7 +140,7 @@ fn row_at_fault(
     states: &[u16],
     places: &[u32],
     next: &[u32],
-    asked: Asked,
+    asked: Option<Part>,
 ) -> usize
     requires { Laid file.now head × (length seats.now ≤ 16)
         × (asked_fits (length places.now) (length next.now) asked ≡ true)
@@ -227,7 +209,7 @@ fn closed_in(
     states: &[u16],
     places: &[u32],
     next: &[u32],
-    asked: Asked,
+    asked: Option<Part>,
 ) -> Closing
     requires { Laid file.now head × (asked_fits (length places.now) (length next.now) asked ≡ true) }
     ensures { result ≡ closing_asked_by (contents_at file.now head) seats.now
@@ -250,7 +232,7 @@ fn check_asked(
     states: &[u16],
     places: &[u32],
     next: &[u32],
-    asked: Asked,
+    asked: Option<Part>,
 ) -> Closing
     ensures { result ≡ closing_asked file.now seats.now states.now
         places.now next.now asked }
@@ -264,12 +246,12 @@ fn check_asked(
     }
     let answer = enter(file);
     match answer {
-        Opened::Refused(first) => Closing {
+        Err(first) => Closing {
             number: first.number,
             place: first.place,
             row: 0,
         },
-        Opened::Fine(head) => closed_in(file, head, seats, states, places, next, asked),
+        Ok(head) => closed_in(file, head, seats, states, places, next, asked),
     }
 }
 
@@ -284,7 +266,7 @@ pub fn check_closed(
     ensures { result ≡ closing file.now seats.now states.now
         places.now next.now }
 {
-    check_asked(file, seats, states, places, next, Asked::All)
+    check_asked(file, seats, states, places, next, None)
 }
 
 // Whether a part of such a table is right: where the parts of a chain are, the whole is.
@@ -299,5 +281,5 @@ pub fn check_closed_part(
     ensures { result ≡ closing_part file.now seats.now states.now
         places.now next.now part }
 {
-    check_asked(file, seats, states, places, next, Asked::Only(part))
+    check_asked(file, seats, states, places, next, Some(part))
 }

@@ -1,15 +1,14 @@
 // A part of the rows, which are asked whether they are states in order, since the rows before them are not looked at.
-ghost use Rattle.std.specs.Prelude.{◌≡◌, true, ◌+◌, ◌-◌, ◌≤◌, ◌<◌, length};
+ghost use Rattle.std.specs.Prelude.{◌≡◌, true, ◌+◌, ◌-◌, ◌≤◌, ◌<◌, length, None};
 ghost use Rattle.steps.specs.Records.{thread_table_words};
 ghost use Rattle.steps.specs.Beside.{beside_words};
-ghost use Rattle.certifying.specs.declared.Asked.TheVariants.{All};
 ghost use Rattle.certifying.specs.Known.{known_by};
 ghost use Rattle.certifying.specs.Kept.{certificate_at, Prepared, KnownRows};
 ghost use Rattle.certifying.specs.Parts.{search_at, row_tested, part_tried, asked_fits, asked_tried};
 
 use super::explore::{try_rows, try_threads};
 use super::words::number_at;
-use super::{Asked, Part, Search, Trial};
+use super::{Part, Search};
 use format::Head;
 use ordering::in_order;
 use rows::fits::row_fits;
@@ -21,13 +20,8 @@ fn known_by(next: &[u32], count: usize) -> usize
     ensures { result ≡ known_by next.now count }
 {
     let mut known: usize = 1;
-    let mut c: usize = 0;
-    while c < count {
-        let k = number_at(next, c);
-        c += 1;
-        if known <= k {
-            known = k + 1;
-        }
+    for c in 0..count {
+        known = known.max(number_at(next, c) + 1);
     }
     known
 }
@@ -48,7 +42,7 @@ fn test_row(
     lines: &mut [u16],
     j: usize,
     search: Search,
-) -> Trial
+) -> Option<Search>
     requires { Prepared file.now head sends.now receives.now seats.now
         × (length threads.old ≡ thread_table_words) × (length beside.old ≡ beside_words) × (length owners.old ≡ 64)
         × (length lines.old ≡ 528) × (j < length places.now) }
@@ -56,11 +50,11 @@ fn test_row(
         states.now places.now next.now) j search }
 {
     if search.known <= j {
-        return Trial::Fails;
+        return None;
     }
     let at = number_at(places, j);
     if !row_fits(states, at, seats.len()) {
-        return Trial::Fails;
+        return None;
     }
     load_row(states, at, seats.len(), threads, beside, owners, lines);
     if !in_order(
@@ -71,7 +65,7 @@ fn test_row(
         &*owners,
         &*lines,
     ) {
-        return Trial::Fails;
+        return None;
     }
     try_threads(
         file, head, sends, receives, seats, states, places, next, threads, beside, owners, lines,
@@ -103,32 +97,25 @@ pub fn try_part(
         states.now places.now next.now) part.end part.from
         (part.to - part.from) (search_at next.now part.begin)) × (result < 4294967296) }
 {
-    let to = part.to;
     let known = known_by(next, part.begin);
     let mut on = Search {
         known,
         cursor: part.begin,
     };
-    let mut j = part.from;
-    while j < to {
+    for j in part.from..part.to {
         let trial = test_row(
             file, head, sends, receives, seats, states, places, next, threads, beside, owners,
             lines, j, on,
         );
-        j += 1;
         match trial {
-            Trial::Fails => {
-                return j;
-            }
-            Trial::Passes(further) => {
-                on = further;
-            }
+            None => return j + 1,
+            Some(further) => on = further,
         }
     }
     if on.cursor == part.end {
         return 0;
     }
-    j
+    part.to
 }
 
 // All rows, or a part of them: 0, or the number of the first at fault.
@@ -145,18 +132,18 @@ pub fn try_asked(
     beside: &mut [u16],
     owners: &mut [u16],
     lines: &mut [u16],
-    asked: Asked,
+    asked: Option<Part>,
 ) -> usize
     requires { Prepared file.now head sends.now receives.now seats.now
         × (length threads.old ≡ thread_table_words) × (length beside.old ≡ beside_words) × (length owners.old ≡ 64)
         × (length lines.old ≡ 528) × (asked_fits (length places.now) (length next.now) asked ≡ true)
-        × (asked ≡ All
+        × (asked ≡ None
         → KnownRows (certificate_at file.now head seats.now states.now places.now next.now) 1) }
     ensures { (result ≡ asked_tried (certificate_at file.now head seats.now
         states.now places.now next.now) asked) × (result < 4294967296) }
 {
     match asked {
-        Asked::All => try_rows(
+        None => try_rows(
             file,
             head,
             sends,
@@ -174,7 +161,7 @@ pub fn try_asked(
                 cursor: 0,
             },
         ),
-        Asked::Only(part) => try_part(
+        Some(part) => try_part(
             file, head, sends, receives, seats, states, places, next, threads, beside, owners,
             lines, part,
         ),

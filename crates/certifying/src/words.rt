@@ -1,18 +1,12 @@
 // Numbers in lists of places and targets.
 ghost use Rattle.std.specs.Prelude.{◌≡◌, ◌+◌, ◌<◌, length, get_or};
 
-fn long(x: u32) -> usize
-    ensures { (result ≡ x) × (result < 4294967296) }
-{
-    x as usize
-}
-
 // The number at an index of a list.
 pub fn number_at(list: &[u32], k: usize) -> usize
     requires { k < length list.now }
     ensures { (result ≡ get_or list.now k 0) × (result < 4294967296) }
 {
-    long(list[k])
+    list[k] as usize
 }
 
 // The index after one that is in a list.

@@ -18,8 +18,7 @@ use Rattle.seats.proofs.SeatedKept.{choice_ordered}
 use Rattle.schedules.specs.Tables.{LeadsTo, Yields, IsRow, TriedAt, Generated}
 use Rattle.schedules.proofs.AllSchedules.{new_row_generated}
 use Rattle.certifying.specs.declared.Search.{Search}
-use Rattle.certifying.specs.declared.Trial.{Trial}
-use Rattle.certifying.specs.declared.Trial.TheVariants.{Fails, Passes}
+use Rattle.std.specs.Prelude.{Option, None, Some}
 use Rattle.rows.specs.Rows.{row_words, stands_at}
 use Rattle.certifying.specs.Certificate.{Certificate, certificate_of, row_place, row_state, is_row, arrives, taken_tried, choice_tried, onward, partners_tried, threads_tried, row_tried, row_onward, rows_tried, IfPasses}
 use Rattle.certifying.proofs.ChoiceFits.{choice_eight}
@@ -79,7 +78,7 @@ module _ (C : Contents) (seats states places next : List ℕ) where
         k = get_or next q.cursor 0
 
         go : (a b c : Bool) → ltb k n ≡ c → (d : Bool) → is_row K k T ≡ d → (e : Bool) → eqb k q.known ≡ e
-            → IfPasses (cond (a && (b && (c && d))) (Passes (record { known = cond e (q.known + 1) q.known; cursor = q.cursor + 1 })) Fails)
+            → IfPasses (cond (a && (b && (c && d))) (Some (record { known = cond e (q.known + 1) q.known; cursor = q.cursor + 1 })) None)
             (λ x. IsRow (seated_choice L) seated_threads (row_state K) n T × On x)
         go false b c ec d ed e ee = tt
         go true false c ec d ed e ee = tt
@@ -125,15 +124,15 @@ module _ (C : Contents) (seats states places next : List ℕ) where
     partners_explored i p zero q R = ((λ x from to. let no : ⊥ = omega (arith, from, to) in absurd no), R)
     partners_explored i p (suc m) q R = go (choice_tried K row i p q) (choice_explored i p q R) (λ x. partners_explored i (p + 1) m x)
       where
-        then : (t : Trial) → Leads (seated_choice L row i p) → IfPasses t (λ y. PartnersLead i (p + 1) m × On y) → IfPasses t (λ y. PartnersLead i p (suc m) × On y)
-        then Fails here h = tt
-        then (Passes y) here (later, rest) = (first_and_later (λ x. Leads (seated_choice L row i x)) p m here later, rest)
+        then : (t : Option Search) → Leads (seated_choice L row i p) → IfPasses t (λ y. PartnersLead i (p + 1) m × On y) → IfPasses t (λ y. PartnersLead i p (suc m) × On y)
+        then None here h = tt
+        then (Some y) here (later, rest) = (first_and_later (λ x. Leads (seated_choice L row i x)) p m here later, rest)
 
-        go : (t : Trial) → IfPasses t (λ x. Leads (seated_choice L row i p) × On x)
+        go : (t : Option Search) → IfPasses t (λ x. Leads (seated_choice L row i p) × On x)
             → ((x : Search) → On x → IfPasses (partners_tried K row i (p + 1) m x) (λ y. PartnersLead i (p + 1) m × On y))
             → IfPasses (onward t (λ x. partners_tried K row i (p + 1) m x)) (λ y. PartnersLead i p (suc m) × On y)
-        go Fails h ih = tt
-        go (Passes x) (here, R') ih = then (partners_tried K row i (p + 1) m x) here (ih x R')
+        go None h ih = tt
+        go (Some x) (here, R') ih = then (partners_tried K row i (p + 1) m x) here (ih x R')
 
     -- so many threads from i on
     abbrev ThreadLeads : ℕ → Type 0
@@ -148,20 +147,20 @@ module _ (C : Contents) (seats states places next : List ℕ) where
     threads_explored i (suc m) q R =
         go (partners_tried K row i 0 (length row.state.threads + 1) q) (partners_explored i 0 (length row.state.threads + 1) q R) (λ x. threads_explored (i + 1) m x)
       where
-        then : (t : Trial) → ThreadLeads i → IfPasses t (λ y. ThreadsLead (i + 1) m × On y) → IfPasses t (λ y. ThreadsLead i (suc m) × On y)
-        then Fails here h = tt
-        then (Passes y) here (later, rest) = (first_and_later ThreadLeads i m here later, rest)
+        then : (t : Option Search) → ThreadLeads i → IfPasses t (λ y. ThreadsLead (i + 1) m × On y) → IfPasses t (λ y. ThreadsLead i (suc m) × On y)
+        then None here h = tt
+        then (Some y) here (later, rest) = (first_and_later ThreadLeads i m here later, rest)
 
-        go : (t : Trial) → IfPasses t (λ x. ThreadLeads i × On x)
+        go : (t : Option Search) → IfPasses t (λ x. ThreadLeads i × On x)
             → ((x : Search) → On x → IfPasses (threads_tried K row (i + 1) m x) (λ y. ThreadsLead (i + 1) m × On y))
             → IfPasses (onward t (λ x. threads_tried K row (i + 1) m x)) (λ y. ThreadsLead i (suc m) × On y)
-        go Fails h ih = tt
-        go (Passes x) (here, R') ih = then (threads_tried K row (i + 1) m x) here (ih x R')
+        go None h ih = tt
+        go (Some x) (here, R') ih = then (threads_tried K row (i + 1) m x) here (ih x R')
 
-    pub row_explored : (q q' : Search) → Reached q.known → j < q.known → row_tried K row q ≡ Passes q'
+    pub row_explored : (q q' : Search) → Reached q.known → j < q.known → row_tried K row q ≡ Some q'
         → TriedAt (seated_choice L) seated_threads (row_state K) n j × (Reached q'.known × (j < q'.known))
     row_explored q q' R lt e =
-        let h = subst (λ (t : Trial). IfPasses t (λ x. ThreadsLead 1 (length row.state.threads) × On x)) e (threads_explored 1 (length row.state.threads) q (R, lt)) in
+        let h = subst (λ (t : Option Search). IfPasses t (λ x. ThreadsLead 1 (length row.state.threads) × On x)) e (threads_explored 1 (length row.state.threads) q (R, lt)) in
         ((λ i p one most small. h.0 i one (omega (arith, most)) p (omega arith) (omega (arith, small))), h.1)
 
   abbrev pub TriedFrom : ℕ → Type 0
@@ -177,9 +176,9 @@ module _ (C : Contents) (seats states places next : List ℕ) where
       Later : Type 0
       Later = (x : Search) → j + 1 + m ≡ n → j + 1 ≤ x.known → Reached x.known → rows_tried K (j + 1) m x ≡ 0 → TriedFrom (j + 1) × Reached n
 
-      by_row : (t : Trial) → row_tried K (row_state K j) q ≡ t → j < q.known → row_onward t j (λ x. rows_tried K (j + 1) m x) ≡ 0 → Later → TriedFrom j × Reached n
-      by_row Fails is lt z later = let no : ⊥ = omega (arith, z) in absurd no
-      by_row (Passes x) is lt z later =
+      by_row : (t : Option Search) → row_tried K (row_state K j) q ≡ t → j < q.known → row_onward t j (λ x. rows_tried K (j + 1) m x) ≡ 0 → Later → TriedFrom j × Reached n
+      by_row None is lt z later = let no : ⊥ = omega (arith, z) in absurd no
+      by_row (Some x) is lt z later =
           let (here, on) = row_explored j q x R lt is in
           let (rest, whole) = later x (omega (arith, all)) (omega (arith, on.1)) on.0 z in
           (from_here here rest, whole)

@@ -11,8 +11,7 @@ use borrow.Author.Tests.{eqb-true, eqb-false, eq-eqb, leb-true, leb-false, ltb-t
 use Rattle.rounds.specs.Round.{Taken, refuses, waits, steps}
 use Rattle.seats.specs.Seats.{SeatedState, seated_choice}
 use Rattle.certifying.specs.declared.Search.{Search}
-use Rattle.certifying.specs.declared.Trial.{Trial}
-use Rattle.certifying.specs.declared.Trial.TheVariants.{Fails, Passes}
+use Rattle.std.specs.Prelude.{Option, None, Some}
 use Rattle.rows.specs.Rows.{row_words, stands_at}
 use Rattle.certifying.specs.Known.{known_by}
 use Rattle.certifying.specs.Certificate.{Certificate, row_place, row_state, is_row, arrives, taken_tried, choice_tried, onward}
@@ -125,20 +124,20 @@ module _ (K : Certificate) where
       )
 
   -- a trial from c on of the choices that lead to some states
-  pub data Tried (Ts : List SeatedState) (c : ℕ) (t : Trial) : Type 0 where
-    passed : NamesFrom c Ts → t ≡ Passes (at (c + length Ts)) → Tried Ts c t
-    failed : (NamesFrom c Ts → ⊥) → t ≡ Fails → Tried Ts c t
+  pub data Tried (Ts : List SeatedState) (c : ℕ) (t : Option Search) : Type 0 where
+    passed : NamesFrom c Ts → t ≡ Some (at (c + length Ts)) → Tried Ts c t
+    failed : (NamesFrom c Ts → ⊥) → t ≡ None → Tried Ts c t
 
-  none_tried : (c : ℕ) → Tried [] c (Passes (at c))
-  none_tried c = let z : c ≡ c + 0 = omega arith in passed tt (ap (λ (x : ℕ). Passes (at x)) z)
+  none_tried : (c : ℕ) → Tried [] c (Some (at c))
+  none_tried c = let z : c ≡ c + 0 = omega arith in passed tt (ap (λ (x : ℕ). Some (at x)) z)
 
-  both_tried : (xs ys : List SeatedState) (c : ℕ) (t : Trial) (go : Search → Trial)
+  both_tried : (xs ys : List SeatedState) (c : ℕ) (t : Option Search) (go : Search → Option Search)
       → Tried xs c t → Tried ys (c + length xs) (go (at (c + length xs))) → Tried (xs ++ ys) c (onward t go)
-  both_tried xs ys c t go (failed never e) later = failed (λ h. never (names_split xs ys c h).0) (ap (λ (x : Trial). onward x go) e)
+  both_tried xs ys c t go (failed never e) later = failed (λ h. never (names_split xs ys c h).0) (ap (λ (x : Option Search). onward x go) e)
   both_tried xs ys c t go (passed l e) (passed r f) =
       let z : c + length xs + length ys ≡ c + length (xs ++ ys) = omega (arith, length-append xs ys) in
-      passed (names_join xs ys c l r) (ap (λ (x : Trial). onward x go) e ∙ f ∙ ap (λ (x : ℕ). Passes (at x)) z)
-  both_tried xs ys c t go (passed l e) (failed never f) = failed (λ h. never (names_split xs ys c h).1) (ap (λ (x : Trial). onward x go) e ∙ f)
+      passed (names_join xs ys c l r) (ap (λ (x : Option Search). onward x go) e ∙ f ∙ ap (λ (x : ℕ). Some (at x)) z)
+  both_tried xs ys c t go (passed l e) (failed never f) = failed (λ h. never (names_split xs ys c h).1) (ap (λ (x : Option Search). onward x go) e ∙ f)
 
   -- a state that a choice leads to
   arrival_tried : (T : SeatedState) (c : ℕ) → Tried (T ∷ []) c (arrives K.roles K.states K.places K.next T (at c))
@@ -151,7 +150,7 @@ module _ (K : Certificate) where
       go : (x : Bool) → ltb c (length K.next) ≡ x → (y : Bool) → leb k (known_by K.next c) ≡ y
           → (z : Bool) → ltb k (length K.places) ≡ z → (w : Bool) → is_row K k T ≡ w
           → Tried (T ∷ []) c (cond (x && (y && (z && w)))
-          (Passes (record { known = cond (eqb k (known_by K.next c)) (known_by K.next c + 1) (known_by K.next c); cursor = c + 1 })) Fails)
+          (Some (record { known = cond (eqb k (known_by K.next c)) (known_by K.next c + 1) (known_by K.next c); cursor = c + 1 })) None)
       go false ex y ey z ez w ew = failed (λ h. let no : ⊥ = omega (arith, ltb-false c (length K.next) ex, h.0.given) in no) refl
       go true ex false ey z ez w ew = failed (λ h. let no : ⊥ = omega (arith, leb-false k (known_by K.next c) ey, h.0.known) in no) refl
       go true ex true ey false ez w ew = failed (λ h. let no : ⊥ = omega (arith, ltb-false k (length K.places) ez, h.0.row) in no) refl
@@ -161,7 +160,7 @@ module _ (K : Certificate) where
           let one : suc c ≡ c + 1 = omega arith in
           passed
           (record { given = ltb-true c (length K.next) ex; known = few; row = ltb-true k (length K.places) ez; words = row_words_lem k T ew }, tt)
-          (ap (λ (x : ℕ). Passes (record { known = x; cursor = c + 1 })) (known_next K.next c few ∙ ap (known_by K.next) one))
+          (ap (λ (x : ℕ). Some (record { known = x; cursor = c + 1 })) (known_next K.next c few ∙ ap (known_by K.next) one))
 
   choice_tried_lem : (a : Taken SeatedState) (c : ℕ) → Tried (done_by a) c (taken_tried K a (at c))
   choice_tried_lem (refuses n) c = none_tried c
@@ -241,15 +240,15 @@ module _ (K : Certificate) where
       here : ((y : ℕ) → j ≤ y → y < j → RowHolds K y)
       here y from to = let no : ⊥ = omega (arith, from, to) in absurd no
 
-      by_row : (t : Trial) → j < known → Tried (done_in K (row_state K j)) (before j) t → Later → RowsEnd j (row_onward t j (λ x. rows_tried K (j + 1) m x))
+      by_row : (t : Option Search) → j < known → Tried (done_in K (row_state K j)) (before j) t → Later → RowsEnd j (row_onward t j (λ x. rows_tried K (j + 1) m x))
       by_row t low (failed never e) later =
           one_fails j (omega arith) (omega (arith, all)) here (λ h. never (each_names (done_in K (row_state K j)) (row_state K j) (before j) h.leads))
-          (ap (λ (x : Trial). row_onward x j (λ y. rows_tried K (j + 1) m y)) e ∙ omega arith)
+          (ap (λ (x : Option Search). row_onward x j (λ y. rows_tried K (j + 1) m y)) e ∙ omega arith)
       by_row t low (passed h e) later =
           let holds : RowHolds K j = record { known = low; leads = names_each (done_in K (row_state K j)) (row_state K j) (before j) h } in
           let grown : known ≤ known_by K.next (before (j + 1)) =
           subst (λ (x : ℕ). known ≤ known_by K.next x) (before_next j) (known_grows K.next (length (done_in K (row_state K j))) (before j)) in
-          subst (RowsEnd j) (sym (ap (λ (x : Trial). row_onward x j (λ y. rows_tried K (j + 1) m y)) (e ∙ ap (λ (x : ℕ). Passes (at x)) (before_next j))))
+          subst (RowsEnd j) (sym (ap (λ (x : Option Search). row_onward x j (λ y. rows_tried K (j + 1) m y)) (e ∙ ap (λ (x : ℕ). Some (at x)) (before_next j))))
           (one_more_lem j _ holds (later (omega (arith, low, grown))))
 
       by-known : (b : Bool) → ltb j known ≡ b → Tried (done_in K (row_state K j)) (before j) (row_tried K (row_state K j) (at (before j))) → Later

@@ -14,8 +14,7 @@ use Rattle.format.specs.declared.Session.{Session}
 use Rattle.format.specs.declared.Verdict.{Verdict}
 use Rattle.format.specs.Contents.{Contents, contents_of}
 use Rattle.format.proofs.ContentsLaws.{roles_held, sessions_held}
-use Rattle.reading.specs.declared.Opened.{Opened}
-use Rattle.reading.specs.declared.Opened.TheVariants.{Fine, Refused}
+use Rattle.std.specs.Prelude.{Result, Ok, Err, Option, None, Some}
 use Rattle.reading_exact.specs.Lists.{All}
 use Rattle.checking.specs.Check.{reading_names, entered}
 use Rattle.checking.proofs.CheckLaws.{entered_fine, entered_refused}
@@ -32,8 +31,6 @@ use Rattle.ordering.proofs.OrderLaws.{in_order_iff, past_seats}
 use Rattle.certifying.specs.declared.Closing.{Closing}
 use Rattle.certifying.specs.declared.Part.{Part}
 use Rattle.certifying.specs.declared.Search.{Search}
-use Rattle.certifying.specs.declared.Trial.{Trial}
-use Rattle.certifying.specs.declared.Trial.TheVariants.{Fails, Passes}
 use Rattle.certifying.specs.Known.{known_by}
 use Rattle.certifying.specs.Certificate.{Certificate, certificate_of, row_place, row_state, is_row, row_tried, row_onward, rows_tried, search_begins, row_at_fault, closed_fine, closed_by, fault_at, some_rows, after_seats, after_reading, closing}
 use Rattle.certifying.specs.Kept.{KnownRows}
@@ -46,10 +43,10 @@ use Rattle.certifying_exact.specs.Chains.{Chained, words_before, part_between}
 use Rattle.certifying_exact.proofs.Numbering.{NamesFrom, Tried, passed, failed, row_tried_lem, before_next}
 use Rattle.certifying_exact.proofs.Certified.{not_refused, no_fault, rows_some, clear, ready, explored, start_good}
 
-never_passes : (q : Search) → Fails ≡ Passes q → ⊥
+never_passes : (q : Search) → None ≡ Some q → ⊥
 never_passes q e = let z : ◌≡◌ {A = ℕ} 0 1 = cc in omega arith
 
-same_search : (q x : Search) → Passes q ≡ Passes x → q ≡ x
+same_search : (q x : Search) → Some q ≡ Some x → q ≡ x
 same_search q x e = cc
 
 module _ (K : Certificate) where
@@ -62,7 +59,7 @@ module _ (K : Certificate) where
   names_within (T ∷ Ts) c le (here, h) = omega (arith, names_within Ts (suc c) (omega (arith, here.given)) h)
 
   -- a row that passes has a word for each choice that is done
-  row_passed : (S : SeatedState) (c : ℕ) (q : Search) → row_tried K S (at c) ≡ Passes q
+  row_passed : (S : SeatedState) (c : ℕ) (q : Search) → row_tried K S (at c) ≡ Some q
       → (q ≡ at (c + length (done_in K S))) × (c ≤ length K.next → c + length (done_in K S) ≤ length K.next)
   row_passed S c q e = go (row_tried_lem K S c)
     where
@@ -72,11 +69,11 @@ module _ (K : Certificate) where
       go (failed never is) = absurd (never_passes q (sym is ∙ e))
 
   -- a row of a part that passes
-  tested : (j : ℕ) (q x : Search) → row_tested K j q ≡ Passes x → (ltb j q.known ≡ true) × (row_tried K (row_state K j) q ≡ Passes x)
+  tested : (j : ℕ) (q x : Search) → row_tested K j q ≡ Some x → (ltb j q.known ≡ true) × (row_tried K (row_state K j) q ≡ Some x)
   tested j q x e = go (ltb j q.known) refl (is_ordered K j) e
     where
-      go : (a : Bool) → ltb j q.known ≡ a → (b : Bool) → cond (a && b) (row_tried K (row_state K j) q) Fails ≡ Passes x
-          → (ltb j q.known ≡ true) × (row_tried K (row_state K j) q ≡ Passes x)
+      go : (a : Bool) → ltb j q.known ≡ a → (b : Bool) → cond (a && b) (row_tried K (row_state K j) q) None ≡ Some x
+          → (ltb j q.known ≡ true) × (row_tried K (row_state K j) q ≡ Some x)
       go true ea true h = (ea, h)
       go true ea false h = absurd (never_passes x h)
       go false ea b h = absurd (never_passes x h)
@@ -94,18 +91,18 @@ module _ (K : Certificate) where
       go false t z = let no : ⊥ = omega (arith, some, z) in absurd no
   rows_of_part (suc m) rest j c e some h = go (row_tested K j (at c)) refl h (λ d. rows_of_part m rest (j + 1) d e (omega arith))
     where
-      go : (t : Trial) → row_tested K j (at c) ≡ t → row_onward t j (λ x. part_tried K e (j + 1) m x) ≡ 0
+      go : (t : Option Search) → row_tested K j (at c) ≡ t → row_onward t j (λ x. part_tried K e (j + 1) m x) ≡ 0
           → ((d : ℕ) → part_tried K e (j + 1) m (at d) ≡ 0 → rows_tried K (j + 1) (m + rest) (at d) ≡ rows_tried K (j + 1 + m) rest (at e))
           → rows_tried K j (suc m + rest) (at c) ≡ rows_tried K (j + suc m) rest (at e)
-      go Fails is z later = let no : ⊥ = omega (arith, z) in absurd no
-      go (Passes x) is z later =
+      go None is z later = let no : ⊥ = omega (arith, z) in absurd no
+      go (Some x) is z later =
           let (known, tried) = tested j (at c) x is in
           let same : x ≡ at (c + length (done_in K (row_state K j))) = (row_passed (row_state K j) c x tried).0 in
           let count : suc m + rest ≡ j + suc (m + rest) - j = omega arith in
           let left : m + rest ≡ j + suc (m + rest) - (j + 1) = omega arith in
           let there : j + 1 + m ≡ j + suc m = omega arith in
           ap (λ (y : ℕ). rows_tried K j y (at c)) count ∙ row_on K j (j + suc (m + rest)) (at c) (omega arith)
-          ∙ ap₂ (λ (b : Bool) (t : Trial). cond b (row_onward t j (λ y. rows_tried K (j + 1) (j + suc (m + rest) - (j + 1)) y)) ((at c).known + 1)) known tried
+          ∙ ap₂ (λ (b : Bool) (t : Option Search). cond b (row_onward t j (λ y. rows_tried K (j + 1) (j + suc (m + rest) - (j + 1)) y)) ((at c).known + 1)) known tried
           ∙ ap₂ (λ (y : ℕ) (q : Search). rows_tried K (j + 1) y q) (sym left) same
           ∙ later (c + length (done_in K (row_state K j))) (subst (λ (q : Search). part_tried K e (j + 1) m q ≡ 0) same z) ∙ ap
           (λ (y : ℕ). rows_tried K y rest (at e)) there
@@ -145,12 +142,12 @@ fine_answer b f seats k is clean clear none =
 file_limits : (f : List ℕ) → (reading_names f).number ≡ 0 → (length (contents_of f).sessions ≤ 32) × (length (contents_of f).roles ≤ 16)
 file_limits f clean = go (entered f) refl
   where
-    go : (o : Opened) → entered f ≡ o → (length (contents_of f).sessions ≤ 32) × (length (contents_of f).roles ≤ 16)
-    go (Fine h) e =
+    go : (o : Result Head Verdict) → entered f ≡ o → (length (contents_of f).sessions ≤ 32) × (length (contents_of f).roles ≤ 16)
+    go (Ok h) e =
         let (laid, is, fine) = entered_fine f h e in
         let same = subst (Laid f) is laid in
         (omega (arith, sessions_held f (head_at f), same.sessions), omega (arith, roles_held f (head_at f), same.roles))
-    go (Refused v) e = absurd ((entered_refused f v e).0 clean)
+    go (Err v) e = absurd ((entered_refused f v e).0 clean)
 
 threads_count : (ss : List Session) → length (threads_from ss) ≡ length ss
 unfolding threads_from
@@ -253,22 +250,22 @@ module _ (f seats states places next : List ℕ) where
         )
 
     -- a row of the whole passes in a part too
-    stage_next : (j : ℕ) → j < length places → Stage j → (row_tested K j (at K (words_before K j)) ≡ Passes (at K (words_before K (j + 1)))) × Stage (j + 1)
+    stage_next : (j : ℕ) → j < length places → Stage j → (row_tested K j (at K (words_before K j)) ≡ Some (at K (words_before K (j + 1)))) × Stage (j + 1)
     stage_next j low G =
         by-known (ltb j (known_by next (words_before K j))) refl (row_tried K (row_state K j) (at K (words_before K j))) refl
         (sym (row_on K j (length places) (at K (words_before K j)) low) ∙ G.tried)
       where
-        by-known : (b : Bool) → ltb j (known_by next (words_before K j)) ≡ b → (t : Trial) → row_tried K (row_state K j) (at K (words_before K j)) ≡ t
+        by-known : (b : Bool) → ltb j (known_by next (words_before K j)) ≡ b → (t : Option Search) → row_tried K (row_state K j) (at K (words_before K j)) ≡ t
             → cond b (row_onward t j (λ x. rows_tried K (j + 1) (length places - (j + 1)) x)) (known_by next (words_before K j) + 1) ≡ 0
-            → (row_tested K j (at K (words_before K j)) ≡ Passes (at K (words_before K (j + 1)))) × Stage (j + 1)
+            → (row_tested K j (at K (words_before K j)) ≡ Some (at K (words_before K (j + 1)))) × Stage (j + 1)
         by-known false e t is z = let no : ⊥ = omega (arith, z) in absurd no
-        by-known true e Fails is z = let no : ⊥ = omega (arith, z) in absurd no
-        by-known true e (Passes x) is z =
+        by-known true e None is z = let no : ⊥ = omega (arith, z) in absurd no
+        by-known true e (Some x) is z =
             let lt : j < known_by next (words_before K j) = ltb-true j (known_by next (words_before K j)) e in
             let (same, within) = row_passed K (row_state K j) (words_before K j) x is in
             let on : x ≡ at K (words_before K (j + 1)) = same ∙ ap (at K) (before_next K j) in
-            let passes : row_tried K (row_state K j) (at K (words_before K j)) ≡ Passes (at K (words_before K (j + 1))) = is ∙ ap Passes on in (
-              ap₂ (λ (a b : Bool). cond (a && b) (row_tried K (row_state K j) (at K (words_before K j))) Fails) e
+            let passes : row_tried K (row_state K j) (at K (words_before K j)) ≡ Some (at K (words_before K (j + 1))) = is ∙ ap Some on in (
+              ap₂ (λ (a b : Bool). cond (a && b) (row_tried K (row_state K j) (at K (words_before K j))) None) e
                   (row_ordered (known_by next (words_before K j)) j G.known lt) ∙ passes,
               record {
                 tried = subst (λ (q : Search). rows_tried K (j + 1) (length places - (j + 1)) q ≡ 0) on z;
@@ -292,7 +289,7 @@ module _ (f seats states places next : List ℕ) where
         let (later, rises) = part_between_lem m (j + 1) (omega (arith, le)) in
         let passes = (stage_next j (omega (arith, le)) (stages j (omega (arith, le)))).0 in
         let same : words_before K (j + 1 + m) ≡ words_before K (j + suc m) = ap (words_before K) there in (
-          ap (λ (t : Trial). row_onward t j (λ x. part_tried K (words_before K (j + suc m)) (j + 1) m x)) passes
+          ap (λ (t : Option Search). row_onward t j (λ x. part_tried K (words_before K (j + suc m)) (j + 1) m x)) passes
               ∙ ap (λ (e : ℕ). part_tried K e (j + 1) m (at K (words_before K (j + 1)))) (sym same) ∙ later,
           omega (arith, rises, before_next K j, same),
         )

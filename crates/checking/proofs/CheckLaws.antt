@@ -13,7 +13,7 @@ use Rattle.format.specs.Answers.{fine, refused, or_else}
 use Rattle.format.specs.Header.{head_at, head_of, Laid}
 use Rattle.format.specs.declared.Verdict.{Verdict}
 use Rattle.format.specs.declared.Head.{Head}
-use Rattle.format.specs.declared.HeadAnswer.TheVariants.{Refused as HeadAnswer-as-Refused}
+use Rattle.std.specs.Prelude.{Result, Ok, Err}
 use Rattle.format.proofs.AnswerLaws.{NoRefusal, quiet_first, loud_first, both_quiet}
 use Rattle.format.proofs.ContentsLaws.{users_held}
 use Rattle.format.proofs.HeadLaws.{Headed, head_number_lem}
@@ -21,8 +21,6 @@ use Rattle.tables.specs.Records.{records_answer}
 use Rattle.tables.proofs.RecordLaws.{owners_are_users, seated_are_users}
 use Rattle.trees.specs.Shape.{shape_answer}
 use Rattle.reading.specs.Reading.{body_answer, reading, with_head, opened}
-use Rattle.reading.specs.declared.Opened.{Opened}
-use Rattle.reading.specs.declared.Opened.TheVariants.{Fine, Refused}
 use Rattle.reading.proofs.LongLaws.{StandsFor, stands_judged}
 use Rattle.reading.proofs.ReadingLaws.{refused_by_head, by_body, head_given, refusal_given, opened_fine, opened_refused}
 use Rattle.rules.specs.Schema.{schema_of}
@@ -53,13 +51,13 @@ module _ (f : List ℕ) where
   unfolding checking
   check_first l = loud_first (reading f) (or_else (names_answer (contents_of f)) (roles_answer (contents_of f))) l
 
-  loud : (n : ℕ) → head_of f ≡ HeadAnswer-as-Refused n → NoRefusal (reading f) → ⊥
+  loud : (n : ℕ) → head_of f ≡ Err n → NoRefusal (reading f) → ⊥
   loud n e q = let z = ap (λ (v : Verdict). v.number) (refused_by_head f n e) in omega (arith, q, z, head_number_lem f n e)
 
-  pub names_refused : (n : ℕ) → head_of f ≡ HeadAnswer-as-Refused n → reading_names f ≡ refused n 0
+  pub names_refused : (n : ℕ) → head_of f ≡ Err n → reading_names f ≡ refused n 0
   names_refused n e = names_first (loud n e) ∙ refused_by_head f n e
 
-  pub check_refused : (n : ℕ) → head_of f ≡ HeadAnswer-as-Refused n → checking f ≡ refused n 0
+  pub check_refused : (n : ℕ) → head_of f ≡ Err n → checking f ≡ refused n 0
   check_refused n e = check_first (loud n e) ∙ refused_by_head f n e
 
   -- where they refuse nothing, it is that of the rules
@@ -82,24 +80,24 @@ module _ (f : List ℕ) where
   names_headed q = (by_body f (names_parts q).0).0
 
   -- what the way in says of a file
-  pub entered_fine : (h : Head) → entered f ≡ Fine h → Laid f h × (h ≡ head_at f) × (reading_names f ≡ fine)
+  pub entered_fine : (h : Head) → entered f ≡ Ok h → Laid f h × (h ≡ head_at f) × (reading_names f ≡ fine)
   unfolding entered
   entered_fine h e = let (q, same) = head_given (head_at f) (reading_names f) h e in (subst (Laid f) (sym same) (names_headed q).laid, same, names_fine q)
 
-  pub entered_refused : (w : Verdict) → entered f ≡ Refused w → (NoRefusal (reading_names f) → ⊥) × (w ≡ reading_names f)
+  pub entered_refused : (w : Verdict) → entered f ≡ Err w → (NoRefusal (reading_names f) → ⊥) × (w ≡ reading_names f)
   unfolding entered
   entered_refused w e = refusal_given (head_at f) (reading_names f) w e
 
   -- as the code finds it: by 1 to 8, and then by the rules
-  module _ (w : Verdict) (e : opened f ≡ Refused w) where
+  module _ (w : Verdict) (e : opened f ≡ Err w) where
     early : (NoRefusal (reading_names f) → ⊥) × (reading_names f ≡ w)
     early = let (l, same) = opened_refused f w e in (λ q. l (subst NoRefusal (names_first l) q), names_first l ∙ sym same)
 
-    pub entered_early : Refused w ≡ entered f
+    pub entered_early : Err w ≡ entered f
     unfolding entered
-    entered_early = rw (ne_eqb (reading_names f).number 0 early.0) (ap Refused (sym early.1))
+    entered_early = rw (ne_eqb (reading_names f).number 0 early.0) (ap Err (sym early.1))
 
-    pub examined_early : record { names = Refused w; roles = fine } ≡ examined f
+    pub examined_early : record { names = Err w; roles = fine } ≡ examined f
     examined_early = rw (ne_eqb (reading_names f).number 0 early.0, ← entered_early)
 
     pub scoped_early : (old : List ℕ) → old ≡ scoped f old
@@ -110,7 +108,7 @@ module _ (f : List ℕ) where
     unfolding surveyed
     surveyed_early old = rw (ne_eqb (reading f).number 0 (opened_refused f w e).0)
 
-  module _ (h : Head) (e : opened f ≡ Fine h) where
+  module _ (h : Head) (e : opened f ≡ Ok h) where
     same : h ≡ head_at f
     same = (opened_fine f h e).1
 
@@ -145,27 +143,27 @@ module _ (f : List ℕ) where
         (λ n. few _ (owners_are_users h (contents_at f h) records n), λ n. few _ (seated_are_users h (contents_at f h) records n))
 
   -- a file that was opened, and examined from there
-  pub admitted : (a : Opened) → opened f ≡ a → Admitted f a
-  admitted (Fine h) e = e
-  admitted (Refused w) e = tt
+  pub admitted : (a : Result Head Verdict) → opened f ≡ a → Admitted f a
+  admitted (Ok h) e = e
+  admitted (Err w) e = tt
 
-  pub examined_from_lem : (a : Opened) → opened f ≡ a → examined_from f a ≡ examined f
-  examined_from_lem (Fine h) e = examined_late h e (judgement (contents_at f h)) refl
-  examined_from_lem (Refused w) e = examined_early w e
+  pub examined_from_lem : (a : Result Head Verdict) → opened f ≡ a → examined_from f a ≡ examined f
+  examined_from_lem (Ok h) e = examined_late h e (judgement (contents_at f h)) refl
+  examined_from_lem (Err w) e = examined_early w e
 
-  pub surveyed_from_lem : (a : Opened) → opened f ≡ a → (old : List ℕ) → surveyed_from f a old ≡ surveyed f old
-  surveyed_from_lem (Fine h) e old = surveyed_late h e old
-  surveyed_from_lem (Refused w) e old = surveyed_early w e old
+  pub surveyed_from_lem : (a : Result Head Verdict) → opened f ≡ a → (old : List ℕ) → surveyed_from f a old ≡ surveyed f old
+  surveyed_from_lem (Ok h) e old = surveyed_late h e old
+  surveyed_from_lem (Err w) e old = surveyed_early w e old
 
   -- and the check, from the way in
   check_by_names : checking f ≡ or_else (reading_names f) (roles_answer (contents_of f))
   unfolding checking reading_names
   check_by_names = in_order (reading f) (names_answer (contents_of f)) (roles_answer (contents_of f))
 
-  pub check_early : (w : Verdict) → entered f ≡ Refused w → w ≡ checking f
+  pub check_early : (w : Verdict) → entered f ≡ Err w → w ≡ checking f
   check_early w e = let (l, is) = entered_refused w e in is ∙ sym (check_by_names ∙ loud_first (reading_names f) (roles_answer (contents_of f)) l)
 
-  pub check_late : (h : Head) → entered f ≡ Fine h → (examined f).roles ≡ checking f
+  pub check_late : (h : Head) → entered f ≡ Ok h → (examined f).roles ≡ checking f
   check_late h e =
       let q : NoRefusal (reading_names f) = ap (λ (v : Verdict). v.number) (entered_fine h e).2 in
       rw (eq-eqb (reading_names f).number 0 q) (sym (check_by_names ∙ quiet_first (reading_names f) (roles_answer (contents_of f)) q))

@@ -4,32 +4,29 @@
 ghost use Rattle.std.specs.Prelude.{◌≡◌, length};
 ghost use Rattle.checking.specs.Check.{reading_names, checking, entered, scoped, examined, surveyed, Admitted, examined_from, surveyed_from};
 
-use format::Verdict;
+use format::{Head, Verdict};
 use naming::pass::judge_names;
-use reading::{Opened, open, with_head};
+use reading::{open, with_head};
 use rules::judge::judge;
 
 // The file's head or the first of 1 to 10, and where these refuse nothing the first of 11 to 13.
 #[derive(Clone, Copy)]
 pub struct Examined {
-    pub names: Opened,
+    pub names: Result<Head, Verdict>,
     pub roles: Verdict,
 }
 
 // The file's head, or the first of the refusals 1 to 10; and what each node is reached with, where 1 to 8 refuse nothing, in the table from index 1
 // on, as far as there is room and 9 and 10 refuse nothing.
-pub fn enter_scoped(file: &[u8], scopes: &mut [u64]) -> Opened
+pub fn enter_scoped(file: &[u8], scopes: &mut [u64]) -> Result<Head, Verdict>
     ensures { (result ≡ entered file.now) × (scopes.new ≡ scoped file.now scopes.old) }
 {
-    let answer = open(file);
-    match answer {
-        Opened::Refused(first) => Opened::Refused(first),
-        Opened::Fine(head) => with_head(head, judge_names(file, head, scopes)),
-    }
+    let head = open(file)?;
+    with_head(head, judge_names(file, head, scopes))
 }
 
 // The same, with a table that has no room.
-pub fn enter(file: &[u8]) -> Opened
+pub fn enter(file: &[u8]) -> Result<Head, Verdict>
     ensures { result ≡ entered file.now }
 {
     let mut scopes = [0u64; 1];
@@ -40,31 +37,24 @@ pub fn enter(file: &[u8]) -> Opened
 pub fn read_names(file: &[u8]) -> Verdict
     ensures { result ≡ reading_names file.now }
 {
-    let answer = enter(file);
-    match answer {
-        Opened::Refused(first) => first,
-        Opened::Fine(_) => Verdict {
-            number: 0,
-            place: 0,
-        },
+    match enter(file) {
+        Err(first) => first,
+        Ok(_) => Verdict::FINE,
     }
 }
 
 // Of a file whose way in was judged: 9 to 13, and each node's candidates in the table from index 1 on, as far as 9 and 10 refuse nothing. Where there is
 // no head, what refuses it.
-pub fn examine_opened(file: &[u8], answer: Opened, roles: &mut [u16]) -> Examined
+pub fn examine_opened(file: &[u8], answer: Result<Head, Verdict>, roles: &mut [u16]) -> Examined
     requires { Admitted file.now answer × (length roles.old ≡ 1025) }
     ensures { (result ≡ examined_from file.now answer) × (roles.new ≡ surveyed_from file.now answer roles.old) }
 {
     match answer {
-        Opened::Refused(first) => Examined {
-            names: Opened::Refused(first),
-            roles: Verdict {
-                number: 0,
-                place: 0,
-            },
+        Err(first) => Examined {
+            names: Err(first),
+            roles: Verdict::FINE,
         },
-        Opened::Fine(head) => {
+        Ok(head) => {
             let judged = judge(file, head, roles);
             let names = judged.names;
             let roles = judged.roles;
@@ -91,9 +81,8 @@ pub fn check(file: &[u8]) -> Verdict
 {
     let mut roles = [0u16; 1025];
     let found = examine(file, &mut roles);
-    let names = found.names;
-    match names {
-        Opened::Refused(first) => first,
-        Opened::Fine(_) => found.roles,
+    match found.names {
+        Err(first) => first,
+        Ok(_) => found.roles,
     }
 }

@@ -1,5 +1,6 @@
 -- The check of a file's bytes for a minute of the week: 22, then 1 to 8, 23, 9 and 10 together, then 11 to 13 and 24 by node.
-use Rattle.std.specs.Prelude.{ℕ, Bool, cond, not, ◌&&◌, List, eqb, ltb, length}
+use Rattle.format.specs.declared.Head.{Head}
+use Rattle.std.specs.Prelude.{ℕ, Bool, cond, not, ◌&&◌, List, eqb, ltb, length, Result}
 use Rattle.masks.specs.Mask.{has}
 use Rattle.format.specs.Answers.{refused, or_else, first_of}
 use Rattle.format.specs.Header.{head_at}
@@ -7,7 +8,6 @@ use Rattle.format.specs.Contents.{Contents, item, no_node, contents_of}
 use Rattle.format.specs.declared.Verdict.{Verdict}
 use Rattle.format.specs.declared.Node.{Node}
 use Rattle.reading.specs.Reading.{reading, with_head}
-use Rattle.reading.specs.declared.Opened.{Opened}
 use Rattle.rules.specs.Checking.{names_answer, roles_answer}
 use Rattle.hours.specs.Hours.{table_answer, rows_answer, shut}
 
@@ -30,7 +30,7 @@ roles_answer_at s C = sooner (roles_answer C) (shut_answer s C)
 unfoldable pub reading_at : List ℕ → List ℕ → Verdict
 reading_at f t = or_else (reading f) (rows_answer (length (contents_of f).roles) t)
 
-unfoldable pub opened_at : List ℕ → List ℕ → Opened
+unfoldable pub opened_at : List ℕ → List ℕ → Result Head Verdict
 opened_at f t = with_head (head_at f) (reading_at f t)
 
 -- then 9 and 10
@@ -38,7 +38,7 @@ unfoldable pub reading_names_at : List ℕ → List ℕ → Verdict
 reading_names_at f t = or_else (reading_at f t) (names_answer (contents_of f))
 
 -- the way in by these
-unfoldable pub entered_at : List ℕ → List ℕ → Opened
+unfoldable pub entered_at : List ℕ → List ℕ → Result Head Verdict
 entered_at f t = with_head (head_at f) (reading_names_at f t)
 
 -- f is the file, t the table of hours, m the minute: 22 first of all

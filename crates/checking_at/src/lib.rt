@@ -7,21 +7,18 @@ ghost use Rattle.std.specs.Prelude.{◌≡◌, ◌/◌, ◌≤◌, length};
 ghost use Rattle.checking_at.specs.CheckAt.{sooner, opened_at, checking_at};
 
 use checking::examine_opened;
-use format::Verdict;
+use format::{Head, Verdict};
 use hours::{rows_answer, shut, table_answer};
-use reading::{Opened, open, with_head};
+use reading::{open, with_head};
 use shut_on::shut_on;
 
 // The file's head, or the first of 1 to 8 and 23.
-pub fn open_at(file: &[u8], hours: &[u16]) -> Opened
+pub fn open_at(file: &[u8], hours: &[u16]) -> Result<Head, Verdict>
     requires { length hours.now / 3 ≤ 64 }
     ensures { result ≡ opened_at file.now hours.now }
 {
-    let answer = open(file);
-    match answer {
-        Opened::Refused(first) => Opened::Refused(first),
-        Opened::Fine(head) => with_head(head, rows_answer(hours, head.count.roles)),
-    }
+    let head = open(file)?;
+    with_head(head, rows_answer(hours, head.count.roles))
 }
 
 // Of two answers the one at the lower node, and at one node the first.
@@ -52,7 +49,7 @@ pub fn check_at(file: &[u8], hours: &[u16], minute: u16) -> Verdict
     let found = examine_opened(file, open_at(file, hours), &mut roles);
     let names = found.names;
     match names {
-        Opened::Refused(first) => first,
-        Opened::Fine(head) => sooner(found.roles, shut_on(file, head, shut(hours, minute))),
+        Err(first) => first,
+        Ok(head) => sooner(found.roles, shut_on(file, head, shut(hours, minute))),
     }
 }

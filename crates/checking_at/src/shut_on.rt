@@ -19,19 +19,13 @@ pub fn shut_on(file: &[u8], head: Head, shut: u16) -> Verdict
     requires { Laid file.now head }
     ensures { result ≡ shut_answer shut (contents_at file.now head) }
 {
-    let count = head.count.nodes;
-    let mut n: u16 = 1;
-    while n <= count {
+    for n in 1..=head.count.nodes {
         if opens_shut(node(file, head, n), shut) {
             return Verdict {
                 number: 24,
                 place: n,
             };
         }
-        n += 1;
     }
-    Verdict {
-        number: 0,
-        place: 0,
-    }
+    Verdict::FINE
 }

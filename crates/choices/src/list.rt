@@ -19,7 +19,7 @@ use super::state::{add_thread, remove_thread};
 use super::{Progress, Went};
 use format::Head;
 use format::sections::{in_count, session};
-use format::words::{narrow, wide};
+use format::words::narrow;
 use rules::grants::fill_grants;
 use steps::act::act;
 use steps::beside::{add_made, reach, recount, start_words, thread_count};
@@ -31,7 +31,7 @@ fn store(threads: &mut [u16], beside: &mut [u16], i: u16, p: u16, it: Acted) -> 
     requires { Sized threads.old beside.old × (0 < i) × (i ≤ thread_count beside.old) × HasRoom (thread_count beside.old) (made_count beside.old) p it.answer }
     ensures { Chose (counts_by beside.old (outcome_of it)) (outcome_of it) i p result threads.old beside.old threads.new beside.new }
 {
-    let at = wide(i - 1);
+    let at = usize::from(i - 1);
     let answer = it.answer;
     let first = it.first;
     let second = it.second;
@@ -59,7 +59,7 @@ fn store(threads: &mut [u16], beside: &mut [u16], i: u16, p: u16, it: Acted) -> 
         }
         Answer::Meets => {
             put_thread(threads, at, first);
-            put_thread(threads, wide(p - 1), second);
+            put_thread(threads, usize::from(p - 1), second);
             return Answer::Meets;
         }
     }
@@ -96,9 +96,9 @@ fn choose(
     if !in_count(count, i) {
         return Answer::Refused(18);
     }
-    let own = thread_at(threads, wide(i - 1));
+    let own = thread_at(threads, usize::from(i - 1));
     let q = looked_at(count, i, p);
-    let other = thread_at(threads, wide(q - 1));
+    let other = thread_at(threads, usize::from(q - 1));
     let it = act(file, head, sends, receives, beside, own, p, other);
     let answer = store(threads, beside, i, p, it);
     recount(beside, table, it);
@@ -123,8 +123,7 @@ pub fn go_through(
 {
     let n = choices.len() / 2;
     let mut last = Answer::Refused(0);
-    let mut k: usize = 0;
-    while k < n {
+    for k in 0..n {
         let i = choices[2 * k];
         let p = choices[2 * k + 1];
         let answer = choose(file, head, sends, receives, table, threads, beside, i, p);
@@ -139,10 +138,9 @@ pub fn go_through(
             _ => {}
         }
         last = answer;
-        k += 1;
     }
     Went {
-        count: narrow(k),
+        count: narrow(n),
         refusal: 0,
         last,
     }
@@ -172,9 +170,7 @@ pub fn start_beside(file: &[u8], head: Head, table: &[u64], beside: &mut [u16])
     if table.len() == 0 {
         return;
     }
-    let mut k: u16 = 0;
-    while k < sessions {
-        k += 1;
+    for k in 1..=sessions {
         let it = session(file, head, k);
         reach(beside, table, it.root);
     }
@@ -186,11 +182,9 @@ fn open_threads(file: &[u8], head: Head, table: &[u64], threads: &mut [u16], bes
     ensures { (state_in threads.new beside.new ≡ start (contents_at file.now head)) × Sized threads.new beside.new
         × (beside.new ≡ start_beside (awaited_by table.now) beside.old (start (contents_at file.now head)).threads) }
 {
-    let n = wide(head.count.sessions);
-    let mut i: usize = 0;
-    while i < n {
+    let n = usize::from(head.count.sessions);
+    for i in 0..n {
         put_thread(threads, i, opening(file, head, narrow(i + 1)));
-        i += 1;
     }
     start_beside(file, head, table, beside);
 }

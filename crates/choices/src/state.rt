@@ -4,7 +4,6 @@ ghost use Rattle.steps.specs.Choice.{removed};
 ghost use Rattle.steps.specs.Kept.{state_in, Sized};
 ghost use Rattle.steps.specs.Beside.{thread_count, with_threads};
 
-use format::words::wide;
 use steps::Thread;
 use steps::beside::{set_threads, thread_count};
 use steps::records::{close_gap, put_thread};
@@ -19,7 +18,7 @@ pub fn add_thread(threads: &mut [u16], beside: &mut [u16], t: Thread)
         × (beside.new ≡ with_threads beside.old (thread_count beside.old + 1)) × Sized threads.exit.now beside.new }
 {
     let n = thread_count(beside);
-    put_thread(threads, wide(n), t);
+    put_thread(threads, usize::from(n), t);
     set_threads(beside, n + 1);
 }
 
@@ -30,6 +29,6 @@ pub fn remove_thread(threads: &mut [u16], beside: &mut [u16], i: u16)
         × (beside.new ≡ with_threads beside.old (thread_count beside.old - 1)) × Sized threads.new beside.new }
 {
     let n = thread_count(beside);
-    close_gap(threads, wide(n), wide(i - 1));
+    close_gap(threads, usize::from(n), usize::from(i - 1));
     set_threads(beside, n - 1);
 }

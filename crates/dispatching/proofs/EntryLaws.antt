@@ -1,8 +1,8 @@
 -- Rounds of whole files: the round after a run, and what each way through the entry point answers.
-use Prim.Native.Nat.{ℕ, zero, suc, ◌+◌, ◌*◌, ◌-◌, ◌/◌, ◌%◌, ◌≤◌, ◌<◌}
-use mathlib.Core.Path.{◌≡◌, refl, sym, ap, ap₂, ◌∙◌, subst}
-use mathlib.Core.Bool.{Bool, true, false, cond, ◌&&◌, and-eq-true_iff}
-use mathlib.Core.List.{List, [], ◌∷◌, ◌++◌}
+use Prim.Native.Nat.{ℕ, zero, suc, ◌+◌, ◌*◌, ◌%◌, ◌≤◌, ◌<◌}
+use mathlib.Core.Path.{◌≡◌, refl, ap, ap₂, ◌∙◌, subst}
+use mathlib.Core.Bool.{true, false, ◌&&◌, and-eq-true_iff}
+use mathlib.Core.List.{List}
 use native.Mathlib.Omega.{arith}
 use lib.Dec.{eqb, leb}
 use lib.ListN.{length, replicate, length-append}
@@ -10,27 +10,26 @@ use lib.Seq.{sets}
 use borrow.Author.Tests.{eq-eqb, ne_eqb, leb-true}
 use Rattle.format.specs.Contents.{Contents, contents_at}
 use Rattle.format.specs.Words.{bytes_of}
-use Rattle.format.specs.Answers.{fine, refused}
+use Rattle.format.specs.Answers.{refused}
 use Rattle.format.specs.declared.Head.{Head}
 use Rattle.format.specs.declared.Verdict.{Verdict}
-use Rattle.reading.specs.declared.Opened.TheVariants.{Fine, Refused}
+use Rattle.std.specs.Prelude.{Ok, Err}
 use Rattle.checking.specs.Check.{reading_names, entered}
 use Rattle.checking.proofs.CheckLaws.{entered_fine, entered_refused}
 use Rattle.steps.specs.Choice.{Clinic, clinic_of, State}
 use Rattle.steps.specs.Records.{threads_in}
 use Rattle.steps.specs.Beside.{thread_count, made_count, made_in, made_words}
 use Rattle.steps.specs.Kept.{state_in, Sized}
-use Rattle.steps.proofs.TableLaws.{threads_length}
 use Rattle.choices.specs.declared.Progress.{Progress}
-use Rattle.choices.specs.Choices.{Ran, start, run}
+use Rattle.choices.specs.Choices.{start}
 use Rattle.choices.specs.Stored.{Gone}
-use Rattle.running.specs.Run.{thread_words, ran_words, stopped, unready}
+use Rattle.running.specs.Run.{thread_words, ran_words, stopped}
 use Rattle.steps.proofs.ActLaws.{length_made}
 use Rattle.running.proofs.EntryLaws.{run_counts, progress_of}
 use Rattle.running.proofs.PutLaws.{made_words_length}
 use Rattle.rounds.specs.Round.{Rounded}
 use Rattle.dispatching.specs.declared.Round.{Round}
-use Rattle.dispatching.specs.Dispatch.{round_of, round_by, with_round, ran_by, after_list, both_by, round_listed, filled, round_answer, no_round, rounding, round_over}
+use Rattle.dispatching.specs.Dispatch.{round_of, round_by, ran_by, after_list, both_by, round_listed, round_answer, no_round, rounding, round_over}
 use Rattle.dispatching.specs.Visits.{HandedBack}
 
 -- a stopped list has no round
@@ -108,14 +107,14 @@ unfolding rounding round_over
 round_unfit f ws out y e ey = (ey ∙ rw e, rw e)
 
 module _ (f ws out : List ℕ) (fits : round_listed (length ws) && leb 1800 (length out) ≡ true) where
-  pub round_refused : (v : Verdict) (y : Round) → entered f ≡ Refused v → y ≡ no_round v → (y ≡ rounding f ws (length out)) × (out ≡ round_over f ws out)
+  pub round_refused : (v : Verdict) (y : Round) → entered f ≡ Err v → y ≡ no_round v → (y ≡ rounding f ws (length out)) × (out ≡ round_over f ws out)
   unfolding rounding round_over
   round_refused v y e ey =
       let (loud, same) = entered_refused f v e in
       let test = ne_eqb (reading_names f).number 0 loud in
       (ey ∙ ap no_round same ∙ rw (fits, test), rw (fits, test))
 
-  pub round_done : (h : Head) (y : Round) (out' : List ℕ) → entered f ≡ Fine h
+  pub round_done : (h : Head) (y : Round) (out' : List ℕ) → entered f ≡ Ok h
       → y ≡ round_answer (both_by (contents_at f h) ws) (after_list (contents_at f h) ws).words
       → out' ≡ sets out 0 (bytes_of (ran_words (both_by (contents_at f h) ws))) → (y ≡ rounding f ws (length out)) × (out' ≡ round_over f ws out)
   unfolding rounding round_over

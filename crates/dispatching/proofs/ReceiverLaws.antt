@@ -2,11 +2,11 @@
 use Prim.Native.Nat.{ℕ, zero, suc, ◌+◌, ◌*◌, ◌-◌, ◌≤◌, ◌<◌}
 use mathlib.Core.Path.{◌≡◌, refl, sym, ap, ◌∙◌}
 use mathlib.Core.Bool.{Bool, true, false, cond, not, ◌&&◌, false≢true}
-use mathlib.Core.List.{List, [], ◌∷◌}
+use mathlib.Core.List.{List}
 use mathlib.Core.Logic.{◌⊎◌, inl, inr}
 use native.Mathlib.Omega.{arith}
 use native.Mathlib.Numerals.{add-one}
-use lib.Dec.{eqb, leb}
+use lib.Dec.{eqb}
 use lib.ListN.{length}
 use borrow.Author.Tests.{eq-eqb, ne_eqb, le-leb}
 use Rattle.masks.specs.Mask.{has}
@@ -15,10 +15,9 @@ use Rattle.format.proofs.ContentsLaws.{in_count_iff}
 use Rattle.rules.specs.declared.Way.TheVariants.{Sends, Receives}
 use Rattle.steps.specs.declared.Thread.{Thread}
 use Rattle.steps.specs.declared.Made.{Made}
-use Rattle.steps.specs.declared.Partner.{Partner}
-use Rattle.steps.specs.declared.Partner.TheVariants.{Alone, With, Missing}
+use Rattle.steps.specs.declared.Partner.TheVariants.{Alone, With}
 use Rattle.steps.specs.declared.Outcome.{Outcome}
-use Rattle.steps.specs.declared.Outcome.TheVariants.{Refused, Moves, Adds, Makes, Ends, Meets}
+use Rattle.steps.specs.declared.Outcome.TheVariants.{Refused}
 use Rattle.steps.specs.Threads.{value}
 use Rattle.steps.specs.Choice.{Clinic, State, is_allowed, meeting, sending, lone, alone_only, acting, thread_at, partner_at, done, outcome, choice}
 use Rattle.steps.specs.Records.{thread_in, record_at}
@@ -120,34 +119,35 @@ module _ (C : Clinic) (w b : List ℕ) (i : ℕ) (pos : 0 < i) (le : i ≤ threa
   step_meets p l m = step_met p l m ∙ ap is_meeting (with_thread p l m) ∙ ways_meet C (thread_count b) (made_of b) (thread i) (thread p)
 
   module _ (moved there : ℕ) (few : there ≤ thread_count b) where
-    -- what is found from number p + 1 on
+    -- what is found from number p on
     abbrev pub rest : ℕ → ℕ
-    rest p = receiver_for threads_of (comes_to C) s i (suc p) (marks_from (suc p) (there - p) moved)
+    rest p = receiver_for threads_of (comes_to C) s i p (marks_from p (there + 1 - p) moved)
 
     abbrev free : ℕ → Bool
     free p = not (has moved p) && alike over (at p)
 
-    one : (p : ℕ) → p < there → rest p ≡ cond (free (suc p)) (suc p) (rest (suc p))
+    one : (p : ℕ) → 0 < p → p ≤ there → rest p ≡ cond (free p) p (rest (p + 1))
     unfolding receiver_for marks_from
-    one p l =
-        let c : there - p ≡ suc (there - suc p) = omega (arith, l) in
-        let e : is_step (comes_to C s i (suc p)) ≡ alike over (at (suc p)) = step_meets (suc p) (omega arith) (omega (arith, l, few)) in
-        ap (λ (x : ℕ). receiver_for threads_of (comes_to C) s i (suc p) (marks_from (suc p) x moved)) c
-        ∙ ap (λ (x : Bool). cond (not (has moved (suc p)) && x) (suc p) (rest (suc p))) e
+    one p l m =
+        let c : there + 1 - p ≡ suc (there + 1 - (p + 1)) = omega (arith, l, m) in
+        let e : is_step (comes_to C s i p) ≡ alike over (at p) = step_meets p l (omega (arith, m, few)) in
+        ap (λ (x : ℕ). receiver_for threads_of (comes_to C) s i p (marks_from p x moved)) c
+        ∙ ap (λ (x : ℕ). cond (not (has moved p) && is_step (comes_to C s i p)) p (receiver_for threads_of (comes_to C) s i x (marks_from x (there + 1 - (p + 1)) moved))) (sym (add-one p))
+        ∙ ap (λ (x : Bool). cond (not (has moved p) && x) p (rest (p + 1))) e
 
-    pub begin : rest 0 ≡ receiver_for threads_of (comes_to C) s i 1 (marks_from 1 there moved)
-    begin = let z : there - 0 ≡ there = omega arith in ap (λ (x : ℕ). receiver_for threads_of (comes_to C) s i 1 (marks_from 1 x moved)) z
+    pub begin : rest 1 ≡ receiver_for threads_of (comes_to C) s i 1 (marks_from 1 there moved)
+    begin = let z : there + 1 - 1 ≡ there = omega arith in ap (λ (x : ℕ). receiver_for threads_of (comes_to C) s i 1 (marks_from 1 x moved)) z
 
-    pub none : (p x : ℕ) → there ≤ p → rest p ≡ x → 0 ≡ x
+    pub none : (p x : ℕ) → there < p → rest p ≡ x → 0 ≡ x
     unfolding receiver_for marks_from
     none p x l inv =
-        let z : there - p ≡ 0 = omega (arith, l) in
-        sym (ap (λ (y : ℕ). receiver_for threads_of (comes_to C) s i (suc p) (marks_from (suc p) y moved)) z) ∙ inv
+        let z : there + 1 - p ≡ 0 = omega (arith, l) in
+        sym (ap (λ (y : ℕ). receiver_for threads_of (comes_to C) s i p (marks_from p y moved)) z) ∙ inv
 
     -- one that may send on nothing meets nobody
-    silent_from : (k p : ℕ) → over ≡ 0 → there ≡ p + k → rest p ≡ 0
-    silent_from zero p z e = sym (none p (rest p) (omega (arith, e)) refl)
-    silent_from (suc k) p z e = one p (omega (arith, e)) ∙ rw (z, never (has moved (suc p))) (silent_from k (suc p) z (omega (arith, e)))
+    silent_from : (k p : ℕ) → over ≡ 0 → 0 < p → there + 1 ≡ p + k → rest p ≡ 0
+    silent_from zero p z l e = sym (none p (rest p) (omega (arith, e)) refl)
+    silent_from (suc k) p z l e = one p l (omega (arith, e)) ∙ rw (z, never (has moved p)) (silent_from k (p + 1) z (omega arith) (omega (arith, e)))
       where
         never : (h : Bool) → (not h && false) ≡ false
         never true = refl
@@ -155,7 +155,7 @@ module _ (C : Clinic) (w b : List ℕ) (i : ℕ) (pos : 0 < i) (le : i ≤ threa
 
     pub silent : (own : Thread) (k v : ℕ) → k ≡ i - 1 → own ≡ thread_in w (record_at k) → v ≡ out_of C (made_of b) own → v ≡ 0
         → 0 ≡ receiver_for threads_of (comes_to C) s i 1 (marks_from 1 there moved)
-    silent own k v ek eo ev z = sym (silent_from there 0 (is_over own k v ek eo ev ∙ z) (omega arith)) ∙ begin
+    silent own k v ek eo ev z = sym (silent_from there 1 (is_over own k v ek eo ev ∙ z) (omega arith) (omega arith)) ∙ begin
       where
         is_over : (own : Thread) (k v : ℕ) → k ≡ i - 1 → own ≡ thread_in w (record_at k) → v ≡ out_of C (made_of b) own → over ≡ v
         is_over own k v ek eo ev = sym (ev ∙ ap (out_of C (made_of b)) (eo ∙ ap (λ (x : ℕ). thread_in w (record_at x)) ek))
@@ -173,19 +173,18 @@ module _ (C : Clinic) (w b : List ℕ) (i : ℕ) (pos : 0 < i) (le : i ≤ threa
       is_over : v ≡ over
       is_over = ev ∙ ap (out_of C (made_of b)) (eo ∙ ap (λ (x : ℕ). thread_in w (record_at x)) ek)
 
-      -- the test of the number p + 1, as code has it
-      tested : (p : ℕ) (r : Bool) → r ≡ (not (has moved (p + 1)) && eqb v (at (p + 1))) → r ≡ free (suc p)
+      -- the test of the number p, as code has it
+      tested : (p : ℕ) (r : Bool) → r ≡ (not (has moved p) && eqb v (at p)) → r ≡ free p
       tested p r er =
-          er ∙ ap (λ (x : Bool). not (has moved (p + 1)) && (not x && eqb v (at (p + 1)))) (sym (ne_eqb v 0 some))
-          ∙ ap (λ (x : ℕ). not (has moved (p + 1)) && alike x (at (p + 1))) is_over
-          ∙ ap (λ (x : ℕ). free x) (add-one p)
+          er ∙ ap (λ (x : Bool). not (has moved p) && (not x && eqb v (at p))) (sym (ne_eqb v 0 some))
+          ∙ ap (λ (x : ℕ). not (has moved p) && alike x (at p)) is_over
 
-      pub passed : (p : ℕ) (r : Bool) (x : ℕ) → p < there → r ≡ (not (has moved (p + 1)) && eqb v (at (p + 1))) → r ≡ false → rest p ≡ x → rest (p + 1) ≡ x
-      passed p r x l er f inv =
-          let e : free (suc p) ≡ false = sym (tested p r er) ∙ f in
-          ap rest (add-one p) ∙ sym (one p l ∙ ap (λ (y : Bool). cond y (suc p) (rest (suc p))) e) ∙ inv
+      pub passed : (p : ℕ) (r : Bool) (x : ℕ) → 0 < p → p ≤ there → r ≡ (not (has moved p) && eqb v (at p)) → r ≡ false → rest p ≡ x → rest (p + 1) ≡ x
+      passed p r x l m er f inv =
+          let e : free p ≡ false = sym (tested p r er) ∙ f in
+          sym (one p l m ∙ ap (λ (y : Bool). cond y p (rest (p + 1))) e) ∙ inv
 
-      pub found : (p : ℕ) (r : Bool) (x : ℕ) → p < there → r ≡ (not (has moved (p + 1)) && eqb v (at (p + 1))) → r ≡ true → rest p ≡ x → p + 1 ≡ x
-      found p r x l er f inv =
-          let e : free (suc p) ≡ true = sym (tested p r er) ∙ f in
-          add-one p ∙ sym (one p l ∙ ap (λ (y : Bool). cond y (suc p) (rest (suc p))) e) ∙ inv
+      pub found : (p : ℕ) (r : Bool) (x : ℕ) → 0 < p → p ≤ there → r ≡ (not (has moved p) && eqb v (at p)) → r ≡ true → rest p ≡ x → p ≡ x
+      found p r x l m er f inv =
+          let e : free p ≡ true = sym (tested p r er) ∙ f in
+          sym (one p l m ∙ ap (λ (y : Bool). cond y p (rest (p + 1))) e) ∙ inv

@@ -1,22 +1,20 @@
 -- What a visit leaves, as code tells of it.
 use Prim.Native.Nat.{ℕ, zero, suc, ◌+◌, ◌-◌, ◌≤◌, ◌<◌}
-use mathlib.Core.Path.{◌≡◌, refl, sym, ap, ap₂, ◌∙◌, subst}
-use mathlib.Core.Bool.{Bool, true, false, cond, false≢true}
+use mathlib.Core.Path.{◌≡◌, refl, sym, ap, ◌∙◌, subst}
+use mathlib.Core.Bool.{Bool, true, false, false≢true}
 use mathlib.Core.List.{List, [], ◌∷◌, ◌++◌}
 use native.Mathlib.Omega.{arith}
-use lib.Dec.{eqb, ltb}
+use lib.Dec.{ltb}
 use lib.ListN.{length, set, take, drop, length-set, length-append}
-use lib.Seq.{get_or-set_same}
-use borrow.Author.Tests.{eq-eqb, ne_eqb, lt-ltb, le-ltb}
+use borrow.Author.Tests.{ne_eqb, lt-ltb, le-ltb}
 use Rattle.masks.specs.Mask.{with}
-use Rattle.steps.specs.declared.Thread.{Thread}
 use Rattle.steps.specs.declared.Pair.{Pair}
 use Rattle.steps.specs.declared.Outcome.{Outcome}
 use Rattle.steps.specs.declared.Outcome.TheVariants.{Refused, Moves, Adds, Makes, Ends, Meets}
 use Rattle.steps.specs.declared.Answer.{Answer}
 use Rattle.steps.specs.declared.Answer.TheVariants as answers
 use Rattle.steps.specs.Acted.{acted_of}
-use Rattle.steps.specs.Choice.{Clinic, State, Chosen, halts, goes, removed, done, outcome, choice}
+use Rattle.steps.specs.Choice.{Clinic, State, removed, done, outcome, choice}
 use Rattle.steps.specs.Beside.{thread_count, beside_by}
 use Rattle.steps.specs.Kept.{state_in, Sized, state_left}
 use Rattle.steps.proofs.TableLaws.{threads_length}
@@ -26,7 +24,7 @@ use Rattle.choices.specs.declared.Went.{Went}
 use Rattle.choices.proofs.RunLaws.{refused_by}
 use Rattle.choices.proofs.TriedLaws.{one_chose}
 use Rattle.running.specs.Run.{is_meeting}
-use Rattle.rounds.specs.Round.{Taken, refuses, steps, is_step, Visited, nothing_done, alone, met, lone_else, met_by, without_item, Going, receiver_for, meeting_with, going, visited, visit}
+use Rattle.rounds.specs.Round.{Taken, refuses, steps, lone_else, met_by, without_item, Going, receiver_for, meeting_with, going, visited, visit}
 use Rattle.rounds.proofs.Searching.{receiver_steps}
 use Rattle.rounds.proofs.PlaceLaws.{length_without_item}
 use Rattle.dispatching.specs.declared.Visit.{Visit}

@@ -24,7 +24,6 @@ use checking::enter;
 use choices::Progress;
 use choices::list::{go_through, open_run};
 use format::{Head, Verdict};
-use reading::Opened;
 use running::out::put_state;
 use running::stopped_at;
 use steps::beside::{BESIDE, made_count, thread_count};
@@ -171,7 +170,7 @@ pub fn round_after(file: &[u8], choices: &[u16], out: &mut [u8]) -> Round
     }
     let answer = enter(file);
     match answer {
-        Opened::Refused(first) => no_round(first),
-        Opened::Fine(head) => round_into(file, head, choices, out),
+        Err(first) => no_round(first),
+        Ok(head) => round_into(file, head, choices, out),
     }
 }

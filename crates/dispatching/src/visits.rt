@@ -21,7 +21,7 @@ use super::marks::{close_up, has_moved, with_moved};
 use choices::list::go_through;
 use format::Head;
 use format::sections::node_tag;
-use format::words::{narrow, wide};
+use format::words::narrow;
 use running::pairs::{receives_over, sends_on};
 use steps::Answer;
 use steps::beside::thread_count;
@@ -44,7 +44,7 @@ fn is_free(
     if has_moved(moved, p) {
         return false;
     }
-    let t = thread_at(threads, wide(p - 1));
+    let t = thread_at(threads, usize::from(p - 1));
     receives_over(file, head, receives, beside, t, over)
 }
 
@@ -64,14 +64,12 @@ pub fn receiver_for(
         × (0 < i) × (i ≤ thread_count beside.now) × (there ≤ thread_count beside.now) }
     ensures { result ≡ receiver_for threads_of (comes_to (clinic_of (contents_at file.now head))) (state_in threads.now beside.now) i 1 (marks_from 1 there moved) }
 {
-    let own = thread_at(threads, wide(i - 1));
+    let own = thread_at(threads, usize::from(i - 1));
     let over = sends_on(file, head, sends, beside, own);
     if over == 0 {
         return 0;
     }
-    let mut p: u16 = 0;
-    while p < there {
-        p += 1;
+    for p in 1..=there {
         if is_free(file, head, receives, threads, beside, over, moved, p) {
             return p;
         }
@@ -84,7 +82,7 @@ fn tag_at(file: &[u8], head: Head, threads: &[u16], i: u16) -> u16
     requires { Laid file.now head × (0 < i) × (record_at i ≤ length threads.now) }
     ensures { result ≡ ((clinic_of (contents_at file.now head)).node (thread_in threads.now (record_at (i - 1))).node).tag }
 {
-    let own = thread_at(threads, wide(i - 1));
+    let own = thread_at(threads, usize::from(i - 1));
     node_tag(file, head, own.node)
 }
 

@@ -1,4 +1,5 @@
 -- A column file is answered as its row file, and placed it is the columns of the placed row file.
+use Rattle.format.specs.declared.Head.{Head}
 use Prim.Native.Nat.{ℕ, ◌<◌}
 use mathlib.Core.Path.{◌≡◌, refl, sym, ap, ◌∙◌, subst}
 use mathlib.Core.Logic.{◌⊎◌, inl, inr, ◌≢◌}
@@ -6,8 +7,7 @@ use mathlib.Core.Bool.{true, false, true≢false}
 use mathlib.Core.List.{List, ◌∷◌}
 use lib.ListN.{length}
 use Rattle.format.specs.Header.{has_juniors, head_at, version_at, head_of, room_for}
-use Rattle.format.specs.declared.HeadAnswer.{HeadAnswer}
-use Rattle.format.specs.declared.HeadAnswer.TheVariants.{Fine, Refused}
+use Rattle.std.specs.Prelude.{Result, Ok, Err}
 use Rattle.format.specs.Contents.{Contents, contents_of}
 use Rattle.format.specs.Writing.{encoded}
 use Rattle.format.proofs.HeadLaws.{Headed}
@@ -95,13 +95,13 @@ heads_refused bs bad =
     let f : List ℕ = 3 ∷ 0 ∷ bs in
     let g : List ℕ = 2 ∷ 0 ∷ bs in
     let n : ℕ = head_number (head_of f) in
-    let by-f : head_of f ≡ Refused n = by (head_of f) n refl bad in
-    let by-g : head_of g ≡ Refused n = by (head_of g) n (sym (same_head_refusals bs)) bad in
+    let by-f : head_of f ≡ Err n = by (head_of f) n refl bad in
+    let by-g : head_of g ≡ Err n = by (head_of g) n (sym (same_head_refusals bs)) bad in
     unread_alike f g (refused_by_head f n by-f ∙ sym (refused_by_head g n by-g)) (loud_head g n by-g) refl
   where
-    by : (a : HeadAnswer) (n : ℕ) → head_number a ≡ n → n ≢ 0 → a ≡ Refused n
-    by (Fine h) n e bad = absurd (bad (sym e))
-    by (Refused m) n e bad = ap Refused e
+    by : (a : Result Head ℕ) (n : ℕ) → head_number a ≡ n → n ≢ 0 → a ≡ Err n
+    by (Ok h) n e bad = absurd (bad (sym e))
+    by (Err m) n e bad = ap Err e
 
 -- a notice is answered alike with a file that is as long and is read alike
 notice_alike : (g f : List ℕ) → length g ≡ length f → reading_names g ≡ reading_names f → (a b c d : ℕ) (n : List ℕ) (day : ℕ)

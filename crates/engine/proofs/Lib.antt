@@ -5,5 +5,4 @@ pub mod LongInputs
 pub mod NothingPlanned
 pub mod Promises
 -- what the functions over a lent list of records compute
-pub mod WalkLaws
 pub mod StartLaws

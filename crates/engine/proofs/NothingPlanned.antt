@@ -12,7 +12,7 @@ use Rattle.format.specs.Words.{word_at, bytes_of}
 use Rattle.format.specs.Answers.{fine, refused}
 use Rattle.format.specs.Header.{WithJuniors, more, nothing_planned, head_bytes, from1, head_of}
 use Rattle.format.specs.Contents.{in_count, tabled, contents_at, contents_of}
-use Rattle.format.specs.declared.HeadAnswer.TheVariants.{Refused}
+use Rattle.std.specs.Prelude.{Err}
 use Rattle.format.proofs.ContentsLaws.{count_past}
 use Rattle.format.proofs.HeadLaws.{juniors_iff}
 use Rattle.reading_exact.proofs.Exact.{read_alike}
@@ -94,12 +94,12 @@ nothing_chosen l b records words threads made totals i p =
     (nothing_lent l b records words threads made totals, none_chosen (clinic_of (contents_of [])) (state_of l b) (ap (λ (n : ℕ). take n l) threads) i p)
 
 -- 1 to 25 bytes, and up to 27 where the first word is 2 or 3
-short_head : (f : List ℕ) → 1 ≤ length f → length f < head_bytes (word_at f 0) → head_of f ≡ Refused 1
+short_head : (f : List ℕ) → 1 ≤ length f → length f < head_bytes (word_at f 0) → head_of f ≡ Err 1
 unfolding head_of from1
 short_head [] some few = absurd (omega (arith, some))
 short_head (x ∷ xs) some few = rw (lt-ltb (length (x ∷ xs)) (head_bytes (word_at (x ∷ xs) 0)) few)
 
-short_answers : (f : List ℕ) → head_of f ≡ Refused 1 → (reading_names f ≡ refused 1 0) × (checking f ≡ refused 1 0) × (measuring f ≡ no_place 1 0)
+short_answers : (f : List ℕ) → head_of f ≡ Err 1 → (reading_names f ≡ refused 1 0) × (checking f ≡ refused 1 0) × (measuring f ≡ no_place 1 0)
 short_answers f e = (names_refused f 1 e, check_refused f 1 e, head_refused f 1 e)
 
 pub short_one : (f : List ℕ) → 1 ≤ length f → length f ≤ 25 → (reading_names f ≡ refused 1 0) × (checking f ≡ refused 1 0) × (measuring f ≡ no_place 1 0)

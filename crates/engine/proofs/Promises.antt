@@ -259,8 +259,7 @@ use Rattle.sheets_exact.proofs.Orders.{orders, orders_of_records, one_exchanged}
 use Rattle.sheets_exact.proofs.SheetOwed.{sheet_says, refused_alone, number_counted}
 use Rattle.sheets_exact.proofs.SheetsShown.{sheets_shown}
 use Rattle.format.specs.declared.Head.{Head}
-use Rattle.format.specs.declared.HeadAnswer.TheVariants.{Fine as Head-Fine}
-use Rattle.reading.specs.declared.Opened.TheVariants.{Fine as Opened-Fine}
+use Rattle.std.specs.Prelude.{Ok}
 use Rattle.turning_exact.proofs.HeadCauses.{head_answered}
 use Rattle.lending_exact.proofs.AnswersByCase.{way_in, choice_answered}
 use Rattle.lending.specs.Walk.{verdict_of, answer_of}
@@ -358,11 +357,11 @@ first_in_order = first_refusal
 -- "Where the answer is an enum, there is a definition that gives this paper's number and values for each of its cases": of a head 1 to 5 at place 0, or
 -- the file's head (`head_number`); of the way in 1 to 10, or the file's head (`verdict_of`); of a choice it is `choice_by_case`.
 pub head_by_case : (f : List ℕ) → (head_number (head_of f) ≤ 5) × (head_number (head_of f) ≢ 0 → reading f ≡ refused (head_number (head_of f)) 0)
-    × ((h : Head) → head_of f ≡ Head-Fine h → h ≡ head_at f)
+    × ((h : Head) → head_of f ≡ Ok h → h ≡ head_at f)
 head_by_case = head_answered
 
-pub way_in_by_case : (f : List ℕ) → (verdict_of (entered f) ≡ reading_names f) × ((h : Head) → entered f ≡ Opened-Fine h → h ≡ head_at f)
-    × (reading_names f ≡ fine → entered f ≡ Opened-Fine (head_at f))
+pub way_in_by_case : (f : List ℕ) → (verdict_of (entered f) ≡ reading_names f) × ((h : Head) → entered f ≡ Ok h → h ≡ head_at f)
+    × (reading_names f ≡ fine → entered f ≡ Ok (head_at f))
 way_in_by_case = way_in
 
 -- A program that keeps only the start of a long input, never more than two bytes more than the largest file has, answers for the whole of it, whoever asks.

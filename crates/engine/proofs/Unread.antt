@@ -11,7 +11,7 @@ use borrow.Author.Tests.{ne_eqb}
 use Rattle.format.specs.Answers.{refused, or_else}
 use Rattle.format.specs.Header.{head_of, room_for}
 use Rattle.format.specs.declared.Verdict.{Verdict}
-use Rattle.format.specs.declared.HeadAnswer.TheVariants.{Refused}
+use Rattle.std.specs.Prelude.{Err}
 use Rattle.format.proofs.HeadLaws.{head_number_lem}
 use Rattle.reading.specs.Reading.{reading}
 use Rattle.reading.proofs.ReadingLaws.{refused_by_head}
@@ -187,7 +187,7 @@ module _ (f : List ℕ) (v : Verdict) (read : reading f ≡ v) (loud : eqb v.num
         go false = rw (unmeasured_at, early_loud)
 
 -- 1 to 5 are among them.
-pub loud_head : (f : List ℕ) (n : ℕ) → head_of f ≡ Refused n → eqb (reading f).number 0 ≡ false
+pub loud_head : (f : List ℕ) (n : ℕ) → head_of f ≡ Err n → eqb (reading f).number 0 ≡ false
 loud_head f n e = rw (refused_by_head f n e) (ne_eqb n 0 (λ z. let no : ⊥ = omega (arith, z, head_number_lem f n e) in no))
 
 -- Two of them.

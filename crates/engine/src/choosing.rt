@@ -6,7 +6,6 @@ ghost use Rattle.lending.specs.Scopes.{Scoped};
 ghost use Rattle.lending.specs.Walk.{Fitting, judged_answer, judged_records, judged_beside};
 
 use super::walk::{records_fit, store};
-use format::words::wide;
 use format::{Head, Verdict};
 use lending::stepping::stepped;
 use lending::{answer_of, index_of, unlendable};
@@ -29,13 +28,13 @@ pub fn choose_by(
         × (beside.new ≡ judged_beside (contents_at file.now head) list.old beside.old i p) }
 {
     let count = thread_count(&*beside);
-    let n = wide(count);
+    let n = usize::from(count);
     if !records_fit(&mut *list, n, file, head, table, &*beside) {
         return unlendable();
     }
     let own = list[index_of(count, i)];
     let other = list[index_of(count, p)];
     let it = stepped(file, head, table, &mut *beside, i, own, p, other);
-    store(&mut *list, n, wide(i), wide(p), it);
+    store(&mut *list, n, usize::from(i), usize::from(p), it);
     answer_of(it)
 }

@@ -34,8 +34,8 @@ use certifying::{Closing, Part};
 use choosing::choose_by;
 use dispatching::Round;
 use format::{Verdict, Written};
-use lending::starting::{begin, sessions_of};
-use lending::{admit, head_of, is_refused, verdict_of};
+use lending::admit;
+use lending::starting::begin;
 use notices::InForce;
 use offering::Offers;
 use placing::Placed;
@@ -322,19 +322,18 @@ pub extern "C" fn pilzdamo_choose(
         × (beside.new ≡ beside_over file.now threads.old beside.old thread partner) }
 {
     let mut table = [0u64; 1025];
-    let it = admit(file, threads.len(), &*beside, &mut table);
-    if is_refused(it) {
-        return verdict_of(it);
+    match admit(file, threads.len(), &*beside, &mut table) {
+        Err(first) => first,
+        Ok(head) => choose_by(
+            &mut *threads,
+            file,
+            head,
+            &table,
+            &mut *beside,
+            thread,
+            partner,
+        ),
     }
-    choose_by(
-        &mut *threads,
-        file,
-        head_of(it),
-        &table,
-        &mut *beside,
-        thread,
-        partner,
-    )
 }
 
 // The lent list and the words beside it as the file starts. The first of 1 to 10; 18 at place 0 for another number of records or of words; or 0 and 0,
@@ -345,9 +344,13 @@ pub extern "C" fn pilzdamo_start(file: &[u8], threads: &mut [Thread], beside: &m
         × (threads.new ≡ records_started file.now threads.old beside.old)
         × (beside.new ≡ beside_started file.now threads.old beside.old) }
 {
-    let it = begin(file, threads.len(), &mut *beside);
-    start_records(&mut *threads, file, head_of(it), sessions_of(it));
-    verdict_of(it)
+    match begin(file, threads.len(), &mut *beside) {
+        Err(first) => first,
+        Ok(head) => {
+            start_records(&mut *threads, file, head, usize::from(head.count.sessions));
+            Verdict::FINE
+        }
+    }
 }
 
 // The sentence of a refusal, in fixed words, at the start of the output: its number, what its place counts (0 none, 1 word, 2 session, 3 node, 4 choice, 5 row,

@@ -14,9 +14,7 @@ pub fn start_records(list: &mut [Thread], file: &[u8], head: Head, n: usize)
     requires { (n ≤ length list.old) × (n ≤ head.count.sessions) × (0 < n → Laid file.now head) }
     ensures { list.new ≡ paste list.old 0 (start (contents_at file.now head)).threads n }
 {
-    let mut k: usize = 0;
-    while k < n {
+    for k in 0..n {
         list[k] = opening(file, head, k);
-        k += 1;
     }
 }

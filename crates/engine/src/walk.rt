@@ -27,10 +27,8 @@ pub fn records_fit(
     ensures { (result ≡ threads_fit (contents_at file.now head) list.old beside.now) × (list.new ≡ list.old) }
 {
     let mut all = no_tally();
-    let mut k: usize = 0;
-    while k < n {
+    for k in 0..n {
         all = tally(file, head, table, beside, all, list[k]);
-        k += 1;
     }
     tally_fits(beside, all)
 }
@@ -50,10 +48,8 @@ pub fn close_gap(list: &mut [Thread], i: usize, n: usize)
     requires { (i ≤ n) × (i < n → (0 < i) × (n ≤ length list.old)) }
     ensures { list.new ≡ closed list.old i n }
 {
-    let mut k = i;
-    while k < n {
-        list[k - 1] = list[k];
-        k += 1;
+    if i < n {
+        list.copy_within(i..n, i - 1);
     }
 }
 

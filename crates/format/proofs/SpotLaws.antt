@@ -49,47 +49,23 @@ spot_within v k n j pos le few = each_word (λ j. spot v k n j < 3 * k) (go (by_
     go false = (omega arith, omega arith, omega arith)
 
 -- by row the words of a node stand together, by column each a column further
-pub row_node : (f : List ℕ) (h : Head) → h.version ≢ 3 → (n : ℕ)
-    → node_at f (h.at.nodes + 3 * (n - 1)) (h.at.nodes + 3 * (n - 1) + 1) (h.at.nodes + 3 * (n - 1) + 2) ≡ node_of f h n
+pub row_spot : (h : Head) → h.version ≢ 3 → (n j : ℕ) → node_spot h n j ≡ h.at.nodes + 3 * (n - 1) + j
 unfolding spot
-row_node f h other n =
-    let p = h.at.nodes in
-    let e0 : p + 3 * (n - 1) ≡ p + (3 * (n - 1) + 1 * 0) = omega arith in
-    let e1 : p + 3 * (n - 1) + 1 ≡ p + (3 * (n - 1) + 1 * 1) = omega arith in
-    let e2 : p + 3 * (n - 1) + 2 ≡ p + (3 * (n - 1) + 1 * 2) = omega arith in
-    rw (ne_eqb h.version 3 other) (λ i. node_at f (e0 i) (e1 i) (e2 i))
+row_spot h other n j = rw (ne_eqb h.version 3 other) (omega arith)
 
-pub column_node : (f : List ℕ) (h : Head) → h.version ≡ 3 → (n : ℕ)
-    → node_at f (h.at.nodes + (n - 1)) (h.at.nodes + (n - 1) + h.count.nodes) (h.at.nodes + (n - 1) + h.count.nodes + h.count.nodes) ≡ node_of f h n
+pub column_spot : (h : Head) → h.version ≡ 3 → (n j : ℕ) → node_spot h n j ≡ h.at.nodes + (n - 1) + h.count.nodes * j
 unfolding spot
-column_node f h third n =
-    let p = h.at.nodes in
-    let k = h.count.nodes in
-    let e0 : p + (n - 1) ≡ p + (1 * (n - 1) + k * 0) = omega arith in
-    let e1 : p + (n - 1) + k ≡ p + (1 * (n - 1) + k * 1) = omega arith in
-    let e2 : p + (n - 1) + k + k ≡ p + (1 * (n - 1) + k * 2) = omega arith in
-    rw (eq-eqb h.version 3 third) (λ i. node_at f (e0 i) (e1 i) (e2 i))
+column_spot h third n j = rw (eq-eqb h.version 3 third) (omega arith)
+
+-- a node whose words stand a step apart
+pub stepped : (f : List ℕ) (h : Head) (n at step : ℕ) → at ≡ node_spot h n 0 → at + step ≡ node_spot h n 1 → at + step + step ≡ node_spot h n 2
+    → node_at f at (at + step) (at + step + step) ≡ node_of f h n
+stepped f h n at step e0 e1 e2 = λ i. node_at f (e0 i) (e1 i) (e2 i)
 
 -- so a node in count lies within the file
 pub node_there : (f : List ℕ) (h : Head) → Laid f h → (n j : ℕ) → 1 ≤ n → n ≤ h.count.nodes → j < 3 → 2 * node_spot h n j + 1 < length f
 node_there f h l n j pos le few =
     omega (arith, some_there f h l (omega (arith, l, pos, le)), spot_within h.version h.count.nodes n j pos le few)
-
-pub row_there : (f : List ℕ) (h : Head) → Laid f h → h.version ≢ 3 → (n : ℕ) → 1 ≤ n → n ≤ h.count.nodes → 2 * (h.at.nodes + 3 * (n - 1) + 2) + 1 < length f
-unfolding spot
-row_there f h l other n pos le =
-    let there : 2 * node_spot h n 2 + 1 < length f = node_there f h l n 2 pos le (omega arith) in
-    let e : node_spot h n 2 ≡ h.at.nodes + 3 * (n - 1) + 2 = rw (ne_eqb h.version 3 other) (omega arith) in
-    omega (arith, there, e)
-
-pub column_there : (f : List ℕ) (h : Head) → Laid f h → h.version ≡ 3 → (n : ℕ) → 1 ≤ n → n ≤ h.count.nodes
-    → 2 * (h.at.nodes + (n - 1) + h.count.nodes + h.count.nodes) + 1 < length f
-unfolding spot
-column_there f h l third n pos le =
-    let k = h.count.nodes in
-    let there : 2 * node_spot h n 2 + 1 < length f = node_there f h l n 2 pos le (omega arith) in
-    let e : node_spot h n 2 ≡ h.at.nodes + (n - 1) + k + k = rw (eq-eqb h.version 3 third) (omega arith) in
-    omega (arith, there, e)
 
 -- no two alike: word i of node n and word j of node m
 abbrev Alike : Bool → ℕ → ℕ → ℕ → ℕ → ℕ → Type 0

@@ -5,7 +5,7 @@ use mathlib.Core.Bool.{Bool, true, false, cond}
 use mathlib.Core.List.{List, [], ◌∷◌, ◌++◌}
 use native.Mathlib.Omega.{arith}
 use native.Mathlib.Numerals.{add-one}
-use lib.ListN.{length, get_or, take, drop, set, length-append}
+use lib.ListN.{length, get_or, take, drop, length-append}
 use lib.Seq.{sets, drop-cons}
 use Rattle.format.specs.Words.{word_at, wide_at, bytes_of}
 use Rattle.format.specs.Header.{Laid, has_juniors, more, junior_records, six_words, offset_words, head_words}
@@ -57,13 +57,6 @@ head_length h = go (has_juniors h.version)
 abbrev pub Bytes : List ℕ → Type 0
 Bytes f = (x : ℕ) → get_or f x 0 < 256
 
--- one byte more
-pub bytes_more : (l m f whole : List ℕ) (i end : ℕ) → i < end → i < length f → m ≡ set l i (get_or f i 0)
-    → sets l i (take (end - i) (drop i f)) ≡ whole → sets m (i + 1) (take (end - (i + 1)) (drop (i + 1) f)) ≡ whole
-bytes_more l m f whole i end h k e inv =
-    let c : end - i ≡ suc (end - (i + 1)) = omega arith in
-    rw (e, add-one i) (rw (drop-cons f i 0 k, c, add-one i) at inv)
-
 pub bytes_words : (f : List ℕ) (p k : ℕ) → Bytes f → 2 * (p + k) ≤ length f → take (2 * k) (drop (2 * p) f) ≡ bytes_of (words_from f p k)
 unfolding bytes_of words_from
 bytes_words f p zero b h = refl
@@ -73,21 +66,6 @@ bytes_words f p (suc k) b h =
     let low : word_at f p % 256 ≡ get_or f (2 * p) 0 = omega (arith, b (2 * p)) in
     let high : word_at f p / 256 ≡ get_or f (2 * p + 1) 0 = omega (arith, b (2 * p)) in
     rw (two, drop-cons f (2 * p) 0 (omega arith), drop-cons f (suc (2 * p)) 0 (omega arith), next, low, high, add-one (2 * p), bytes_words f (suc p) k b (omega arith))
-
--- all of them, once there was one to read
-pub bytes_all : (l l₀ f : List ℕ) (p q i : ℕ) → p ≤ q → i ≡ 2 * q → (p < q → 2 * q ≤ length f) → (2 * p < i → Bytes f)
-    → sets l i (take (2 * q - i) (drop i f)) ≡ sets l₀ (2 * p) (take (2 * q - 2 * p) (drop (2 * p) f)) → l ≡ sets l₀ (2 * p) (bytes_of (words_from f p (q - p)))
-unfolding bytes_of words_from
-bytes_all l l₀ f p q i h e len b inv = go (q - p) refl
-  where
-    z : 2 * q - i ≡ 0
-    z = omega (arith, e)
-
-    go : (k : ℕ) → q - p ≡ k → l ≡ sets l₀ (2 * p) (bytes_of (words_from f p (q - p)))
-    go zero c = let w : 2 * q - 2 * p ≡ 0 = omega (arith, c) in rw c (rw (z, w) at inv)
-    go (suc k) c =
-        let w : 2 * q - 2 * p ≡ 2 * suc k = omega (arith, c) in
-        rw (c, ← bytes_words f p (suc k) (b (omega (arith, c, e))) (omega (arith, c, len (omega (arith, c))))) (rw (z, w) at inv)
 
 -- the words of each table's items, from the place q of the one after i on
 module _ (f : List ℕ) (p : ℕ) where

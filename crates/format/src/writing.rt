@@ -10,7 +10,7 @@ ghost use Rattle.format.specs.declared.Section.TheVariants.{Sessions};
 
 use super::header::has_juniors;
 use super::sections::{node_spot, place_of};
-use super::words::{put_word, wide};
+use super::words::put_word;
 use super::{Head, Node, Section, Session, Seven};
 
 // Three words: a session's, or half of what the head has for the sections.
@@ -54,11 +54,8 @@ fn put_words(file: &[u8], from: usize, to: usize, out: &mut [u8])
     requires { (from ≤ to) × (from < to → 2 * to ≤ length file.now) × (2 * to ≤ length out.old) }
     ensures { out.new ≡ sets out.old (2 * from) (bytes_of (words_from file.now from (to - from))) }
 {
-    let end = 2 * to;
-    let mut i = 2 * from;
-    while i < end {
-        out[i] = file[i];
-        i += 1;
+    if from < to {
+        out[2 * from..2 * to].copy_from_slice(&file[2 * from..2 * to]);
     }
 }
 
@@ -67,7 +64,12 @@ pub fn put_tables(file: &[u8], head: Head, out: &mut [u8])
     requires { Laid file.now head × (2 * head.at.sessions ≤ length out.old) }
     ensures { out.new ≡ sets out.old (2 * head.at.users) (bytes_of (table_words head.version (contents_at file.now head))) }
 {
-    put_words(file, wide(head.at.users), wide(head.at.sessions), out);
+    put_words(
+        file,
+        usize::from(head.at.users),
+        usize::from(head.at.sessions),
+        out,
+    );
 }
 
 // The sessions of a file.
@@ -75,7 +77,12 @@ pub fn put_sessions(file: &[u8], head: Head, out: &mut [u8])
     requires { Laid file.now head × (2 * head.at.nodes ≤ length out.old) }
     ensures { out.new ≡ sets out.old (2 * head.at.sessions) (bytes_of (session_words (contents_at file.now head).sessions)) }
 {
-    put_words(file, wide(head.at.sessions), wide(head.at.nodes), out);
+    put_words(
+        file,
+        usize::from(head.at.sessions),
+        usize::from(head.at.nodes),
+        out,
+    );
 }
 
 pub fn put_session(out: &mut [u8], head: Head, n: u16, it: Session)

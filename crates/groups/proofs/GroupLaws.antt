@@ -9,6 +9,7 @@ use Rattle.format.specs.Contents.{Contents}
 use Rattle.format.specs.declared.Session.{Session}
 use Rattle.format.specs.declared.Node.{Node}
 use Rattle.states.specs.declared.Turn.{Turn}
+use Rattle.states.proofs.AgreeLaws.{zeros}
 use Rattle.groups.specs.Groups.{before, size_of, sizes_of, starts_from, starts_of, moved, groups_from, sessions_from, placed_contents}
 
 pub groups_length : (starts : List ℕ) (ns : List Node) (ts : List Turn) → length ns ≡ length ts → length (groups_from starts ns ts) ≡ sizes_of ts
@@ -49,11 +50,6 @@ placed_same C ts s s' e = rw (sessions_same s s' C.sessions e, groups_same s s' 
 sets_past : (a : ℕ) (l : List ℕ) (i : ℕ) (vs : List ℕ) → sets (a ∷ l) (suc i) vs ≡ a ∷ sets l i vs
 sets_past a l i [] = refl
 sets_past a l i (v ∷ vs) = sets_past a (set l i v) (suc i) vs
-
-zeros : (n x : ℕ) → ◌≡◌ {A = ℕ} (get_or (replicate n 0) x 0) 0
-zeros zero x = refl
-zeros (suc n) zero = refl
-zeros (suc n) (suc x) = zeros n x
 
 stored : (vs : List ℕ) (n x : ℕ) → length vs ≤ n → get_or (sets (replicate n 0) 0 vs) x 0 ≡ get_or vs x 0
 stored [] n x h = zeros n x

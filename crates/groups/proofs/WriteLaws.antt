@@ -1,5 +1,5 @@
 -- Runs of stores of words, the switches of a group, and the turns that a table holds.
-use Prim.Native.Nat.{ℕ, zero, suc, ◌+◌, ◌*◌, ◌-◌, ◌≤◌, ◌<◌}
+use Prim.Native.Nat.{ℕ, zero, suc, ◌+◌, ◌*◌, ◌-◌, ◌/◌, ◌%◌, ◌≤◌, ◌<◌}
 use mathlib.Core.Path.{◌≡◌, refl, sym, ap, ap₂, ◌∙◌}
 use mathlib.Core.List.{List, [], ◌∷◌, ◌++◌, map, append_assoc}
 use mathlib.Core.Bool.{Bool, true, false, cond, not, ◌&&◌}
@@ -17,13 +17,14 @@ use Rattle.format.specs.declared.Six.{Six}
 use Rattle.format.specs.declared.Head.{Head}
 use Rattle.format.specs.declared.Session.{Session}
 use Rattle.format.specs.declared.Node.{Node}
-use Rattle.format.proofs.ContentsLaws.{next-item, none_past, users_held, roles_held, juniors_held, kinds_held, channels_held, sessions_held, nodes_held}
-use Rattle.format.proofs.PutRuns.{puts_then, puts_turn}
+use Rattle.format.proofs.ContentsLaws.{from_item, none_past, users_held, roles_held, juniors_held, kinds_held, channels_held, sessions_held, nodes_held}
+use Rattle.format.proofs.PutRuns.{puts_then, puts_turn, puts_end}
 use Rattle.format.proofs.WriteLaws.{head_length, session_words_length, table_words_length}
 use Rattle.format.proofs.NodesPut.{nodes_append, no_nodes, one_node, section_put}
 use Rattle.states.specs.declared.Turn.{Turn}
 use Rattle.states.specs.States.{unpacked}
 use Rattle.groups.specs.Groups.{switch_to, offs, ons, before, size_of, sizes_of, on_of, ons_of, starts_from, moved, groups_from, rerooted, sessions_from, with_nodes, placed_contents, turns_in}
+use Rattle.groups.specs.declared.Sums.{Sums}
 use Rattle.groups.specs.Switches.{switches}
 use Rattle.groups.proofs.GroupLaws.{groups_length, sessions_length}
 
@@ -70,40 +71,38 @@ switch_counted tag from to role = go (eqb from to) (eqb role 0)
     go false true = refl
     go false false = refl
 
+-- the code's count of a switch
+abbrev pub counted : Turn → ℕ → ℕ
+counted t role = bool_byte (not (eqb t.from t.to) && not (eqb role 0))
+
 pub one_at_most : (b : Bool) → bool_byte b ≤ 1
 one_at_most true = omega arith
 one_at_most false = omega arith
 
--- what does not name a node stays
-pub stays : (b : Bool) (x n : ℕ) → not b ≡ true → n ≡ cond b x n
-stays false x n e = refl
-stays true x n e = let none : ◌≡◌ {A = ℕ} 0 1 = cc in absurd (omega arith)
+pub counted_few : (t : Turn) (role : ℕ) → counted t role ≤ 1
+counted_few t role = one_at_most (not (eqb t.from t.to) && not (eqb role 0))
 
-pub moves : (b : Bool) (y x n : ℕ) → not b ≡ false → y ≡ x → y ≡ cond b x n
-moves true y x n e h = h
-moves false y x n e h = let none : ◌≡◌ {A = ℕ} 0 1 = cc in absurd (omega arith)
+-- the turns of the nodes from n on, as a table holds them
+unfoldable pub turns_at : List ℕ → ℕ → ℕ → List Turn
+turns_at table n last = map unpacked (take (last + 1 - n) (drop n table))
 
--- the turns of the nodes after i, as a table holds them
-unfoldable pub turns_after : List ℕ → ℕ → ℕ → List Turn
-turns_after table i n = map unpacked (take (n - i) (drop (i + 1) table))
-
-pub turns_all : (table : List ℕ) (n : ℕ) → turns_after table 0 n ≡ turns_in table n
-unfolding turns_after turns_in
-turns_all table n = let z : n - 0 ≡ n = omega arith in rw z
+pub turns_all : (table : List ℕ) (last : ℕ) → turns_at table 1 last ≡ turns_in table last
+unfolding turns_at turns_in
+turns_all table last = let z : last + 1 - 1 ≡ last = omega arith in rw z
 
 pub turns_counted : (table : List ℕ) (n : ℕ) → n < length table → length (turns_in table n) ≡ n
 unfolding turns_in
 turns_counted table n h = length-map (take n (drop 1 table)) unpacked ∙ length-take-le n (drop 1 table) (omega (arith, length-drop 1 table))
 
-pub turns_more : (table : List ℕ) (i n : ℕ) → i < n → n < length table → turns_after table i n ≡ unpacked (get_or table (i + 1) 0) ∷ turns_after table (i + 1) n
-unfolding turns_after
-turns_more table i n h k =
-    let c : n - i ≡ suc (n - (i + 1)) = omega arith in
-    rw (drop-cons table (i + 1) 0 (omega arith), c, ← add-one (i + 1))
+turns_more : (table : List ℕ) (n last : ℕ) → n ≤ last → last < length table → turns_at table n last ≡ unpacked (get_or table n 0) ∷ turns_at table (n + 1) last
+unfolding turns_at
+turns_more table n last h k =
+    let c : last + 1 - n ≡ suc (last + 1 - (n + 1)) = omega arith in
+    rw (drop-cons table n 0 (omega arith), c, ← add-one n)
 
-pub turns_none : (table : List ℕ) (i n : ℕ) → n ≤ i → turns_after table i n ≡ []
-unfolding turns_after
-turns_none table i n h = let z : n - i ≡ 0 = omega arith in rw z
+turns_none : (table : List ℕ) (n last : ℕ) → last < n → turns_at table n last ≡ []
+unfolding turns_at
+turns_none table n last h = let z : last + 1 - n ≡ 0 = omega arith in rw z
 
 -- nodes after nodes, by their numbers
 nodes_then : (h : Head) (l m q : List ℕ) (i j : ℕ) (ms ns : List Node) → j ≡ i + length ms → m ≡ nodes_put h i ms l → q ≡ nodes_put h j ns m → q ≡ nodes_put h i (ms ++ ns) l
@@ -118,83 +117,130 @@ group_put h l m q out at after next t n ea em en eq eo =
     nodes_then h l q out at next (off t ++ on t) (n ∷ []) (omega (arith, ea, en, length-append (off t) (on t))) both (eo ∙ sym (one_node h next n q))
     ∙ ap (λ (ns : List Node). nodes_put h at (ns ++ n ∷ []) l) (sym (before_switches t))
 
--- the groups after i
-abbrev pub groups_after : List Node → ℕ → List ℕ → List ℕ → ℕ → List Node
-groups_after ns n turns starts i = groups_from starts (drop i ns) (turns_after turns i n)
+-- the groups of the nodes from n on
+abbrev pub groups_at : List Node → ℕ → List ℕ → List ℕ → ℕ → List Node
+groups_at ns last turns starts n = groups_from starts (drop (n - 1) ns) (turns_at turns n last)
 
-pub groups_all : (ns : List Node) (n : ℕ) (turns starts : List ℕ) → groups_after ns n turns starts 0 ≡ groups_from starts ns (turns_in turns n)
-groups_all ns n turns starts = ap (groups_from starts ns) (turns_all turns n)
+pub groups_all : (ns : List Node) (last : ℕ) (turns starts : List ℕ) → groups_at ns last turns starts 1 ≡ groups_from starts ns (turns_in turns last)
+groups_all ns last turns starts = ap (groups_from starts ns) (turns_all turns last)
 
-groups_more : (ns : List Node) (n : ℕ) (turns starts : List ℕ) (i : ℕ) → i < n → n ≡ length ns → n < length turns
-    → groups_after ns n turns starts i ≡ (before (unpacked (get_or turns (i + 1) 0)) ++ moved starts (item no_node ns (i + 1)) ∷ []) ++ groups_after ns n turns starts (i + 1)
+groups_more : (ns : List Node) (last : ℕ) (turns starts : List ℕ) (n : ℕ) → 1 ≤ n → n ≤ last → last ≡ length ns → last < length turns
+    → groups_at ns last turns starts n ≡ (before (unpacked (get_or turns n 0)) ++ moved starts (item no_node ns n) ∷ []) ++ groups_at ns last turns starts (n + 1)
 unfolding groups_from
-groups_more ns n turns starts i h e k =
-    let t : Turn = unpacked (get_or turns (i + 1) 0) in
-    let m : Node = moved starts (item no_node ns (i + 1)) in
-    ap₂ (groups_from starts) (next-item no_node ns i (omega arith)) (turns_more turns i n h k)
-    ∙ sym (append_assoc (before t) (m ∷ []) (groups_after ns n turns starts (i + 1)))
+groups_more ns last turns starts n pos h e k =
+    let t : Turn = unpacked (get_or turns n 0) in
+    let m : Node = moved starts (item no_node ns n) in
+    let same : n + 1 - 1 ≡ n = omega arith in
+    rw same
+    (ap₂ (groups_from starts) (from_item no_node ns n pos (omega arith)) (turns_more turns n last h k)
+    ∙ sym (append_assoc (before t) (m ∷ []) (groups_from starts (drop n ns) (turns_at turns (n + 1) last))))
 
 -- none is left
-pub groups_end : (h : Head) (ns : List Node) (n : ℕ) (turns starts l whole : List ℕ) (i at : ℕ) → length ns ≤ i → nodes_put h at (groups_after ns n turns starts i) l ≡ whole → l ≡ whole
+pub groups_end : (h : Head) (ns : List Node) (last : ℕ) (turns starts l whole : List ℕ) (n at : ℕ) → length ns < n → nodes_put h at (groups_at ns last turns starts n) l ≡ whole → l ≡ whole
 unfolding groups_from
-groups_end h ns n turns starts l whole i at past inv =
-    sym (no_nodes h at l) ∙ ap (λ (xs : List Node). nodes_put h at (groups_from starts xs (turns_after turns i n)) l) (sym (none_past ns i past)) ∙ inv
+groups_end h ns last turns starts l whole n at past inv =
+    sym (no_nodes h at l) ∙ ap (λ (xs : List Node). nodes_put h at (groups_from starts xs (turns_at turns n last)) l) (sym (none_past ns (n - 1) (omega arith))) ∙ inv
 
-pub sizes_more : (turns : List ℕ) (i n : ℕ) → i < n → n < length turns
-    → sizes_of (turns_after turns i n) ≡ size_of (unpacked (get_or turns (i + 1) 0)) + sizes_of (turns_after turns (i + 1) n)
+pub sizes_more : (turns : List ℕ) (n last : ℕ) → n ≤ last → last < length turns
+    → sizes_of (turns_at turns n last) ≡ size_of (unpacked (get_or turns n 0)) + sizes_of (turns_at turns (n + 1) last)
 unfolding sizes_of
-sizes_more turns i n h k = rw (turns_more turns i n h k)
+sizes_more turns n last h k = rw (turns_more turns n last h k)
 
-pub ons_more : (turns : List ℕ) (i n : ℕ) → i < n → n < length turns
-    → ons_of (turns_after turns i n) ≡ on_of (unpacked (get_or turns (i + 1) 0)) + ons_of (turns_after turns (i + 1) n)
+ons_more : (turns : List ℕ) (n last : ℕ) → n ≤ last → last < length turns
+    → ons_of (turns_at turns n last) ≡ on_of (unpacked (get_or turns n 0)) + ons_of (turns_at turns (n + 1) last)
 unfolding ons_of
-ons_more turns i n h k = rw (turns_more turns i n h k)
+ons_more turns n last h k = rw (turns_more turns n last h k)
 
 -- a turn of each loop
-pub groups_turn : (h : Head) (ns : List Node) (turns starts l m whole : List ℕ) (n i at next : ℕ) → i < n → n ≡ length ns → n < length turns
-    → next ≡ at + size_of (unpacked (get_or turns (i + 1) 0))
-    → m ≡ nodes_put h at (before (unpacked (get_or turns (i + 1) 0)) ++ moved starts (item no_node ns (i + 1)) ∷ []) l
-    → nodes_put h at (groups_after ns n turns starts i) l ≡ whole
-    → nodes_put h next (groups_after ns n turns starts (i + 1)) m ≡ whole
-groups_turn h ns turns starts l m whole n i at next less e k step em inv =
-    let t : Turn = unpacked (get_or turns (i + 1) 0) in
-    let group : List Node = before t ++ moved starts (item no_node ns (i + 1)) ∷ [] in
-    let size : length group ≡ length (before t) + 1 = length-append (before t) (moved starts (item no_node ns (i + 1)) ∷ []) in
-    let place : next ≡ at + length group = omega (arith, step, size) in
-    (λ x. nodes_put h (place x) (groups_after ns n turns starts (i + 1)) (em x))
-    ∙ sym (nodes_append h at group (groups_after ns n turns starts (i + 1)) l)
-    ∙ ap (λ (xs : List Node). nodes_put h at xs l) (sym (groups_more ns n turns starts i less e k)) ∙ inv
+pub groups_turn : (h : Head) (ns : List Node) (turns starts l m whole : List ℕ) (last n at next k : ℕ) (it : Node) → 1 ≤ n → n ≤ last → last ≡ length ns → last < length turns
+    → k ≡ n → it ≡ item no_node ns n → next ≡ at + size_of (unpacked (get_or turns k 0)) → m ≡ nodes_put h at (before (unpacked (get_or turns k 0)) ++ moved starts it ∷ []) l
+    → nodes_put h at (groups_at ns last turns starts n) l ≡ whole
+    → nodes_put h next (groups_at ns last turns starts (n + 1)) m ≡ whole
+groups_turn h ns turns starts l m whole last n at next k it pos less e room index node step em inv =
+    let t : Turn = unpacked (get_or turns n 0) in
+    let group : List Node = before t ++ moved starts (item no_node ns n) ∷ [] in
+    let size : length group ≡ length (before t) + 1 = length-append (before t) (moved starts (item no_node ns n) ∷ []) in
+    let place : next ≡ at + length group = step ∙ ap (λ (j : ℕ). at + size_of (unpacked (get_or turns j 0))) index ∙ omega (arith, size) in
+    let put : m ≡ nodes_put h at group l = em ∙ ap₂ (λ (j : ℕ) (x : Node). nodes_put h at (before (unpacked (get_or turns j 0)) ++ moved starts x ∷ []) l) index node in
+    (λ x. nodes_put h (place x) (groups_at ns last turns starts (n + 1)) (put x))
+    ∙ sym (nodes_append h at group (groups_at ns last turns starts (n + 1)) l)
+    ∙ ap (λ (xs : List Node). nodes_put h at xs l) (sym (groups_more ns last turns starts n pos less e room)) ∙ inv
 
-pub sessions_turn : (ss : List Session) (starts l m whole : List ℕ) (base i : ℕ) → i < length ss
-    → m ≡ sets l (2 * (base + 3 * (i + 1 - 1))) (bytes_of (session_words (rerooted starts (item no_session ss (i + 1)) ∷ [])))
-    → sets l (2 * (base + 3 * i)) (bytes_of (session_words (sessions_from starts (drop i ss)))) ≡ whole
-    → sets m (2 * (base + 3 * (i + 1))) (bytes_of (session_words (sessions_from starts (drop (i + 1) ss)))) ≡ whole
+pub sessions_turn : (ss : List Session) (starts l m whole : List ℕ) (base n : ℕ) (it : Session) (root : ℕ) → 1 ≤ n → n ≤ length ss
+    → it ≡ item no_session ss n → root ≡ get_or starts it.root 0
+    → m ≡ sets l (2 * (base + 3 * (n - 1))) (bytes_of (session_words (record { user = it.user; mask = it.mask; root = root } ∷ [])))
+    → sets l (2 * (base + 3 * (n - 1))) (bytes_of (session_words (sessions_from starts (drop (n - 1) ss)))) ≡ whole
+    → sets m (2 * (base + 3 * (n + 1 - 1))) (bytes_of (session_words (sessions_from starts (drop (n + 1 - 1) ss)))) ≡ whole
 unfolding sessions_from session_words
-sessions_turn ss starts l m whole base i h e inv =
-    let here : i + 1 - 1 ≡ i = omega arith in
-    let one : List ℕ = session_words (rerooted starts (item no_session ss (i + 1)) ∷ []) in
-    puts_turn l m whole (base + 3 * i) (base + 3 * (i + 1)) one (session_words (sessions_from starts (drop (i + 1) ss))) (session_words (sessions_from starts (drop i ss)))
-    (e ∙ ap (λ (k : ℕ). sets l (2 * (base + 3 * k)) (bytes_of one)) here) (omega arith)
-    (ap (λ (xs : List Session). session_words (sessions_from starts xs)) (next-item no_session ss i h)) inv
+sessions_turn ss starts l m whole base n it root pos h is to e inv =
+    let same : n + 1 - 1 ≡ n = omega arith in
+    let one : Session → List ℕ = λ s. session_words (rerooted starts s ∷ []) in
+    let here : m ≡ sets l (2 * (base + 3 * (n - 1))) (bytes_of (one (item no_session ss n))) =
+    e ∙ ap (λ (r : ℕ). sets l (2 * (base + 3 * (n - 1))) (bytes_of (session_words (record { user = it.user; mask = it.mask; root = r } ∷ [])))) to
+    ∙ ap (λ (s : Session). sets l (2 * (base + 3 * (n - 1))) (bytes_of (one s))) is in
+    rw same
+    (puts_turn l m whole (base + 3 * (n - 1)) (base + 3 * n) (one (item no_session ss n)) (session_words (sessions_from starts (drop n ss))) (session_words (sessions_from starts (drop (n - 1) ss)))
+    here (omega arith) (ap (λ (xs : List Session). session_words (sessions_from starts xs)) (from_item no_session ss n pos h)) inv)
 
-pub sessions_none : (ss : List Session) (starts : List ℕ) (i : ℕ) → length ss ≤ i → session_words (sessions_from starts (drop i ss)) ≡ []
+pub sessions_end : (ss : List Session) (starts l whole : List ℕ) (at n : ℕ) → length ss < n
+    → sets l at (bytes_of (session_words (sessions_from starts (drop (n - 1) ss)))) ≡ whole → l ≡ whole
 unfolding sessions_from session_words
-sessions_none ss starts i h = ap (λ (xs : List Session). session_words (sessions_from starts xs)) (none_past ss i h)
+sessions_end ss starts l whole at n h inv =
+    puts_end l whole (session_words (sessions_from starts (drop (n - 1) ss))) at
+    (ap (λ (xs : List Session). session_words (sessions_from starts xs)) (none_past ss (n - 1) (omega arith))) inv
 
-pub starts_turn : (turns l whole : List ℕ) (i n at step : ℕ) → i < n → n < length turns → step ≡ size_of (unpacked (get_or turns (i + 1) 0))
-    → sets l (i + 1) (starts_from at (turns_after turns i n)) ≡ whole
-    → sets (set l (i + 1) at) (i + 1 + 1) (starts_from (at + step) (turns_after turns (i + 1) n)) ≡ whole
+-- what the loop over the turns keeps at node n: the number at which its group starts, the on steps before it, and the starts stored so far
+module _ (turns : List ℕ) (last : ℕ) (whole : List ℕ) where
+  pub record Starting (n at ons : ℕ) (l : List ℕ) : Type 0 where
+    pub some : 1 ≤ at
+    pub most : at ≤ 3 * n
+    pub few : ons < n
+    pub nodes : at + sizes_of (turns_at turns n last) ≡ 1 + sizes_of (turns_in turns last)
+    pub steps : ons + ons_of (turns_at turns n last) ≡ ons_of (turns_in turns last)
+    pub stored : sets l n (starts_from at (turns_at turns n last)) ≡ whole
+
+pub starting : (turns : List ℕ) (last : ℕ) (l : List ℕ) → Starting turns last (sets l 1 (starts_from 1 (turns_in turns last))) 1 1 0 l
+starting turns last l =
+    let all : turns_at turns 1 last ≡ turns_in turns last = turns_all turns last in
+    record {
+      some = omega arith;
+      most = omega arith;
+      few = omega arith;
+      nodes = ap (λ (ts : List Turn). 1 + sizes_of ts) all;
+      steps = ap (λ (ts : List Turn). 0 + ons_of ts) all ∙ omega arith;
+      stored = ap (λ (ts : List Turn). sets l 1 (starts_from 1 ts)) all;
+    }
+
+pub starting_next : (turns : List ℕ) (last : ℕ) (whole : List ℕ) (n at ons : ℕ) (l : List ℕ) → n ≤ last → last < length turns → Starting turns last whole n at ons l
+    → Starting turns last whole (n + 1) (at + (1 + counted (unpacked (get_or turns n 0)) (get_or turns n 0 % 256) + counted (unpacked (get_or turns n 0)) (get_or turns n 0 / 256)))
+    (ons + counted (unpacked (get_or turns n 0)) (get_or turns n 0 / 256)) (set l n at)
 unfolding starts_from
-starts_turn turns l whole i n at step h k e inv = rw (e, add-one (i + 1)) (rw (turns_more turns i n h k) at inv)
+starting_next turns last whole n at ons l h k s =
+    let t : Turn = unpacked (get_or turns n 0) in
+    let x : ℕ = counted t t.from in
+    let y : ℕ = counted t t.to in
+    let off-one : x ≡ length (off t) = switch_counted 8 t.from t.to t.from in
+    let on_one : y ≡ length (on t) = switch_counted 7 t.from t.to t.to in
+    let size : 1 + x + y ≡ size_of t = omega (arith, off-one, on_one, size_switches t) in
+    record {
+      some = omega (arith, s.some);
+      most = omega (arith, s.most, counted_few t t.from, counted_few t t.to);
+      few = omega (arith, s.few, counted_few t t.to);
+      nodes = omega (arith, size, sizes_more turns n last h k, s.nodes);
+      steps = omega (arith, on_one, on_switch t, ons_more turns n last h k, s.steps);
+      stored = ap (λ (j : ℕ). sets (set l n at) j (starts_from (at + (1 + x + y)) (turns_at turns (n + 1) last))) (add-one n)
+          ∙ rw size (rw (turns_more turns n last h k) at s.stored);
+    }
 
--- none is left
-pub starts_end : (turns l whole : List ℕ) (i j n at : ℕ) → n ≤ i → sets l j (starts_from at (turns_after turns i n)) ≡ whole → l ≡ whole
-unfolding starts_from
-starts_end turns l whole i j n at h inv = rw (turns_none turns i n h) at inv
-
-pub sums_end : (turns : List ℕ) (i n : ℕ) → n ≤ i → (sizes_of (turns_after turns i n) ≡ 0) × (ons_of (turns_after turns i n) ≡ 0)
-unfolding sizes_of ons_of
-sums_end turns i n h = rw (turns_none turns i n h) (refl, refl)
+pub starting_end : (turns : List ℕ) (last : ℕ) (whole : List ℕ) (n at ons : ℕ) (l : List ℕ) (at' ons' : ℕ) (l' : List ℕ) → last < n → Starting turns last whole n at ons l
+    → at' ≡ at → ons' ≡ ons → l' ≡ l
+    → ◌≡◌ {A = Sums} (record { nodes = at' - 1; on_steps = ons' }) (record { nodes = sizes_of (turns_in turns last); on_steps = ons_of (turns_in turns last) }) × (l' ≡ whole)
+unfolding sizes_of ons_of starts_from
+starting_end turns last whole n at ons l at' ons' l' h s ea eo el =
+    let none : turns_at turns n last ≡ [] = turns_none turns n last h in
+    let nodes : at' - 1 ≡ sizes_of (turns_in turns last) = omega (arith, s.nodes, ea, ap sizes_of none) in
+    let steps : ons' ≡ ons_of (turns_in turns last) = omega (arith, s.steps, eo, ap ons_of none) in
+    (cc, el ∙ (rw none at s.stored))
 
 -- a laid head is the one that its contents have, and no offset depends on the nodes
 six : {a b c d e g a' b' c' d' e' g' : ℕ} → a ≡ a' → b ≡ b' → c ≡ c' → d ≡ d' → e ≡ e' → g ≡ g'

@@ -1,7 +1,7 @@
 // The placed file: where each node's group starts, and its words.
 #![tactic(auto)]
 
-ghost use Rattle.std.specs.Prelude.{◌≡◌, cond, [], ◌∷◌, ◌++◌, ◌+◌, ◌*◌, ◌-◌, ◌≤◌, ◌<◌, length, get_or};
+ghost use Rattle.std.specs.Prelude.{◌≡◌, [], ◌∷◌, ◌++◌, ◌+◌, ◌*◌, ◌-◌, ◌≤◌, ◌<◌, length, get_or};
 ghost use Rattle.std.proofs.lemmas.List.Edits.{sets};
 ghost use Rattle.format.specs.Words.{bytes_of};
 ghost use Rattle.format.specs.Header.{Laid, length_for};
@@ -12,7 +12,6 @@ ghost use Rattle.groups.specs.Groups.{before, size_of, sizes_of, ons_of, starts_
 ghost use Rattle.groups.specs.Switches.{switches};
 
 use format::sections::{node, session};
-use format::words::wide;
 use format::writing::{put_head, put_node, put_session, put_tables};
 use format::{Head, Node, Session, Six};
 use masks::UserRole;
@@ -30,12 +29,9 @@ pub fn starts(turns: &[u16], nodes: u16, starts: &mut [u16]) -> Sums
     ensures { (result ≡ record { nodes = sizes_of (turns_in turns.now nodes); on_steps = ons_of (turns_in turns.now nodes) })
         × (starts.new ≡ sets starts.old 1 (starts_from 1 (turns_in turns.now nodes))) }
 {
-    let n = wide(nodes);
     let mut at: u16 = 1;
     let mut ons: u16 = 0;
-    let mut i: usize = 0;
-    while i < n {
-        i += 1;
+    for i in 1..=usize::from(nodes) {
         let turn = turns[i];
         let from = turn % 256;
         let to = turn / 256;
@@ -50,18 +46,11 @@ pub fn starts(turns: &[u16], nodes: u16, starts: &mut [u16]) -> Sums
     }
 }
 
-// What names a node is renamed: the number at which its group starts, and 0 for a number of no node.
-fn renamed(starts: &[u16], names: bool, n: u16) -> u16
-    ensures { result ≡ cond names (get_or starts.now n 0) n }
+// The new number of what a number names: where its group starts, and 0 for a number of no node.
+fn renamed(starts: &[u16], n: u16) -> u16
+    ensures { result ≡ get_or starts.now n 0 }
 {
-    if !names {
-        return n;
-    }
-    let i = wide(n);
-    if i < starts.len() {
-        return starts[i];
-    }
-    0
+    starts.get(usize::from(n)).copied().unwrap_or(0)
 }
 
 // The node that switches a role, where the states differ and it is one; the number after it.
@@ -107,17 +96,12 @@ fn put_group(out: &mut [u8], head: Head, at: u16, turn: u16, it: Node, starts: &
     let to = turn / 256;
     let off = put_switch(out, head, at, 8, from, to, UserRole(from));
     let on = put_switch(out, head, off, 7, from, to, UserRole(to));
-    let f1 = renamed(starts, it.tag == 1, it.f1);
-    put_node(
-        out,
-        head,
-        on,
-        Node {
-            tag: it.tag,
-            f1,
-            f2: it.f2,
-        },
-    );
+    let f1 = if it.tag == 1 {
+        renamed(starts, it.f1)
+    } else {
+        it.f1
+    };
+    put_node(out, head, on, Node { f1, ..it });
     on + 1
 }
 
@@ -127,12 +111,16 @@ fn put_groups(file: &[u8], head: Head, whole: Head, turns: &[u16], starts: &[u16
         × (length_for whole.at.nodes whole.count.nodes ≤ length out.old) }
     ensures { out.new ≡ nodes_put whole 1 (groups_from starts.now (contents_at file.now head).nodes (turns_in turns.now head.count.nodes)) out.old }
 {
-    let nodes = head.count.nodes;
     let mut at: u16 = 1;
-    let mut n: u16 = 0;
-    while n < nodes {
-        n += 1;
-        at = put_group(out, whole, at, turns[wide(n)], node(file, head, n), starts);
+    for n in 1..=head.count.nodes {
+        at = put_group(
+            out,
+            whole,
+            at,
+            turns[usize::from(n)],
+            node(file, head, n),
+            starts,
+        );
     }
 }
 
@@ -141,19 +129,15 @@ fn put_sessions(file: &[u8], head: Head, starts: &[u16], out: &mut [u8])
     requires { Laid file.now head × (2 * head.at.nodes ≤ length out.old) }
     ensures { out.new ≡ sets out.old (2 * head.at.sessions) (bytes_of (session_words (sessions_from starts.now (contents_at file.now head).sessions))) }
 {
-    let sessions = head.count.sessions;
-    let mut n: u16 = 0;
-    while n < sessions {
-        n += 1;
+    for n in 1..=head.count.sessions {
         let it = session(file, head, n);
         put_session(
             out,
             head,
             n,
             Session {
-                user: it.user,
-                mask: it.mask,
-                root: renamed(starts, true, it.root),
+                root: renamed(starts, it.root),
+                ..it
             },
         );
     }
@@ -163,19 +147,12 @@ fn put_sessions(file: &[u8], head: Head, starts: &[u16], out: &mut [u8])
 fn with_nodes(head: Head, nodes: u16) -> Head
     ensures { result ≡ with_nodes head nodes }
 {
-    let n = head.count;
-    let at = head.at;
     Head {
-        version: head.version,
         count: Six {
-            users: n.users,
-            roles: n.roles,
-            kinds: n.kinds,
-            channels: n.channels,
-            sessions: n.sessions,
             nodes,
+            ..head.count
         },
-        at,
+        ..head
     }
 }
 

@@ -33,10 +33,7 @@ pub fn table_answer(hours: &[u16], minute: u16) -> Verdict
 {
     let n = hours.len();
     if (n % 3 == 0) & (n / 3 <= 64) & (minute <= 10079) {
-        return Verdict {
-            number: 0,
-            place: 0,
-        };
+        return Verdict::FINE;
     }
     Verdict {
         number: 22,
@@ -55,21 +52,15 @@ pub fn rows_answer(hours: &[u16], roles: u16) -> Verdict
     requires { length hours.now / 3 ≤ 64 }
     ensures { result ≡ rows_answer roles hours.now }
 {
-    let count = hours.len() / 3;
-    let mut n: usize = 1;
-    while n <= count {
+    for n in 1..=hours.len() / 3 {
         if !row_fits(row_at(hours, n - 1), roles) {
             return Verdict {
                 number: 23,
                 place: narrow(n),
             };
         }
-        n += 1;
     }
-    Verdict {
-        number: 0,
-        place: 0,
-    }
+    Verdict::FINE
 }
 
 fn contains(row: Row, minute: u16) -> bool
@@ -93,15 +84,12 @@ pub fn shut(hours: &[u16], minute: u16) -> u16
     requires { length hours.now / 3 ≤ 64 }
     ensures { result ≡ shut hours.now minute }
 {
-    let count = hours.len() / 3;
     let mut named: u16 = 0;
     let mut inside: u16 = 0;
-    let mut i: usize = 0;
-    while i < count {
+    for i in 0..hours.len() / 3 {
         let it = row_at(hours, i);
         named = put_if(true, named, it.role);
         inside = put_if(contains(it, minute), inside, it.role);
-        i += 1;
     }
     roles_minus(named, inside)
 }

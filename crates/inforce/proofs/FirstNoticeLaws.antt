@@ -1,25 +1,24 @@
 -- Where the first of two notices ends.
-use Prim.Native.Nat.{ℕ, ◌+◌, ◌*◌, ◌≤◌, ◌<◌}
-use mathlib.Core.Path.{◌≡◌, refl, sym, ap, ap₂, ◌∙◌}
+use Prim.Native.Nat.{ℕ, ◌+◌, ◌*◌, ◌≤◌, min}
+use mathlib.Core.Path.{◌≡◌, refl, ap₂}
 use mathlib.Core.Bool.{Bool, true, false, cond, and-eq-true_iff}
 use mathlib.Core.List.{List, ◌++◌}
 use native.Mathlib.Omega.{arith}
 use lib.Dec.{eqb, ltb}
 use lib.ListN.{length, length-append, get_or-append}
-use borrow.Author.Tests.{eqb-true, ltb-false, lt-ltb, le-ltb}
+use borrow.Author.Tests.{eqb-true, ltb-true, ltb-false}
 use Rattle.checking.specs.Check.{reading_names}
 use Rattle.notices.specs.Notices.{length_word, file_of, is_sound}
 use Rattle.inforce.specs.FirstNotice.{first_end}
 
-pub ends_by_word : (b : List ℕ) (end : ℕ) → end ≡ 4 + length_word b → end < length b → (end ≡ first_end b) × (end ≤ length b)
+-- by its length word, or with the input where that ends before
+pub ends_first : (b : List ℕ) (end r : ℕ) → end ≡ 4 + length_word b → r ≡ min end (length b) → (r ≡ first_end b) × (r ≤ length b)
 unfolding first_end
-ends_by_word b end e h =
-    (e ∙ sym (ap (λ (x : Bool). cond x (4 + length_word b) (length b)) (lt-ltb (4 + length_word b) (length b) (omega (arith, e, h)))), omega (arith, h))
-
-pub ends_with_input : (b : List ℕ) (end : ℕ) → end ≡ 4 + length_word b → length b ≤ end → (length b ≡ first_end b) × (length b ≤ length b)
-unfolding first_end
-ends_with_input b end e h =
-    (sym (ap (λ (x : Bool). cond x (4 + length_word b) (length b)) (le-ltb (4 + length_word b) (length b) (omega (arith, e, h)))), omega arith)
+ends_first b end r e is = (go (ltb (4 + length_word b) (length b)) refl, omega arith)
+  where
+    go : (x : Bool) → ltb (4 + length_word b) (length b) ≡ x → r ≡ cond x (4 + length_word b) (length b)
+    go true h = omega (arith, e, is, ltb-true (4 + length_word b) (length b) h)
+    go false h = omega (arith, e, is, ltb-false (4 + length_word b) (length b) h)
 
 -- a sound notice ends where what follows it begins
 pub sound_ends : (n rest : List ℕ) → is_sound n ≡ true → first_end (n ++ rest) ≡ length n

@@ -7,7 +7,7 @@ ghost use Rattle.std.specs.Prelude.{◌≡◌, ◌≤◌, length};
 ghost use Rattle.io.specs.Counts.{IsPrefixLen};
 ghost use Rattle.inforce.specs.FirstNotice.{first_end};
 
-use format::words::{wide, word};
+use format::words::word;
 use notices::{in_force, plan_in_force};
 use std::io::Read;
 use streams::{read_behind, write_bytes, write_refused};
@@ -16,8 +16,8 @@ use streams::{read_behind, write_bytes, write_refused};
 fn first_end(both: &[u8]) -> usize
     ensures { (result ≡ first_end both.now) × (result ≤ length both.now) }
 {
-    let end = 4 + wide(word(both, 1));
-    if end < both.len() { end } else { both.len() }
+    let end = 4 + usize::from(word(both, 1));
+    end.min(both.len())
 }
 
 fn write_plan<'a>(rt: HostRuntime, first: &'a [u8], second: &'a [u8], day: u16) {
@@ -46,9 +46,8 @@ fn read_full<R: Read>(reader: &mut R, buffer: &mut [u8]) -> usize
     let mut done = 0;
     while done < buffer.len() {
         match read_behind(reader, buffer, done) {
-            Ok(0) => break,
+            Ok(0) | Err(_) => break,
             Ok(more) => done += more,
-            Err(_) => break,
         }
     }
     done

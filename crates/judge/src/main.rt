@@ -4,12 +4,10 @@
 
 fn main(rt: HostRuntime) {
     let mut buffer = [0u8; 16384];
-    let input = streams::read_input(&mut rt.stdin(), &mut buffer);
-    if input.failed {
+    let Ok(kept) = streams::read_input(&mut rt.stdin(), &mut buffer) else {
         streams::write_bytes(&rt.stderr(), b"judge: standard input cannot be read\n");
         return;
-    }
-    let kept = input.kept;
+    };
     let verdict = checking::check(&buffer[..kept]);
     if verdict.number == 0 {
         streams::write_bytes(&rt, b"passes\n");

@@ -15,8 +15,7 @@ use Rattle.format.specs.declared.Verdict.{Verdict}
 use Rattle.format.specs.declared.Head.{Head}
 use Rattle.format.proofs.AnswerLaws.{NoRefusal, loud_first, both_quiet}
 use Rattle.reading.specs.Reading.{reading, with_head}
-use Rattle.reading.specs.declared.Opened.{Opened}
-use Rattle.reading.specs.declared.Opened.TheVariants.{Fine, Refused}
+use Rattle.std.specs.Prelude.{Result, Ok, Err}
 use Rattle.reading.proofs.ReadingLaws.{head_given, refusal_given}
 use Rattle.rules.specs.Schema.{schema_of}
 use Rattle.checking.specs.Check.{reading_names, entered, scoped}
@@ -40,10 +39,10 @@ scoped_long f old table long e = ap length e ∙ go (eqb (reading f).number 0) �
     go false = refl
 
 -- a refusal has no head
-pub refused_headless : (v : Verdict) (h : Head) → Refused v ≡ Fine h → ⊥
+pub refused_headless : (v : Verdict) (h : Head) → Err v ≡ Ok h → ⊥
 refused_headless v h e = let no : ◌≡◌ {A = ℕ} 0 1 = cc in omega (arith, no)
 
-pub same_head : (k h : Head) → Fine k ≡ Fine h → k ≡ h
+pub same_head : (k h : Head) → ◌≡◌ {A = Result Head Verdict} (Ok k) (Ok h) → k ≡ h
 same_head k h e = cc
 
 -- right sizes
@@ -53,14 +52,14 @@ fitting n b e = let (w, r, t, m) = sizes_true n b e in record { list = r; beside
 -- of so many records and words beside them, with a table as the way in leaves it
 module _ (f : List ℕ) (records : ℕ) (b old table : List ℕ) (long : length old ≡ 1025) (zeros : old ≡ replicate (length old) 0) (its : table ≡ scoped f old) where
   -- what is let through, or why not
-  abbrev pub Admitting : Opened → Type 0
+  abbrev pub Admitting : Result Head Verdict → Type 0
   Admitting it = (it ≡ admitted f records b) × (length table ≡ 1025) × Admits f records b table it
 
-  headless : (v : Verdict) → Admits f records b table (Refused v)
+  headless : (v : Verdict) → Admits f records b table (Err v)
   headless v h e = absurd (refused_headless v h e)
 
   -- the file by 1 to 10
-  pub admit_names : (v : Verdict) → entered f ≡ Refused v → Admitting (Refused v)
+  pub admit_names : (v : Verdict) → entered f ≡ Err v → Admitting (Err v)
   unfolding admitted
   admit_names v e =
       let (l, same) = entered_refused f v e in
@@ -69,7 +68,7 @@ module _ (f : List ℕ) (records : ℕ) (b old table : List ℕ) (long : length 
       loud_first (reading_names f) (cond (sizes_fit records b && every (made_fits (schema_of (contents_of f))) (made_of b)) fine (refused 18 0)) l ∙ sym same in
       (sym (ap (with_head (head_at f)) first ∙ rw (ne_eqb v.number 0 loud)), scoped_long f old table long its, headless v)
 
-  module _ (h : Head) (e : entered f ≡ Fine h) where
+  module _ (h : Head) (e : entered f ≡ Ok h) where
     -- by sizes and made channels
     admitted_by : (x : Bool) → (sizes_fit records b && every (made_fits (schema_of (contents_at f h))) (made_of b)) ≡ x → with_head h (cond x fine (refused 18 0)) ≡ admitted f records b
     unfolding admitted
@@ -78,18 +77,18 @@ module _ (f : List ℕ) (records : ℕ) (b old table : List ℕ) (long : length 
         subst (λ (k : Head). (sizes_fit records b && every (made_fits (schema_of (contents_at f k))) (made_of b)) ≡ x → with_head k (cond x fine (refused 18 0)) ≡ admitted f records b) (sym same)
         (λ r. rw (clean, r)) q
 
-    unlent : (v : Verdict) → v ≡ refused 18 0 → (sizes_fit records b && every (made_fits (schema_of (contents_at f h))) (made_of b)) ≡ false → Admitting (Refused v)
-    unlent v is q = (ap Refused is ∙ admitted_by false q, scoped_long f old table long its, headless v)
+    unlent : (v : Verdict) → v ≡ refused 18 0 → (sizes_fit records b && every (made_fits (schema_of (contents_at f h))) (made_of b)) ≡ false → Admitting (Err v)
+    unlent v is q = (ap Err is ∙ admitted_by false q, scoped_long f old table long its, headless v)
 
-    pub admit_sizes : (v : Verdict) → v ≡ refused 18 0 → sizes_fit records b ≡ false → Admitting (Refused v)
+    pub admit_sizes : (v : Verdict) → v ≡ refused 18 0 → sizes_fit records b ≡ false → Admitting (Err v)
     admit_sizes v is unfit = unlent v is (rw unfit)
 
     pub admit_made : (v : Verdict) (x : Bool) → v ≡ refused 18 0 → sizes_fit records b ≡ true → x ≡ every (made_fits (schema_of (contents_at f h))) (made_of b) → x ≡ false
-        → Admitting (Refused v)
+        → Admitting (Err v)
     admit_made v x is fit told unfit = unlent v is (rw fit (sym told ∙ unfit))
 
     -- let through
-    pub admit_fine : (x : Bool) → sizes_fit records b ≡ true → x ≡ every (made_fits (schema_of (contents_at f h))) (made_of b) → x ≡ true → Admitting (Fine h)
+    pub admit_fine : (x : Bool) → sizes_fit records b ≡ true → x ≡ every (made_fits (schema_of (contents_at f h))) (made_of b) → x ≡ true → Admitting (Ok h)
     admit_fine x fit told fits =
         let (laid, same, clean) = entered_fine f h e in
         let (wide, by_node_lem) = entered_scoped f h old table e long zeros its in (
@@ -118,7 +117,7 @@ module _ (f : List ℕ) (l : List Thread) (b : List ℕ) (i p : ℕ) where
   by_records_left true y z = refl
   by_records_left false y z = refl
 
-  pub admitted_fine : (h : Head) → admitted f (length l) b ≡ Fine h
+  pub admitted_fine : (h : Head) → admitted f (length l) b ≡ Ok h
       → (choosing f l b i p ≡ judged_answer (contents_at f h) l b i p)
       × (records_over f l b i p ≡ judged_records (contents_at f h) l b i p)
       × (beside_over f l b i p ≡ judged_beside (contents_at f h) l b i p)
@@ -141,7 +140,7 @@ module _ (f : List ℕ) (l : List Thread) (b : List ℕ) (i p : ℕ) where
   fails_more true false z e = refl
   fails_more false y z e = refl
 
-  pub admitted_refused : (v : Verdict) → admitted f (length l) b ≡ Refused v → (choosing f l b i p ≡ v) × (records_over f l b i p ≡ l) × (beside_over f l b i p ≡ b)
+  pub admitted_refused : (v : Verdict) → admitted f (length l) b ≡ Err v → (choosing f l b i p ≡ v) × (records_over f l b i p ≡ l) × (beside_over f l b i p ≡ b)
   unfolding admitted choosing records_over beside_over lending may_be_lent
   admitted_refused v e =
       let (loud, same) = refusal_given (head_at f) first v e in

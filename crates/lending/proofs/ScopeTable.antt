@@ -16,7 +16,7 @@ use Rattle.format.specs.declared.Verdict.{Verdict}
 use Rattle.format.proofs.AnswerLaws.{NoRefusal}
 use Rattle.format.proofs.ContentsLaws.{in_count_iff, nodes_held}
 use Rattle.reading.specs.Reading.{reading}
-use Rattle.reading.specs.declared.Opened.TheVariants.{Fine}
+use Rattle.std.specs.Prelude.{Ok}
 use Rattle.rules.specs.Schema.{schema_of}
 use Rattle.rules.specs.Rules.{Context}
 use Rattle.rules.specs.Checking.{reached_in, rightly, names_answer}
@@ -79,7 +79,7 @@ module _ (f : List ℕ) (clean : reading_names f ≡ fine) where
   scoped_so t = rw (eq-eqb (reading f).number 0 quiet.0)
 
 -- so of a file that the way in lets through
-pub entered_scoped : (f : List ℕ) (h : Head) (old table : List ℕ) → entered f ≡ Fine h → length old ≡ 1025 → old ≡ replicate (length old) 0 → table ≡ scoped f old
+pub entered_scoped : (f : List ℕ) (h : Head) (old table : List ℕ) → entered f ≡ Ok h → length old ≡ 1025 → old ≡ replicate (length old) 0 → table ≡ scoped f old
     → (length table ≡ 1025) × Scoped (contents_at f h) table
 entered_scoped f h old table e long zeros its =
     let (laid_out, same, clean) = entered_fine f h e in

@@ -17,8 +17,7 @@ use Rattle.format.specs.declared.Head.{Head}
 use Rattle.format.proofs.AnswerLaws.{NoRefusal, loud_first, both_quiet}
 use Rattle.format.proofs.ContentsLaws.{sessions_held}
 use Rattle.reading.specs.Reading.{with_head}
-use Rattle.reading.specs.declared.Opened.{Opened}
-use Rattle.reading.specs.declared.Opened.TheVariants.{Fine, Refused}
+use Rattle.std.specs.Prelude.{Result, Ok, Err}
 use Rattle.reading.proofs.ReadingLaws.{head_given, refusal_given}
 use Rattle.checking.specs.Check.{reading_names, entered}
 use Rattle.checking.proofs.CheckLaws.{entered_fine, entered_refused, names_fine, names_headed}
@@ -30,7 +29,7 @@ use Rattle.steps.proofs.TotalLaws.{Aside, cleared_length, cleared_other, aside_c
 use Rattle.running_exact.proofs.TotalWords.{start_total}
 use Rattle.lending.proofs.TotalsLaws.{totals_words}
 use Rattle.steps.specs.Choice.{goes}
-use Rattle.choices.specs.Choices.{threads_from, start}
+use Rattle.choices.specs.Choices.{start}
 use Rattle.running_exact.proofs.StartKept.{threads_length}
 use Rattle.lending.specs.Lent.{records_after}
 use Rattle.lending.specs.Starting.{starting, records_started, beside_started}
@@ -61,10 +60,10 @@ started_words kind ts b long few =
 
 -- what the code leaves beside a list of so many records
 module _ (f : List ℕ) (records : ℕ) (b : List ℕ) where
-  abbrev pub Begun : Opened → List ℕ → Type 0
+  abbrev pub Begun : Result Head Verdict → List ℕ → Type 0
   Begun it d = (it ≡ with_head (head_at f) (starting f records (length b))) × ((l : List Thread) → length l ≡ records → d ≡ beside_started f l b)
 
-  refused_begun : (v : Verdict) → (NoRefusal v → ⊥) → starting f records (length b) ≡ v → Begun (Refused v) b
+  refused_begun : (v : Verdict) → (NoRefusal v → ⊥) → starting f records (length b) ≡ v → Begun (Err v) b
   unfolding beside_started
   refused_begun v loud e = (
     sym (ap (with_head (head_at f)) e ∙ rw (ne_eqb v.number 0 loud)),
@@ -75,27 +74,27 @@ module _ (f : List ℕ) (records : ℕ) (b : List ℕ) where
   )
 
   -- the file by 1 to 10
-  pub begin_names : (v : Verdict) → entered f ≡ Refused v → Begun (Refused v) b
+  pub begin_names : (v : Verdict) → entered f ≡ Err v → Begun (Err v) b
   unfolding starting
   begin_names v e =
       let (l, same) = entered_refused f v e in
       refused_begun v (λ q. l (subst NoRefusal same q)) (loud_first (reading_names f) (cond (eqb records 64 && eqb (length b) 162) fine (refused 18 0)) l ∙ sym same)
 
-  module _ (h : Head) (e : entered f ≡ Fine h) where
+  module _ (h : Head) (e : entered f ≡ Ok h) where
     starting_by : (x : Bool) → (eqb records 64 && eqb (length b) 162) ≡ x → starting f records (length b) ≡ cond x fine (refused 18 0)
     unfolding starting
     starting_by x q = rw ((entered_fine f h e).2, q)
 
-    pub begin_sizes : (v : Verdict) → v ≡ refused 18 0 → (eqb records 64 && eqb (length b) 162) ≡ false → Begun (Refused v) b
+    pub begin_sizes : (v : Verdict) → v ≡ refused 18 0 → (eqb records 64 && eqb (length b) 162) ≡ false → Begun (Err v) b
     begin_sizes v its q =
         refused_begun v (λ z. let no : 18 ≡ 0 = sym (ap (λ (w : Verdict). w.number) its) ∙ z in omega (arith, no)) (starting_by false q ∙ sym its)
 
-    pub begin_fine : (kind : ℕ → ℕ) → kind ≡ awaits (contents_of f) → (d : List ℕ) → (eqb records 64 && eqb (length b) 162) ≡ true → d ≡ start_beside kind b (start (contents_at f h)).threads → Begun (Fine h) d
+    pub begin_fine : (kind : ℕ → ℕ) → kind ≡ awaits (contents_of f) → (d : List ℕ) → (eqb records 64 && eqb (length b) 162) ≡ true → d ≡ start_beside kind b (start (contents_at f h)).threads → Begun (Ok h) d
     unfolding beside_started made_words
     begin_fine kind kinds d q is =
         let same : h ≡ head_at f = (entered_fine f h e).1 in
         let quiet : starting f records (length b) ≡ fine = starting_by true q in (
-          ap Fine same ∙ sym (ap (with_head (head_at f)) quiet),
+          ap Ok same ∙ sym (ap (with_head (head_at f)) quiet),
           λ l long.
               let test : eqb (starting f (length l) (length b)).number 0 ≡ true =
               ap (λ (n : ℕ). eqb (starting f n (length b)).number 0) long ∙ ap (λ (w : Verdict). eqb w.number 0) quiet in
@@ -124,7 +123,7 @@ module _ (f : List ℕ) (l : List Thread) (b : List ℕ) where
   starting_fine q = let (clean, records, words) = starting_quiet q in rw (clean, records, words) refl
 
   -- a head is given: the sessions' threads, one by one
-  pub started_fine : (h : Head) → with_head (head_at f) (starting f (length l) (length b)) ≡ Fine h
+  pub started_fine : (h : Head) → with_head (head_at f) (starting f (length l) (length b)) ≡ Ok h
       → Laid f h × (starting f (length l) (length b) ≡ fine) × (length l ≡ 64)
       × (records_started f l b ≡ paste l 0 (start (contents_at f h)).threads h.count.sessions)
   unfolding records_started
@@ -142,7 +141,7 @@ module _ (f : List ℕ) (l : List Thread) (b : List ℕ) where
       )
 
   -- it is refused: nothing
-  pub started_refused : (v : Verdict) → with_head (head_at f) (starting f (length l) (length b)) ≡ Refused v → (starting f (length l) (length b) ≡ v) × (records_started f l b ≡ l)
+  pub started_refused : (v : Verdict) → with_head (head_at f) (starting f (length l) (length b)) ≡ Err v → (starting f (length l) (length b) ≡ v) × (records_started f l b ≡ l)
   unfolding records_started
   started_refused v e =
       let (loud, same) = refusal_given (head_at f) (starting f (length l) (length b)) v e in

@@ -20,7 +20,7 @@ use Rattle.steps.specs.declared.Answer.TheVariants as answers
 use Rattle.steps.specs.declared.Outcome.{Outcome}
 use Rattle.steps.specs.declared.Outcome.TheVariants.{Refused, Moves, Adds, Makes, Ends, Meets}
 use Rattle.steps.specs.Threads.{no_thread}
-use Rattle.steps.specs.Choice.{Clinic, State, thread_at, partner_at, changed, sending, alone_only, acting, done, outcome}
+use Rattle.steps.specs.Choice.{Clinic, State, thread_at, partner_at, sending, alone_only, acting, done, outcome}
 use Rattle.steps.specs.Acted.{partner_of, acted_of, outcome_by}
 use Rattle.steps.specs.Beside.{thread_count, made_count, made_of, beside_by}
 use Rattle.steps.specs.Records.{thread_in, threads_in, stored}

@@ -1,12 +1,12 @@
 -- The totals beside a lent list: as words, as counts, and judged record by record.
 use Prim.Native.Nat.{ℕ, zero, suc, ◌+◌, ◌-◌, ◌%◌, ◌≤◌, ◌<◌}
-use mathlib.Core.Path.{◌≡◌, refl, sym, ap, ap₂, ◌∙◌, subst, fun_ext}
+use mathlib.Core.Path.{◌≡◌, refl, sym, ap, ap₂, ◌∙◌, fun_ext}
 use mathlib.Core.Bool.{Bool, true, false, cond, ◌&&◌, and-eq-true_iff, false≢true}
 use mathlib.Core.List.{List, [], ◌∷◌}
 use native.Mathlib.Omega.{arith}
 use lib.Dec.{eqb, ltb}
-use lib.ListN.{length, get_or, set, take, drop, replicate, length-set, drop_of_length-le}
-use lib.Seq.{sets, length-sets, ext_get_or, get_or-set_same, get_or-set_other, get_or-drop, get_or-take, set-get_or, length-take-le, drop-cons}
+use lib.ListN.{length, get_or, set, take, drop, length-set, drop_of_length-le}
+use lib.Seq.{sets, length-sets, ext_get_or, get_or-set_same, get_or-set_other, get_or-take, set-get_or, length-take-le, drop-cons}
 use mir.Val.{bool_byte}
 use borrow.Author.Tests.{eqb-true, eqb-false, eq-eqb, ltb-true, ltb-false}
 use Rattle.format.specs.Contents.{Contents, in_count}
@@ -19,7 +19,7 @@ use Rattle.steps.specs.Beside.{thread_count, made_of, waiting, waiting_from, tot
 use Rattle.steps.proofs.TableLaws.{sets_other, sets_in}
 use Rattle.steps.proofs.TotalLaws.{Aside, length-replicate, all_zero}
 use Rattle.reading_exact.specs.File.{InCount}
-use Rattle.running_exact.proofs.TotalWords.{hit, hit_small, waiting_few}
+use Rattle.running_exact.proofs.TotalWords.{hit, hit_small}
 use Rattle.lending.specs.declared.Tally.{Tally}
 use Rattle.lending.specs.Lent.{thread_fits, every, same}
 use Rattle.lending.specs.Walk.{no_tally, one_in, tally_on, tally_all, tally_fits, threads_fit}

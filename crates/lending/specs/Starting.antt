@@ -3,8 +3,6 @@ use Rattle.std.specs.Prelude.{ℕ, cond, ◌&&◌, List, eqb, length}
 use Rattle.format.specs.Answers.{fine, refused, or_else}
 use Rattle.format.specs.Contents.{contents_of}
 use Rattle.format.specs.declared.Verdict.{Verdict}
-use Rattle.reading.specs.declared.Opened.{Opened}
-use Rattle.reading.specs.declared.Opened.TheVariants as opened
 use Rattle.checking.specs.Check.{reading_names}
 use Rattle.steps.specs.declared.Thread.{Thread}
 use Rattle.steps.specs.Choice.{goes}
@@ -22,8 +20,3 @@ records_started f l b = cond (eqb (starting f (length l) (length b)).number 0) (
 
 unfoldable pub beside_started : List ℕ → List Thread → List ℕ → List ℕ
 beside_started f l b = cond (eqb (starting f (length l) (length b)).number 0) (beside_after (contents_of f) b (goes (start (contents_of f)))) b
-
--- how many sessions a file has that is not refused
-abbrev pub sessions_of : Opened → ℕ
-sessions_of (opened.Fine h) = h.count.sessions
-sessions_of (opened.Refused v) = 0

@@ -1,6 +1,6 @@
 -- How code takes a choice in the lent list: sizes and made channels first, then the counted records one by one, then the step by value, and what it
 -- says is stored.
-use Rattle.std.specs.Prelude.{ℕ, ◌+◌, ◌-◌, ◌%◌, ◌≤◌, ◌<◌, ◌≡◌, Bool, true, false, cond, ◌&&◌, List, [], ◌∷◌, length, get_or, set, take, drop, replicate}
+use Rattle.std.specs.Prelude.{ℕ, ◌+◌, ◌-◌, ◌%◌, ◌≤◌, ◌<◌, ◌≡◌, Bool, true, false, cond, ◌&&◌, List, [], ◌∷◌, length, get_or, set, take, drop, replicate, Result, Ok, Err}
 use Rattle.std.proofs.Math.Seq.{paste}
 use Rattle.format.specs.Answers.{fine, refused, or_else}
 use Rattle.format.specs.Header.{Laid, head_at}
@@ -8,8 +8,6 @@ use Rattle.format.specs.Contents.{Contents, in_count, contents_at, contents_of}
 use Rattle.format.specs.declared.Verdict.{Verdict}
 use Rattle.format.specs.declared.Head.{Head}
 use Rattle.reading.specs.Reading.{with_head}
-use Rattle.reading.specs.declared.Opened.{Opened}
-use Rattle.reading.specs.declared.Opened.TheVariants as opened
 use Rattle.rules.specs.Schema.{schema_of}
 use Rattle.checking.specs.Check.{reading_names}
 use Rattle.naming.specs.Scopes.{awaited_by}
@@ -27,7 +25,7 @@ use Rattle.lending.specs.Lent.{sizes_fit, made_fits, thread_fits, every, same, t
 use Rattle.lending.specs.Scopes.{Scoped}
 
 -- what refuses before the records are judged: the file by 1 to 10; then sizes and made channels, 18 at place 0
-unfoldable pub admitted : List ℕ → ℕ → List ℕ → Opened
+unfoldable pub admitted : List ℕ → ℕ → List ℕ → Result Head Verdict
 admitted f records b =
     with_head (head_at f) (or_else (reading_names f) (cond (sizes_fit records b && every (made_fits (schema_of (contents_of f))) (made_of b)) fine (refused 18 0)))
 
@@ -39,17 +37,13 @@ pub record Fitting (records : ℕ) (b : List ℕ) : Type 0 where
   pub made : made_count b ≤ 64
 
 -- what a list that is let through has: the file's head, such sizes, and a table of what each node is reached with
-abbrev pub Admits : List ℕ → ℕ → List ℕ → List ℕ → Opened → Type 0
-Admits f records b table it = (h : Head) → it ≡ opened.Fine h → (h ≡ head_at f) × Laid f h × Fitting records b × Scoped (contents_at f h) table
+abbrev pub Admits : List ℕ → ℕ → List ℕ → List ℕ → Result Head Verdict → Type 0
+Admits f records b table it = (h : Head) → it ≡ Ok h → (h ≡ head_at f) × Laid f h × Fitting records b × Scoped (contents_at f h) table
 
--- what the way in says: whether it refuses, and what; nothing where it gives a head
-abbrev pub is_refused : Opened → Bool
-is_refused (opened.Fine h) = false
-is_refused (opened.Refused v) = true
-
-abbrev pub verdict_of : Opened → Verdict
-verdict_of (opened.Fine h) = fine
-verdict_of (opened.Refused v) = v
+-- what the way in says: what it refuses, and nothing where it gives a head
+abbrev pub verdict_of : Result Head Verdict → Verdict
+verdict_of (Ok h) = fine
+verdict_of (Err v) = v
 
 -- every counted record is as its node asks, and the totals are theirs
 abbrev pub threads_fit : Contents → List Thread → List ℕ → Bool

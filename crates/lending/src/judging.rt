@@ -15,7 +15,6 @@ ghost use Rattle.steps.specs.Beside.{made_count, made_of, beside_words};
 use super::Tally;
 use format::Head;
 use format::sections::{in_count, user_roles};
-use format::words::wide;
 use masks::{ChannelKind, roles_within};
 use naming::scopes::{awaited_by, bound_in, kind_at, scope_in};
 use steps::Thread;
@@ -27,9 +26,7 @@ pub fn made_fit(head: Head, beside: &[u16]) -> bool
     requires { (length beside.now ≡ beside_words) × (made_count beside.now ≤ 64) }
     ensures { (bytes : List ℕ) → result ≡ every (made_fits (schema_of (contents_at bytes head))) (made_of beside.now) }
 {
-    let n = wide(made_count(beside));
-    let mut k: usize = 0;
-    while k < n {
+    for k in 0..usize::from(made_count(beside)) {
         let it = made_at(beside, k);
         if !in_count(head.count.users, it.owner) {
             return false;
@@ -37,7 +34,6 @@ pub fn made_fit(head: Head, beside: &[u16]) -> bool
         if !in_count(head.count.kinds, it.kind.0) {
             return false;
         }
-        k += 1;
     }
     true
 }
@@ -78,8 +74,7 @@ fn vars_fit(file: &[u8], head: Head, beside: &[u16], w: u64, vars: [u16; 8]) -> 
         → result ≡ vars_fit (schema_of (contents_at file.now head)) (made_of beside.now) c.vars vars }
 {
     let bound = bound_in(w);
-    let mut k: usize = 0;
-    while k < 8 {
+    for k in 0..8 {
         let v = vars[k];
         if (k as u64) < bound {
             if !value_fits(file, head, beside, kind_at(w, k as u64), v) {
@@ -90,7 +85,6 @@ fn vars_fit(file: &[u8], head: Head, beside: &[u16], w: u64, vars: [u16; 8]) -> 
                 return false;
             }
         }
-        k += 1;
     }
     true
 }
@@ -103,7 +97,7 @@ pub fn thread_fits(file: &[u8], head: Head, table: &[u64], beside: &[u16], t: Th
     if !in_count(head.count.nodes, t.node) {
         return false;
     }
-    let w = scope_in(table[wide(t.node)]);
+    let w = scope_in(table[usize::from(t.node)]);
     if (t.user as u64) != w % 64 {
         return false;
     }
@@ -120,12 +114,10 @@ fn one_in(totals: [u16; 32], kind: ChannelKind) -> [u16; 32]
     ensures { result ≡ one_in totals kind.0 }
 {
     let mut all = totals;
-    let mut k: u16 = 0;
-    while k < 32 {
-        let at = wide(k);
-        k += 1;
-        let one = (kind.0 == k) as u16;
-        all[at] = ((wide(all[at]) + wide(one)) % 65536) as u16;
+    for k in 0..32 {
+        let at = usize::from(k);
+        let one = (kind.0 == k + 1) as u16;
+        all[at] = all[at].wrapping_add(one);
     }
     all
 }
@@ -167,11 +159,9 @@ pub fn tally_fits(beside: &[u16], it: Tally) -> bool
 {
     let theirs = it.totals;
     let lent = totals_of(beside);
-    let mut k: usize = 0;
     let mut alike = it.fits;
-    while k < 32 {
+    for k in 0..32 {
         alike = alike & (lent[k] == theirs[k]);
-        k += 1;
     }
     alike
 }

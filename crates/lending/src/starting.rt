@@ -5,54 +5,43 @@ ghost use Rattle.format.specs.Contents.{contents_at};
 ghost use Rattle.reading.specs.Reading.{with_head};
 ghost use Rattle.steps.specs.Threads.{no_thread};
 ghost use Rattle.choices.specs.Choices.{start};
-ghost use Rattle.lending.specs.Starting.{starting, beside_started, sessions_of};
+ghost use Rattle.lending.specs.Starting.{starting, beside_started};
 
 use super::unlendable;
 use checking::enter_scoped;
 use choices::list::start_beside;
-use format::Head;
-use format::words::{narrow, wide};
-use reading::Opened;
+use format::words::narrow;
+use format::{Head, Verdict};
 use steps::Thread;
 use steps::beside::BESIDE;
 
 // The file's head, and beside a list of so many records the counts and totals of the start; or the first of 1 to 10, and then 18 at place 0 for wrong sizes, with
 // nothing changed.
-fn begin_with(file: &[u8], records: usize, table: &mut [u64], beside: &mut [u16]) -> Opened
+fn begin_with(
+    file: &[u8],
+    records: usize,
+    table: &mut [u64],
+    beside: &mut [u16],
+) -> Result<Head, Verdict>
     requires { (length table.old ≡ 1025) × (table.old ≡ replicate (length table.old) 0) }
     ensures { (result ≡ with_head (head_at file.now) (starting file.now records (length beside.old)))
         × ((l : List Thread) → length l ≡ records → beside.new ≡ beside_started file.now l beside.old) }
 {
-    let answer = enter_scoped(file, table);
-    match answer {
-        Opened::Refused(first) => Opened::Refused(first),
-        Opened::Fine(head) => {
-            let fits = (records == 64) & (beside.len() == BESIDE);
-            if !fits {
-                return Opened::Refused(unlendable());
-            }
-            start_beside(file, head, table, beside);
-            Opened::Fine(head)
-        }
+    let head = enter_scoped(file, table)?;
+    let fits = (records == 64) & (beside.len() == BESIDE);
+    if !fits {
+        return Err(unlendable());
     }
+    start_beside(file, head, table, beside);
+    Ok(head)
 }
 
-pub fn begin(file: &[u8], records: usize, beside: &mut [u16]) -> Opened
+pub fn begin(file: &[u8], records: usize, beside: &mut [u16]) -> Result<Head, Verdict>
     ensures { (result ≡ with_head (head_at file.now) (starting file.now records (length beside.old)))
         × ((l : List Thread) → length l ≡ records → beside.new ≡ beside_started file.now l beside.old) }
 {
     let mut table = [0u64; 1025];
     begin_with(file, records, &mut table, beside)
-}
-
-// How many sessions there are; none where the file or the list is refused.
-pub fn sessions_of(it: Opened) -> usize
-    ensures { result ≡ sessions_of it }
-{
-    match it {
-        Opened::Refused(_) => 0,
-        Opened::Fine(head) => wide(head.count.sessions),
-    }
 }
 
 // The thread of a session as it starts, the first session's for 0: at its root, with the session's mask and nothing bound.

@@ -18,7 +18,6 @@ ghost use Rattle.lending.specs.Walk.{outcome_on, second_at};
 use choices::list::{go_through, looked_at};
 use format::Head;
 use format::sections::in_count;
-use format::words::wide;
 use rules::grants::fill_grants;
 use steps::beside::thread_count;
 use steps::records::{TABLE, put_thread, thread_at};
@@ -109,15 +108,15 @@ fn step_in(
             second: none,
         };
     }
-    let at = wide(i - 1);
+    let at = usize::from(i - 1);
     let q = looked_at(count, i, p);
-    let to = wide(q - 1);
+    let to = usize::from(q - 1);
     put_thread(words, to, other);
     put_thread(words, at, own);
     let list = [i, p];
     let went = go_through(file, head, sends, receives, table, &list, words, beside);
     let answer = went.last;
-    read_back(words, wide(count), at, to, answer)
+    read_back(words, usize::from(count), at, to, answer)
 }
 
 // The same, with tables lent to work in.

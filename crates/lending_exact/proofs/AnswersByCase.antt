@@ -8,7 +8,7 @@ use borrow.Author.Tests.{eqb-true}
 use Rattle.format.specs.Answers.{fine}
 use Rattle.format.specs.Header.{head_at}
 use Rattle.format.specs.declared.Head.{Head}
-use Rattle.reading.specs.declared.Opened.TheVariants.{Fine, Refused}
+use Rattle.std.specs.Prelude.{Ok, Err}
 use Rattle.reading.proofs.ReadingLaws.{head_given}
 use Rattle.checking.specs.Check.{reading_names, entered}
 use Rattle.checking_exact.proofs.CheckFirst.{names_zero}
@@ -21,12 +21,12 @@ use Rattle.lending.specs.Lent.{chosen_answer}
 use Rattle.lending.specs.Walk.{verdict_of, answer_of}
 
 -- 1 to 10, and else the file's head
-pub way_in : (f : List ℕ) → (verdict_of (entered f) ≡ reading_names f) × ((h : Head) → entered f ≡ Fine h → h ≡ head_at f)
-    × (reading_names f ≡ fine → entered f ≡ Fine (head_at f))
+pub way_in : (f : List ℕ) → (verdict_of (entered f) ≡ reading_names f) × ((h : Head) → entered f ≡ Ok h → h ≡ head_at f)
+    × (reading_names f ≡ fine → entered f ≡ Ok (head_at f))
 unfolding entered
 way_in f = (go (eqb (reading_names f).number 0) refl, (λ h e. (head_given (head_at f) (reading_names f) h e).1), λ e. rw e)
   where
-    go : (b : Bool) → eqb (reading_names f).number 0 ≡ b → verdict_of (cond b (Fine (head_at f)) (Refused (reading_names f))) ≡ reading_names f
+    go : (b : Bool) → eqb (reading_names f).number 0 ≡ b → verdict_of (cond b (Ok (head_at f)) (Err (reading_names f))) ≡ reading_names f
     go true e = sym (names_zero f (eqb-true (reading_names f).number 0 e))
     go false e = refl
 

@@ -23,7 +23,7 @@ use Rattle.trees.specs.declared.Due.{Due}
 use Rattle.trees.specs.declared.Due.TheVariants.{Root, Child}
 use Rattle.trees.proofs.FitsLaws.{Fitting, fits_apart, second_iff}
 use Rattle.reading.specs.Reading.{body_answer, reading}
-use Rattle.reading.specs.declared.Opened.TheVariants.{Fine}
+use Rattle.std.specs.Prelude.{Ok}
 use Rattle.reading.proofs.ReadingLaws.{by_body}
 use Rattle.checking.specs.Check.{entered}
 use Rattle.checking.proofs.CheckLaws.{entered_fine, names_parts}
@@ -158,7 +158,7 @@ module _ (C : Contents) (few : length C.nodes ≤ 1024) (q : NoRefusal (shape_an
   roots_limited zero = omega arith
   roots_limited (suc n) = omega (arith, few, roots_named (1 + length C.nodes) C.sessions (rooted 1 C.nodes (roots C.sessions) q) n)
 
-pub limited : (f : List ℕ) (h : Head) → entered f ≡ Fine h → Limited (contents_at f h)
+pub limited : (f : List ℕ) (h : Head) → entered f ≡ Ok h → Limited (contents_at f h)
 limited f h e =
     let (laid, same, passes) = entered_fine f h e in
     let q : NoRefusal (reading f) = (names_parts f (ap (λ (v : Verdict). v.number) passes)).0 in

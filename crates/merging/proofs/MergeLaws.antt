@@ -16,7 +16,7 @@ use Rattle.format.specs.declared.Head.{Head}
 use Rattle.format.specs.declared.Verdict.{Verdict}
 use Rattle.format.proofs.AnswerLaws.{NoRefusal, quiet_first, loud_first}
 use Rattle.format.proofs.ContentsLaws.{users_held, channels_held, sessions_held, nodes_held}
-use Rattle.reading.specs.declared.Opened.TheVariants.{Fine, Refused}
+use Rattle.std.specs.Prelude.{Ok, Err}
 use Rattle.checking.proofs.CheckLaws.{entered_fine}
 use Rattle.merging.specs.Merged.{merged_contents, same_tables, sums_fit}
 use Rattle.merging.specs.Merging.{own_answer, join_answer, both_answer, first_length, written_for, merging, merged_bytes, merged_over}
@@ -53,13 +53,13 @@ module _ (f g out : List ℕ) where
         kept v.number v.place loud (large ∙ ap (written_for M) e ∙ off)
 
     -- the first file's own refusal, then the second's
-    pub first_refused : (w : Verdict) → own_entered f ≡ Refused w → (r : Written) → r ≡ not_written w.number w.place → Answers f g out r out
+    pub first_refused : (w : Verdict) → own_entered f ≡ Err w → (r : Written) → r ≡ not_written w.number w.place → Answers f g out r out
     unfolding both_answer
     first_refused w e r is =
         let (loud, same) = own_loud f w e in
         refusing (own_answer f) loud (loud_first (own_answer f) (or_else (own_answer g) (join_answer (contents_of f) (contents_of g))) loud) r (is ∙ ap (λ (v : Verdict). not_written v.number v.place) same)
 
-    pub second_refused : (one : Head) (w : Verdict) → own_entered f ≡ Fine one → own_entered g ≡ Refused w → (r : Written) → r ≡ not_written w.number w.place → Answers f g out r out
+    pub second_refused : (one : Head) (w : Verdict) → own_entered f ≡ Ok one → own_entered g ≡ Err w → (r : Written) → r ≡ not_written w.number w.place → Answers f g out r out
     unfolding both_answer
     second_refused one w e₁ e r is =
         let (loud, same) = own_loud g w e in
@@ -69,7 +69,7 @@ module _ (f g out : List ℕ) where
         (is ∙ ap (λ (v : Verdict). not_written v.number v.place) same)
 
   -- both are clean
-  module _ (one two : Head) (e₁ : own_entered f ≡ Fine one) (e₂ : own_entered g ≡ Fine two) (wide : 6874 ≤ length out) where
+  module _ (one two : Head) (e₁ : own_entered f ≡ Ok one) (e₂ : own_entered g ≡ Ok two) (wide : 6874 ≤ length out) where
     abbrev C : Contents
     C = contents_at f one
 

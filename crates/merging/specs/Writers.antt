@@ -1,11 +1,11 @@
 -- What merging's code says of heads, shifts and the way into a file.
-use Rattle.std.specs.Prelude.{ℕ, ◌+◌, ◌*◌, ◌≤◌, ◌≡◌, Bool, true, ◌&&◌, List, leb}
+use Rattle.format.specs.declared.Verdict.{Verdict}
+use Rattle.std.specs.Prelude.{ℕ, ◌+◌, ◌*◌, ◌≤◌, ◌≡◌, Bool, true, ◌&&◌, List, leb, Result}
 use Rattle.format.specs.Header.{head_at, Laid}
 use Rattle.format.specs.Contents.{Contents, item, no_channel, no_session, no_node, contents_at}
 use Rattle.format.specs.declared.Six.{Six}
 use Rattle.format.specs.declared.Head.{Head}
 use Rattle.reading.specs.Reading.{with_head}
-use Rattle.reading.specs.declared.Opened.{Opened}
 use Rattle.merging.specs.Merged.{Shifts}
 use Rattle.merging.specs.Merging.{own_answer}
 use Rattle.merging.specs.declared.Shift.{Shift}
@@ -70,5 +70,5 @@ pub record Joining (f g : List ℕ) (one two : Head) : Type 0 where
   pub fit : sums_within (counts_of_both one.count two.count) ≡ true
 
 -- the way into a file that is merged: its head, or its own refusal
-unfoldable pub own_entered : List ℕ → Opened
+unfoldable pub own_entered : List ℕ → Result Head Verdict
 own_entered f = with_head (head_at f) (own_answer f)

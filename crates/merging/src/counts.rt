@@ -12,11 +12,10 @@ pub fn add_counts(one: Six, two: Six) -> Six
 {
     Six {
         users: one.users + two.users,
-        roles: one.roles,
-        kinds: one.kinds,
         channels: one.channels + two.channels,
         sessions: one.sessions + two.sessions,
         nodes: one.nodes + two.nodes,
+        ..one
     }
 }
 

@@ -10,19 +10,18 @@ ghost use Rattle.merging.specs.Writers.{counts_of_both, first_head, Joining};
 use super::counts::shift_after;
 use super::writers::{move_words, put_channels, put_nodes, put_sessions};
 use format::Head;
-use format::words::wide;
 use format::writing::put_head;
 
 fn put_users(first: &[u8], one: Head, second: &[u8], two: Head, out: &mut [u8])
     requires { Joining first.now second.now one two × (6874 ≤ length out.old) }
     ensures { out.new ≡ sets out.old 26 (bytes_of ((contents_at first.now one).users ++ (contents_at second.now two).users)) }
 {
-    let users = wide(one.count.users);
-    move_words(first, wide(one.at.users), users, 13, out);
+    let users = usize::from(one.count.users);
+    move_words(first, usize::from(one.at.users), users, 13, out);
     move_words(
         second,
-        wide(two.at.users),
-        wide(two.count.users),
+        usize::from(two.at.users),
+        usize::from(two.count.users),
         13 + users,
         out,
     );
@@ -34,9 +33,15 @@ fn put_tables(first: &[u8], one: Head, second: &[u8], two: Head, whole: Head, ou
     ensures { out.new ≡ sets out.old 26 (bytes_of (table_words 1 (merged_contents (contents_at first.now one) (contents_at second.now two)))) }
 {
     put_users(first, one, second, two, out);
-    let tables = 4 * wide(one.count.roles) + wide(one.count.kinds);
-    let words = tables + 2 * wide(one.count.channels);
-    move_words(first, wide(one.at.roles), words, wide(whole.at.roles), out);
+    let tables = 4 * usize::from(one.count.roles) + usize::from(one.count.kinds);
+    let words = tables + 2 * usize::from(one.count.channels);
+    move_words(
+        first,
+        usize::from(one.at.roles),
+        words,
+        usize::from(whole.at.roles),
+        out,
+    );
     put_channels(
         second,
         two,
@@ -55,17 +60,23 @@ fn put_trees(first: &[u8], one: Head, second: &[u8], two: Head, whole: Head, out
         ++ node_rows (merged_contents (contents_at first.now one) (contents_at second.now two)).nodes)) }
 {
     let by = shift_after(one.count);
-    let sessions = 3 * wide(one.count.sessions);
+    let sessions = 3 * usize::from(one.count.sessions);
     move_words(
         first,
-        wide(one.at.sessions),
+        usize::from(one.at.sessions),
         sessions,
-        wide(whole.at.sessions),
+        usize::from(whole.at.sessions),
         out,
     );
     put_sessions(second, two, by, whole, one.count.sessions, out);
-    let nodes = 3 * wide(one.count.nodes);
-    move_words(first, wide(one.at.nodes), nodes, wide(whole.at.nodes), out);
+    let nodes = 3 * usize::from(one.count.nodes);
+    move_words(
+        first,
+        usize::from(one.at.nodes),
+        nodes,
+        usize::from(whole.at.nodes),
+        out,
+    );
     put_nodes(second, two, by, whole, one.count.nodes, out);
 }
 

@@ -8,9 +8,8 @@ mod own;
 mod same;
 mod writers;
 
-ghost use Rattle.std.specs.Prelude.{◌≡◌, cond, ◌≤◌, length};
+ghost use Rattle.std.specs.Prelude.{◌≡◌, cond, ◌≤◌, length, Ok};
 ghost use Rattle.format.specs.Answers.{fine, refused};
-ghost use Rattle.reading.specs.declared.Opened.TheVariants.{Fine};
 ghost use Rattle.merging.specs.Merging.{merging, merged_over};
 ghost use Rattle.merging.specs.Writers.{own_entered};
 
@@ -21,7 +20,6 @@ use format::header::length_for;
 use format::words::narrow;
 use format::{Head, Verdict, Written};
 use own::own;
-use reading::Opened;
 use same::same_tables;
 
 // How many users, channels and nodes stand before a file's own.
@@ -40,17 +38,14 @@ fn unless(holds: bool, number: u16) -> Verdict
     ensures { result ≡ cond holds fine (refused number 0) }
 {
     if holds {
-        return Verdict {
-            number: 0,
-            place: 0,
-        };
+        return Verdict::FINE;
     }
     Verdict { number, place: 0 }
 }
 
 // Two files that 1 to 10 leave clean: 25, then 3 for the sums, else the merged file.
 fn join(first: &[u8], one: Head, second: &[u8], two: Head, out: &mut [u8]) -> Written
-    requires { (own_entered first.now ≡ Fine one) × (own_entered second.now ≡ Fine two) × (6874 ≤ length out.old) }
+    requires { (own_entered first.now ≡ Ok one) × (own_entered second.now ≡ Ok two) × (6874 ≤ length out.old) }
     ensures { (result ≡ merging first.now second.now (length out.old)) × (out.new ≡ merged_over first.now second.now out.old) }
 {
     let tables = unless(same_tables(first, one, second, two), 25);
@@ -71,13 +66,12 @@ fn join(first: &[u8], one: Head, second: &[u8], two: Head, out: &mut [u8]) -> Wr
 
 // The first file is clean: the second's own refusal, or what joining them gives.
 fn join_second(first: &[u8], one: Head, second: &[u8], out: &mut [u8]) -> Written
-    requires { (own_entered first.now ≡ Fine one) × (6874 ≤ length out.old) }
+    requires { (own_entered first.now ≡ Ok one) × (6874 ≤ length out.old) }
     ensures { (result ≡ merging first.now second.now (length out.old)) × (out.new ≡ merged_over first.now second.now out.old) }
 {
-    let answer = own(second);
-    match answer {
-        Opened::Refused(refusal) => not_written(refusal.number, refusal.place),
-        Opened::Fine(two) => join(first, one, second, two, out),
+    match own(second) {
+        Err(refusal) => not_written(refusal.number, refusal.place),
+        Ok(two) => join(first, one, second, two, out),
     }
 }
 
@@ -89,9 +83,8 @@ pub fn merge(first: &[u8], second: &[u8], out: &mut [u8]) -> Written
     if out.len() < ROOM {
         return not_written(17, 0);
     }
-    let answer = own(first);
-    match answer {
-        Opened::Refused(refusal) => not_written(refusal.number, refusal.place),
-        Opened::Fine(one) => join_second(first, one, second, out),
+    match own(first) {
+        Err(refusal) => not_written(refusal.number, refusal.place),
+        Ok(one) => join_second(first, one, second, out),
     }
 }

@@ -35,10 +35,9 @@ pub fn moved_channel(by: Shift, it: Channel) -> Channel
     requires { FewBefore by × (it.owner ≤ 32) }
     ensures { result ≡ moved_channel (shifts_by by) it }
 {
-    let kind = it.kind;
     Channel {
         owner: by.users + it.owner,
-        kind,
+        ..it
     }
 }
 
@@ -48,8 +47,8 @@ pub fn moved_session(by: Shift, it: Session) -> Session
 {
     Session {
         user: by.users + it.user,
-        mask: it.mask,
         root: by.nodes + it.root,
+        ..it
     }
 }
 

@@ -1,13 +1,11 @@
 // The way into a file that is merged: its head, or its own refusal.
-ghost use Rattle.std.specs.Prelude.{◌≡◌, cond, ◌||◌, eqb};
+ghost use Rattle.std.specs.Prelude.{◌≡◌, cond, ◌||◌, eqb, Ok, Err};
 ghost use Rattle.format.specs.Answers.{refused};
-ghost use Rattle.reading.specs.declared.Opened.TheVariants.{Fine, Refused};
 ghost use Rattle.merging.specs.Writers.{own_entered};
 
 use checking::enter;
 use format::words::word;
 use format::{Head, Verdict};
-use reading::Opened;
 
 // A refusal of 1 to 10 by a file's first word: another version is 2, at 2's turn, after 1.
 fn own_refusal(first: Verdict, version: u16) -> Verdict
@@ -23,24 +21,23 @@ fn own_refusal(first: Verdict, version: u16) -> Verdict
 }
 
 // A head by its version.
-fn own_head(head: Head) -> Opened
-    ensures { result ≡ cond (eqb head.version 1) (Fine head) (Refused (refused 2 0)) }
+fn own_head(head: Head) -> Result<Head, Verdict>
+    ensures { result ≡ cond (eqb head.version 1) (Ok head) (Err (refused 2 0)) }
 {
     if head.version == 1 {
-        return Opened::Fine(head);
+        return Ok(head);
     }
-    Opened::Refused(Verdict {
+    Err(Verdict {
         number: 2,
         place: 0,
     })
 }
 
-pub fn own(file: &[u8]) -> Opened
+pub fn own(file: &[u8]) -> Result<Head, Verdict>
     ensures { result ≡ own_entered file.now }
 {
-    let answer = enter(file);
-    match answer {
-        Opened::Refused(first) => Opened::Refused(own_refusal(first, word(file, 0))),
-        Opened::Fine(head) => own_head(head),
+    match enter(file) {
+        Err(first) => Err(own_refusal(first, word(file, 0))),
+        Ok(head) => own_head(head),
     }
 }

@@ -6,21 +6,16 @@ ghost use Rattle.format.specs.Contents.{contents_at};
 ghost use Rattle.merging.specs.Merged.{same_words, same_tables};
 
 use format::Head;
-use format::words::{inner_word, wide};
 
-// So many words, in each file from its own place on.
+// So many words, in each file from its own place on. Where there are none, the files are not looked at.
 fn same_words(first: &[u8], from: usize, second: &[u8], other: usize, count: usize) -> bool
     requires { (0 < count → 2 * (from + count) ≤ length first.now) × (0 < count → 2 * (other + count) ≤ length second.now) }
     ensures { result ≡ same_words (words_from first.now from count) (words_from second.now other count) }
 {
-    let mut i: usize = 0;
-    while i < count {
-        if inner_word(first, from + i) != inner_word(second, other + i) {
-            return false;
-        }
-        i += 1;
+    if count == 0 {
+        return true;
     }
-    true
+    first[2 * from..2 * (from + count)] == second[2 * other..2 * (other + count)]
 }
 
 // The sections of roles and kinds stand back to back in version 1.
@@ -38,9 +33,9 @@ pub fn same_tables(first: &[u8], one: Head, second: &[u8], two: Head) -> bool
     }
     same_words(
         first,
-        wide(one.at.roles),
+        usize::from(one.at.roles),
         second,
-        wide(two.at.roles),
-        4 * wide(roles) + wide(kinds),
+        usize::from(two.at.roles),
+        4 * usize::from(roles) + usize::from(kinds),
     )
 }

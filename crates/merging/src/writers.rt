@@ -17,16 +17,13 @@ use format::words::put_word;
 use format::writing::{put_node, put_session};
 use format::{Channel, Head, Section};
 
-// So many words of a file as they are, at another place, byte by byte (which is a copy of a block). Where there are none, the file is not looked at.
+// So many words of a file as they are, at another place. Where there are none, the file is not looked at.
 pub fn move_words(file: &[u8], from: usize, count: usize, at: usize, out: &mut [u8])
     requires { (0 < count → 2 * (from + count) ≤ length file.now) × (2 * (at + count) ≤ length out.old) }
     ensures { out.new ≡ sets out.old (2 * at) (bytes_of (words_from file.now from count)) }
 {
-    let bytes = 2 * count;
-    let mut i: usize = 0;
-    while i < bytes {
-        out[2 * at + i] = file[2 * from + i];
-        i += 1;
+    if 0 < count {
+        out[2 * at..2 * (at + count)].copy_from_slice(&file[2 * from..2 * (from + count)]);
     }
 }
 
@@ -39,16 +36,15 @@ fn put_channel(out: &mut [u8], head: Head, n: u16, it: Channel)
     put_word(out, at + 1, it.kind.0);
 }
 
+// The next three loops have one shape, and stay three: one function would be lent how to read, move and write a record, and say less in more lines.
 pub fn put_channels(file: &[u8], head: Head, by: Shift, whole: Head, others: u16, out: &mut [u8])
     requires { Laid file.now head × Limited (contents_at file.now head) × FewBefore by
         × (others ≤ 64) × (2 * (whole.at.channels + 2 * (others + head.count.channels)) ≤ length out.old) }
     ensures { out.new ≡ sets out.old (2 * (whole.at.channels + 2 * others))
         (bytes_of (channel_words (map (moved_channel (shifts_by by)) (contents_at file.now head).channels))) }
 {
-    let count = head.count.channels;
-    let mut n: u16 = 0;
-    while n < count {
-        n += 1;
+    for i in 0..head.count.channels {
+        let n = i + 1;
         let it = channel(file, head, n);
         put_channel(out, whole, others + n, moved_channel(by, it));
     }
@@ -60,10 +56,8 @@ pub fn put_sessions(file: &[u8], head: Head, by: Shift, whole: Head, others: u16
     ensures { out.new ≡ sets out.old (2 * (whole.at.sessions + 3 * others))
         (bytes_of (session_words (map (moved_session (shifts_by by)) (contents_at file.now head).sessions))) }
 {
-    let count = head.count.sessions;
-    let mut n: u16 = 0;
-    while n < count {
-        n += 1;
+    for i in 0..head.count.sessions {
+        let n = i + 1;
         let it = session(file, head, n);
         put_session(out, whole, others + n, moved_session(by, it));
     }
@@ -75,10 +69,8 @@ pub fn put_nodes(file: &[u8], head: Head, by: Shift, whole: Head, others: u16, o
     ensures { out.new ≡ sets out.old (2 * (whole.at.nodes + 3 * others))
         (bytes_of (node_rows (map (moved_node (shifts_by by)) (contents_at file.now head).nodes))) }
 {
-    let count = head.count.nodes;
-    let mut n: u16 = 0;
-    while n < count {
-        n += 1;
+    for i in 0..head.count.nodes {
+        let n = i + 1;
         let it = node(file, head, n);
         put_node(out, whole, others + n, moved_node(by, it));
     }

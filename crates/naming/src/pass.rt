@@ -13,7 +13,7 @@ ghost use Rattle.naming.specs.Kept.{queued, naming_of};
 use super::NameStep;
 use super::scopes::{keep, scope_after};
 use format::sections::{carries, in_count, node, session};
-use format::words::{narrow, paired, wide};
+use format::words::{narrow, paired};
 use format::{Head, Node, Verdict};
 use masks::ChannelKind;
 use rules::names::{graded, kind_of, look_up, name_all, owner_of};
@@ -107,15 +107,13 @@ fn open_users(file: &[u8], head: Head, stack: &mut [u32], waits: &mut [u64]) -> 
         × (map (context_of []) (queued (schema_of (contents_at file.now head)) stack.new result) ≡ map unmasked (openings (contents_at file.now head)))
         × (stacked 0 waits.new result ≡ map scope_of (map unmasked (openings (contents_at file.now head)))) }
 {
-    let sessions = wide(head.count.sessions);
-    let mut depth: usize = 0;
-    while depth < sessions {
+    let sessions = usize::from(head.count.sessions);
+    for depth in 0..sessions {
         let it = session(file, head, narrow(sessions - depth));
         stack[depth] = paired(it.user, 0);
         waits[depth] = (it.user % 64) as u64;
-        depth += 1;
     }
-    depth
+    sessions
 }
 
 // The nodes in order. The stack has the users of the trees that wait, with the variables bound above them, and the one beside it what these are as
@@ -132,10 +130,7 @@ fn walk_names(
         × (head.count.sessions + head.count.nodes ≤ length stack.old) × (head.count.sessions + head.count.nodes ≤ length waits.old) }
     ensures { (result ≡ names_answer (contents_at file.now head)) × (scopes.new ≡ sets scopes.old 1 (scopes_in (contents_at file.now head))) }
 {
-    let fine = Verdict {
-        number: 0,
-        place: 0,
-    };
+    let fine = Verdict::FINE;
     name_all(file, head, names);
     let mut depth = open_users(file, head, stack, waits);
     if depth == 0 {
@@ -146,15 +141,13 @@ fn walk_names(
     let mut user = user_in(top);
     let mut bound = bound_with(top);
     let mut here = waits[depth];
-    let nodes = head.count.nodes;
-    let mut i: u16 = 0;
-    while i < nodes {
-        i += 1;
+    for n in 0..head.count.nodes {
+        let i = n + 1;
         let it = node(file, head, i);
         let tag = it.tag;
         match tag {
             0 => {
-                keep(scopes, wide(i), here, ChannelKind(0));
+                keep(scopes, usize::from(i), here, ChannelKind(0));
                 if depth == 0 {
                     return fine;
                 }
@@ -165,7 +158,7 @@ fn walk_names(
                 here = waits[depth];
             }
             1 => {
-                keep(scopes, wide(i), here, ChannelKind(0));
+                keep(scopes, usize::from(i), here, ChannelKind(0));
                 stack[depth] = paired(user, bound);
                 waits[depth] = here;
                 depth += 1;
@@ -178,9 +171,9 @@ fn walk_names(
                         place: i,
                     };
                 }
-                keep(scopes, wide(i), here, ChannelKind(step.awaits));
-                names[512 + wide(bound)] = step.binding;
-                here = scope_after(here, bound, step, wide(i) < scopes.len());
+                keep(scopes, usize::from(i), here, ChannelKind(step.awaits));
+                names[512 + usize::from(bound)] = step.binding;
+                here = scope_after(here, bound, step, usize::from(i) < scopes.len());
                 bound = step.bound;
             }
         }
@@ -188,20 +181,19 @@ fn walk_names(
     fine
 }
 
-// 9 and 10 of a file of over 64 nodes, in tables that fit it.
-fn judge_longer(file: &[u8], head: Head, scopes: &mut [u64]) -> Verdict
-    requires { Laid file.now head × Owned (contents_at file.now head) }
+// The same, with a table of names and stacks to work in, of sizes that fit the file.
+fn judge_in<const NAMES: usize, const STACK: usize>(
+    file: &[u8],
+    head: Head,
+    scopes: &mut [u64],
+) -> Verdict
+    requires { Laid file.now head × Owned (contents_at file.now head) × (512 + head.count.nodes < NAMES) × (NAMES ≤ 1537)
+        × (head.count.sessions + head.count.nodes ≤ STACK) × (STACK ≤ 1057) }
     ensures { (result ≡ names_answer (contents_at file.now head)) × (scopes.new ≡ sets scopes.old 1 (scopes_in (contents_at file.now head))) }
 {
-    if head.count.nodes <= 256 {
-        let mut names = [0u32; 769];
-        let mut stack = [0u32; 289];
-        let mut waits = [0u64; 289];
-        return walk_names(file, head, &mut names, &mut stack, &mut waits, scopes);
-    }
-    let mut names = [0u32; 1537];
-    let mut stack = [0u32; 1057];
-    let mut waits = [0u64; 1057];
+    let mut names = [0u32; NAMES];
+    let mut stack = [0u32; STACK];
+    let mut waits = [0u64; STACK];
     walk_names(file, head, &mut names, &mut stack, &mut waits, scopes)
 }
 
@@ -212,10 +204,10 @@ pub fn judge_names(file: &[u8], head: Head, scopes: &mut [u64]) -> Verdict
     ensures { (result ≡ names_answer (contents_at file.now head)) × (scopes.new ≡ sets scopes.old 1 (scopes_in (contents_at file.now head))) }
 {
     if head.count.nodes <= 64 {
-        let mut names = [0u32; 577];
-        let mut stack = [0u32; 97];
-        let mut waits = [0u64; 97];
-        return walk_names(file, head, &mut names, &mut stack, &mut waits, scopes);
+        return judge_in::<577, 97>(file, head, scopes);
     }
-    judge_longer(file, head, scopes)
+    if head.count.nodes <= 256 {
+        return judge_in::<769, 289>(file, head, scopes);
+    }
+    judge_in::<1537, 1057>(file, head, scopes)
 }

@@ -4,7 +4,6 @@ ghost use Rattle.rules.specs.Kept.{kind_in};
 ghost use Rattle.naming.specs.Scopes.{bound_in, kind_at, bind_scope, awaited_in, marked, awaited_by};
 
 use super::NameStep;
-use format::words::wide;
 use masks::ChannelKind;
 use rules::names::kind_of;
 
@@ -74,7 +73,7 @@ pub fn scope_in(w: u64) -> u64
 pub fn awaited_by(table: &[u64], node: u16) -> ChannelKind
     ensures { result.0 ≡ awaited_by table.now node }
 {
-    let i = wide(node);
+    let i = usize::from(node);
     if i < table.len() {
         return ChannelKind(((table[i] >> 58) % 64) as u16);
     }

@@ -5,7 +5,7 @@ ghost use Rattle.std.specs.Prelude.{◌≡◌};
 ghost use Rattle.notices.specs.Notices.{is_sound, second_holds, unheld, held, plan_in_force, part_of, place_of};
 
 use checking::read_names;
-use format::words::{wide, word};
+use format::words::word;
 
 // What a caller gets: a refusal's number and place, or 0 and 0; and the part that is handed back: of which notice (1 or 2), at which byte of it, how many bytes.
 #[repr(C)]
@@ -23,7 +23,7 @@ pub struct InForce {
 fn is_sound(notice: &[u8]) -> bool
     ensures { result ≡ is_sound notice.now }
 {
-    if notice.len() != 4 + wide(word(notice, 1)) {
+    if notice.len() != 4 + usize::from(word(notice, 1)) {
         return false;
     }
     let verdict = read_names(&notice[4..]);
@@ -89,8 +89,8 @@ pub fn in_force<'a>(first: &'a [u8], second: &'a [u8], day: u16) -> &'a [u8]
         × (result.ref_ptr ≡ place_of (plan_in_force first.now second.now day) first.entry.ref_ptr second.entry.ref_ptr) }
 {
     let plan = plan_in_force(first, second, day);
-    let at = wide(plan.at);
-    let end = at + wide(plan.length);
+    let at = usize::from(plan.at);
+    let end = at + usize::from(plan.length);
     if plan.notice == 2 {
         return &second[at..end];
     }

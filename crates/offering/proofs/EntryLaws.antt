@@ -10,7 +10,7 @@ use Rattle.format.specs.Answers.{refused}
 use Rattle.format.specs.declared.Head.{Head}
 use Rattle.format.specs.declared.Verdict.{Verdict}
 use Rattle.format.specs.Contents.{Contents, contents_at, contents_of}
-use Rattle.reading.specs.declared.Opened.TheVariants.{Fine, Refused}
+use Rattle.std.specs.Prelude.{Ok, Err}
 use Rattle.checking.specs.Check.{reading_names, entered}
 use Rattle.checking.proofs.CheckLaws.{entered_fine, entered_refused}
 use Rattle.seats.specs.Seats.{limited_of}
@@ -39,14 +39,14 @@ module _ (C : Contents) (seats s out : List ℕ) where
     not_barred none = sym (ap (λ (x : Bool). cond x (offering_in C seats s out) (refusing (seats_bar C seats) out)) (eq-eqb (seats_bar C seats).number 0 (sym number_is ∙ none)))
 
 module _ (f seats s out : List ℕ) where
-  pub file_refused : (v : Verdict) → entered f ≡ Refused v → refusing v out ≡ offering f seats s out
+  pub file_refused : (v : Verdict) → entered f ≡ Err v → refusing v out ≡ offering f seats s out
   unfolding offering
   file_refused v e =
       let (bad, is) = entered_refused f v e in
       ap (λ (x : Verdict). refusing x out) is
       ∙ sym (ap (λ (x : Bool). cond x (offering_by (contents_of f) seats s out) (refusing (reading_names f) out)) (ne_eqb (reading_names f).number 0 bad))
 
-  pub file_fine : (h : Head) → entered f ≡ Fine h → offering_by (contents_at f h) seats s out ≡ offering f seats s out
+  pub file_fine : (h : Head) → entered f ≡ Ok h → offering_by (contents_at f h) seats s out ≡ offering f seats s out
   unfolding offering
   file_fine h e =
       let (laid, is, clean) = entered_fine f h e in

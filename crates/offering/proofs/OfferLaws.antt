@@ -1,10 +1,10 @@
 -- Offers put into an output, one after the other.
-use Prim.Native.Nat.{ℕ, zero, suc, ◌+◌, ◌*◌, ◌-◌, ◌≤◌, ◌<◌}
+use Prim.Native.Nat.{ℕ, suc, ◌+◌, ◌*◌, ◌-◌, ◌≤◌, ◌<◌}
 use mathlib.Core.Path.{◌≡◌, refl, sym, ap, ap₂, ◌∙◌, subst}
 use mathlib.Core.Bool.{Bool, true, false, cond, ◌&&◌, and-eq-true_iff}
 use mathlib.Core.List.{List, [], ◌∷◌, ◌++◌}
 use native.Mathlib.Omega.{arith}
-use lib.Dec.{eqb, leb}
+use lib.Dec.{eqb}
 use lib.ListN.{length, drop}
 use lib.Seq.{sets, paste}
 use borrow.Author.Tests.{le-leb, lt-leb, eq-eqb, ne_eqb}
@@ -89,9 +89,6 @@ module _ (kind : ℕ → ℕ) (L : Limited) (S : SeatedState) (i p : ℕ) (b : L
 
 -- partners and threads, as loops try them
 module _ (roles : ℕ) (L : Limited) (S : SeatedState) where
-  pub partners_begin : (i n : ℕ) (B : Output) → offers_put roles B (partners_offered L S i 0 (n + 1 - 0)) ≡ offers_put roles B (partners_offered L S i 0 (n + 1))
-  partners_begin i n B = let all : n + 1 - 0 ≡ n + 1 = omega arith in ap (λ (x : ℕ). offers_put roles B (partners_offered L S i 0 x)) all
-
   pub partners_turn : (i p n : ℕ) (B B' whole : Output) → p ≤ n → B' ≡ offers_put roles B (offer_by i p (seated_choice L S i p)) → offers_put roles B (partners_offered L S i p (n + 1 - p)) ≡ whole
       → offers_put roles B' (partners_offered L S i (p + 1) (n + 1 - (p + 1))) ≡ whole
   unfolding partners_offered
@@ -105,21 +102,18 @@ module _ (roles : ℕ) (L : Limited) (S : SeatedState) where
   unfolding partners_offered offers_put
   partners_end i p n B whole lt inv = let none : n + 1 - p ≡ 0 = omega (arith, lt) in rw none at inv
 
-  pub threads_begin : (n : ℕ) (B : Output) → n ≡ length S.state.threads → offers_put roles B (threads_offered L S (0 + 1) (n - 0)) ≡ offers_put roles B (threads_offered L S 1 (length S.state.threads))
-  threads_begin n B e = let all : n - 0 ≡ length S.state.threads = omega (arith, e) in ap (λ (x : ℕ). offers_put roles B (threads_offered L S 1 x)) all
-
-  pub threads_turn : (i n : ℕ) (B B' whole : Output) → i < n → n ≡ length S.state.threads → B' ≡ offers_put roles B (partners_offered L S (i + 1) 0 (n + 1))
-      → offers_put roles B (threads_offered L S (i + 1) (n - i)) ≡ whole → offers_put roles B' (threads_offered L S (i + 1 + 1) (n - (i + 1))) ≡ whole
+  pub threads_turn : (i n : ℕ) (B B' whole : Output) → i ≤ n → n ≡ length S.state.threads → B' ≡ offers_put roles B (partners_offered L S i 0 (n + 1))
+      → offers_put roles B (threads_offered L S i (n + 1 - i)) ≡ whole → offers_put roles B' (threads_offered L S (i + 1) (n + 1 - (i + 1))) ≡ whole
   unfolding threads_offered
-  threads_turn i n B B' whole lt is e inv =
-      let some : n - i ≡ suc (n - (i + 1)) = omega (arith, lt) in
-      ap (λ (x : Output). offers_put roles x (threads_offered L S (i + 1 + 1) (n - (i + 1)))) (e ∙ ap (λ (x : ℕ). offers_put roles B (partners_offered L S (i + 1) 0 (x + 1))) is)
-      ∙ sym (put_append roles (partners_offered L S (i + 1) 0 (length S.state.threads + 1)) B (threads_offered L S (i + 1 + 1) (n - (i + 1))))
-      ∙ sym (ap (λ (x : ℕ). offers_put roles B (threads_offered L S (i + 1) x)) some) ∙ inv
+  threads_turn i n B B' whole le is e inv =
+      let some : n + 1 - i ≡ suc (n + 1 - (i + 1)) = omega (arith, le) in
+      ap (λ (x : Output). offers_put roles x (threads_offered L S (i + 1) (n + 1 - (i + 1)))) (e ∙ ap (λ (x : ℕ). offers_put roles B (partners_offered L S i 0 (x + 1))) is)
+      ∙ sym (put_append roles (partners_offered L S i 0 (length S.state.threads + 1)) B (threads_offered L S (i + 1) (n + 1 - (i + 1))))
+      ∙ sym (ap (λ (x : ℕ). offers_put roles B (threads_offered L S i x)) some) ∙ inv
 
-  pub threads_end : (i n : ℕ) (B whole : Output) → n ≤ i → offers_put roles B (threads_offered L S (i + 1) (n - i)) ≡ whole → B ≡ whole
+  pub threads_end : (i n : ℕ) (B whole : Output) → n < i → offers_put roles B (threads_offered L S i (n + 1 - i)) ≡ whole → B ≡ whole
   unfolding threads_offered offers_put
-  threads_end i n B whole le inv = let none : n - i ≡ 0 = omega (arith, le) in rw none at inv
+  threads_end i n B whole lt inv = let none : n + 1 - i ≡ 0 = omega (arith, lt) in rw none at inv
 
 -- the tables hold the state again
 pub held_again : (L : Limited) (roles : ℕ) (s : List ℕ) (w b os ls w' b' os' ls' : List ℕ) → Holds L (seated_at roles s 0) w b os ls → Loaded roles s 0 w' b' os' ls'

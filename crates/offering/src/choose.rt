@@ -50,8 +50,7 @@ fn put_offer(
     if out.len() < end {
         return Noted {
             full: true,
-            count: noted.count,
-            length: noted.length,
+            ..noted
         };
     }
     let words = [i, p, answer, narrow(n)];
@@ -155,13 +154,11 @@ fn offer_partners(
         × Grown 65 noted result out.new }
 {
     let mut on = noted;
-    let mut p: u16 = 0;
-    while p <= count {
+    for p in 0..=count {
         on = offer_choice(
             file, head, sends, receives, table, seats, state, threads, beside, owners, lines, i, p,
             out, on,
         );
-        p += 1;
     }
     on
 }
@@ -196,9 +193,7 @@ pub fn offer_threads(
         count: 0,
         length: 0,
     };
-    let mut i: u16 = 0;
-    while i < count {
-        i += 1;
+    for i in 1..=count {
         on = offer_partners(
             file, head, sends, receives, &table, seats, state, threads, beside, owners, lines, i,
             count, out, on,

@@ -17,7 +17,6 @@ use checking::enter;
 use choose::offer_threads;
 use format::Head;
 use ordering::in_order;
-use reading::Opened;
 use rows::compare::same_row;
 use rows::fits::row_fits;
 use rows::load::load_row;
@@ -95,16 +94,7 @@ fn load_state(
     )
 }
 
-// 17 where an offer had no room.
-fn room_answer(full: bool) -> u16
-    ensures { result ≡ cond full 17 0 }
-{
-    if full {
-        return 17;
-    }
-    0
-}
-
+// What is answered: 17 where an offer had no room.
 fn offers_of(noted: Noted) -> Offers
     requires { noted.length < 4294967296 }
     ensures { result ≡ record {
@@ -115,7 +105,7 @@ fn offers_of(noted: Noted) -> Offers
     } }
 {
     Offers {
-        number: room_answer(noted.full),
+        number: if noted.full { 17 } else { 0 },
         place: 0,
         count: noted.count,
         length: noted.length as u32,
@@ -186,7 +176,7 @@ pub fn find_offers(file: &[u8], seats: &[u16], state: &[u16], out: &mut [u16]) -
 {
     let answer = enter(file);
     match answer {
-        Opened::Refused(first) => none(first.number, first.place),
-        Opened::Fine(head) => offers_with(file, head, seats, state, out),
+        Err(first) => none(first.number, first.place),
+        Ok(head) => offers_with(file, head, seats, state, out),
     }
 }

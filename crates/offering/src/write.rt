@@ -9,7 +9,6 @@ ghost use Rattle.seating.specs.SeatTables.{LineRows};
 ghost use Rattle.seated.specs.SeatedTables.{lines_in, seated_in};
 ghost use Rattle.rows.specs.Rows.{line_words, row_words};
 
-use format::words::wide;
 use masks::role_count;
 use rows::words::copy_words;
 use steps::Thread;
@@ -21,6 +20,7 @@ fn put_thread(out: &mut [u16], at: usize, it: Thread)
     requires { at + 12 ≤ length out.old }
     ensures { out.new ≡ sets out.old at (thread_words (it ∷ [])) }
 {
+    // One array, as `rows::compare` has it: two copies, of four words and of `vars`, would be no plainer.
     let vars = it.vars;
     let words = [
         it.user,
@@ -44,10 +44,8 @@ fn put_threads(threads: &[u16], n: usize, out: &mut [u16], at: usize)
     ensures { out.new ≡ sets out.old at
         (thread_words (threads_in threads.now 0 n)) }
 {
-    let mut k: usize = 0;
-    while k < n {
+    for k in 0..n {
         put_thread(out, at + 12 * k, thread_at(threads, k));
-        k += 1;
     }
 }
 
@@ -58,12 +56,10 @@ fn put_lines(lines: &[u16], roles: usize, out: &mut [u16], at: usize)
     ensures { out.new ≡ sets out.old at (line_words (lines_in lines.now) 1 roles) }
 {
     let mut on = at;
-    let mut r: usize = 0;
-    while r < roles {
-        let n = wide(lines[33 * r]) + 1;
+    for r in 0..roles {
+        let n = usize::from(lines[33 * r]) + 1;
         copy_words(lines, 33 * r, out, on, n);
         on += n;
-        r += 1;
     }
 }
 
@@ -73,10 +69,8 @@ fn lines_length(lines: &[u16], roles: usize) -> usize
     ensures { (result ≡ length (line_words (lines_in lines.now) 1 roles)) × (result ≤ 528) }
 {
     let mut n: usize = 0;
-    let mut r: usize = 0;
-    while r < roles {
-        n += wide(lines[33 * r]) + 1;
-        r += 1;
+    for r in 0..roles {
+        n += usize::from(lines[33 * r]) + 1;
     }
     n
 }
@@ -88,8 +82,8 @@ pub fn row_length(beside: &[u16], lines: &[u16], roles: usize) -> usize
     ensures { (result ≡ 2 + 2 * made_count beside.now + 13 * thread_count beside.now
         + length (line_words (lines_in lines.now) 1 roles)) × (result ≤ 1490) }
 {
-    let m = wide(made_count(beside));
-    let n = wide(thread_count(beside));
+    let m = usize::from(made_count(beside));
+    let n = usize::from(thread_count(beside));
     2 + 2 * m + 13 * n + lines_length(lines, roles)
 }
 
@@ -108,8 +102,8 @@ pub fn put_row(
     ensures { out.new ≡ sets out.old at (row_words roles (seated_in threads.now
         beside.now owners.now lines.now)) }
 {
-    let used = 2 + 2 * wide(made_count(beside));
-    let n = wide(thread_count(beside));
+    let used = 2 + 2 * usize::from(made_count(beside));
+    let n = usize::from(thread_count(beside));
     copy_words(beside, 0, out, at, used);
     put_threads(threads, n, out, at + used);
     copy_words(owners, 0, out, at + used + 12 * n, n);

@@ -6,8 +6,9 @@ use mathlib.Core.Bool.{Bool, true, false, cond, not, ◌&&◌, ◌||◌, and-eq-
 use mathlib.Core.List.{List, [], ◌∷◌}
 use native.Mathlib.Omega.{arith}
 use lib.Dec.{eqb, leb, ltb}
-use lib.ListN.{length, get_or, take, drop, length-drop, get_or-eq_default}
-use lib.Seq.{length-take-le}
+use lib.ListN.{length, get_or, take, drop, length-drop, drop_of_length-le, get_or-eq_default}
+use lib.Seq.{length-take-le, drop-cons}
+use native.Mathlib.Numerals.{add-one}
 use borrow.Author.Tests.{eqb-true, eqb-false, eq-eqb, ne_eqb, leb-true, le-leb, lt-leb, ltb-true, ltb-false}
 use Rattle.masks.specs.Mask.{has, with, held}
 use Rattle.masks.proofs.Laws.{has_with}
@@ -23,23 +24,19 @@ use Rattle.running.specs.Ways.{stands_in}
 use Rattle.seats.specs.Seats.{Limited, limited_of, seats_in, SeatedState, sits, count_to, in_line}
 use Rattle.seats.specs.SeatOrder.{Distinct, Ordered}
 use Rattle.seating.specs.SeatTables.{gathered, line_row, LineRows}
-use Rattle.seating.proofs.RowLaws.{take_at}
 use Rattle.seating.proofs.SessionLaws.{gathered_has, gathered_held, counted_more}
 use Rattle.seated.specs.SeatedTables.{lines_in, seated_in}
 use Rattle.seated.proofs.WaitLaws.{gathered_front}
 use Rattle.ordering.specs.Order.{all_counted, line_fits, role_fits, roles_fit, in_order}
 
--- the first of the words from k on
-module _ (w : List ℕ) (count n k : ℕ) (lt : k < count) (fits : count ≤ length w) where
-  pub counted_step : all_counted n (take (count - k) (drop k w)) ≡ (in_count n (get_or w k 0) && all_counted n (take (count - (k + 1)) (drop (k + 1) w)))
-  unfolding all_counted
-  counted_step =
-      let less : count - k - 1 ≡ count - (k + 1) = omega arith in
-      ap (all_counted n) (take_at w (count - k) k (omega (arith, lt)) (omega (arith, lt, fits)) ∙ ap (λ (x : ℕ). get_or w k 0 ∷ take x (drop (k + 1) w)) less)
-
-pub counted_end : (w : List ℕ) (count n k : ℕ) → count ≤ k → true ≡ all_counted n (take (count - k) (drop k w))
+-- the words from k on
+pub counted_step : (w : List ℕ) (n k : ℕ) → k < length w → all_counted n (drop k w) ≡ (in_count n (get_or w k 0) && all_counted n (drop (k + 1) w))
 unfolding all_counted
-counted_end w count n k le = let none : count - k ≡ 0 = omega (arith, le) in sym (ap (λ (x : ℕ). all_counted n (take x (drop k w))) none)
+counted_step w n k lt = ap (all_counted n) (drop-cons w k 0 lt) ∙ ap (λ (x : ℕ). in_count n (get_or w k 0) && all_counted n (drop x w)) (sym (add-one k))
+
+pub counted_end : (w : List ℕ) (n k : ℕ) → length w ≤ k → true ≡ all_counted n (drop k w)
+unfolding all_counted
+counted_end w n k le = sym (ap (all_counted n) (drop_of_length-le w le))
 
 pub counted_iff : (n : ℕ) (l : List ℕ) → (all_counted n l ≡ true) ↔ All (InCount n) l
 unfolding all_counted
@@ -50,32 +47,26 @@ counted_iff n (x ∷ l) =
     ((λ e. let (a, b) = both.0 e in (in_count_lem n x a, rest.0 b)), λ (a, b). both.1 ((in_count_iff n x).1 a, rest.1 b))
 
 -- the first of a line from i on
-module _ (w : List ℕ) (n at waiting i seen : ℕ) (lt : i < waiting) (fits : at + i < length w) where
+module _ (w : List ℕ) (n i seen : ℕ) (lt : i < length w) where
   abbrev first : ℕ
-  first = get_or w (at + i) 0
+  first = get_or w i 0
 
-  abbrev rest : List ℕ
-  rest = take (waiting - (i + 1)) (drop (at + (i + 1)) w)
-
-  line_step : line_fits n (has seen) (take (waiting - i) (drop (at + i) w)) ≡ ((in_count n first && not (has seen first)) && line_fits n (λ j. eqb j first || has seen j) rest)
+  line_step : line_fits n (has seen) (drop i w) ≡ ((in_count n first && not (has seen first)) && line_fits n (λ j. eqb j first || has seen j) (drop (i + 1) w))
   unfolding line_fits
-  line_step =
-      let less : waiting - i - 1 ≡ waiting - (i + 1) = omega arith in
-      let on : at + i + 1 ≡ at + (i + 1) = omega arith in
-      ap (line_fits n (has seen)) (take_at w (waiting - i) (at + i) (omega (arith, lt)) fits ∙ ap₂ (λ (x y : ℕ). first ∷ take x (drop y w)) less on)
+  line_step = ap (line_fits n (has seen)) (drop-cons w i 0 lt) ∙ ap (λ (x : ℕ). (in_count n first && not (has seen first)) && line_fits n (λ j. eqb j first || has seen j) (drop x w)) (sym (add-one i))
 
-  pub line_other : (in_count n first && not (has seen first)) ≡ false → false ≡ line_fits n (has seen) (take (waiting - i) (drop (at + i) w))
-  line_other e = sym (line_step ∙ ap (λ (b : Bool). b && line_fits n (λ j. eqb j first || has seen j) rest) e)
+  pub line_other : (in_count n first && not (has seen first)) ≡ false → false ≡ line_fits n (has seen) (drop i w)
+  line_other e = sym (line_step ∙ ap (λ (b : Bool). b && line_fits n (λ j. eqb j first || has seen j) (drop (i + 1) w)) e)
 
-  pub line_same : (in_count n first && not (has seen first)) ≡ true → line_fits n (has seen) (take (waiting - i) (drop (at + i) w)) ≡ line_fits n (has (with seen first)) rest
+  pub line_same : (in_count n first && not (has seen first)) ≡ true → line_fits n (has seen) (drop i w) ≡ line_fits n (has (with seen first)) (drop (i + 1) w)
   line_same e =
       let one : 1 ≤ first = (in_count_lem n first ((and-eq-true_iff (in_count n first) (not (has seen first))).0 e).0).0 in
       let more : has (with seen first) ≡ (λ j. eqb j first || has seen j) = fun_ext (λ j. has_with seen first j one) in
-      line_step ∙ ap (λ (b : Bool). b && line_fits n (λ j. eqb j first || has seen j) rest) e ∙ sym (ap (λ (q : ℕ → Bool). line_fits n q rest) more)
+      line_step ∙ ap (λ (b : Bool). b && line_fits n (λ j. eqb j first || has seen j) (drop (i + 1) w)) e ∙ sym (ap (λ (q : ℕ → Bool). line_fits n q (drop (i + 1) w)) more)
 
-pub line-end : (w : List ℕ) (n p waiting i seen : ℕ) → waiting ≤ i → true ≡ line_fits n (has seen) (take (waiting - i) (drop p w))
+pub line-end : (w : List ℕ) (n i seen : ℕ) → length w ≤ i → true ≡ line_fits n (has seen) (drop i w)
 unfolding line_fits
-line-end w n p waiting i seen le = let none : waiting - i ≡ 0 = omega (arith, le) in sym (ap (λ (x : ℕ). line_fits n (has seen) (take x (drop p w))) none)
+line-end w n i seen le = sym (ap (line_fits n (has seen)) (drop_of_length-le w le))
 
 or-false : (a b : Bool) → (a || b) ≡ false → (a ≡ false) × (b ≡ false)
 or-false true b e = absurd (false≢true (sym e))

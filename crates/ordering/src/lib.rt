@@ -14,7 +14,6 @@ ghost use Rattle.seated.specs.SeatedTables.{seated_in};
 ghost use Rattle.ordering.specs.Order.{all_counted, line_fits, role_fits, in_order};
 
 use format::sections::in_count;
-use format::words::wide;
 use masks::UserRole;
 use rows::words::word_at;
 use seating::sessions::{has_session, session_count, sessions_in};
@@ -25,12 +24,10 @@ fn are_counted(owners: &[u16], count: usize, n: u16) -> bool
     requires { count ≤ length owners.now }
     ensures { result ≡ all_counted n (take count owners.now) }
 {
-    let mut k: usize = 0;
-    while k < count {
-        if !in_count(n, owners[k]) {
+    for owner in &owners[..count] {
+        if !in_count(n, *owner) {
             return false;
         }
-        k += 1;
     }
     true
 }
@@ -56,16 +53,13 @@ fn line_fits(lines: &[u16], row: usize, mask: u32, n: u16) -> bool
     ensures { result ≡ line_fits n (has mask) (line_row lines.now row) }
 {
     let at = 33 * row + 1;
-    let waiting = wide(lines[33 * row]);
+    let waiting = usize::from(lines[33 * row]);
     let mut seen = mask;
-    let mut i: usize = 0;
-    while i < waiting {
-        let k = lines[at + i];
-        if !may_wait(seen, n, k) {
+    for k in &lines[at..at + waiting] {
+        if !may_wait(seen, n, *k) {
             return false;
         }
-        seen = with_waiting(seen, k);
-        i += 1;
+        seen = with_waiting(seen, *k);
     }
     true
 }
@@ -85,11 +79,11 @@ fn role_fits(
     ensures { result ≡ role_fits n (seated_in threads.now beside.now owners.now
         lines.now) limit role }
 {
-    let row = wide(role - 1);
+    let row = usize::from(role - 1);
     if limit == 0 {
         return lines[33 * row] == 0;
     }
-    let count = wide(thread_count(beside));
+    let count = usize::from(thread_count(beside));
     let mask = sessions_in(threads, owners, count, UserRole(role));
     if limit < session_count(mask) {
         return false;
@@ -110,16 +104,14 @@ pub fn in_order(
     ensures { result ≡ in_order n (seats_in seats.now) (seated_in threads.now
         beside.now owners.now lines.now) }
 {
-    if !are_counted(owners, wide(thread_count(beside)), n) {
+    if !are_counted(owners, usize::from(thread_count(beside)), n) {
         return false;
     }
-    let mut r: u16 = 16;
-    while 0 < r {
-        let limit = word_at(seats, wide(r - 1));
+    for r in (1..=16u16).rev() {
+        let limit = word_at(seats, usize::from(r - 1));
         if !role_fits(threads, beside, owners, lines, n, limit, r) {
             return false;
         }
-        r -= 1;
     }
     true
 }

@@ -2,57 +2,26 @@
 use Prim.Native.Nat.{ℕ, zero, suc, ◌+◌, ◌-◌, ◌<◌, ◌≤◌}
 use mathlib.Core.Path.{◌≡◌, refl, sym, ap, ◌∙◌}
 use mathlib.Core.Bool.{Bool, true, false, cond, ◌&&◌, and-eq-true_iff, true≢false}
-use mathlib.Core.List.{List, [], ◌∷◌, ◌++◌, append_assoc}
+use mathlib.Core.List.{List, [], ◌∷◌, ◌++◌}
 use native.Mathlib.Omega.{arith}
+use Rattle.std.proofs.Math.Numerals.{add-one}
 use native.Mathlib.Nat.{not-suc-le-zero}
 use lib.Dec.{eqb, leb, ltb}
-use lib.ListN.{length, get_or, take, drop, set, drop_of_length-le, length-drop, get_or-eq_default}
-use lib.Seq.{paste, paste-suc, get_or-drop, slice, slice-cons, slice_empty, drop-cons, take-nil}
-use borrow.Author.Tests.{eqb-true, eqb-false, eq-eqb, ne_eqb, leb-true, ltb-true, ltb-false}
+use Rattle.std.proofs.lemmas.List.{take_all}
+use Rattle.std.specs.List.{starts_with}
+use borrow.Rule.Slice.PartMut.{put_mid}
+use lib.ListN.{length, get_or, take, drop, drop_of_length-le, get_or-eq_default}
+use lib.Seq.{slice, drop-cons, drop-drop}
+use borrow.Author.Tests.{eqb-true, eqb-false, leb-true, ltb-true, ltb-false}
 use Rattle.phrases.specs.Phrases.{same_bytes, prefix, put_into, phrases, phrase, spelled, leading, all_text, laid_out, all_starts, starts_after}
 use Rattle.phrases.specs.Table.{in_words, row_count, byte_count}
 
-take_drop : (a b : ℕ) (l : List ℕ) → take (b - a) (drop a l) ≡ drop a (take b l)
-take_drop zero b l = ap (λ (n : ℕ). take n l) (let e : b - 0 ≡ b = omega arith in e)
-take_drop (suc a) zero l = ap (λ (n : ℕ). take n (drop (suc a) l)) (let e : 0 - suc a ≡ 0 = omega arith in e)
-take_drop (suc a) (suc b) [] = take-nil (suc b - suc a)
-take_drop (suc a) (suc b) (x ∷ l) = ap (λ (n : ℕ). take n (drop a l)) (let e : suc b - suc a ≡ b - a = omega arith in e) ∙ take_drop a b l
-
-add-one : (n : ℕ) → n + 1 ≡ suc n
-add-one n = omega arith
-
-pub copy_step : (d t : List ℕ) (at from j : ℕ) → at + j < length d → from + j < length t
-    → set (paste d at (drop from t) j) (at + j) (get_or t (from + j) 0) ≡ paste d at (drop from t) (j + 1)
-copy_step d t at from j l m =
-    ap (λ (v : ℕ). set (paste d at (drop from t) j) (at + j) v) (sym (get_or-drop from t j 0))
-    ∙ paste-suc d at (drop from t) j 0 l (omega (arith, m, length-drop from t))
-    ∙ ap (paste d at (drop from t)) (sym (add-one j))
-
-open_both : (t s : List ℕ) (i to j : ℕ) → i < to → to ≤ length t → j < length s
-    → prefix (slice i to t) (drop j s) ≡ (eqb (get_or t i 0) (get_or s j 0) && prefix (slice (suc i) to t) (drop (suc j) s))
+-- what `starts_with` tests
+pub starts_with-prefix : (p s : List ℕ) → starts_with eqb s p ≡ prefix p s
 unfolding prefix
-open_both t s i to j l m k = ap (λ (q : List ℕ). prefix q (drop j s)) (slice-cons i to t 0 l m) ∙ ap (prefix (get_or t i 0 ∷ slice (suc i) to t)) (drop-cons s j 0 k)
-
-pub step_same : (t s : List ℕ) (i to j : ℕ) → i < to → to ≤ length t → j < length s → get_or t i 0 ≡ get_or s j 0
-    → prefix (slice (i + 1) to t) (drop (j + 1) s) ≡ prefix (slice i to t) (drop j s)
-step_same t s i to j l m k e =
-    ap (λ (n : ℕ). prefix (slice n to t) (drop (j + 1) s)) (add-one i) ∙ ap (λ (n : ℕ). prefix (slice (suc i) to t) (drop n s)) (add-one j)
-    ∙ sym (open_both t s i to j l m k ∙ ap (λ (b : Bool). b && prefix (slice (suc i) to t) (drop (suc j) s)) (eq-eqb (get_or t i 0) (get_or s j 0) e))
-
-pub step_differ : (t s : List ℕ) (i to j : ℕ) → i < to → to ≤ length t → j < length s → (get_or t i 0 ≡ get_or s j 0 → ⊥)
-    → false ≡ prefix (slice i to t) (drop j s)
-step_differ t s i to j l m k e =
-    sym (open_both t s i to j l m k ∙ ap (λ (b : Bool). b && prefix (slice (suc i) to t) (drop (suc j) s)) (ne_eqb (get_or t i 0) (get_or s j 0) e))
-
-pub step_short : (t s : List ℕ) (i to j : ℕ) → i < to → to ≤ length t → length s ≤ j → false ≡ prefix (slice i to t) (drop j s)
-unfolding prefix
-step_short t s i to j l m k =
-    sym (ap (λ (q : List ℕ). prefix q (drop j s)) (slice-cons i to t 0 l m) ∙ ap (prefix (get_or t i 0 ∷ slice (suc i) to t)) (drop_of_length-le s k))
-
-pub step_whole : (t s : List ℕ) (i to j : ℕ) → i ≡ to → true ≡ prefix (slice i to t) (drop j s)
-unfolding prefix
-step_whole t s i to j e =
-    sym (ap (λ (n : ℕ). prefix (slice n to t) (drop j s)) e ∙ ap (λ (q : List ℕ). prefix q (drop j s)) (slice_empty to t))
+starts_with-prefix [] s = refl
+starts_with-prefix (x ∷ p) [] = refl
+starts_with-prefix (x ∷ p) (y ∷ s) = ap (λ (b : Bool). eqb x y && b) (starts_with-prefix p s)
 
 -- a test at all of 0 to k - 1
 unfoldable pub at_each : (ℕ → Bool) → ℕ → Bool
@@ -144,29 +113,20 @@ stands_nowhere i s e =
     let d : leading (drop i phrases) s ≡ 0 = ap (λ (q : List (List ℕ)). leading q s) (drop_of_length-le phrases {i = i} (omega (arith, e, many))) in
     omega (arith, e, d)
 
+-- the part of the text from a phrase's start to the next one's
+pub part : (t : List ℕ) (i a b : ℕ) → i < row_count → t ≡ all_text → a ≡ get_or all_starts i 0 → b ≡ get_or all_starts (i + 1) 0
+    → slice a b t ≡ phrase i
+part t i a b l et ea eb =
+    ap (slice a b) et ∙ ap (λ (k : ℕ). slice k b all_text) ea ∙ ap (λ (k : ℕ). slice (get_or all_starts i 0) k all_text) eb ∙ (span i l).reads
+
+-- what the test of all of a phrase says
+pub whole : (p q s : List ℕ) → p ≡ q → prefix q s ≡ prefix (slice 0 (length p) p) s
+whole p q s e = ap (λ (l : List ℕ). prefix l s) (sym (take_all (length p) p (omega arith) ∙ e))
+
 -- a copied phrase is put
-pub paste_put : (d : List ℕ) (at i : ℕ) → i < row_count → paste d at (drop (get_or all_starts i 0) all_text) (length (phrase i)) ≡ put_into d at (phrase i)
+pub put_mid-put : (d bs : List ℕ) (at k : ℕ) → k ≡ length bs → put_mid at k d bs ≡ put_into d at bs
 unfolding put_into
-paste_put d at i l =
-    let w = span i l in
-    let e : take (length (phrase i)) (drop (get_or all_starts i 0) all_text) ≡ phrase i =
-    ap (λ (n : ℕ). take n (drop (get_or all_starts i 0) all_text)) (sym w.long) ∙ take_drop (get_or all_starts i 0) (get_or all_starts (i + 1) 0) all_text ∙ w.reads in
-    append_assoc (take at d) (take (length (phrase i)) (drop (get_or all_starts i 0) all_text)) (drop (at + length (phrase i)) d)
-    ∙ ap (λ (q : List ℕ). take at d ++ (q ++ drop (at + length (phrase i)) d)) e
-
-pub pasted : (d t : List ℕ) (at i f n : ℕ) → i < row_count → t ≡ all_text → f ≡ get_or all_starts i 0 → n ≡ length (phrase i)
-    → paste d at (drop f t) n ≡ put_into d at (phrase i)
-pasted d t at i f n l et ef en =
-    ap (λ (q : List ℕ). paste d at (drop f q) n) et ∙ ap (λ (k : ℕ). paste d at (drop k all_text) n) ef
-    ∙ ap (paste d at (drop (get_or all_starts i 0) all_text)) en ∙ paste_put d at i l
-
--- what the test of a part says of a phrase
-pub hit : (t s : List ℕ) (i a b : ℕ) → i < row_count → t ≡ all_text → a ≡ get_or all_starts i 0 → b ≡ get_or all_starts (i + 1) 0
-    → prefix (phrase i) s ≡ prefix (slice a b t) s
-hit t s i a b l et ea eb =
-    sym (ap (λ (q : List ℕ). prefix (slice a b q) s) et ∙ ap (λ (k : ℕ). prefix (slice k b all_text) s) ea
-    ∙ ap (λ (k : ℕ). prefix (slice (get_or all_starts i 0) k all_text) s) eb
-    ∙ ap (λ (q : List ℕ). prefix q s) (span i l).reads)
+put_mid-put d bs at k e = ap (λ (q : List ℕ). take at d ++ (bs ++ q)) (drop-drop k at d ∙ ap (λ (n : ℕ). drop (at + n) d) e)
 
 -- bounds, for casts and sums
 leading_within : (ps : List (List ℕ)) (s : List ℕ) → leading ps s ≤ length ps

@@ -2,7 +2,7 @@
 #![tactic(auto)]
 
 ghost use Rattle.std.specs.Prelude.{◌≡◌, ◌+◌, ◌<◌, ◌≤◌, length, get_or, drop};
-ghost use Rattle.std.proofs.Math.Seq.{paste, slice};
+ghost use Rattle.std.proofs.Math.Seq.{slice};
 ghost use Rattle.phrases.specs.Table.{row_count};
 ghost use Rattle.phrases.specs.Phrases.{phrases, phrase, prefix, all_text, all_starts, leading, put_into};
 
@@ -76,36 +76,12 @@ pub fn phrase_starts() -> [u16; 46]
     STARTS
 }
 
-// n bytes of a text copied.
-fn copy_part(text: &[u8], from: usize, n: usize, out: &mut [u8], at: usize)
-    requires { (from + n ≤ length text.now) × (at + n ≤ length out.old) }
-    ensures { out.new ≡ paste out.old at (drop from text.now) n }
-{
-    let mut j: usize = 0;
-    while j < n {
-        out[at + j] = text[from + j];
-        j += 1;
-    }
-}
-
 // Whether a part of a text stands at a place of a list.
 pub fn stands(text: &[u8], from: usize, to: usize, s: &[u8], at: usize) -> bool
     requires { (from ≤ to) × (to ≤ length text.now) }
     ensures { result ≡ prefix (slice from to text.now) (drop at s.now) }
 {
-    let mut i: usize = from;
-    let mut j: usize = at;
-    while i < to {
-        if j >= s.len() {
-            return false;
-        }
-        if text[i] != s[j] {
-            return false;
-        }
-        i += 1;
-        j += 1;
-    }
-    true
+    s[at.min(s.len())..].starts_with(&text[from..to])
 }
 
 // Where a phrase starts in the text.
@@ -113,7 +89,7 @@ fn start_of(starts: &[u16], i: usize) -> usize
     requires { (starts.now ≡ all_starts) × (i ≤ row_count) }
     ensures { result ≡ get_or all_starts i 0 }
 {
-    starts[i] as usize
+    usize::from(starts[i])
 }
 
 // A phrase's length, 0 past the table.
@@ -127,17 +103,24 @@ pub fn phrase_length(starts: &[u16], i: usize) -> usize
     0
 }
 
+// A phrase of the table.
+fn phrase_of<'a>(text: &'a [u8], starts: &[u16], i: usize) -> &'a [u8]
+    requires { (text.now ≡ all_text) × (starts.now ≡ all_starts) × (i < row_count) }
+    ensures { result.now ≡ phrase i }
+{
+    &text[start_of(starts, i)..start_of(starts, i + 1)]
+}
+
 // The phrase that stands at a place of a list; as many as there are for none.
 pub fn phrase_at(text: &[u8], starts: &[u16], s: &[u8], at: usize) -> usize
     requires { (text.now ≡ all_text) × (starts.now ≡ all_starts) }
     ensures { result ≡ leading phrases (drop at s.now) }
 {
-    let mut i: usize = 0;
-    while i < COUNT {
-        if stands(text, start_of(starts, i), start_of(starts, i + 1), s, at) {
+    for i in 0..COUNT {
+        let part = phrase_of(text, starts, i);
+        if stands(part, 0, part.len(), s, at) {
             return i;
         }
-        i += 1;
     }
     COUNT
 }
@@ -147,7 +130,8 @@ pub fn put_phrase(text: &[u8], starts: &[u16], i: usize, out: &mut [u8], at: usi
     requires { (text.now ≡ all_text) × (starts.now ≡ all_starts) × (i < row_count) × (at + length (phrase i) ≤ length out.old) }
     ensures { (result ≡ at + length (phrase i)) × (out.new ≡ put_into out.old at (phrase i)) }
 {
-    let n = phrase_length(starts, i);
-    copy_part(text, start_of(starts, i), n, &mut *out, at);
-    at + n
+    let part = phrase_of(text, starts, i);
+    let end = at + part.len();
+    out[at..end].copy_from_slice(part);
+    end
 }

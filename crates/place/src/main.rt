@@ -3,22 +3,19 @@
 #![tactic(auto)]
 
 use format::header::LARGEST;
-use format::words::wide;
 
 fn main(rt: HostRuntime) {
     let mut buffer = [0u8; 16384];
-    let input = streams::read_input(&mut rt.stdin(), &mut buffer);
-    if input.failed {
+    let Ok(kept) = streams::read_input(&mut rt.stdin(), &mut buffer) else {
         streams::write_bytes(&rt.stderr(), b"place: standard input cannot be read\n");
         return;
-    }
-    let kept = input.kept;
+    };
     let mut out = [0u8; LARGEST];
     let placed = placing::place(&buffer[..kept], &mut out);
     if placed.number != 0 {
         streams::write_refused(&rt, placed.number, placed.place);
         return;
     }
-    let length = wide(placed.length);
+    let length = usize::from(placed.length);
     streams::write_bytes(&rt, &out[..length]);
 }

@@ -15,14 +15,13 @@ use Rattle.format.specs.Header.{has_juniors, WithJuniors, more, junior_records, 
 use Rattle.format.specs.Words.{word_at}
 use Rattle.format.specs.declared.Verdict.{Verdict}
 use Rattle.format.specs.declared.Head.{Head}
-use Rattle.format.specs.declared.HeadAnswer.TheVariants.{Refused}
+use Rattle.std.specs.Prelude.{Ok, Err}
 use Rattle.format.proofs.AnswerLaws.{NoRefusal, quiet_first, loud_first, both_quiet}
 use Rattle.format.proofs.HeadLaws.{juniors_iff, Headed, head_number_lem}
 use Rattle.format.proofs.ContentsLaws.{users_held, roles_held, kinds_held, channels_held, sessions_held}
 use Rattle.tables.specs.Records.{records_answer}
 use Rattle.trees.specs.Shape.{shape_answer}
 use Rattle.reading.specs.Reading.{body_answer, reading}
-use Rattle.reading.specs.declared.Opened.TheVariants.{Fine as Opened-as-Fine, Refused as Opened-as-Refused}
 use Rattle.reading.proofs.LongLaws.{StandsFor, stands_room, stands_judged}
 use Rattle.reading.proofs.ReadingLaws.{by_body}
 use Rattle.rules.specs.Candidates.{candidates_in}
@@ -160,7 +159,7 @@ module _ (f : List ℕ) where
   over_kept out n p l e = rw (e, ne_eqb n 0 l)
 
   -- a file without a head
-  pub head_refused : (n : ℕ) → head_of f ≡ Refused n → measuring f ≡ no_place n 0
+  pub head_refused : (n : ℕ) → head_of f ≡ Err n → measuring f ≡ no_place n 0
   unfolding judging
   head_refused n e =
       let loud : NoRefusal (refused n 0) → ⊥ = λ z. let no_way : ⊥ = omega (arith, head_number_lem f n e, z) in no_way in
@@ -168,7 +167,7 @@ module _ (f : List ℕ) where
       measuring_refused (refused n 0) (ap (λ v. or_else v (placeable (contents_of f))) names ∙ loud_first (refused n 0) (placeable (contents_of f)) loud) loud
 
   -- a file that 1 to 10 refuse
-  pub names_loud : (w : Verdict) → entered f ≡ Opened-as-Refused w → (judging f ≡ w) × (NoRefusal w → ⊥)
+  pub names_loud : (w : Verdict) → entered f ≡ Err w → (judging f ≡ w) × (NoRefusal w → ⊥)
   unfolding judging
   names_loud w e =
       let (l, same) = entered_refused f w e in (loud_first (reading_names f) (placeable (contents_of f)) l ∙ sym same, λ q. l (subst NoRefusal same q))
@@ -179,7 +178,7 @@ module _ (f : List ℕ) where
   placing_placed room r q = answers room r ∙ answer_quiet (version_at f) (contents_of f) (turns_for (contents_of f)) (judging f) q
 
   -- a file that 1 to 10 leave clean, by its head
-  module _ (h : Head) (e : entered f ≡ Opened-as-Fine h) where
+  module _ (h : Head) (e : entered f ≡ Ok h) where
     same : h ≡ head_at f
     same = (entered_fine f h e).1
 
@@ -192,11 +191,6 @@ module _ (f : List ℕ) where
     pub judged : judging f ≡ placeable (contents_at f h)
     unfolding judging
     judged = quiet_first (reading_names f) (placeable (contents_of f)) names_quiet ∙ ap (λ (k : Head). placeable (contents_at f k)) (sym same)
-
-    pub placed_here : (ts : List Turn) → ◌≡◌ {A = Placed} (record { number = 0; place = 0; length = length_for h.at.nodes (sizes_of ts); on_steps = ons_of ts }) (placed_by h.version (contents_at f h) ts)
-    placed_here ts =
-        ap (λ (n : ℕ). record { number = 0; place = 0; length = length_for n (sizes_of ts); on_steps = ons_of ts })
-        (nodes_begin f h (entered_fine f h e).0)
 
     -- where the table has each node's candidates, what is placed from it is what is placed
     module _ (roles : List ℕ) (l : Labelled (contents_at f h) roles) where
@@ -259,7 +253,7 @@ stands_over out kept input s =
     ∙ ap₂ (λ r o. cond (ltb (length out) r) out o) (stands_room kept input s) (stands_judged (λ n. out) (over out) refused_over kept input s)
     ∙ sym (over_by_room out input)
   where
-    refused_over : (f : List ℕ) (n : ℕ) → head_of f ≡ Refused n → over out f ≡ out
+    refused_over : (f : List ℕ) (n : ℕ) → head_of f ≡ Err n → over out f ≡ out
     refused_over f n h = rw (head_refused f n h, ne_eqb n 0 (λ z. let no_way : ⊥ = omega (arith, head_number_lem f n h, z) in no_way))
 
 -- no answer is longer than the largest file, nor than the room that was asked for it

@@ -1,50 +1,45 @@
 -- The nodes that are left to look at for 15.
-use Prim.Native.Nat.{ℕ, suc, ◌+◌, ◌-◌, ◌≤◌, ◌<◌}
-use mathlib.Core.Path.{◌≡◌, refl, sym, ap, ap₂, ◌∙◌}
+use Prim.Native.Nat.{ℕ, suc, ◌+◌, ◌≤◌, ◌<◌}
+use mathlib.Core.Path.{◌≡◌, refl, sym, ◌∙◌}
 use mathlib.Core.List.{List, [], ◌∷◌}
-use mathlib.Core.Bool.{Bool, true, false, cond, ◌&&◌, true≢false}
+use mathlib.Core.Bool.{Bool, true, false, cond, not, ◌&&◌, true≢false}
 use native.Mathlib.Omega.{arith}
-use native.Mathlib.Numerals.{add-one}
 use lib.Dec.{eqb}
 use lib.ListN.{length, get_or, drop}
-use lib.Seq.{drop-cons}
 use borrow.Author.Tests.{eqb-false}
-use Rattle.format.specs.Answers.{fine, refused}
+use Rattle.format.specs.Answers.{refused, first_of}
 use Rattle.format.specs.Contents.{item, no_node}
 use Rattle.format.specs.declared.Node.{Node}
+use Rattle.format.specs.declared.Verdict.{Verdict}
 use Rattle.format.proofs.AnswerLaws.{NoRefusal}
-use Rattle.format.proofs.ContentsLaws.{from_item, none_past}
 use Rattle.states.specs.States.{Label, needs, labelled}
 use Rattle.states.specs.Kept.{Served}
 use Rattle.placing.specs.Placing.{unserved_from}
 
-abbrev pub labels_left : List Node → List ℕ → ℕ → List Label
-labels_left ns rs n = labelled (drop (n - 1) ns) (drop n rs)
+-- 15 as the first of the nodes that is not served, from a number on; these are a node's tests by its number
+unserved_first : (fits : ℕ → Bool) (ns : List Node) (rs : List ℕ) (i : ℕ) → length ns ≤ length rs
+    → ((k : ℕ) → k < length ns → fits (i + k) ≡ not (needs (get_or ns k no_node).tag && eqb (get_or rs k 0) 0))
+    → unserved_from i (labelled ns rs) ≡ first_of fits (refused 15) i (length ns)
+unfolding unserved_from labelled first_of
+unserved_first fits [] rs i room same = refl
+unserved_first fits (n ∷ ns) [] i room same = absurd (omega (arith, room))
+unserved_first fits (n ∷ ns) (r ∷ rs) i room same =
+    let rest = unserved_first fits ns rs (suc i) (omega (arith, room)) (λ k h. let e : suc i + k ≡ i + suc k = omega arith in rw e (same (suc k) (omega arith))) in
+    let z : i + 0 ≡ i = omega arith in
+    turned (needs n.tag && eqb r 0) (fits i) (refused 15 i) _ _ (rw z at (same 0 (omega arith))) rest
+  where
+    turned : (b c : Bool) (v w x : Verdict) → c ≡ not b → w ≡ x → cond b v w ≡ cond c x v
+    turned true c v w x e f = rw e
+    turned false c v w x e f = rw e f
 
-module _ (ns : List Node) (rs : List ℕ) (n : ℕ) (low : 1 ≤ n) (high : n ≤ length ns) (room : n < length rs) where
-  left_next : labels_left ns rs n ≡ record { tag = (item no_node ns n).tag; roles = get_or rs n 0 } ∷ labels_left ns rs (n + 1)
-  unfolding labelled
-  left_next =
-      let back : n ≡ n + 1 - 1 = omega arith in
-      ap₂ labelled (from_item no_node ns n low high) (drop-cons rs n 0 room)
-      ∙ ap₂ (λ i j. record { tag = (item no_node ns n).tag; roles = get_or rs n 0 } ∷ labelled (drop i ns) (drop j rs)) back (sym (add-one n))
+-- the test of a node by its number, where each node's roles stand in a table
+abbrev pub served_at : List Node → List ℕ → ℕ → Bool
+served_at ns rs n = not (needs (item no_node ns n).tag && eqb (get_or rs n 0) 0)
 
-  left_one : unserved_from n (labels_left ns rs n)
-      ≡ cond (needs (item no_node ns n).tag && eqb (get_or rs n 0) 0) (refused 15 n) (unserved_from (n + 1) (labels_left ns rs (n + 1)))
-  unfolding unserved_from
-  left_one =
-      ap (unserved_from n) left_next
-      ∙ ap (λ j. cond (needs (item no_node ns n).tag && eqb (get_or rs n 0) 0) (refused 15 n) (unserved_from j (labels_left ns rs (n + 1)))) (sym (add-one n))
-
-  pub left_unserved : (needs (item no_node ns n).tag && eqb (get_or rs n 0) 0) ≡ true → unserved_from n (labels_left ns rs n) ≡ refused 15 n
-  left_unserved e = left_one ∙ ap (λ b. cond b (refused 15 n) (unserved_from (n + 1) (labels_left ns rs (n + 1)))) e
-
-  pub left_served : (needs (item no_node ns n).tag && eqb (get_or rs n 0) 0) ≡ false → unserved_from n (labels_left ns rs n) ≡ unserved_from (n + 1) (labels_left ns rs (n + 1))
-  left_served e = left_one ∙ ap (λ b. cond b (refused 15 n) (unserved_from (n + 1) (labels_left ns rs (n + 1)))) e
-
-pub left_none : (ns : List Node) (rs : List ℕ) (n : ℕ) → length ns < n → unserved_from n (labels_left ns rs n) ≡ fine
-unfolding unserved_from labelled
-left_none ns rs n past = ap (λ (xs : List Node). unserved_from n (labelled xs (drop n rs))) (none_past ns (n - 1) (omega arith))
+pub first_unserved : (ns : List Node) (rs : List ℕ) → length ns < length rs → unserved_from 1 (labelled ns (drop 1 rs)) ≡ first_of (served_at ns rs) (refused 15) 1 (length ns)
+unfolding item
+first_unserved ns [] room = absurd (omega (arith, room))
+first_unserved ns (r ∷ rs) room = unserved_first (served_at ns (r ∷ rs)) ns rs 1 (omega (arith, room)) (λ k h. let e : 1 + k ≡ suc k = omega arith in rw e)
 
 -- where there is none, each node that needs a state has one
 pub all_served : (i : ℕ) (ls : List Label) → NoRefusal (unserved_from i ls) → Served ls

@@ -13,43 +13,30 @@ fn masks(file: &[u8], head: Head) -> Verdict
     requires { Laid file.now head }
     ensures { result ≡ masks_answer (contents_at file.now head) }
 {
-    let count = head.count.sessions;
-    let mut n: u16 = 1;
-    while n <= count {
-        let it = session(file, head, n);
-        if it.mask != 0 {
+    for n in 1..=head.count.sessions {
+        if session(file, head, n).mask != 0 {
             return Verdict {
                 number: 14,
                 place: 0,
             };
         }
-        n += 1;
     }
-    Verdict {
-        number: 0,
-        place: 0,
-    }
+    Verdict::FINE
 }
 
 fn switches(file: &[u8], head: Head) -> Verdict
     requires { Laid file.now head }
     ensures { result ≡ switches_answer (contents_at file.now head) }
 {
-    let count = head.count.nodes;
-    let mut n: u16 = 1;
-    while n <= count {
+    for n in 1..=head.count.nodes {
         if 6 < node_tag(file, head, n) {
             return Verdict {
                 number: 14,
                 place: n,
             };
         }
-        n += 1;
     }
-    Verdict {
-        number: 0,
-        place: 0,
-    }
+    Verdict::FINE
 }
 
 // Masks before nodes.

@@ -5,10 +5,9 @@ mod bare;
 pub mod decide;
 mod served;
 
-ghost use Rattle.std.specs.Prelude.{◌≡◌, ◌≤◌, length};
+ghost use Rattle.std.specs.Prelude.{◌≡◌, ◌≤◌, length, Ok};
 ghost use Rattle.format.specs.Header.{room_for};
 ghost use Rattle.format.specs.Contents.{contents_at};
-ghost use Rattle.reading.specs.declared.Opened.TheVariants.{Fine};
 ghost use Rattle.checking.specs.Check.{entered};
 ghost use Rattle.placing.specs.Placing.{answer_from, over_from, no_place, answered, measuring, placing, placed_over};
 
@@ -18,7 +17,6 @@ use format::header::{length_for, room_for};
 use format::words::narrow;
 use format::{Head, Verdict};
 use groups::{Sums, put_file};
-use reading::Opened;
 
 // What a caller gets: a refusal's number and place, or 0 and 0 with the length of the placed file in bytes and its on steps.
 #[repr(C)]
@@ -48,29 +46,6 @@ pub fn no_place(number: u16, place: u16) -> Placed
     }
 }
 
-// For a file that 1 to 10 leave clean, with each node's roles at its number, into an output with room for the largest file of its version: 14 to 16, else the placed
-// file. What the output has past it, or where anything is refused, stays.
-pub fn place_body(file: &[u8], head: Head, roles: &[u16], out: &mut [u8]) -> Placed
-    requires { (entered file.now ≡ Fine head) × (length roles.now ≡ 1025) × (room_for file.now ≤ length out.old) }
-    ensures { (result ≡ answer_from head.version (contents_at file.now head) roles.now) × (out.new ≡ over_from head.version (contents_at file.now head) roles.now out.old) }
-{
-    let mut turns = [0u16; 1025];
-    let mut starts = [0u16; 1025];
-    let decision = decide(file, head, roles, &mut turns, &mut starts);
-    let verdict = decision.verdict;
-    if verdict.number != 0 {
-        return no_place(verdict.number, verdict.place);
-    }
-    let nodes = decision.sums.nodes;
-    put_file(file, head, &turns, &starts, nodes, out);
-    Placed {
-        number: 0,
-        place: 0,
-        length: narrow(length_for(head.at.nodes, nodes)),
-        on_steps: decision.sums.on_steps,
-    }
-}
-
 // What is answered of a decision.
 fn answer_of(head: Head, decision: Decision) -> Placed
     requires { (head.at.nodes ≤ 2000) × (decision.sums.nodes ≤ 1024) }
@@ -89,9 +64,24 @@ fn answer_of(head: Head, decision: Decision) -> Placed
     }
 }
 
+// For a file that 1 to 10 leave clean, with each node's roles at its number, into an output with room for the largest file of its version: 14 to 16, else the placed
+// file. What the output has past it, or where anything is refused, stays.
+pub fn place_body(file: &[u8], head: Head, roles: &[u16], out: &mut [u8]) -> Placed
+    requires { (entered file.now ≡ Ok head) × (length roles.now ≡ 1025) × (room_for file.now ≤ length out.old) }
+    ensures { (result ≡ answer_from head.version (contents_at file.now head) roles.now) × (out.new ≡ over_from head.version (contents_at file.now head) roles.now out.old) }
+{
+    let mut turns = [0u16; 1025];
+    let mut starts = [0u16; 1025];
+    let decision = decide(file, head, roles, &mut turns, &mut starts);
+    if decision.verdict.number == 0 {
+        put_file(file, head, &turns, &starts, decision.sums.nodes, out);
+    }
+    answer_of(head, decision)
+}
+
 // The answer of `place_body`, without an output.
 pub fn measure_body(file: &[u8], head: Head, roles: &[u16]) -> Placed
-    requires { (entered file.now ≡ Fine head) × (length roles.now ≡ 1025) }
+    requires { (entered file.now ≡ Ok head) × (length roles.now ≡ 1025) }
     ensures { result ≡ answer_from head.version (contents_at file.now head) roles.now }
 {
     let mut turns = [0u16; 1025];
@@ -108,8 +98,8 @@ pub fn measure(file: &[u8]) -> Placed
     let found = examine(file, &mut roles);
     let names = found.names;
     match names {
-        Opened::Refused(first) => no_place(first.number, first.place),
-        Opened::Fine(head) => measure_body(file, head, &roles),
+        Err(first) => no_place(first.number, first.place),
+        Ok(head) => measure_body(file, head, &roles),
     }
 }
 
@@ -125,7 +115,7 @@ pub fn place(file: &[u8], out: &mut [u8]) -> Placed
     let found = examine(file, &mut roles);
     let names = found.names;
     match names {
-        Opened::Refused(first) => no_place(first.number, first.place),
-        Opened::Fine(head) => place_body(file, head, &roles, out),
+        Err(first) => no_place(first.number, first.place),
+        Ok(head) => place_body(file, head, &roles, out),
     }
 }

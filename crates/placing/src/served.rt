@@ -6,7 +6,6 @@ ghost use Rattle.states.specs.States.{needs, labelled};
 ghost use Rattle.placing.specs.Placing.{unserved_from};
 
 use format::sections::node_tag;
-use format::words::wide;
 use format::{Head, Verdict};
 
 fn is_unserved(tag: u16, roles: u16) -> bool
@@ -20,19 +19,13 @@ pub fn unserved(file: &[u8], head: Head, roles: &[u16]) -> Verdict
     requires { Laid file.now head × (length roles.now ≡ 1025) }
     ensures { result ≡ unserved_from 1 (labelled (contents_at file.now head).nodes (drop 1 roles.now)) }
 {
-    let count = head.count.nodes;
-    let mut n: u16 = 1;
-    while n <= count {
-        if is_unserved(node_tag(file, head, n), roles[wide(n)]) {
+    for n in 1..=head.count.nodes {
+        if is_unserved(node_tag(file, head, n), roles[usize::from(n)]) {
             return Verdict {
                 number: 15,
                 place: n,
             };
         }
-        n += 1;
     }
-    Verdict {
-        number: 0,
-        place: 0,
-    }
+    Verdict::FINE
 }

@@ -1,3 +1,2 @@
 pub mod OpenLaws
 pub mod PlaceAtLaws
-pub mod CloseLaws

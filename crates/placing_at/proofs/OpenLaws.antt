@@ -5,7 +5,7 @@ use mathlib.Core.Bool.{Bool, true, false, cond}
 use mathlib.Core.List.{List, [], ◌∷◌, map}
 use lib.Bits.{bit_and}
 use lib.Dec.{eqb}
-use lib.ListN.{length, get_or, length-map}
+use lib.ListN.{get_or, length-map}
 use Rattle.masks.specs.Mask.{minus, with}
 use Rattle.masks.specs.declared.ChannelKind.{ChannelKind}
 use Rattle.masks.proofs.Minus.{none_minus, minus_none, and_minus}

@@ -1,17 +1,16 @@
 -- Placing for a minute, whole, from what is decided.
-use Prim.Native.Nat.{ℕ, suc, ◌≤◌, ◌<◌}
-use mathlib.Core.Path.{◌≡◌, refl, sym, ap, ap₂, subst, ◌∙◌}
+use Prim.Native.Nat.{ℕ, ◌≤◌, ◌<◌}
+use mathlib.Core.Path.{◌≡◌, refl, sym, ap, subst, ◌∙◌}
 use mathlib.Core.List.{List, [], ◌∷◌, map}
-use mathlib.Core.Bool.{Bool, true, false, cond}
-use native.Mathlib.Omega.{arith}
-use lib.Dec.{eqb, ltb}
+use mathlib.Core.Bool.{cond}
+use lib.Dec.{eqb}
 use lib.ListN.{length, drop, length-map}
 use lib.Seq.{sets, length-sets}
 use borrow.Author.Tests.{eq-eqb, ne_eqb, lt-ltb, le-ltb}
 use Rattle.masks.specs.Mask.{minus}
 use Rattle.format.specs.Contents.{Contents, contents_at, contents_of}
 use Rattle.format.specs.Answers.{or_else}
-use Rattle.format.specs.Header.{version_at, head_at, room_for, Laid}
+use Rattle.format.specs.Header.{version_at, head_at, room_for}
 use Rattle.format.specs.declared.Verdict.{Verdict}
 use Rattle.format.specs.declared.Head.{Head}
 use Rattle.format.specs.declared.Node.{Node}
@@ -19,7 +18,7 @@ use Rattle.format.proofs.AnswerLaws.{NoRefusal, quiet_first, loud_first, both_qu
 use Rattle.tables.specs.Records.{records_answer}
 use Rattle.trees.specs.Shape.{shape_answer}
 use Rattle.reading.specs.Reading.{body_answer, reading}
-use Rattle.reading.specs.declared.Opened.TheVariants.{Fine, Refused}
+use Rattle.std.specs.Prelude.{Ok, Err}
 use Rattle.reading.proofs.ReadingLaws.{by_body}
 use Rattle.rules.specs.Checking.{names_answer}
 use Rattle.rules.specs.Candidates.{candidates_in}
@@ -99,14 +98,14 @@ module _ (f t : List ℕ) (m : ℕ) where
 
   module _ (table : NoRefusal (table_answer t m)) where
     -- a file that 1 to 8, 23, 9 and 10 refuse
-    pub names_loud_at : (w : Verdict) → entered_at f t ≡ Refused w → (judging_at f t m ≡ w) × (NoRefusal w → ⊥)
+    pub names_loud_at : (w : Verdict) → entered_at f t ≡ Err w → (judging_at f t m ≡ w) × (NoRefusal w → ⊥)
     unfolding judging_at
     names_loud_at w e =
         let (l, same) = entered_at_refused f t w e in
         (quiet_first (table_answer t m) later table ∙ loud_first (reading_names_at f t) (placeable (open_contents s (contents_of f))) l ∙ sym same, λ q. l (subst NoRefusal same q))
 
     -- a file that they leave clean, by its head
-    module _ (h : Head) (e : entered_at f t ≡ Fine h) where
+    module _ (h : Head) (e : entered_at f t ≡ Ok h) where
       quiet : NoRefusal (reading_names_at f t)
       quiet = (entered_at_fine f t h e).0
 
@@ -156,10 +155,10 @@ module _ (f t : List ℕ) (m : ℕ) where
             ∙ ap (λ a. cond (eqb a.number 0) (sets out 0 (placed_bytes_at f t m)) out) (sym (answers_at (length out) wide))
 
   -- the way in is the one without hours
-  pub entered_plain : (h : Head) → entered_at f t ≡ Fine h → entered f ≡ Fine h
+  pub entered_plain : (h : Head) → entered_at f t ≡ Ok h → entered f ≡ Ok h
   unfolding entered reading_names
   entered_plain h e =
       let (q, same) = entered_at_fine f t h e in
       let (r, n) = names_quiet f t q in
       let clean : NoRefusal (reading_names f) = (both_quiet NoRefusal (reading f) (names_answer (contents_of f)) (λ z. z)).1 (r, n) in
-      rw (eq-eqb (reading_names f).number 0 clean) (ap Fine (sym same))
+      rw (eq-eqb (reading_names f).number 0 clean) (ap Ok (sym same))

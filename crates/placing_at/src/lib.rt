@@ -11,17 +11,13 @@ use format::header::room_for;
 use hours::{shut, table_answer};
 use masks::roles_minus;
 use placing::{Placed, measure_body, no_place, place_body};
-use reading::Opened;
 
 // Each entry without the roles that are shut.
 fn close(roles: &mut [u16], shut: u16)
     ensures { roles.new ≡ map (λ m. minus m shut) roles.old }
 {
-    let count = roles.len();
-    let mut i: usize = 0;
-    while i < count {
-        roles[i] = roles_minus(roles[i], shut);
-        i += 1;
+    for mask in roles.iter_mut() {
+        *mask = roles_minus(*mask, shut);
     }
 }
 
@@ -37,8 +33,8 @@ pub fn measure_at(file: &[u8], hours: &[u16], minute: u16) -> Placed
     let found = examine_opened(file, open_at(file, hours), &mut roles);
     let names = found.names;
     match names {
-        Opened::Refused(first) => no_place(first.number, first.place),
-        Opened::Fine(head) => {
+        Err(first) => no_place(first.number, first.place),
+        Ok(head) => {
             close(&mut roles, shut(hours, minute));
             measure_body(file, head, &roles)
         }
@@ -61,8 +57,8 @@ pub fn place_at(file: &[u8], hours: &[u16], minute: u16, out: &mut [u8]) -> Plac
     let found = examine_opened(file, open_at(file, hours), &mut roles);
     let names = found.names;
     match names {
-        Opened::Refused(first) => no_place(first.number, first.place),
-        Opened::Fine(head) => {
+        Err(first) => no_place(first.number, first.place),
+        Ok(head) => {
             close(&mut roles, shut(hours, minute));
             place_body(file, head, &roles, out)
         }

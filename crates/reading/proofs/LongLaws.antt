@@ -12,8 +12,7 @@ use Rattle.format.specs.Words.{word_at}
 use Rattle.format.specs.Answers.{refused}
 use Rattle.format.specs.Header.{is_version, more, six_at, offsets_at, head_in, head_at, head_bytes, counts_fit, offsets_fit, length_for, largest, room_for, from1, from2, from3, from4, from5, head_of, Laid}
 use Rattle.format.specs.declared.Head.{Head}
-use Rattle.format.specs.declared.HeadAnswer.{HeadAnswer}
-use Rattle.format.specs.declared.HeadAnswer.TheVariants.{Refused}
+use Rattle.std.specs.Prelude.{Result, Err}
 use Rattle.format.proofs.HeadLaws.{laid_iff, more_few}
 use Rattle.reading.specs.Reading.{reading}
 use Rattle.reading.specs.Long.{enough}
@@ -32,15 +31,15 @@ abbrev long_number : ℕ → Head → ℕ
 long_number odd h = cond (eqb odd 1) 1 (head_number h)
 
 -- a test that refuses, or goes on to a refusal
-refuses : (b : Bool) (a : HeadAnswer) (n k : ℕ) → (b ≡ true → a ≡ Refused n) → cond b a (Refused k) ≡ Refused (cond b n k)
+refuses : (b : Bool) (a : Result Head ℕ) (n k : ℕ) → (b ≡ true → a ≡ Err n) → cond b a (Err k) ≡ Err (cond b n k)
 refuses true a n k go = go refl
 refuses false a n k go = refl
 
-refuses_first : (b : Bool) (a : HeadAnswer) (n k : ℕ) → a ≡ Refused n → cond b (Refused k) a ≡ Refused (cond b k n)
+refuses_first : (b : Bool) (a : Result Head ℕ) (n k : ℕ) → a ≡ Err n → cond b (Err k) a ≡ Err (cond b k n)
 refuses_first true a n k e = refl
 refuses_first false a n k e = e
 
-long_words : (x : ℕ) (xs : List ℕ) → largest < length (x ∷ xs) → head_of (x ∷ xs) ≡ Refused (long_number (length (x ∷ xs) % 2) (head_at (x ∷ xs)))
+long_words : (x : ℕ) (xs : List ℕ) → largest < length (x ∷ xs) → head_of (x ∷ xs) ≡ Err (long_number (length (x ∷ xs) % 2) (head_at (x ∷ xs)))
 unfolding head_of from1 from2 from3 from4 from5
 long_words x xs long =
     rw (le-ltb (length f) (head_bytes (word_at f 0)) (omega (arith, more_few (word_at f 0))))
@@ -55,12 +54,12 @@ long_words x xs long =
     back : Bool
     back = offsets_fit (word_at f 0) (six_at f 1) (offsets_at f (word_at f 0))
 
-    longer : counts_fit (six_at f 1) ≡ true → offsets_fit (word_at f 0) (six_at f 1) (offsets_at f (word_at f 0)) ≡ true → from5 f ≡ Refused 5
+    longer : counts_fit (six_at f 1) ≡ true → offsets_fit (word_at f 0) (six_at f 1) (offsets_at f (word_at f 0)) ≡ true → from5 f ≡ Err 5
     longer counts offsets =
         rw (ne_eqb (length f) (length_for (head_at f).at.nodes (word_at f 6)) (λ same.
         absurd (omega (arith, long, most_bytes f (head_at f) ((laid_iff f (head_at f)).0 (counts, offsets, same))))))
 
-pub long_head : (f : List ℕ) → largest < length f → head_of f ≡ Refused (long_number (length f % 2) (head_at f))
+pub long_head : (f : List ℕ) → largest < length f → head_of f ≡ Err (long_number (length f % 2) (head_at f))
 long_head [] long = absurd (omega (arith, long))
 long_head (x ∷ xs) long = long_words x xs long
 
@@ -148,7 +147,7 @@ stands_room kept input s = go (leb (length input) (largest + 2)) refl
         rw (lt-ltb 1 (length kept) (omega (arith, s.size, long)), lt-ltb 1 (length input) (omega (arith, long)), stands_version kept input s)
 
 -- It has the answer of the whole input, whoever judges, if the judge begins by the head.
-module _ {A : Type 0} (refusal : ℕ → A) (judge : List ℕ → A) (by_head : (f : List ℕ) (n : ℕ) → head_of f ≡ Refused n → judge f ≡ refusal n) where
+module _ {A : Type 0} (refusal : ℕ → A) (judge : List ℕ → A) (by_head : (f : List ℕ) (n : ℕ) → head_of f ≡ Err n → judge f ≡ refusal n) where
   pub long_alike : (f g : List ℕ) → largest < length f → largest < length g → length f % 2 ≡ length g % 2 → take 28 f ≡ take 28 g → judge f ≡ judge g
   long_alike f g f-long g-long parity start =
       let heads : head_at f ≡ head_at g = sym (head_start f) ∙ ap head_at start ∙ head_start g in

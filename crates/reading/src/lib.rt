@@ -10,23 +10,16 @@ ghost use Rattle.reading.specs.Reading.{body_answer, with_head, opened};
 
 use format::answers::or_else;
 use format::header::read_head;
-use format::{Head, HeadAnswer, Verdict};
-
-// A file's head, or what refuses the file.
-#[derive(Clone, Copy)]
-pub enum Opened {
-    Fine(Head),
-    Refused(Verdict),
-}
+use format::{Head, Verdict};
 
 // The head, where an answer refuses nothing.
-pub fn with_head(head: Head, first: Verdict) -> Opened
+pub fn with_head(head: Head, first: Verdict) -> Result<Head, Verdict>
     ensures { result ≡ with_head head first }
 {
     if first.number == 0 {
-        return Opened::Fine(head);
+        return Ok(head);
     }
-    Opened::Refused(first)
+    Err(first)
 }
 
 // What follows the head: the first of the refusals 6 to 8.
@@ -38,12 +31,11 @@ fn body(file: &[u8], head: Head) -> Verdict
 }
 
 // The one way to a head: 1 to 8 refuse nothing, or the first of them does.
-pub fn open(file: &[u8]) -> Opened
+pub fn open(file: &[u8]) -> Result<Head, Verdict>
     ensures { result ≡ opened file.now }
 {
-    let answer = read_head(file);
-    match answer {
-        HeadAnswer::Refused(number) => Opened::Refused(Verdict { number, place: 0 }),
-        HeadAnswer::Fine(head) => with_head(head, body(file, head)),
+    match read_head(file) {
+        Err(number) => Err(Verdict { number, place: 0 }),
+        Ok(head) => with_head(head, body(file, head)),
     }
 }

@@ -16,8 +16,7 @@ use Rattle.tables.specs.Records.{records_answer}
 use Rattle.trees.specs.Shape.{shape_answer}
 use Rattle.reading.specs.Reading.{body_answer, reading_by, reading}
 use Rattle.format.specs.declared.Head.{Head}
-use Rattle.format.specs.declared.HeadAnswer.{HeadAnswer}
-use Rattle.format.specs.declared.HeadAnswer.TheVariants.{Fine, Refused}
+use Rattle.std.specs.Prelude.{Result, Ok, Err}
 use Rattle.format.proofs.BoolLaws.{eq_iff}
 use Rattle.format.proofs.HeadLaws.{juniors_iff, IsVersion, version_iff, counts_iff, offsets_iff, laid_iff}
 use Rattle.reading_exact.specs.Order.{in_turn, First}
@@ -65,8 +64,8 @@ refuse k O Q low l o =
     (λ m q r. inl (omega (arith, l m q r, turn_of k low)))
 
 -- one stage of the head: the test is P, and its refusal objects that P does not hold
-stage : (f : List ℕ) (k : ℕ) (P : Type 0) (Q : ℕ → ℕ → Type 0) (b : Bool) (x : HeadAnswer) → k ≤ 5 → Later (suc k) Q → (b ≡ true) ↔ P → (P → First reading_order Q (reading_by f x))
-    → First reading_order (Both (OfHead k (P → ⊥)) Q) (reading_by f (cond b x (Refused k)))
+stage : (f : List ℕ) (k : ℕ) (P : Type 0) (Q : ℕ → ℕ → Type 0) (b : Bool) (x : Result Head ℕ) → k ≤ 5 → Later (suc k) Q → (b ≡ true) ↔ P → (P → First reading_order Q (reading_by f x))
+    → First reading_order (Both (OfHead k (P → ⊥)) Q) (reading_by f (cond b x (Err k)))
 stage f k P Q true x low l t go = let p = t.0 refl in first-none reading_order (OfHead k (P → ⊥)) Q (reading_by f x) (λ n q h. h.2 p) (go p)
 stage f k P Q false x low l t go = refuse k (P → ⊥) Q low l (λ p. false≢true (t.1 p))
 
@@ -115,7 +114,7 @@ module _ (f : List ℕ) where
 
   first5 : Counted (six_at g 1) → BackToBack (word_at g 0) (six_at g 1) (offsets_at g (word_at g 0)) → First reading_order From5 (reading_by f (from5 g))
   unfolding from5
-  first5 c b = stage f 5 _ (BadBody (head_at f) (contents_of f)) _ (Fine (head_at f)) (omega arith) (from_six (head_at f) (contents_of f)) (length_iff b)
+  first5 c b = stage f 5 _ (BadBody (head_at f) (contents_of f)) _ (Ok (head_at f)) (omega arith) (from_six (head_at f) (contents_of f)) (length_iff b)
       (λ e. body-first f (head_at f) ((laid_iff f (head_at f)).0 ((counts_iff (six_at g 1)).1 c, (offsets_iff (word_at g 0) (six_at g 1) (offsets_at g (word_at g 0))).1 b, eqb-true _ _ ((length_iff b).1 e))))
 
   first4 : Counted (six_at g 1) → First reading_order From4 (reading_by f (from4 g))
@@ -154,7 +153,7 @@ module _ (f : List ℕ) where
       none a b n p (_, _, inr e) = b e
 
       go : (a : Bool) → ltb (length g) (head_bytes (word_at g 0)) ≡ a → (b : Bool) → eqb (length g % 2) 1 ≡ b
-          → First reading_order From1 (reading_by f (cond a (Refused 1) (cond b (Refused 1) (from2 g))))
+          → First reading_order From1 (reading_by f (cond a (Err 1) (cond b (Err 1) (from2 g))))
       go true d b e = refuse 1 O From2 (omega arith) later2 (inl (short_iff.0 d))
       go false d true e = refuse 1 O From2 (omega arith) later2 (inr (eqb-true (length g % 2) 1 e))
       go false d false e =

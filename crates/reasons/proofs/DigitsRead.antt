@@ -1,54 +1,31 @@
 -- Where digits end, turn by turn.
-use Prim.Native.Nat.{ℕ, zero, suc, ◌+◌, ◌-◌, ◌*◌, ◌≤◌, ◌<◌}
+use Prim.Native.Nat.{ℕ, zero, suc, ◌+◌, ◌-◌, ◌*◌, ◌^◌, ◌≤◌, ◌<◌}
 use mathlib.Core.Path.{◌≡◌, refl, sym, ap, ◌∙◌}
-use mathlib.Core.Bool.{true, false, and-false}
+use mathlib.Core.Bool.{true, false, cond}
 use mathlib.Core.List.{List, [], ◌∷◌}
 use native.Mathlib.Omega.{arith}
 use native.Mathlib.Nat.{not-suc-le-zero}
-use lib.Dec.{leb}
-use lib.ListN.{length, drop, get_or, drop_of_length-le}
+use lib.ListN.{length, take, drop, get_or, drop_of_length-le}
 use lib.Seq.{drop-cons}
-use borrow.Author.Tests.{le-leb, lt-leb, leb-true}
 use Rattle.reasons.specs.Reasons.{digits_at, numeral, is_digit}
-use Rattle.phrases.proofs.PhraseLaws.{at_each, at_each_lem}
+use Rattle.std.specs.List.{prefix_len}
+use Rattle.std.specs.Char.{is_ascii_digit}
+use Rattle.std.proofs.Math.Numerals.{add-one, one-add}
+use Rattle.std.proofs.Math.Nat.{pow-le-pow_right, pow-succ'}
 
-digits_nil : (k : ℕ) → digits_at k [] ≡ 0
+-- how many the digits among the first k bytes are, from the start on
+pub digits_taken : (k : ℕ) (s : List ℕ) → prefix_len is_ascii_digit (take k s) ≡ digits_at k s
 unfolding digits_at
-digits_nil zero = refl
-digits_nil (suc k) = refl
+digits_taken zero s = refl
+digits_taken (suc k) [] = refl
+digits_taken (suc k) (c ∷ s) = ap (λ (n : ℕ). cond (is_digit c) n 0) (one-add (prefix_len is_ascii_digit (take k s)) ∙ ap suc (digits_taken k s))
 
-pub digits_past : (k i : ℕ) (s : List ℕ) → length s ≤ i → i ≡ i + digits_at k (drop i s)
-digits_past k i s h = omega (arith, ap (digits_at k) (drop_of_length-le s {i = i} h) ∙ digits_nil k)
-
-digits_other : (k c : ℕ) (s : List ℕ) → is_digit c ≡ false → digits_at k (c ∷ s) ≡ 0
-unfolding digits_at
-digits_other zero c s h = refl
-digits_other (suc k) c s h = rw h refl
-
-pub digits-stop : (k i : ℕ) (s : List ℕ) → i < length s → is_digit (get_or s i 0) ≡ false → i ≡ i + digits_at k (drop i s)
-digits-stop k i s l h = omega (arith, ap (digits_at k) (drop-cons s i 0 l) ∙ digits_other k (get_or s i 0) (drop (suc i) s) h)
-
-pub low : (c : ℕ) → c < 48 → is_digit c ≡ false
-low c h = rw (lt-leb 48 c h) refl
-
-pub high : (c : ℕ) → 57 < c → is_digit c ≡ false
-high c h = rw (lt-leb c 57 h) (and-false (leb 48 c))
-
-pub digits_turn : (k i : ℕ) (s : List ℕ) → 0 < k → i < length s → 48 ≤ get_or s i 0 → get_or s i 0 ≤ 57
-    → (i + 1) + digits_at (k - 1) (drop (i + 1) s) ≡ i + digits_at k (drop i s)
-unfolding digits_at
-digits_turn zero i s p l a b = absurd (not-suc-le-zero p)
-digits_turn (suc k) i s p l a b =
-    let less : digits_at (suc k - 1) (drop (i + 1) s) ≡ digits_at k (drop (suc i) s) =
-    ap (λ (n : ℕ). digits_at n (drop (i + 1) s)) (let e : suc k - 1 ≡ k = omega arith in e)
-    ∙ ap (λ (n : ℕ). digits_at k (drop n s)) (let e : i + 1 ≡ suc i = omega arith in e) in
-    let one : digits_at (suc k) (drop i s) ≡ suc (digits_at k (drop (suc i) s)) =
-    ap (digits_at (suc k)) (drop-cons s i 0 l) ∙ rw (le-leb 48 (get_or s i 0) a, le-leb (get_or s i 0) 57 b) refl in
-    omega (arith, less, one)
-
-pub digits_none : (k i : ℕ) (s : List ℕ) → k ≡ 0 → i ≡ i + digits_at k (drop i s)
-unfolding digits_at
-digits_none k i s e = let none : digits_at k (drop i s) ≡ 0 = ap (λ (n : ℕ). digits_at n (drop i s)) e in omega (arith, none)
+-- what the first k bytes say is what all say
+pub numeral_taken : (k a : ℕ) (s : List ℕ) → numeral k a (take k s) ≡ numeral k a s
+unfolding numeral
+numeral_taken zero a s = refl
+numeral_taken (suc k) a [] = refl
+numeral_taken (suc k) a (c ∷ s) = ap (λ (n : ℕ). cond (is_digit c) n a) (numeral_taken k (10 * a + (c - 48)) s)
 
 numeral_nil : (k a : ℕ) → numeral k a [] ≡ a
 unfolding numeral
@@ -66,42 +43,18 @@ numeral_other (suc k) a c s h = rw h refl
 pub numeral_no : (k a i : ℕ) (s : List ℕ) → i < length s → is_digit (get_or s i 0) ≡ false → a ≡ numeral k a (drop i s)
 numeral_no k a i s l h = sym (ap (numeral k a) (drop-cons s i 0 l) ∙ numeral_other k a (get_or s i 0) (drop (suc i) s) h)
 
-pub numeral_turn : (k a i : ℕ) (s : List ℕ) → 0 < k → i < length s → 48 ≤ get_or s i 0 → get_or s i 0 ≤ 57
+pub numeral_turn : (k a i : ℕ) (s : List ℕ) → 0 < k → i < length s → is_digit (get_or s i 0) ≡ true
     → numeral (k - 1) (10 * a + (get_or s i 0 - 48)) (drop (i + 1) s) ≡ numeral k a (drop i s)
 unfolding numeral
-numeral_turn zero a i s p l x y = absurd (not-suc-le-zero p)
-numeral_turn (suc k) a i s p l x y =
+numeral_turn zero a i s p l h = absurd (not-suc-le-zero p)
+numeral_turn (suc k) a i s p l h =
     ap (λ (n : ℕ). numeral n (10 * a + (get_or s i 0 - 48)) (drop (i + 1) s)) (let e : suc k - 1 ≡ k = omega arith in e)
     ∙ ap (λ (n : ℕ). numeral k (10 * a + (get_or s i 0 - 48)) (drop n s)) (let e : i + 1 ≡ suc i = omega arith in e)
-    ∙ sym (ap (numeral (suc k) a) (drop-cons s i 0 l) ∙ rw (le-leb 48 (get_or s i 0) x, le-leb (get_or s i 0) 57 y) refl)
+    ∙ sym (ap (numeral (suc k) a) (drop-cons s i 0 l) ∙ rw h refl)
 
-pub numeral_none : (k a i : ℕ) (s : List ℕ) → k ≡ 0 → a ≡ numeral k a (drop i s)
-unfolding numeral
-numeral_none k a i s e = sym (ap (λ (n : ℕ). numeral n a (drop i s)) e)
+-- what so many digits can say at most
+pub below_more : (a i d : ℕ) → a < 10 ^ i → d < 10 → 10 * a + d < 10 ^ (i + 1)
+below_more a i d l m = let e : 10 ^ (i + 1) ≡ 10 * 10 ^ i = ap (λ (n : ℕ). 10 ^ n) (add-one i) ∙ pow-succ' 10 i in omega (arith, l, m, e)
 
--- the most that the digits read so far can say, with k left
-unfoldable pub cap : ℕ → ℕ
-cap k = get_or (99999 ∷ 9999 ∷ 999 ∷ 99 ∷ 9 ∷ 0 ∷ []) k 0
-
-caps : at_each (λ k. leb (10 * cap (k + 1) + 9) (cap k)) 5 ≡ true
-unfolding at_each cap
-caps = refl
-
-tops : at_each (λ k. leb (cap k) 99999) 6 ≡ true
-unfolding at_each cap
-tops = refl
-
-pub cap_five : cap 5 ≡ 0
-unfolding cap
-cap_five = refl
-
-pub cap_top : (k : ℕ) → k ≤ 5 → cap k ≤ 99999
-cap_top k h = leb-true (cap k) 99999 (at_each_lem (λ k. leb (cap k) 99999) 6 tops k (omega (arith, h)))
-
-pub cap_turn : (k : ℕ) → 0 < k → k ≤ 5 → 10 * cap k + 9 ≤ cap (k - 1)
-cap_turn zero p h = absurd (not-suc-le-zero p)
-cap_turn (suc k) p h =
-    let x : 10 * cap (k + 1) + 9 ≤ cap k = leb-true (10 * cap (k + 1) + 9) (cap k) (at_each_lem (λ k. leb (10 * cap (k + 1) + 9) (cap k)) 5 caps k (omega (arith, h))) in
-    let d : cap (k + 1) ≡ cap (suc k) = ap cap (let e : k + 1 ≡ suc k = omega arith in e) in
-    let f : cap (suc k - 1) ≡ cap k = ap cap (let e : suc k - 1 ≡ k = omega arith in e) in
-    omega (arith, x, d, f)
+pub below_five : (a i : ℕ) → i ≤ 5 → a < 10 ^ i → a ≤ 99999
+below_five a i h l = omega (arith, l, pow-le-pow_right {n = 10} (omega arith) h)

@@ -1,5 +1,7 @@
 // A place's digits, written and read.
-ghost use Rattle.std.specs.Prelude.{◌≡◌, ◌+◌, ◌<◌, ◌≤◌, length, drop};
+ghost use Rattle.std.specs.Prelude.{◌≡◌, ◌+◌, ◌<◌, ◌≤◌, length, take, drop};
+ghost use Rattle.std.specs.Char.{is_ascii_digit};
+ghost use Rattle.std.specs.List.{prefix_len};
 ghost use Rattle.phrases.specs.Phrases.{put_into};
 ghost use Rattle.reasons.specs.Reasons.{digits_of, last_digit, digits_at, numeral};
 
@@ -11,7 +13,7 @@ fn put_digit(n: u16, out: &mut [u8], at: usize) -> usize
     if n == 0 {
         return at;
     }
-    out[at] = 48 + (n % 10) as u8;
+    out[at] = b'0' + (n % 10) as u8;
     at + 1
 }
 
@@ -30,48 +32,41 @@ pub fn put_digits(n: u16, out: &mut [u8], at: usize) -> usize
     put_digit(n, &mut *out, d)
 }
 
+// At most five bytes from a place.
+fn five_from(s: &[u8], at: usize) -> &[u8]
+    ensures part { result.now ≡ take 5 (drop at s.now) }
+    ensures few { length result.now ≤ 5 }
+{
+    let rest = &s[at.min(s.len())..];
+    &rest[..rest.len().min(5)]
+}
+
+// How many digits are at the start.
+fn leading_digits(s: &[u8]) -> usize
+    ensures value { result ≡ prefix_len is_ascii_digit s.now }
+    ensures within { result ≤ length s.now }
+{
+    s.iter().take_while(|b| b.is_ascii_digit()).count()
+}
+
 // Where at most five digits from a place end.
 pub fn digits_end(s: &[u8], at: usize) -> usize
     ensures { result ≡ at + digits_at 5 (drop at s.now) }
 {
-    let mut left: usize = 5;
-    let mut i: usize = at;
-    while left > 0 {
-        if i >= s.len() {
-            return i;
-        }
-        if s[i] < 48 {
-            return i;
-        }
-        if s[i] > 57 {
-            return i;
-        }
-        i += 1;
-        left -= 1;
-    }
-    i
+    at + leading_digits(five_from(s, at))
 }
 
 // The number that at most five digits from a place say.
 pub fn numeral_at(s: &[u8], at: usize) -> usize
     ensures { (result ≡ numeral 5 0 (drop at s.now)) × (result ≤ 99999) }
 {
-    let mut left: usize = 5;
-    let mut i: usize = at;
+    let next = five_from(s, at);
     let mut a: usize = 0;
-    while left > 0 {
-        if i >= s.len() {
+    for b in next {
+        if !b.is_ascii_digit() {
             return a;
         }
-        if s[i] < 48 {
-            return a;
-        }
-        if s[i] > 57 {
-            return a;
-        }
-        a = 10 * a + (s[i] - 48) as usize;
-        i += 1;
-        left -= 1;
+        a = 10 * a + usize::from(*b - b'0');
     }
     a
 }

@@ -8,7 +8,7 @@ ghost use Rattle.phrases.specs.Phrases.{put_into, all_text, all_starts};
 ghost use Rattle.reasons.specs.Reasons.{by_none, by_node, by_choice, may_count, at_node, is_reason, reason_of, sentence, is_sentence, no_reason, understood, reason_length, reason_over, has_meaning, meaning_length, meaning_over};
 
 use digits::{digits_end, numeral_at, put_digits};
-use phrases::{phrase_at, phrase_length, phrase_starts, phrase_text, put_phrase, stands};
+use phrases::{phrase_at, phrase_length, phrase_starts, phrase_text, put_phrase};
 
 // A refusal's number, what its place counts (0 none, 1 word, 2 session, 3 node, 4 choice, 5 row, 6 notice), the place, and the tag of the node there, 9 where none belongs.
 #[repr(C)]
@@ -66,9 +66,15 @@ fn at_node(n: u16, c: u16) -> bool
 }
 
 // Whether four numbers are a reason.
-fn is_reason(n: u16, c: u16, p: u16, t: u16) -> bool
-    ensures { result ≡ is_reason (reason_of n c p t) }
+fn is_reason(r: Reason) -> bool
+    ensures { result ≡ is_reason r }
 {
+    let Reason {
+        number: n,
+        counts: c,
+        place: p,
+        tag: t,
+    } = r;
     let node = at_node(n, c);
     may_count(n, c)
         & ((c == 0) & (p == 0) | (0 < c) & (0 < p))
@@ -76,22 +82,14 @@ fn is_reason(n: u16, c: u16, p: u16, t: u16) -> bool
 }
 
 // The sentence of a reason at the start of an output; its length.
-fn put_sentence(
-    text: &[u8],
-    starts: &[u16],
-    n: u16,
-    c: u16,
-    p: u16,
-    t: u16,
-    out: &mut [u8],
-) -> usize
-    requires { (text.now ≡ all_text) × (starts.now ≡ all_starts) × (is_reason (reason_of n c p t) ≡ true) × (120 ≤ length out.old) }
-    ensures { (result ≡ length (sentence (reason_of n c p t))) × (out.new ≡ put_into out.old 0 (sentence (reason_of n c p t))) }
+fn put_sentence(text: &[u8], starts: &[u16], r: Reason, out: &mut [u8]) -> usize
+    requires { (text.now ≡ all_text) × (starts.now ≡ all_starts) × (is_reason r ≡ true) × (120 ≤ length out.old) }
+    ensures { (result ≡ length (sentence r)) × (out.new ≡ put_into out.old 0 (sentence r)) }
 {
-    let a = put_phrase(text, starts, MEANINGS + n as usize, &mut *out, 0);
-    let b = put_phrase(text, starts, COUNTS + c as usize, &mut *out, a);
-    let d = put_digits(p, &mut *out, b);
-    put_phrase(text, starts, t as usize, &mut *out, d)
+    let a = put_phrase(text, starts, MEANINGS + usize::from(r.number), &mut *out, 0);
+    let b = put_phrase(text, starts, COUNTS + usize::from(r.counts), &mut *out, a);
+    let d = put_digits(r.place, &mut *out, b);
+    put_phrase(text, starts, usize::from(r.tag), &mut *out, d)
 }
 
 // The sentence of a reason: its length; 0, and nothing is written, for four numbers that are none and for an output under 120 bytes.
@@ -102,12 +100,18 @@ pub fn write_reason(number: u16, counts: u16, place: u16, tag: u16, out: &mut [u
     if out.len() < 120 {
         return 0;
     }
-    if !is_reason(number, counts, place, tag) {
+    let r = Reason {
+        number,
+        counts,
+        place,
+        tag,
+    };
+    if !is_reason(r) {
         return 0;
     }
     let text = phrase_text();
     let starts = phrase_starts();
-    put_sentence(&text, &starts, number, counts, place, tag, &mut *out) as u16
+    put_sentence(&text, &starts, r, &mut *out) as u16
 }
 
 fn has_meaning(n: u16) -> bool
@@ -128,33 +132,20 @@ pub fn write_meaning(number: u16, out: &mut [u8]) -> u16
     }
     let text = phrase_text();
     let starts = phrase_starts();
-    put_phrase(&text, &starts, MEANINGS + number as usize, &mut *out, 0) as u16
+    put_phrase(&text, &starts, MEANINGS + usize::from(number), &mut *out, 0) as u16
 }
 
 // Whether bytes are the sentence of a reason.
-fn is_sentence(text: &[u8], starts: &[u16], n: u16, c: u16, p: u16, t: u16, s: &[u8]) -> bool
+fn is_sentence(text: &[u8], starts: &[u16], r: Reason, s: &[u8]) -> bool
     requires { (text.now ≡ all_text) × (starts.now ≡ all_starts) }
-    ensures { result ≡ is_sentence (reason_of n c p t) s.now }
+    ensures { result ≡ is_sentence r s.now }
 {
-    if !is_reason(n, c, p, t) {
+    if !is_reason(r) {
         return false;
     }
     let mut out = [0u8; 120];
-    let k = put_sentence(text, starts, n, c, p, t, &mut out);
-    if k != s.len() {
-        return false;
-    }
-    stands(&out, 0, k, s, 0)
-}
-
-// A difference, 0 below.
-fn less(a: usize, b: usize) -> usize
-    ensures { result ≡ a - b }
-{
-    if a < b {
-        return 0;
-    }
-    a - b
+    let k = put_sentence(text, starts, r, &mut out);
+    &out[..k] == s
 }
 
 fn no_reason() -> Reason
@@ -169,19 +160,15 @@ fn no_reason() -> Reason
 }
 
 // The reason that was guessed, if the bytes are its sentence.
-fn confirmed(text: &[u8], starts: &[u16], n: u16, c: u16, p: u16, t: u16, s: &[u8]) -> Reason
+fn confirmed(text: &[u8], starts: &[u16], r: Reason, s: &[u8]) -> Reason
     requires { (text.now ≡ all_text) × (starts.now ≡ all_starts) }
-    ensures { result ≡ cond (is_sentence (reason_of n c p t) s.now) (reason_of n c p t) no_reason }
+    ensures { result ≡ cond (is_sentence r s.now) r no_reason }
 {
-    if is_sentence(text, starts, n, c, p, t, s) {
-        return Reason {
-            number: n,
-            counts: c,
-            place: p,
-            tag: t,
-        };
+    if is_sentence(text, starts, r, s) {
+        r
+    } else {
+        no_reason()
     }
-    no_reason()
 }
 
 fn read_by(text: &[u8], starts: &[u16], s: &[u8]) -> Reason
@@ -197,15 +184,13 @@ fn read_by(text: &[u8], starts: &[u16], s: &[u8]) -> Reason
     if p > 65535 {
         return no_reason();
     }
-    confirmed(
-        text,
-        starts,
-        less(m, MEANINGS) as u16,
-        less(c, COUNTS) as u16,
-        p as u16,
-        t as u16,
-        s,
-    )
+    let guess = Reason {
+        number: m.saturating_sub(MEANINGS) as u16,
+        counts: c.saturating_sub(COUNTS) as u16,
+        place: p as u16,
+        tag: t as u16,
+    };
+    confirmed(text, starts, guess, s)
 }
 
 // What a sentence says; all 0 for other bytes.

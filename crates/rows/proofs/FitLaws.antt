@@ -1,8 +1,8 @@
 -- A row fits exactly if the test says so.
 use Prim.Native.Nat.{ℕ, zero, suc, ◌+◌, ◌*◌, ◌-◌, ◌≤◌, ◌<◌}
-use mathlib.Core.Path.{◌≡◌, refl, sym, ap, ap₂, ◌∙◌}
+use mathlib.Core.Path.{◌≡◌, refl, sym, ap, ◌∙◌}
 use mathlib.Core.Logic.{◌↔◌}
-use mathlib.Core.Bool.{Bool, true, false, ◌&&◌, and-eq-true_iff}
+use mathlib.Core.Bool.{Bool, true, ◌&&◌, and-eq-true_iff}
 use mathlib.Core.List.{List}
 use native.Mathlib.Omega.{arith}
 use lib.Dec.{leb}
@@ -13,13 +13,13 @@ use Rattle.rows.specs.Fits.{lines_fit, front_fits, row_fits}
 
 module _ (s : List ℕ) where
   -- one line more
-  pub line_more : (on roles r n : ℕ) → r < roles → n ≡ get_or s on 0 → (b : Bool) → b ≡ (leb (on + 1 + n) (length s) && leb n 32)
-      → lines_fit s on (roles - r) ≡ (b && lines_fit s (on + 1 + n) (roles - (r + 1)))
+  pub line_more : (on roles r n : ℕ) → r < roles → n ≡ get_or s on 0
+      → lines_fit s on (roles - r) ≡ ((leb (on + 1 + n) (length s) && leb n 32) && lines_fit s (on + 1 + n) (roles - (r + 1)))
   unfolding lines_fit
-  line_more on roles r n lt is b e =
+  line_more on roles r n lt is =
       let some : roles - r ≡ suc (roles - (r + 1)) = omega (arith, lt) in
       ap (lines_fit s on) some
-      ∙ sym (ap₂ (λ (x : Bool) (m : ℕ). x && lines_fit s (on + 1 + m) (roles - (r + 1))) (e ∙ ap (λ (m : ℕ). leb (on + 1 + m) (length s) && leb m 32) is) is)
+      ∙ sym (ap (λ (m : ℕ). (leb (on + 1 + m) (length s) && leb m 32) && lines_fit s (on + 1 + m) (roles - (r + 1))) is)
 
   pub lines_over : (on roles r : ℕ) → roles ≤ r → true ≡ lines_fit s on (roles - r)
   unfolding lines_fit

@@ -7,7 +7,7 @@ use mathlib.Core.List.{List, [], ◌∷◌, ◌++◌}
 use native.Mathlib.Omega.{arith}
 use lib.Dec.{eqb, ltb}
 use lib.ListN.{length, get_or, set, take, drop, length-drop, get_or-append}
-use lib.Seq.{paste, paste-suc, length-paste, length_paste_head, drop-paste, length-take-le, get_or-take, get_or-drop, get_or-append-add, get_or-set_same, get_or-set_other, ext_get_or}
+use lib.Seq.{paste, length-paste, length_paste_head, drop-paste, length-take-le, get_or-take, get_or-drop, get_or-append-add, get_or-set_same, get_or-set_other, ext_get_or}
 use borrow.Author.Count.{below_more}
 use borrow.Author.Tests.{eqb-true, eqb-false, ltb-true, ltb-false}
 use Rattle.format.specs.Contents.{in_count}
@@ -20,15 +20,6 @@ use Rattle.choices.proofs.StateLaws.{threads_add}
 use Rattle.seating.specs.SeatTables.{line_row, LineRows}
 use Rattle.seated.specs.SeatedTables.{lines_in}
 use Rattle.rows.specs.Rows.{row_thread, row_threads, row_lines, threads_from, owners_from, lines_from, lines_at, NoLines, LinesFit, RowFits, Loaded}
-
--- one word more
-module _ (l m s : List ℕ) (to at n k : ℕ) (lt : k < n) (from : at + n ≤ length s) (fits : to + n ≤ length l) where
-  pub paste_more : m ≡ paste l to (drop at s) k → set m (to + k) (get_or s (at + k) 0) ≡ paste l to (drop at s) (k + 1)
-  paste_more e =
-      let more : suc k ≡ k + 1 = omega arith in
-      ap₂ (λ (x : List ℕ) (v : ℕ). set x (to + k) v) e (sym (get_or-drop at s k 0))
-      ∙ paste-suc l to (drop at s) k 0 (omega (arith, lt, fits)) (omega (arith, lt, from, length-drop at s))
-      ∙ ap (paste l to (drop at s)) more
 
 pub paste_long : (l m s : List ℕ) (to at k : ℕ) → at + k ≤ length s → to + k ≤ length l → m ≡ paste l to (drop at s) k → length m ≡ length l
 paste_long l m s to at k from fits e = ap length e ∙ length-paste l to (drop at s) k fits (omega (arith, from, length-drop at s))

@@ -12,13 +12,12 @@ use Rattle.steps.specs.declared.Thread.{Thread}
 use Rattle.steps.specs.declared.Made.{Made}
 use Rattle.steps.specs.Beside.{made_at, made_in, made_words}
 use Rattle.masks.specs.Mask.{held}
-use Rattle.steps.specs.Choice.{State}
 use Rattle.running.specs.Run.{thread_words}
 use Rattle.running.proofs.PutLaws.{made_words_length}
 use Rattle.running_exact.proofs.OutputWords.{Eight}
 use Rattle.seating.proofs.RowLaws.{take_at}
 use Rattle.seats.specs.Seats.{SeatedState}
-use Rattle.rows.specs.Rows.{line_words, row_words, stands_at, row_thread, row_threads, row_lines, threads_from, owners_from, lines_from, state_at, lines_at, seated_at, LinesFit, RowFits}
+use Rattle.rows.specs.Rows.{line_words, row_words, stands_at, row_thread, row_threads, row_lines, threads_from, owners_from, lines_from, lines_at, seated_at, LinesFit, RowFits}
 use Rattle.rows.proofs.StandLaws.{stands_append}
 
 -- what a state needs to be read again: eight variables a thread, and lines of no other roles

@@ -1,21 +1,20 @@
 -- Words that stand in a table of states from a place on.
 use Prim.Native.Nat.{ℕ, zero, suc, ◌+◌, ◌*◌, ◌-◌, ◌≤◌, ◌<◌}
-use mathlib.Core.Path.{◌≡◌, refl, sym, ap, ap₂, ◌∙◌, subst}
-use mathlib.Core.Bool.{Bool, true, false, cond, not, ◌&&◌, and-eq-true_iff}
+use mathlib.Core.Path.{◌≡◌, refl, sym, ap, ap₂, ◌∙◌}
+use mathlib.Core.Bool.{Bool, true, false, not, ◌&&◌}
 use mathlib.Core.List.{List, [], ◌∷◌, ◌++◌}
 use native.Mathlib.Omega.{arith}
 use native.Mathlib.Numerals.{add-one}
 use lib.Dec.{eqb, ltb}
-use lib.ListN.{length, get_or, take, drop, length-drop}
-use lib.Seq.{length-take-le, drop-cons, take_all}
-use borrow.Author.Tests.{eqb-true, eq-eqb, ne_eqb, ltb-true, lt-ltb, le-ltb}
+use Rattle.std.specs.List.{starts_with}
+use lib.ListN.{length, get_or, take, drop, length-drop, drop_of_length-le}
+use lib.Seq.{length-take-le, drop-cons}
+use borrow.Author.Tests.{eqb-true, eqb-false, eq-eqb, ne_eqb, ltb-true, ltb-false}
 use Rattle.masks.specs.Mask.{held}
-use Rattle.format.specs.Contents.{in_count}
 use Rattle.format.proofs.ContentsLaws.{in_count_iff}
 use Rattle.steps.specs.declared.Thread.{Thread}
-use Rattle.steps.specs.declared.Made.{Made}
 use Rattle.steps.specs.Records.{thread_in, threads_in}
-use Rattle.steps.specs.Beside.{made_at, made_in, made_words, thread_count, made_count}
+use Rattle.steps.specs.Beside.{made_in, made_words, thread_count, made_count}
 use Rattle.steps.specs.Kept.{Sized}
 use Rattle.steps.proofs.TableLaws.{threads_length, eight}
 use Rattle.running.specs.Run.{thread_words}
@@ -32,6 +31,13 @@ pub not-false : (b : Bool) → not b ≡ false → b ≡ true
 not-false true e = refl
 not-false false e = sym e
 
+eqb_comm : (a b : ℕ) → eqb a b ≡ eqb b a
+eqb_comm a b = go (eqb a b) refl
+  where
+    go : (x : Bool) → eqb a b ≡ x → x ≡ eqb b a
+    go true e = sym (eq-eqb b a (sym (eqb-true a b e)))
+    go false e = sym (ne_eqb b a (λ q. eqb-false a b e (sym q)))
+
 module _ (s : List ℕ) where
   pub stands_append : (xs : List ℕ) (p : ℕ) (ys : List ℕ) → stands_at s p (xs ++ ys) ≡ stands_at s p xs && stands_at s (p + length xs) ys
   unfolding stands_at
@@ -46,52 +52,19 @@ module _ (s : List ℕ) where
           let e : p + 1 + length xs ≡ p + length (x ∷ xs) = omega arith in
           ih ∙ ap (λ (q : ℕ). stands_at s (p + 1) xs && stands_at s q ys) e
 
-  pub stands_next : (p w : ℕ) (ws : List ℕ) → p < length s → get_or s p 0 ≡ w → stands_at s p (w ∷ ws) ≡ stands_at s (p + 1) ws
+  -- what `starts_with` tests
+  pub starts_with-stands : (ws : List ℕ) (p : ℕ) → starts_with eqb (drop p s) ws ≡ stands_at s p ws
   unfolding stands_at
-  stands_next p w ws lt e = rw (lt-ltb p (length s) lt, eq-eqb (get_or s p 0) w e)
-
-  pub stands_short : (p w : ℕ) (ws : List ℕ) → length s ≤ p → stands_at s p (w ∷ ws) ≡ false
-  unfolding stands_at
-  stands_short p w ws le = rw (le-ltb p (length s) le)
-
-  pub stands_other : (p w : ℕ) (ws : List ℕ) → p < length s → (get_or s p 0 ≡ w → ⊥) → stands_at s p (w ∷ ws) ≡ false
-  unfolding stands_at
-  stands_other p w ws lt ne = rw (lt-ltb p (length s) lt, ne_eqb (get_or s p 0) w ne)
-
-  -- one word more of those of a table, from a place on
-  module _ (t : List ℕ) (at from n k : ℕ) (lt : k < n) (fits : from + n ≤ length t) where
-    words_on : take (n - k) (drop (from + k) t) ≡ get_or t (from + k) 0 ∷ take (n - (k + 1)) (drop (from + (k + 1)) t)
-    words_on =
-        let less : n - k - 1 ≡ n - (k + 1) = omega (arith, lt) in
-        let more : from + k + 1 ≡ from + (k + 1) = omega arith in
-        take_at t (n - k) (from + k) (omega (arith, lt)) (omega (arith, lt, fits))
-        ∙ ap₂ (λ (a b : ℕ). get_or t (from + k) 0 ∷ take a (drop b t)) less more
-
-    pub words_short : length s ≤ at + k → false ≡ stands_at s (at + k) (take (n - k) (drop (from + k) t))
-    words_short le = sym (ap (stands_at s (at + k)) words_on ∙ stands_short (at + k) (get_or t (from + k) 0) _ le)
-
-    pub words_other : at + k < length s → (get_or s (at + k) 0 ≡ get_or t (from + k) 0 → ⊥) → false ≡ stands_at s (at + k) (take (n - k) (drop (from + k) t))
-    words_other low ne = sym (ap (stands_at s (at + k)) words_on ∙ stands_other (at + k) (get_or t (from + k) 0) _ low ne)
-
-    pub words_same : at + k < length s → get_or s (at + k) 0 ≡ get_or t (from + k) 0
-        → stands_at s (at + k) (take (n - k) (drop (from + k) t)) ≡ stands_at s (at + (k + 1)) (take (n - (k + 1)) (drop (from + (k + 1)) t))
-    words_same low e =
-        let more : at + k + 1 ≡ at + (k + 1) = omega arith in
-        ap (stands_at s (at + k)) words_on ∙ stands_next (at + k) (get_or t (from + k) 0) _ low e
-        ∙ ap (λ (x : ℕ). stands_at s x (take (n - (k + 1)) (drop (from + (k + 1)) t))) more
-
-  pub words_begin : (t : List ℕ) (at from n : ℕ) → stands_at s at (take n (drop from t)) ≡ stands_at s (at + 0) (take (n - 0) (drop (from + 0) t))
-  words_begin t at from n =
-      let a : at ≡ at + 0 = omega arith in
-      let b : n ≡ n - 0 = omega arith in
-      let c : from ≡ from + 0 = omega arith in
-      ap₂ (λ (x : ℕ) (l : List ℕ). stands_at s x l) a (ap₂ (λ (y z : ℕ). take y (drop z t)) b c)
-
-  pub words_end : (t : List ℕ) (at from n k : ℕ) → n ≤ k → true ≡ stands_at s (at + k) (take (n - k) (drop (from + k) t))
-  unfolding stands_at
-  words_end t at from n k le =
-      let none : n - k ≡ 0 = omega (arith, le) in
-      sym (ap (λ (x : ℕ). stands_at s (at + k) (take x (drop (from + k) t))) none)
+  starts_with-stands [] p = refl
+  starts_with-stands (w ∷ ws) p = go (ltb p (length s)) refl (starts_with-stands ws (p + 1))
+    where
+      go : (b : Bool) → ltb p (length s) ≡ b → starts_with eqb (drop (p + 1) s) ws ≡ stands_at s (p + 1) ws
+          → starts_with eqb (drop p s) (w ∷ ws) ≡ b && (eqb (get_or s p 0) w && stands_at s (p + 1) ws)
+      go true e ih =
+          ap (λ (l : List ℕ). starts_with eqb l (w ∷ ws)) (drop-cons s p 0 (ltb-true p (length s) e))
+          ∙ ap₂ (λ (x y : Bool). x && y) (eqb_comm w (get_or s p 0))
+          (ap (λ (x : ℕ). starts_with eqb (drop x s) ws) (sym (add-one p)) ∙ ih)
+      go false e ih = ap (λ (l : List ℕ). starts_with eqb l (w ∷ ws)) (drop_of_length-le s (ltb-false p (length s) e))
 
   -- the twelve words of a thread of a table, and those of the threads after it
   threads_on : (w : List ℕ) (p q k : ℕ) → stands_at s p (thread_words (threads_in w q (suc k))) ≡ stands_at s p (thread_words (thread_in w q ∷ [])) && stands_at s (p + 12) (thread_words (threads_in w (q + 12) k))

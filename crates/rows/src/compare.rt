@@ -8,7 +8,6 @@ ghost use Rattle.seated.specs.SeatedTables.{lines_in, seated_in};
 ghost use Rattle.rows.specs.Rows.{line_words, row_words, stands_at};
 
 use super::words::same_words;
-use format::words::wide;
 use masks::role_count;
 use steps::Thread;
 use steps::beside::{made_count, thread_count};
@@ -19,6 +18,7 @@ fn same_thread(states: &[u16], at: usize, it: Thread) -> bool
     requires { at < 8589934592 }
     ensures { result ≡ stands_at states.now at (thread_words (it ∷ [])) }
 {
+    // One array: `same_words` for the variables alone, four words on, would ask more of `at`.
     let vars = it.vars;
     let words = [
         it.user,
@@ -41,12 +41,10 @@ fn same_threads(states: &[u16], at: usize, threads: &[u16], n: usize) -> bool
     requires { (at < 8589933000) × (n ≤ 64) × (length threads.now ≡ thread_table_words) }
     ensures { result ≡ stands_at states.now at (thread_words (threads_in threads.now 0 n)) }
 {
-    let mut k: usize = 0;
-    while k < n {
+    for k in 0..n {
         if !same_thread(states, at + 12 * k, thread_at(threads, k)) {
             return false;
         }
-        k += 1;
     }
     true
 }
@@ -57,14 +55,12 @@ fn same_lines(states: &[u16], at: usize, lines: &[u16], roles: usize) -> bool
     ensures { result ≡ stands_at states.now at (line_words (lines_in lines.now) 1 roles) }
 {
     let mut on = at;
-    let mut r: usize = 0;
-    while r < roles {
-        let n = wide(lines[33 * r]) + 1;
+    for r in 0..roles {
+        let n = usize::from(lines[33 * r]) + 1;
         if !same_words(states, on, lines, 33 * r, n) {
             return false;
         }
         on += n;
-        r += 1;
     }
     true
 }
@@ -84,8 +80,8 @@ pub fn same_row(
         (row_words roles (seated_in threads.now beside.now owners.now
         lines.now)) }
 {
-    let used = 2 + 2 * wide(made_count(beside));
-    let n = wide(thread_count(beside));
+    let used = 2 + 2 * usize::from(made_count(beside));
+    let n = usize::from(thread_count(beside));
     if !same_words(states, at, beside, 0, used) {
         return false;
     }

@@ -7,7 +7,6 @@ ghost use Rattle.seated.specs.SeatedTables.{lines_in};
 ghost use Rattle.rows.specs.Rows.{row_thread, row_threads, row_lines, NoLines, LinesFit, RowFits, Loaded};
 
 use super::words::copy_words;
-use format::words::wide;
 use steps::Thread;
 use steps::records::put_thread;
 
@@ -15,20 +14,13 @@ fn thread_from(states: &[u16], at: usize) -> Thread
     requires { at + 12 ≤ length states.now }
     ensures { result ≡ row_thread states.now at }
 {
+    let mut vars = [0u16; 8];
+    vars.copy_from_slice(&states[at + 4..at + 12]);
     Thread {
         user: states[at],
         node: states[at + 1],
         mask: states[at + 2],
-        vars: [
-            states[at + 4],
-            states[at + 5],
-            states[at + 6],
-            states[at + 7],
-            states[at + 8],
-            states[at + 9],
-            states[at + 10],
-            states[at + 11],
-        ],
+        vars,
     }
 }
 
@@ -37,10 +29,8 @@ fn load_threads(states: &[u16], at: usize, threads: &mut [u16], n: usize)
     ensures { (threads_in threads.new 0 n ≡ row_threads states.now at n) × (length
         threads.new ≡ thread_table_words) }
 {
-    let mut k: usize = 0;
-    while k < n {
+    for k in 0..n {
         put_thread(threads, k, thread_from(states, at + 12 * k));
-        k += 1;
     }
 }
 
@@ -49,10 +39,8 @@ fn clear_lines(lines: &mut [u16])
     requires { length lines.old ≡ 528 }
     ensures { (length lines.new ≡ 528) × NoLines lines.new 0 }
 {
-    let mut r: usize = 0;
-    while r < 16 {
+    for r in 0..16 {
         lines[33 * r] = 0;
-        r += 1;
     }
 }
 
@@ -63,12 +51,10 @@ fn load_lines(states: &[u16], at: usize, lines: &mut [u16], roles: usize)
 {
     clear_lines(lines);
     let mut on = at;
-    let mut r: usize = 0;
-    while r < roles {
-        let n = wide(states[on]) + 1;
+    for r in 0..roles {
+        let n = usize::from(states[on]) + 1;
         copy_words(states, on, lines, 33 * r, n);
         on += n;
-        r += 1;
     }
 }
 
@@ -87,8 +73,8 @@ pub fn load_row(
     ensures { Loaded roles states.now at threads.new beside.new
         owners.new lines.new }
 {
-    let n = wide(states[at]);
-    let used = 2 + 2 * wide(states[at + 1]);
+    let n = usize::from(states[at]);
+    let used = 2 + 2 * usize::from(states[at + 1]);
     copy_words(states, at, beside, 0, used);
     load_threads(states, at + used, threads, n);
     copy_words(states, at + used + 12 * n, owners, 0, n);

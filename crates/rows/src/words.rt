@@ -8,17 +8,7 @@ pub fn same_words(states: &[u16], at: usize, table: &[u16], from: usize, n: usiz
     requires { (from + n ≤ length table.now) × (at < 8589934592) }
     ensures { result ≡ stands_at states.now at (take n (drop from table.now)) }
 {
-    let mut k: usize = 0;
-    while k < n {
-        if states.len() <= at + k {
-            return false;
-        }
-        if states[at + k] != table[from + k] {
-            return false;
-        }
-        k += 1;
-    }
-    true
+    states[at.min(states.len())..].starts_with(&table[from..from + n])
 }
 
 // So many words of the states, from a place on, put into a table from another on.
@@ -26,19 +16,12 @@ pub fn copy_words(states: &[u16], at: usize, table: &mut [u16], to: usize, n: us
     requires { (at + n ≤ length states.now) × (to + n ≤ length table.old) }
     ensures { table.new ≡ paste table.old to (drop at states.now) n }
 {
-    let mut k: usize = 0;
-    while k < n {
-        table[to + k] = states[at + k];
-        k += 1;
-    }
+    table[to..to + n].copy_from_slice(&states[at..at + n]);
 }
 
 // A word of a table, 0 past its end.
 pub fn word_at(table: &[u16], at: usize) -> u16
     ensures { result ≡ get_or table.now at 0 }
 {
-    if at < table.len() {
-        return table[at];
-    }
-    0
+    table.get(at).copied().unwrap_or(0)
 }

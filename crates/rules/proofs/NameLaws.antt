@@ -1,14 +1,17 @@
 -- Operands: the table of names, and the variables kept in it.
 use Prim.Native.Nat.{ℕ, zero, suc, ◌+◌, ◌-◌, ◌≤◌, ◌<◌}
-use mathlib.Core.Path.{◌≡◌, refl, sym, ap, ◌∙◌}
+use mathlib.Core.Path.{◌≡◌, refl, sym, ap, subst, ◌∙◌}
 use mathlib.Core.Bool.{Bool, true, false, not, ◌&&◌, ◌||◌, and-eq-true_iff, false≢true}
 use mathlib.Core.List.{List, [], ◌∷◌, ◌++◌, map, map-append}
 use native.Mathlib.Omega.{arith}
 use native.Mathlib.Numerals.{add-one}
-use lib.ListN.{length, get_or, take, drop, set, replicate, length-map, length-drop, get_or-map}
-use lib.Seq.{length-take-le, take-set-le, take-suc-set, get_or-take, get_or-drop, drop-set-add, get_or-set_same, get_or-set_other}
+use lib.ListN.{length, get_or, take, drop, set, replicate, length-map, length-drop, length-replicate, get_or-map}
+use lib.Seq.{paste, length-take-le, take-set-le, take-suc-set, get_or-take, get_or-drop, drop-set-add, get_or-set_same, get_or-set_other}
 use lib.Dec.{eqb, leb, ltb}
 use borrow.Author.Tests.{ltb-true, ltb-false, leb-true, lt-ltb, le-ltb, le-leb, eqb-true, eqb-false, eq-eqb, ne_eqb}
+use borrow.Rule.Slice.PartMut.{put_mid}
+use Rattle.std.proofs.lemmas.Slice.{put_mid-paste}
+use Rattle.std.proofs.lemmas.List.Edits.{paste_none, length-paste, fill_from_more}
 use Rattle.rules.specs.Schema.{Schema}
 use Rattle.rules.specs.Names.{unbound, is_user, is_channel, is_variable, named, kind_of, mine}
 use Rattle.rules.specs.Kept.{kind_in, owner_in, entry, is_named_channel, kind_to, owner_to, NameTable, variable, vars_of, look, something}
@@ -58,13 +61,13 @@ zeros zero x = refl
 zeros (suc m) zero = refl
 zeros (suc m) (suc x) = zeros m x
 
-pub named_none : (D : Schema) (t : List ℕ) → t ≡ replicate (length t) 0 → NameTable D 0 0 t
+named_none : (D : Schema) (t : List ℕ) → t ≡ replicate (length t) 0 → NameTable D 0 0 t
 named_none D t e x h =
     let z : get_or t x 0 ≡ 0 = ap (λ (l : List ℕ). get_or l x 0) e ∙ zeros (length t) x in
     rw (z, made_none x, outside 0 0 x (λ low high. omega (arith, low, high))) (refl, refl)
 
--- one user more, one channel more
-pub users_more : (D : Schema) (n m : ℕ) (t : List ℕ) → m ≡ n + 1 → m < length t → NameTable D n 0 t → NameTable D m 0 (set t m (entry 0 1))
+-- one user more, all users, one channel more
+users_more : (D : Schema) (n m : ℕ) (t : List ℕ) → m ≡ n + 1 → m < length t → NameTable D n 0 t → NameTable D m 0 (set t m (entry 0 1))
 users_more D n m t e long its x h = go (eqb x m) refl
   where
     go : (b : Bool) → eqb x m ≡ b → (kind_in (get_or (set t m (entry 0 1)) x 0) ≡ kind_to D 0 x) × (owner_in (get_or (set t m (entry 0 1)) x 0) ≡ owner_to D m 0 x)
@@ -75,6 +78,20 @@ users_more D n m t e long its x h = go (eqb x m) refl
     go false q =
         let other = eqb-false x m q in
         rw (get_or-set_other t m x (entry 0 1) 0 other, ← grown 0 n m x e other) (its x h)
+
+users_pasted : (D : Schema) (n : ℕ) (t : List ℕ) → t ≡ replicate (length t) 0 → n + 1 ≤ length t → NameTable D n 0 (paste t 1 (replicate n (entry 0 1)) n)
+users_pasted D zero t e h = subst (λ (l : List ℕ). NameTable D 0 0 l) (paste_none t 1 (replicate 0 (entry 0 1))) (named_none D t e)
+users_pasted D (suc n) t e h =
+    let P : List ℕ = paste t 1 (replicate n (entry 0 1)) n in
+    let long : length P ≡ length t = length-paste t 1 (replicate n (entry 0 1)) n (omega arith) (omega (arith, length-replicate {A = ℕ} n (entry 0 1))) in
+    let next : 1 + n ≡ n + 1 = omega arith in
+    let more : set P (n + 1) (entry 0 1) ≡ paste t 1 (replicate (n + 1) (entry 0 1)) (n + 1) = ap (λ k. set P k (entry 0 1)) (sym next) ∙ fill_from_more t 1 n (entry 0 1) (omega arith) in
+    subst (λ k. NameTable D k 0 (paste t 1 (replicate k (entry 0 1)) k)) (add-one n)
+    (subst (λ (l : List ℕ). NameTable D (n + 1) 0 l) more (users_more D n (n + 1) P refl (omega (arith, long)) (users_pasted D n t e (omega arith))))
+
+pub users_named : (D : Schema) (n k : ℕ) (t ys : List ℕ) → t ≡ replicate (length t) 0 → k ≡ n → n + 1 ≤ length t → ys ≡ replicate n (entry 0 1) → NameTable D n 0 (put_mid 1 k t ys)
+users_named D n k t ys e is h all =
+    subst (λ (l : List ℕ). NameTable D n 0 l) (sym (put_mid-paste 1 k t ys (replicate n (entry 0 1)) n all (sym is) (sym (length-replicate {A = ℕ} n (entry 0 1))))) (users_pasted D n t e h)
 
 pub channels_more : (D : Schema) (u n m k o : ℕ) (t : List ℕ) → m ≡ n + 1 → u ≤ 32 → k < 65536 → k ≡ D.kind m → o ≡ D.owner m + 2 → 256 + m < length t
     → NameTable D u n t → NameTable D u m (set t (256 + m) (entry k o))

@@ -1,5 +1,5 @@
 -- The contexts that wait, each as one number on a stack in an array.
-use Prim.Native.Nat.{ℕ, ◌+◌, ◌*◌, ◌/◌, ◌%◌, ◌≤◌, ◌<◌}
+use Prim.Native.Nat.{ℕ, ◌+◌, ◌≤◌, ◌<◌}
 use mathlib.Core.Path.{◌≡◌, refl, sym, ap, ap₂, subst, ◌∙◌}
 use mathlib.Core.List.{List, [], ◌∷◌, map}
 use native.Mathlib.Omega.{arith}
@@ -8,21 +8,8 @@ use Rattle.format.specs.Stacks.{stacked}
 use Rattle.format.proofs.StackLaws.{read_push}
 use Rattle.rules.specs.declared.Point.{Point}
 use Rattle.rules.specs.Rules.{Context}
-use Rattle.rules.specs.Kept.{vars_of, packing, unpacking, context_of, Waits}
+use Rattle.rules.specs.Kept.{vars_of, context_of, Waits}
 use Rattle.rules.proofs.NameLaws.{vars_kept, vars_none}
-
-same_point : {u x a y m z b w : ℕ} → u ≡ x → a ≡ y → m ≡ z → b ≡ w
-    → ◌≡◌ {A = Point} (record { user = u; assigned = a; mask = m; bound = b }) (record { user = x; assigned = y; mask = z; bound = w })
-same_point e f g h = rw (e, f, g, h)
-
--- a context packed, and read back
-pub packed_back : (p : Point) → p.user < 65536 → p.assigned < 65536 → p.mask < 65536 → unpacking (packing p) ≡ p
-packed_back p u a m =
-    let w1 : packing p / 65536 ≡ p.assigned + (65536 * p.mask + 4294967296 * p.bound) = omega arith in
-    let w2 : packing p / 4294967296 ≡ p.mask + 65536 * p.bound = omega arith in
-    let a1 : (p.assigned + (65536 * p.mask + 4294967296 * p.bound)) % 65536 ≡ p.assigned = omega arith in
-    let m1 : (p.mask + 65536 * p.bound) % 65536 ≡ p.mask = omega arith in
-    same_point (omega arith) (ap (λ k. k % 65536) w1 ∙ a1) (ap (λ k. k % 65536) w2 ∙ m1) (omega arith)
 
 -- the contexts on a stack, as g reads them
 module _ (g : ℕ → Point) where

@@ -8,7 +8,7 @@ ghost use Rattle.rules.specs.Kept.{grants_from, joins, joined, add_role, RoleIn,
 ghost use Rattle.rules.specs.declared.Way.TheVariants.{Sends, Receives};
 
 use super::Way;
-use format::words::{narrow, wide};
+use format::words::narrow;
 use format::{Head, Role, sections};
 use masks::{ChannelKind, UserRole, has_kind, with_role};
 
@@ -55,12 +55,10 @@ fn add_role(sends: &mut [u16], receives: &mut [u16], role: UserRole, it: Role, j
     ensures { (sends.new ≡ add_role (granted Sends it) juniors role.0 0 sends.old)
         × (receives.new ≡ add_role (granted Receives it) juniors role.0 0 receives.old) }
 {
-    let mut k: usize = 0;
-    while k < 33 {
+    for k in 0..33 {
         let kind = ChannelKind(narrow(k));
         sends[k] = joined(sends[k], it, juniors, Way::Sends, role, kind);
         receives[k] = joined(receives[k], it, juniors, Way::Receives, role, kind);
-        k += 1;
     }
 }
 
@@ -72,9 +70,8 @@ pub fn fill_grants(file: &[u8], head: Head, sends: &mut [u16], receives: &mut [u
         × (receives.new ≡ grants_from (schema_of (contents_at file.now head)) Receives 0 (length receives.old))
         × Beyond (schema_of (contents_at file.now head)) Sends (schema_of (contents_at file.now head)).roles × Beyond (schema_of (contents_at file.now head)) Receives (schema_of (contents_at file.now head)).roles }
 {
-    let mut n: u16 = 0;
-    while n < head.count.roles {
-        n += 1;
+    for i in 0..head.count.roles {
+        let n = i + 1;
         let it = sections::role(file, head, n);
         let juniors = sections::juniors(file, head, n);
         add_role(sends, receives, UserRole(n), it, juniors);
@@ -87,7 +84,7 @@ pub fn permitting(table: &[u16], roles: u16, kind: ChannelKind) -> u16
     ensures { (result ≡ bit_and roles (get_or table.now kind.0 0))
         × ((D : Schema) (way : Way) → Granting D way table.now → ThosePermitting D way roles kind result) }
 {
-    let k = wide(kind.0);
+    let k = usize::from(kind.0);
     if k < table.len() {
         return roles & table[k];
     }

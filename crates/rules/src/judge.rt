@@ -1,5 +1,5 @@
 // The pass over the nodes, which finds 9 to 13 and each node's candidates.
-ghost use Rattle.std.specs.Prelude.{◌≡◌, [], map, ◌+◌, ◌≤◌, ◌<◌, length, replicate};
+ghost use Rattle.std.specs.Prelude.{◌≡◌, [], map, ◌+◌, ◌≤◌, ◌<◌, length};
 ghost use Rattle.std.proofs.lemmas.List.Edits.{sets};
 ghost use Rattle.format.specs.Header.{Laid};
 ghost use Rattle.format.specs.Contents.{contents_at};
@@ -15,7 +15,7 @@ use super::steps::step_at;
 use super::{Judged, Point};
 use format::answers::or_else;
 use format::sections::{node, session, user_roles};
-use format::words::{narrow, wide};
+use format::words::narrow;
 use format::{Head, Verdict};
 
 // A context as one number, and read back.
@@ -44,9 +44,8 @@ fn open_sessions(file: &[u8], head: Head, stack: &mut [u64]) -> usize
     ensures { (result ≡ head.count.sessions) × Waits (Given (schema_of (contents_at file.now head))) 0 (waiting stack.new result)
         × (map (context_of []) (waiting stack.new result) ≡ openings (contents_at file.now head)) }
 {
-    let sessions = wide(head.count.sessions);
-    let mut depth: usize = 0;
-    while depth < sessions {
+    let sessions = usize::from(head.count.sessions);
+    for depth in 0..sessions {
         let it = session(file, head, narrow(sessions - depth));
         let assigned = user_roles(file, head, it.user);
         stack[depth] = packed(Point {
@@ -55,9 +54,8 @@ fn open_sessions(file: &[u8], head: Head, stack: &mut [u64]) -> usize
             mask: it.mask,
             bound: 0,
         });
-        depth += 1;
     }
-    depth
+    sessions
 }
 
 // A node's refusal as an answer.
@@ -65,10 +63,7 @@ fn answer_at(number: u16, i: u16) -> Verdict
     ensures { result ≡ answer_at number i }
 {
     if number == 0 {
-        return Verdict {
-            number: 0,
-            place: 0,
-        };
+        return Verdict::FINE;
     }
     Verdict { number, place: i }
 }
@@ -90,10 +85,7 @@ fn walk(
         × (head.count.sessions + head.count.nodes ≤ length stack.old) × (length roles.old ≡ 1025) }
     ensures { (result ≡ judgement (contents_at file.now head)) × (roles.new ≡ sets roles.old 1 (candidates_in (contents_at file.now head))) }
 {
-    let fine = Verdict {
-        number: 0,
-        place: 0,
-    };
+    let fine = Verdict::FINE;
     let mut depth = open_sessions(file, head, stack);
     if depth == 0 {
         return Judged {
@@ -104,15 +96,13 @@ fn walk(
     depth -= 1;
     let mut here = unpacked(stack[depth]);
     let mut first = fine;
-    let nodes = head.count.nodes;
-    let mut i: u16 = 0;
-    while i < nodes {
-        i += 1;
+    for n in 0..head.count.nodes {
+        let i = n + 1;
         let it = node(file, head, i);
         let tag = it.tag;
         match tag {
             0 => {
-                roles[wide(i)] = here.assigned;
+                roles[usize::from(i)] = here.assigned;
                 if depth == 0 {
                     return Judged {
                         names: fine,
@@ -123,7 +113,7 @@ fn walk(
                 here = unpacked(stack[depth]);
             }
             1 => {
-                roles[wide(i)] = here.assigned;
+                roles[usize::from(i)] = here.assigned;
                 stack[depth] = packed(here);
                 depth += 1;
             }
@@ -136,8 +126,8 @@ fn walk(
                     };
                 }
                 first = or_else(first, answer_at(step.barred, i));
-                roles[wide(i)] = step.roles;
-                names[512 + wide(here.bound)] = step.binding;
+                roles[usize::from(i)] = step.roles;
+                names[512 + usize::from(here.bound)] = step.binding;
                 here = step.child;
             }
         }
@@ -148,24 +138,23 @@ fn walk(
     }
 }
 
-// The same, with tables of grants and of names and a stack lent to work in.
-fn judge_by(
+// The same, with tables of grants and of names and a stack to work in, of sizes that fit the file.
+fn judge_in<const NAMES: usize, const STACK: usize>(
     file: &[u8],
     head: Head,
-    sends: &mut [u16],
-    receives: &mut [u16],
-    names: &mut [u32],
-    stack: &mut [u64],
     roles: &mut [u16],
 ) -> Judged
-    requires { Laid file.now head × Owned (contents_at file.now head) × (length sends.old ≡ 33) × (length receives.old ≡ 33) × (512 + head.count.nodes < length names.old)
-        × (head.count.sessions + head.count.nodes ≤ length stack.old) × (length roles.old ≡ 1025)
-        × (sends.old ≡ replicate (length sends.old) 0) × (receives.old ≡ replicate (length receives.old) 0) × (names.old ≡ replicate (length names.old) 0) }
+    requires { Laid file.now head × Owned (contents_at file.now head) × (512 + head.count.nodes < NAMES) × (NAMES ≤ 1537)
+        × (head.count.sessions + head.count.nodes ≤ STACK) × (STACK ≤ 1057) × (length roles.old ≡ 1025) }
     ensures { (result ≡ judgement (contents_at file.now head)) × (roles.new ≡ sets roles.old 1 (candidates_in (contents_at file.now head))) }
 {
-    fill_grants(file, head, sends, receives);
-    name_all(file, head, names);
-    walk(file, head, sends, receives, names, stack, roles)
+    let mut sends = [0u16; 33];
+    let mut receives = [0u16; 33];
+    let mut names = [0u32; NAMES];
+    let mut stack = [0u64; STACK];
+    fill_grants(file, head, &mut sends, &mut receives);
+    name_all(file, head, &mut names);
+    walk(file, head, &sends, &receives, &mut names, &mut stack, roles)
 }
 
 // 9 and 10, and where these refuse nothing 11 to 13, each at its lowest node. As far as 9 and 10 refuse nothing, each node's candidates are stored:
@@ -174,30 +163,8 @@ pub fn judge(file: &[u8], head: Head, roles: &mut [u16]) -> Judged
     requires { Laid file.now head × Owned (contents_at file.now head) × (length roles.old ≡ 1025) }
     ensures { (result ≡ judgement (contents_at file.now head)) × (roles.new ≡ sets roles.old 1 (candidates_in (contents_at file.now head))) }
 {
-    let mut sends = [0u16; 33];
-    let mut receives = [0u16; 33];
     if head.count.nodes <= 64 {
-        let mut names = [0u32; 577];
-        let mut stack = [0u64; 97];
-        return judge_by(
-            file,
-            head,
-            &mut sends,
-            &mut receives,
-            &mut names,
-            &mut stack,
-            roles,
-        );
+        return judge_in::<577, 97>(file, head, roles);
     }
-    let mut names = [0u32; 1537];
-    let mut stack = [0u64; 1057];
-    judge_by(
-        file,
-        head,
-        &mut sends,
-        &mut receives,
-        &mut names,
-        &mut stack,
-        roles,
-    )
+    judge_in::<1537, 1057>(file, head, roles)
 }

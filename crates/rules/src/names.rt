@@ -7,7 +7,7 @@ ghost use Rattle.rules.specs.Kept.{kind_in, owner_in, look, NameTable, Owned, gr
 
 use format::Head;
 use format::sections::channel;
-use format::words::{paired, wide};
+use format::words::paired;
 use masks::ChannelKind;
 
 pub fn kind_of(e: u32) -> ChannelKind
@@ -27,8 +27,8 @@ pub fn look_up(names: &[u32], bound: u16, x: u16) -> u32
     requires { 512 + bound ≤ length names.now }
     ensures { result ≡ look names.now bound x }
 {
-    let k = wide(x);
-    if k < 512 + wide(bound) {
+    let k = usize::from(x);
+    if k < 512 + usize::from(bound) {
         return names[k];
     }
     0
@@ -41,16 +41,11 @@ pub fn name_all(file: &[u8], head: Head, names: &mut [u32])
         × NameTable (schema_of (contents_at file.now head)) head.count.users head.count.channels names.new
         × (drop 512 names.new ≡ drop 512 names.old) }
 {
-    let mut n: u16 = 0;
-    while n < head.count.users {
-        n += 1;
-        names[wide(n)] = paired(0, 1);
-    }
-    let mut c: u16 = 0;
-    while c < head.count.channels {
-        c += 1;
+    names[1..=usize::from(head.count.users)].fill(paired(0, 1));
+    for i in 0..head.count.channels {
+        let c = i + 1;
         let it = channel(file, head, c);
-        names[256 + wide(c)] = paired(it.kind.0, it.owner + 2);
+        names[256 + usize::from(c)] = paired(it.kind.0, it.owner + 2);
     }
 }
 

@@ -1,5 +1,5 @@
 // The rules at one node, in its context: its refusal for names, its refusal for roles, its candidates, and what it leaves to its child.
-ghost use Rattle.std.specs.Prelude.{◌≡◌, cond, ◌+◌, ◌≤◌, ◌<◌, length};
+ghost use Rattle.std.specs.Prelude.{◌≡◌, ◌+◌, ◌≤◌, ◌<◌, length};
 ghost use Rattle.format.specs.Header.{Laid};
 ghost use Rattle.format.specs.Contents.{contents_at};
 ghost use Rattle.rules.specs.Schema.{schema_of};
@@ -13,15 +13,6 @@ use format::sections::{carries, in_count};
 use format::words::paired;
 use format::{Head, Node};
 use masks::{ChannelKind, UserRole, has_role, with_role, without_role};
-
-fn unless(fits: bool, number: u16) -> u16
-    ensures { result ≡ cond fits 0 number }
-{
-    if fits {
-        return 0;
-    }
-    number
-}
 
 // The child has the same context.
 fn staying(here: Point, wrong: u16, barred: u16, roles: u16) -> RuleStep
@@ -47,10 +38,8 @@ fn binding(here: Point, wrong: u16, barred: u16, roles: u16, variable: u32) -> R
         roles,
         binding: variable,
         child: Point {
-            user: here.user,
-            assigned: here.assigned,
-            mask: here.mask,
             bound: here.bound + 1,
+            ..here
         },
     }
 }
@@ -64,12 +53,7 @@ fn turning(here: Point, barred: u16, mask: u16) -> RuleStep
         barred,
         roles: here.assigned,
         binding: 0,
-        child: Point {
-            user: here.user,
-            assigned: here.assigned,
-            mask,
-            bound: here.bound,
-        },
+        child: Point { mask, ..here },
     }
 }
 
@@ -92,10 +76,15 @@ fn receive_at(file: &[u8], head: Head, receives: &[u16], here: Point, on: u32) -
 {
     let kind = kind_of(on);
     let owner = owner_of(on);
+    let barred = if may(receives, here.mask, kind) {
+        0
+    } else {
+        13
+    };
     binding(
         here,
         graded(owner != 0, owner == here.user + 2),
-        unless(may(receives, here.mask, kind), 13),
+        barred,
         permitting(receives, here.assigned, kind),
         paired(carries(file, head, kind).0, 1),
     )
@@ -106,13 +95,14 @@ fn send_at(file: &[u8], head: Head, sends: &[u16], here: Point, on: u32, value: 
     ensures { result ≡ send_step (schema_of (contents_at file.now head)) here on value }
 {
     let kind = kind_of(on);
+    let barred = if may(sends, here.mask, kind) { 0 } else { 13 };
     staying(
         here,
         graded(
             (owner_of(on) != 0) & (owner_of(value) != 0),
             (0 < kind.0) & (kind_of(value).0 == carries(file, head, kind).0),
         ),
-        unless(may(sends, here.mask, kind), 13),
+        barred,
         permitting(sends, here.assigned, kind),
     )
 }
@@ -124,11 +114,8 @@ fn on_at(head: Head, here: Point, role: UserRole) -> RuleStep
     if !in_count(head.count.roles, role.0) {
         return staying(here, 9, 0, 0);
     }
-    turning(
-        here,
-        unless(has_role(here.assigned, role), 11),
-        with_role(here.mask, role),
-    )
+    let barred = if has_role(here.assigned, role) { 0 } else { 11 };
+    turning(here, barred, with_role(here.mask, role))
 }
 
 fn off_at(head: Head, here: Point, role: UserRole) -> RuleStep
@@ -137,11 +124,8 @@ fn off_at(head: Head, here: Point, role: UserRole) -> RuleStep
     if !in_count(head.count.roles, role.0) {
         return staying(here, 9, 0, 0);
     }
-    turning(
-        here,
-        unless(has_role(here.mask, role), 12),
-        without_role(here.mask, role),
-    )
+    let barred = if has_role(here.mask, role) { 0 } else { 12 };
+    turning(here, barred, without_role(here.mask, role))
 }
 
 // A node that is no end and no fork.

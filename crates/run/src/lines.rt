@@ -1,7 +1,7 @@
 // The lines of a state.
 ghost use Rattle.std.specs.Prelude.{◌+◌, ◌≤◌, ◌<◌};
 
-use format::words::{wide, word};
+use format::words::word;
 use masks::{UserRole, has_role};
 use streams::write_bytes;
 
@@ -15,7 +15,7 @@ fn write_number(out: &impl Print, name: &[u8], value: usize) {
 fn write_word(out: &impl Print, name: &[u8], state: &[u8], at: usize)
     requires { at < 4294967296 }
 {
-    write_number(out, name, wide(word(state, at)));
+    write_number(out, name, usize::from(word(state, at)));
 }
 
 fn end_line(out: &impl Print) {
@@ -25,7 +25,7 @@ fn end_line(out: &impl Print) {
 // The role, if it is in the mask.
 fn write_role(out: &impl Print, mask: u16, role: u16) {
     if has_role(mask, UserRole(role)) {
-        write_number(out, b" ", wide(role));
+        write_number(out, b" ", usize::from(role));
     }
 }
 
@@ -35,10 +35,8 @@ fn write_roles(out: &impl Print, mask: u16) {
         write_bytes(out, b" -");
         return;
     }
-    let mut role: u16 = 1;
-    while role <= 16 {
+    for role in 1..=16 {
         write_role(out, mask, role);
-        role += 1;
     }
 }
 
@@ -47,10 +45,8 @@ fn write_variables(out: &impl Print, state: &[u8], at: usize)
     requires { at + 8 ≤ 4294967296 }
 {
     write_bytes(out, b" variables");
-    let mut i: usize = 0;
-    while i < 8 {
+    for i in 0..8 {
         write_word(out, b" ", state, at + i);
-        i += 1;
     }
 }
 
@@ -81,10 +77,8 @@ fn write_channel(out: &impl Print, state: &[u8], i: usize, at: usize)
 fn write_channels(out: &impl Print, state: &[u8], made: usize)
     requires { made < 65536 }
 {
-    let mut i: usize = 0;
-    while i < made {
+    for i in 0..made {
         write_channel(out, state, i + 1, 4 + 2 * i);
-        i += 1;
     }
 }
 
@@ -92,17 +86,15 @@ fn write_channels(out: &impl Print, state: &[u8], made: usize)
 fn write_threads(out: &impl Print, state: &[u8], threads: usize, base: usize)
     requires { (threads < 65536) × (base ≤ 131074) }
 {
-    let mut i: usize = 0;
-    while i < threads {
+    for i in 0..threads {
         write_thread(out, state, i + 1, base + 12 * i);
-        i += 1;
     }
 }
 
 // The state that a run leaves: choices done, threads, made channels, then each made channel and each thread.
 pub fn write_state(out: &impl Print, state: &[u8]) {
-    let threads = wide(word(state, 2));
-    let made = wide(word(state, 3));
+    let threads = usize::from(word(state, 2));
+    let made = usize::from(word(state, 3));
     write_word(out, b"done ", state, 0);
     write_number(out, b"\nthreads ", threads);
     write_number(out, b"\nchannels ", made);

@@ -1,5 +1,5 @@
 // The choices: read to their end, and their bytes taken as words.
-ghost use Rattle.std.specs.Prelude.{◌+◌, ◌*◌, ◌/◌, ◌≤◌, ◌≡◌, length, take, drop};
+ghost use Rattle.std.specs.Prelude.{◌+◌, ◌*◌, ◌/◌, ◌≤◌, ◌≡◌, IfOk, length, take, drop};
 ghost use Rattle.std.proofs.lemmas.List.Edits.{sets};
 ghost use Rattle.io.specs.Counts.{IsPrefixLen};
 ghost use Rattle.streams.specs.Kept.{kept_by};
@@ -8,7 +8,7 @@ ghost use Rattle.run.specs.WordList.{enough_bytes as WordList·enough};
 
 use format::words::inner_word;
 use std::io::Read;
-use streams::{Input, read_behind};
+use streams::read_behind;
 
 // Room for more bytes than any list has, and for what a read puts behind them.
 pub fn no_bytes() -> [u8; 278528]
@@ -29,7 +29,7 @@ fn enough(length: usize) -> usize
     ensures value { result ≡ WordList·enough length }
     ensures upper_bound { result ≤ 262144 }
 {
-    if length < 262144 { length } else { 262144 }
+    length.min(262144)
 }
 
 // How many bytes are kept, where a piece of so many stands behind those kept so far: the first of both, as many as a list of the whole length has
@@ -42,27 +42,22 @@ fn keep(buffer: &[u8], kept: usize, piece: usize) -> usize
     enough(kept + piece)
 }
 
-// Reads the choices to their end, of whatever length. Each piece is read behind what is kept, and of both enough is kept.
-// A loop has to end, so the turns count down, from a number that no run uses up.
-pub fn read_choices<R: Read>(reader: &mut R, buffer: &mut [u8]) -> Input
+// Reads the choices to their end, of whatever length; the answer is how many bytes at the start of the buffer are kept, or why a read failed. Each
+// piece is read behind what is kept, and of both enough is kept.
+// A loop has to end, so the reads are counted, up to a number that no run reaches.
+pub fn read_choices<R: Read>(reader: &mut R, buffer: &mut [u8]) -> std::io::Result<usize>
     requires { length buffer.old ≡ 278528 }
-    ensures prefix_len { IsPrefixLen result.kept buffer.new }
-    ensures kept_bound { result.kept ≤ 262144 }
+    ensures prefix_len { IfOk result (λ kept. IsPrefixLen kept buffer.new) }
+    ensures kept_bound { IfOk result (λ kept. kept ≤ 262144) }
 {
     let mut kept = 0;
-    let mut turns = u64::MAX;
-    while turns > 0 {
-        match read_behind(reader, buffer, kept) {
-            Ok(0) => break,
-            Ok(piece) => kept = keep(buffer, kept, piece),
-            Err(_) => return Input { kept, failed: true },
+    for _ in 0..u64::MAX {
+        match read_behind(reader, buffer, kept)? {
+            0 => break,
+            piece => kept = keep(buffer, kept, piece),
         }
-        turns -= 1;
     }
-    Input {
-        kept,
-        failed: false,
-    }
+    Ok(kept)
 }
 
 // How many words a list of so many bytes is run as: 1, an odd list, where the last choice is not whole. That the run then answers 17 exactly where
@@ -79,10 +74,7 @@ pub fn put_words(bytes: &[u8], words: &mut [u16])
     requires { length bytes.now ≤ 2 * length words.old }
     ensures { words.new ≡ sets words.old 0 (words_of_bytes bytes.now 0 (length bytes.now / 2)) }
 {
-    let count = bytes.len() / 2;
-    let mut i = 0;
-    while i < count {
+    for i in 0..bytes.len() / 2 {
         words[i] = inner_word(bytes, i);
-        i += 1;
     }
 }

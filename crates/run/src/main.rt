@@ -6,7 +6,7 @@
 mod lines;
 mod list;
 
-ghost use Rattle.std.specs.Prelude.{◌≤◌, ◌≡◌, length};
+ghost use Rattle.std.specs.Prelude.{◌≤◌, ◌≡◌, IfOk, length};
 ghost use Rattle.io.specs.Counts.{IsPrefixLen};
 ghost use Rattle.run.specs.State.{has_state};
 
@@ -18,7 +18,7 @@ use running::run;
 use std::env::{Env, FillError};
 use std::fs::{File, Files};
 use std::str::from_utf8;
-use streams::{Input, write_bytes, write_refused};
+use streams::{read_input, write_bytes, write_refused};
 
 // Opens the file that an argument names. An argument that is missing, too long for a path or no text counts as the empty one, which names no file.
 fn open_argument<R: Env + Files>(rt: &R, i: usize) -> std::io::Result<R::File> {
@@ -28,32 +28,20 @@ fn open_argument<R: Env + Files>(rt: &R, i: usize) -> std::io::Result<R::File> {
 }
 
 // Reads the clinic file. A file that could not be opened counts as one whose read fails.
-fn load_file<R: Env + Files>(rt: &R, buffer: &mut [u8]) -> Input
+fn load_file<R: Env + Files>(rt: &R, buffer: &mut [u8]) -> std::io::Result<usize>
     requires { length buffer.old ≡ 16384 }
-    ensures { IsPrefixLen result.kept buffer.new }
+    ensures { IfOk result (λ kept. IsPrefixLen kept buffer.new) }
 {
-    match open_argument(rt, 1) {
-        Ok(mut file) => streams::read_input(&mut file, buffer),
-        Err(_) => Input {
-            kept: 0,
-            failed: true,
-        },
-    }
+    read_input(&mut open_argument(rt, 1)?, buffer)
 }
 
 // Reads the choices, likewise.
-fn load_choices<R: Env + Files>(rt: &R, buffer: &mut [u8]) -> Input
+fn load_choices<R: Env + Files>(rt: &R, buffer: &mut [u8]) -> std::io::Result<usize>
     requires { length buffer.old ≡ 278528 }
-    ensures prefix_len { IsPrefixLen result.kept buffer.new }
-    ensures kept_bound { result.kept ≤ 262144 }
+    ensures prefix_len { IfOk result (λ kept. IsPrefixLen kept buffer.new) }
+    ensures kept_bound { IfOk result (λ kept. kept ≤ 262144) }
 {
-    match open_argument(rt, 2) {
-        Ok(mut file) => read_choices(&mut file, buffer),
-        Err(_) => Input {
-            kept: 0,
-            failed: true,
-        },
-    }
+    read_choices(&mut open_argument(rt, 2)?, buffer)
 }
 
 // Whether a run into an output of zeros has left a state there: it went to the end of the list, or was halted at a choice, whose refusal is the
@@ -84,12 +72,10 @@ fn run_through(rt: HostRuntime, file: &[u8], bytes: &[u8])
 // Reads the choices for a file that could be read.
 fn run_file(rt: HostRuntime, file: &[u8]) {
     let mut buffer = no_bytes();
-    let input = load_choices(&rt, &mut buffer);
-    if input.failed {
+    let Ok(kept) = load_choices(&rt, &mut buffer) else {
         write_bytes(&rt.stderr(), b"run: the choices cannot be read\n");
         return;
-    }
-    let kept = input.kept;
+    };
     run_through(rt, file, &buffer[..kept]);
 }
 
@@ -104,11 +90,9 @@ fn main(rt: HostRuntime) {
         return;
     }
     let mut buffer = [0u8; 16384];
-    let input = load_file(&rt, &mut buffer);
-    if input.failed {
+    let Ok(kept) = load_file(&rt, &mut buffer) else {
         write_bytes(&rt.stderr(), b"run: the clinic file cannot be read\n");
         return;
-    }
-    let kept = input.kept;
+    };
     run_file(rt, &buffer[..kept]);
 }

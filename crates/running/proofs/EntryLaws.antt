@@ -13,7 +13,7 @@ use Rattle.format.specs.Words.{bytes_of}
 use Rattle.format.specs.Answers.{fine, refused}
 use Rattle.format.specs.declared.Head.{Head}
 use Rattle.format.specs.declared.Verdict.{Verdict}
-use Rattle.reading.specs.declared.Opened.TheVariants.{Fine, Refused}
+use Rattle.std.specs.Prelude.{Ok, Err}
 use Rattle.naming.specs.Scopes.{awaited_by}
 use Rattle.checking.specs.Check.{reading_names, entered, scoped}
 use Rattle.checking.proofs.CheckLaws.{entered_fine, entered_refused}
@@ -96,20 +96,20 @@ pub test_holds : (t u v : Bool) → t ≡ u → not (t && v) ≡ false → u && 
 test_holds t u v e h = ap (λ (x : Bool). x && v) (sym e) ∙ not-false (t && v) h
 
 module _ (f ws out : List ℕ) (fits : listed (length ws) && leb 1800 (length out) ≡ true) where
-  pub run_refused : (v : Verdict) → entered f ≡ Refused v → (v ≡ running f ws (length out)) × (out ≡ run_over f ws out)
+  pub run_refused : (v : Verdict) → entered f ≡ Err v → (v ≡ running f ws (length out)) × (out ≡ run_over f ws out)
   unfolding running run_over
   run_refused v e =
       let (loud, same) = entered_refused f v e in
       let test = ne_eqb (reading_names f).number 0 loud in
       (same ∙ rw (fits, test), rw (fits, test))
 
-  pub run_done : (h : Head) (y : Verdict) (out' : List ℕ) → entered f ≡ Fine h → y ≡ stopped (run (clinic_of (contents_at f h)) (start (contents_at f h)) ws)
+  pub run_done : (h : Head) (y : Verdict) (out' : List ℕ) → entered f ≡ Ok h → y ≡ stopped (run (clinic_of (contents_at f h)) (start (contents_at f h)) ws)
       → out' ≡ sets out 0 (bytes_of (ran_words (run (clinic_of (contents_at f h)) (start (contents_at f h)) ws))) → (y ≡ running f ws (length out)) × (out' ≡ run_over f ws out)
   unfolding running run_over
   run_done h y out' e ey eo = let (laid, same, clean) = entered_fine f h e in (ey ∙ rw (fits, clean, same), eo ∙ rw (fits, clean, same))
 
 module _ (f ws : List ℕ) (fits : listed (length ws) ≡ true) where
-  pub ready_refused : (v : Verdict) (y : Ready) → entered f ≡ Refused v → y ≡ no_pair v → y ≡ ready f ws
+  pub ready_refused : (v : Verdict) (y : Ready) → entered f ≡ Err v → y ≡ no_pair v → y ≡ ready f ws
   unfolding ready
   ready_refused v y e ey =
       let (loud, same) = entered_refused f v e in
@@ -117,7 +117,7 @@ module _ (f ws : List ℕ) (fits : listed (length ws) ≡ true) where
       let whole : no_pair (reading_names f) ≡ ready f ws = rw (fits, test) (rw test) in
       ey ∙ ap no_pair same ∙ whole
 
-  pub ready_done : (h : Head) (y : Ready) → entered f ≡ Fine h
+  pub ready_done : (h : Head) (y : Ready) → entered f ≡ Ok h
       → y ≡ ready_of (stopped (run (clinic_of (contents_at f h)) (start (contents_at f h)) ws)) (ready_pair (clinic_of (contents_at f h)) (run (clinic_of (contents_at f h)) (start (contents_at f h)) ws).state) → y ≡ ready f ws
   unfolding ready
   ready_done h y e ey = let (laid, same, clean) = entered_fine f h e in ey ∙ rw (fits, clean, same)
@@ -135,14 +135,14 @@ unfolding totals_after
 totals_unfit f ws y e ey = ey ∙ rw e
 
 module _ (f ws : List ℕ) (fits : listed (length ws) ≡ true) where
-  pub totals_refused : (v : Verdict) (y : Totals) → entered f ≡ Refused v → y ≡ totals_of v (replicate 32 0) → y ≡ totals_after f ws
+  pub totals_refused : (v : Verdict) (y : Totals) → entered f ≡ Err v → y ≡ totals_of v (replicate 32 0) → y ≡ totals_after f ws
   unfolding totals_after
   totals_refused v y e ey =
       let (loud, same) = entered_refused f v e in
       let whole : totals_of (reading_names f) (replicate 32 0) ≡ totals_after f ws = rw (fits, ne_eqb (reading_names f).number 0 loud) in
       ey ∙ ap (λ (x : Verdict). totals_of x (replicate 32 0)) same ∙ whole
 
-  pub totals_done : (h : Head) (old table : List ℕ) (y : Totals) → entered f ≡ Fine h → length old ≡ 1025 → old ≡ replicate (length old) 0 → table ≡ scoped f old
+  pub totals_done : (h : Head) (old table : List ℕ) (y : Totals) → entered f ≡ Ok h → length old ≡ 1025 → old ≡ replicate (length old) 0 → table ≡ scoped f old
       → y ≡ totals_of (stopped (run (clinic_of (contents_at f h)) (start (contents_at f h)) ws)) (totals_in (beside_run (awaited_by table) (clinic_of (contents_at f h)) (start (contents_at f h)) (replicate 162 0) ws)) → y ≡ totals_after f ws
   unfolding totals_after
   totals_done h old table y e long zeros its ey =

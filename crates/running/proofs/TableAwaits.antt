@@ -1,22 +1,21 @@
 -- The kind that a thread at a node waits for, by the table that the way in leaves.
 use Prim.Native.Nat.{ℕ, zero, suc, ◌+◌, ◌≤◌, ◌<◌}
-use mathlib.Core.Path.{◌≡◌, refl, sym, ap, ap₂, ◌∙◌, fun_ext}
+use mathlib.Core.Path.{◌≡◌, refl, sym, ap, ◌∙◌, fun_ext}
 use mathlib.Core.Bool.{Bool, true, false, cond}
-use mathlib.Core.List.{List, [], ◌∷◌, map}
+use mathlib.Core.List.{List, [], ◌∷◌}
 use native.Mathlib.Omega.{arith}
 use lib.Dec.{eqb, ltb}
 use lib.ListN.{length, get_or, replicate, length-map, get_or-eq_default}
 use lib.Seq.{sets}
 use borrow.Author.Tests.{eq-eqb, ltb-true, ltb-false}
 use Rattle.format.specs.Contents.{Contents, contents_of}
-use Rattle.format.specs.Answers.{fine}
 use Rattle.format.specs.declared.Head.{Head}
 use Rattle.format.specs.declared.Node.{Node}
 use Rattle.format.specs.declared.Verdict.{Verdict}
 use Rattle.format.specs.Header.{Laid, head_at}
 use Rattle.format.proofs.ContentsLaws.{nodes_held}
 use Rattle.reading.specs.Reading.{reading}
-use Rattle.reading.specs.declared.Opened.TheVariants.{Fine}
+use Rattle.std.specs.Prelude.{Ok}
 use Rattle.rules.specs.Schema.{Schema, schema_of}
 use Rattle.rules.specs.Rules.{Context, wrong, waiting_after}
 use Rattle.rules.specs.Checking.{reached, reached_in, rightly, openings}
@@ -61,7 +60,7 @@ stored_from_one l n lt (suc i) = go (ltb i (length l)) refl
         let past = ltb-false i (length l) e in
         sets_other l (replicate n 0) 1 (suc i) 0 (λ k small q. omega (arith, past, small, q)) ∙ all_zero n (suc i) ∙ sym (get_or-eq_default l 0 {n = i} past)
 
-pub table_awaits : (f : List ℕ) (h : Head) (old table : List ℕ) → entered f ≡ Fine h → length old ≡ 1025 → old ≡ replicate (length old) 0 → table ≡ scoped f old
+pub table_awaits : (f : List ℕ) (h : Head) (old table : List ℕ) → entered f ≡ Ok h → length old ≡ 1025 → old ≡ replicate (length old) 0 → table ≡ scoped f old
     → awaited_by table ≡ awaits (contents_of f)
 unfolding scoped
 table_awaits f h old table e long zeros its =

@@ -1,12 +1,11 @@
 -- A run of a file: what refuses it, its output, and the ready pair.
-use Rattle.std.specs.Prelude.{ℕ, zero, suc, ◌+◌, ◌*◌, ◌-◌, ◌%◌, Bool, true, false, cond, ◌&&◌, ◌||◌, List, [], ◌∷◌, ◌++◌, eqb, leb, ltb, length, get_or, replicate}
+use Rattle.std.specs.Prelude.{ℕ, suc, ◌+◌, ◌%◌, Bool, true, false, cond, ◌&&◌, List, [], ◌∷◌, ◌++◌, eqb, leb, length, replicate}
 use Rattle.std.proofs.lemmas.List.Edits.{sets}
 use Rattle.masks.specs.Mask.{held}
-use Rattle.format.specs.Words.{word_at, bytes_of}
+use Rattle.format.specs.Words.{bytes_of}
 use Rattle.format.specs.Answers.{fine, refused, or_else}
 use Rattle.format.specs.Contents.{contents_of}
 use Rattle.format.specs.declared.Verdict.{Verdict}
-use Rattle.format.specs.declared.Head.{Head}
 use Rattle.naming.specs.Scopes.{awaits}
 use Rattle.checking.specs.Check.{reading_names}
 use Rattle.steps.specs.declared.Thread.{Thread}

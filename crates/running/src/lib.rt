@@ -23,7 +23,6 @@ use choices::list::{run_by, run_list};
 use format::{Head, Verdict};
 use out::put_state;
 use pairs::ready_pair;
-use reading::Opened;
 use steps::beside::{BESIDE, totals_of};
 use steps::records::TABLE;
 
@@ -74,10 +73,7 @@ pub fn stopped_at(progress: Progress) -> Verdict
     ensures { result ≡ cond (eqb progress.refusal 0) fine (refused progress.refusal (progress.count + 1)) }
 {
     if progress.refusal == 0 {
-        return Verdict {
-            number: 0,
-            place: 0,
-        };
+        return Verdict::FINE;
     }
     Verdict {
         number: progress.refusal,
@@ -111,8 +107,8 @@ fn run_with(file: &[u8], choices: &[u16], table: &mut [u64], out: &mut [u8]) -> 
     }
     let answer = enter_scoped(file, table);
     match answer {
-        Opened::Refused(first) => first,
-        Opened::Fine(head) => run_into(file, head, table, choices, out),
+        Err(first) => first,
+        Ok(head) => run_into(file, head, table, choices, out),
     }
 }
 
@@ -187,8 +183,8 @@ pub fn ready_after(file: &[u8], choices: &[u16]) -> Ready
     }
     let answer = enter(file);
     match answer {
-        Opened::Refused(first) => no_pair(first),
-        Opened::Fine(head) => ready_in(file, head, choices),
+        Err(first) => no_pair(first),
+        Ok(head) => ready_in(file, head, choices),
     }
 }
 
@@ -234,8 +230,8 @@ fn totals_with(file: &[u8], choices: &[u16], table: &mut [u64]) -> Totals
     }
     let answer = enter_scoped(file, table);
     match answer {
-        Opened::Refused(first) => no_totals(first),
-        Opened::Fine(head) => totals_in(file, head, table, choices),
+        Err(first) => no_totals(first),
+        Ok(head) => totals_in(file, head, table, choices),
     }
 }
 

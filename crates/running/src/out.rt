@@ -8,7 +8,7 @@ ghost use Rattle.steps.specs.Records.{threads_in, thread_table_words};
 ghost use Rattle.steps.specs.Beside.{made_to, beside_words, made_words};
 
 use choices::Progress;
-use format::words::{put_word, wide};
+use format::words::put_word;
 use masks::role_count;
 use steps::Thread;
 use steps::beside::{made_at, made_count, thread_count};
@@ -48,11 +48,9 @@ fn put_made(beside: &[u16], made: usize, out: &mut [u8])
     requires { (made ≤ 64) × (length beside.now ≡ beside_words) × (1800 ≤ length out.old) }
     ensures { out.new ≡ sets out.old 8 (bytes_of (made_words (made_to beside.now made))) }
 {
-    let mut i: usize = 0;
-    while i < made {
+    for i in 0..made {
         let it = made_at(beside, i);
         put_two(out, 4 + 2 * i, it.owner, it.kind.0);
-        i += 1;
     }
 }
 
@@ -61,10 +59,8 @@ fn put_threads(threads: &[u16], count: usize, out: &mut [u8], base: usize)
     requires { (count ≤ 64) × (length threads.now ≡ thread_table_words) × (2 * (base + 12 * count) ≤ length out.old) }
     ensures { out.new ≡ sets out.old (2 * base) (bytes_of (thread_words (threads_in threads.now 0 count))) }
 {
-    let mut i: usize = 0;
-    while i < count {
+    for i in 0..count {
         put_thread(out, base + 12 * i, thread_at(threads, i));
-        i += 1;
     }
 }
 
@@ -80,6 +76,6 @@ pub fn put_state(threads: &[u16], beside: &[u16], progress: Progress, out: &mut 
     let count = thread_count(beside);
     let made = made_count(beside);
     put_four(out, 0, progress.count, progress.refusal, count, made);
-    put_made(beside, wide(made), out);
-    put_threads(threads, wide(count), out, 4 + 2 * wide(made));
+    put_made(beside, usize::from(made), out);
+    put_threads(threads, usize::from(count), out, 4 + 2 * usize::from(made));
 }

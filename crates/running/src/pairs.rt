@@ -5,6 +5,7 @@ ghost use Rattle.format.specs.Header.{Laid};
 ghost use Rattle.format.specs.Contents.{contents_at};
 ghost use Rattle.rules.specs.Schema.{schema_of};
 ghost use Rattle.rules.specs.Kept.{Granting};
+ghost use Rattle.rules.specs.declared.Way.{Way};
 ghost use Rattle.rules.specs.declared.Way.TheVariants.{Sends, Receives};
 ghost use Rattle.steps.specs.Threads.{value};
 ghost use Rattle.steps.specs.Choice.{clinic_of, kind_held};
@@ -15,7 +16,7 @@ ghost use Rattle.steps.specs.Beside.{thread_count, made_count, made_of, beside_w
 
 use super::Two;
 use format::sections::node;
-use format::words::{narrow, wide};
+use format::words::narrow;
 use format::{Head, Node};
 use rules::grants::may;
 use steps::Thread;
@@ -35,26 +36,24 @@ fn works_on(file: &[u8], head: Head, table: &[u16], beside: &[u16], t: Thread, x
     0
 }
 
-// What a thread at a node may send on.
-fn way_out(file: &[u8], head: Head, sends: &[u16], beside: &[u16], t: Thread, it: Node) -> u16
-    requires { Laid file.now head × Granting (schema_of (contents_at file.now head)) Sends sends.now × (length beside.now ≡ beside_words) × (made_count beside.now ≤ 64) }
-    ensures { result ≡ cond (eqb it.tag 6) (works_on (clinic_of (contents_at file.now head)) (made_of beside.now) Sends t it.f1) 0 }
+// What a thread at a node may send on, or receive on: where the node has the way's tag, by the grants of that way.
+fn way_at(
+    file: &[u8],
+    head: Head,
+    tag: u16,
+    table: &[u16],
+    beside: &[u16],
+    t: Thread,
+    it: Node,
+) -> u16
+    ghost way: { Way }
+    requires { Laid file.now head × Granting (schema_of (contents_at file.now head)) way table.now × (length beside.now ≡ beside_words) × (made_count beside.now ≤ 64) }
+    ensures { result ≡ cond (eqb it.tag tag) (works_on (clinic_of (contents_at file.now head)) (made_of beside.now) way t it.f1) 0 }
 {
-    if it.tag != 6 {
+    if it.tag != tag {
         return 0;
     }
-    works_on(file, head, sends, beside, t, it.f1)
-}
-
-// What a thread at a node may receive on.
-fn way_in(file: &[u8], head: Head, receives: &[u16], beside: &[u16], t: Thread, it: Node) -> u16
-    requires { Laid file.now head × Granting (schema_of (contents_at file.now head)) Receives receives.now × (length beside.now ≡ beside_words) × (made_count beside.now ≤ 64) }
-    ensures { result ≡ cond (eqb it.tag 5) (works_on (clinic_of (contents_at file.now head)) (made_of beside.now) Receives t it.f1) 0 }
-{
-    if it.tag != 5 {
-        return 0;
-    }
-    works_on(file, head, receives, beside, t, it.f1)
+    works_on(file, head, table, beside, t, it.f1)
 }
 
 // What a thread may send on now.
@@ -63,7 +62,7 @@ pub fn sends_on(file: &[u8], head: Head, sends: &[u16], beside: &[u16], t: Threa
     ensures { result ≡ out_of (clinic_of (contents_at file.now head)) (made_of beside.now) t }
 {
     let it = node(file, head, t.node);
-    way_out(file, head, sends, beside, t, it)
+    way_at(file, head, 6, sends, beside, t, it)
 }
 
 // Whether a thread may receive on a value now. Most threads are told apart by the value, before any grant is asked for.
@@ -103,14 +102,14 @@ fn fill_ways(
     ensures { OfEach (out_of (clinic_of (contents_at file.now head)) (made_of beside.now)) threads.now (thread_count beside.now) outs.new
         × OfEach (in_of (clinic_of (contents_at file.now head)) (made_of beside.now)) threads.now (thread_count beside.now) ins.new }
 {
-    let count = wide(thread_count(beside));
-    let mut i: usize = 0;
-    while i < count {
+    let count = usize::from(thread_count(beside));
+    for i in 0..count {
         let t = thread_at(threads, i);
         let it = node(file, head, t.node);
-        outs[i] = way_out(file, head, sends, beside, t, it);
-        ins[i] = way_in(file, head, receives, beside, t, it);
-        i += 1;
+        let out = way_at(file, head, 6, sends, beside, t, it);
+        let at = way_at(file, head, 5, receives, beside, t, it);
+        outs[i] = out;
+        ins[i] = at;
     }
 }
 
@@ -120,10 +119,8 @@ fn stands_in(table: &[u16], x: u16) -> bool
     ensures { result ≡ stands_in x table.now }
 {
     let mut found: u16 = 0;
-    let mut k: usize = 0;
-    while k < 64 {
-        found = found | ((table[k] == x) as u16);
-        k += 1;
+    for k in 0..64 {
+        found |= (table[k] == x) as u16;
     }
     found != 0
 }
@@ -163,23 +160,18 @@ pub fn ready_pair(
     fill_ways(
         file, head, sends, receives, threads, beside, &mut outs, &mut ins,
     );
-    let count = wide(thread_count(beside));
+    let count = usize::from(thread_count(beside));
     let mut sender: u16 = 0;
     let mut receiver: u16 = 0;
-    let mut i: usize = 0;
-    'senders: while i < count {
+    'senders: for i in 0..count {
         let over = outs[i];
-        let mut j = left_out(&ins, over, count);
-        while j < count {
-            let at = ins[j];
-            j += 1;
-            if at == over {
+        for j in left_out(&ins, over, count)..count {
+            if ins[j] == over {
                 sender = narrow(i + 1);
-                receiver = narrow(j);
+                receiver = narrow(j + 1);
                 break 'senders;
             }
         }
-        i += 1;
     }
     Two { sender, receiver }
 }

@@ -4,12 +4,12 @@ use mathlib.Core.Path.{◌≡◌, refl, sym, ap, ◌∙◌}
 use mathlib.Core.Bool.{Bool, true, false, cond}
 use mathlib.Core.List.{List, [], ◌∷◌}
 use Rattle.steps.specs.declared.Outcome.{Outcome}
-use Rattle.steps.specs.Choice.{State, Chosen, halts, goes, done, outcome, choice}
+use Rattle.steps.specs.Choice.{Chosen, halts, goes, done, outcome, choice}
 use Rattle.steps.specs.Beside.{beside_by}
 use Rattle.choices.specs.Stored.{Tried, tried_by, on_from, tried}
-use Rattle.rounds.specs.Round.{Taken, refuses, waits, steps}
+use Rattle.rounds.specs.Round.{Taken, waits}
 use Rattle.seats.specs.Seats.{Limited, SeatedState, thread_node, asks_seat, owners_by, seated_by, lines_left, stand_in_line, seated_choice, steps_by, steps_only}
-use Rattle.seated.specs.SeatedTables.{must_wait, beside_sat}
+use Rattle.seated.specs.SeatedTables.{must_wait}
 use Rattle.seated.specs.SeatedLists.{beside_on, seated_beside}
 
 module _ (kind : ℕ → ℕ) (L : Limited) where

@@ -1,7 +1,7 @@
 -- A seated choice, carried out in the tables.
-use Prim.Native.Nat.{ℕ, zero, suc, ◌+◌, ◌-◌, ◌≤◌, ◌<◌}
+use Prim.Native.Nat.{ℕ, suc, ◌+◌, ◌-◌, ◌≤◌}
 use mathlib.Core.Path.{◌≡◌, refl, sym, ap, ap₂, ◌∙◌, subst}
-use mathlib.Core.Bool.{Bool, true, false, cond, not, ◌&&◌, false≢true}
+use mathlib.Core.Bool.{Bool, true, false, cond, false≢true}
 use mathlib.Core.List.{List, [], ◌∷◌, ◌++◌}
 use native.Mathlib.Omega.{arith}
 use lib.ListN.{length, get_or, set, take, drop, length-set, length-append, length-drop}
@@ -12,7 +12,7 @@ use Rattle.steps.specs.declared.Outcome.TheVariants.{Refused, Moves, Adds, Makes
 use Rattle.steps.specs.declared.Answer.{Answer}
 use Rattle.steps.specs.declared.Answer.TheVariants as answers
 use Rattle.steps.specs.Acted.{acted_of}
-use Rattle.steps.specs.Choice.{Clinic, clinic_of, State, Chosen, halts, goes, thread_at, changed, added, with_made, removed, done, outcome, choice}
+use Rattle.steps.specs.Choice.{Clinic, clinic_of, State, Chosen, goes, thread_at, removed, done, outcome, choice}
 use Rattle.steps.specs.Kept.{state_in, Sized, state_left}
 use Rattle.steps.specs.Beside.{thread_count, beside_by}
 use Rattle.steps.proofs.TableLaws.{threads_length}
@@ -20,7 +20,7 @@ use Rattle.choices.specs.Stored.{Chose}
 use Rattle.running_exact.proofs.StepsChosen.{steps_choice}
 use Rattle.rounds.specs.Round.{Taken, refuses, waits, steps, is_step}
 use Rattle.rounds.proofs.PlaceLaws.{length_without_item}
-use Rattle.seats.specs.Seats.{Limited, limited_of, SeatedState, thread_node, asks_seat, gets_seat, owners_by, seated_by, lines_left, lines_joined, stand_in_line, seated_choice}
+use Rattle.seats.specs.Seats.{Limited, limited_of, SeatedState, thread_node, asks_seat, owners_by, seated_by, lines_left, lines_joined, stand_in_line, seated_choice}
 use Rattle.seats.specs.SeatOrder.{Ordered, AfterAnswer}
 use Rattle.seats.proofs.SeatedTold.{put_on, asks_iff, asks_steps}
 use Rattle.seats.proofs.SeatedKept.{choice_ordered}

@@ -1,24 +1,23 @@
 -- Seated runs of whole files: what each way through the entry points answers.
-use Prim.Native.Nat.{ℕ, zero, suc, ◌+◌, ◌*◌, ◌≤◌, ◌<◌}
+use Prim.Native.Nat.{ℕ, suc, ◌+◌, ◌*◌, ◌≤◌, ◌<◌}
 use mathlib.Core.Path.{◌≡◌, refl, sym, ap, ap₂, ◌∙◌}
-use mathlib.Core.Bool.{Bool, true, false, cond, not, ◌&&◌, and-eq-true_iff}
+use mathlib.Core.Bool.{Bool, true, false, cond, ◌&&◌, and-eq-true_iff}
 use mathlib.Core.List.{List, [], ◌∷◌}
 use native.Mathlib.Omega.{arith}
 use lib.Dec.{eqb, leb}
-use lib.ListN.{length, get_or, drop, replicate, length-drop}
-use lib.Seq.{sets, drop-cons}
-use borrow.Author.Tests.{eq-eqb, ne_eqb, eqb-true, eqb-false, leb-true, le-leb, lt-leb}
+use lib.ListN.{length}
+use lib.Seq.{sets}
+use borrow.Author.Tests.{eq-eqb, ne_eqb, eqb-true, eqb-false}
 use Rattle.format.specs.Contents.{Contents, contents_at}
 use Rattle.format.specs.Words.{bytes_of}
 use Rattle.format.specs.Answers.{fine, refused, or_else}
 use Rattle.format.specs.declared.Head.{Head}
 use Rattle.format.specs.declared.Verdict.{Verdict}
-use Rattle.reading.specs.declared.Opened.TheVariants.{Fine, Refused}
+use Rattle.std.specs.Prelude.{Ok, Err}
 use Rattle.checking.specs.Check.{reading_names, entered}
 use Rattle.checking.proofs.CheckLaws.{entered_fine, entered_refused}
-use Rattle.steps.specs.Choice.{State}
 use Rattle.steps.specs.Beside.{thread_count, made_count}
-use Rattle.steps.specs.Kept.{state_in, Sized}
+use Rattle.steps.specs.Kept.{state_in}
 use Rattle.choices.specs.declared.Progress.{Progress}
 use Rattle.choices.specs.Choices.{Ran}
 use Rattle.running.specs.Run.{ran_words, listed, stopped}
@@ -26,10 +25,10 @@ use Rattle.running.proofs.EntryLaws.{progress_of, stopped_by, put_by}
 use Rattle.dispatching.proofs.EntryLaws.{output_words}
 use Rattle.rounds.specs.Round.{Taken, refuses, waits, steps}
 use Rattle.seats.specs.Seats.{Limited, limited_of, SeatedState, seated_choice, SeatedRan, follow_seated, seated_run, plainly, seated_start, overfilled_at}
+use Rattle.std.specs.List.{list_all}
 use Rattle.seating.specs.SeatedRunning.{small_seats, seat_table_answer, seat_start_answer, seated_running, seated_over, seated_length}
 use Rattle.format.specs.declared.Written.{Written}
 use Rattle.seated.specs.declared.SeatedWent.{SeatedWent}
-use Rattle.seated.specs.SeatedTables.{seated_in}
 use Rattle.seated.specs.SeatedLists.{SeatedThrough}
 use Rattle.seated.specs.SeatedEntry.{written_of, seated_written, seats_bar, ran_seated, written_by, out_by}
 
@@ -48,18 +47,11 @@ seated_counts L S (i ∷ p ∷ ws) = go (seated_choice L S i p) (λ S'. seated_c
     go (waits S') later = let (a, b) = later S' in (omega (arith, a), λ x. omega (arith, b x))
     go (steps S') later = let (a, b) = later S' in (omega (arith, a), λ x. omega (arith, b x))
 
--- the words of the table, one after the other
-pub small_step : (l : List ℕ) (k : ℕ) → k < length l → small_seats (drop k l) ≡ (leb (get_or l k 0) 32 && small_seats (drop (k + 1) l))
+-- the words of the table, all small
+pub all_small : (l : List ℕ) → list_all (λ x. leb x 32) l ≡ small_seats l
 unfolding small_seats
-small_step l k lt = let e : suc k ≡ k + 1 = omega arith in ap small_seats (drop-cons l k 0 lt) ∙ ap (λ (x : ℕ). leb (get_or l k 0) 32 && small_seats (drop x l)) e
-
-pub small_end : (l : List ℕ) (k : ℕ) → length l ≤ k → small_seats (drop k l) ≡ true
-unfolding small_seats
-small_end l k h = go (drop k l) (omega (arith, h, length-drop k l))
-  where
-    go : (m : List ℕ) → length m ≤ 0 → small_seats m ≡ true
-    go [] z = refl
-    go (x ∷ m) z = let no : ⊥ = omega (arith, z) in absurd no
+all_small [] = refl
+all_small (x ∷ l) = ap (λ (b : Bool). leb x 32 && b) (all_small l)
 
 -- what refuses before the first choice
 module _ (C : Contents) (table : List ℕ) where
@@ -138,7 +130,7 @@ unfolding seated_running seated_over seated_length
 seated_unfit f ws table out y e ey = (ey ∙ rw e, rw e)
 
 module _ (f ws table out : List ℕ) (fits : listed (length ws) && leb 1800 (length out) ≡ true) where
-  pub seated_refused : (v : Verdict) (y : Written) → entered f ≡ Refused v → y ≡ written_of v 0 → (y ≡ seated_written f ws table (length out)) × (out ≡ seated_over f ws table out)
+  pub seated_refused : (v : Verdict) (y : Written) → entered f ≡ Err v → y ≡ written_of v 0 → (y ≡ seated_written f ws table (length out)) × (out ≡ seated_over f ws table out)
   unfolding seated_running seated_over seated_length
   seated_refused v y e ey =
       let (loud, same) = entered_refused f v e in
@@ -146,7 +138,7 @@ module _ (f ws table out : List ℕ) (fits : listed (length ws) && leb 1800 (len
       let whole : written_of (reading_names f) 0 ≡ seated_written f ws table (length out) = rw (fits, test) (rw test) in
       (ey ∙ ap (λ (x : Verdict). written_of x 0) same ∙ whole, rw (fits, test) (rw test))
 
-  pub seated_done : (h : Head) (y : Written) (out' : List ℕ) → entered f ≡ Fine h → y ≡ written_by (contents_at f h) table ws → out' ≡ out_by (contents_at f h) table ws out
+  pub seated_done : (h : Head) (y : Written) (out' : List ℕ) → entered f ≡ Ok h → y ≡ written_by (contents_at f h) table ws → out' ≡ out_by (contents_at f h) table ws out
       → (y ≡ seated_written f ws table (length out)) × (out' ≡ seated_over f ws table out)
   unfolding seated_running seated_over seated_length
   seated_done h y out' e ey eo =
@@ -156,21 +148,6 @@ module _ (f ws table out : List ℕ) (fits : listed (length ws) && leb 1800 (len
       (ey ∙ chosen ∙ rw (fits, clean, same), eo ∙ rw (fits, clean, same))
 
 -- the table's test, as code makes it
-pub small_fails : (l : List ℕ) (k : ℕ) → k < length l → 32 < get_or l k 0 → small_seats (drop k l) ≡ small_seats l → false ≡ small_seats l
-small_fails l k lt big have = sym (sym have ∙ small_step l k lt ∙ ap (λ (b : Bool). b && small_seats (drop (k + 1) l)) (lt-leb (get_or l k 0) 32 big))
-
-pub small_goes : (l : List ℕ) (k : ℕ) → k < length l → get_or l k 0 ≤ 32 → small_seats (drop k l) ≡ small_seats l → small_seats (drop (k + 1) l) ≡ small_seats l
-small_goes l k lt few have = sym (ap (λ (b : Bool). b && small_seats (drop (k + 1) l)) (le-leb (get_or l k 0) 32 few)) ∙ sym (small_step l k lt) ∙ have
-
-pub small_ends : (l : List ℕ) (k : ℕ) → length l ≤ k → small_seats (drop k l) ≡ small_seats l → true ≡ small_seats l
-small_ends l k h have = sym (small_end l k h) ∙ have
-
-pub fits_yes : (l : List ℕ) (n roles : ℕ) (r : Bool) → length l ≡ n → n ≡ roles → r ≡ small_seats l → r ≡ (eqb (length l) roles && small_seats l)
-fits_yes l n roles r e f er = er ∙ sym (ap (λ (b : Bool). b && small_seats l) (eq-eqb (length l) roles (e ∙ f)))
-
-pub fits_no : (l : List ℕ) (n roles : ℕ) → (length l ≡ n → ⊥) → n ≡ roles → false ≡ (eqb (length l) roles && small_seats l)
-fits_no l n roles z f = sym (ap (λ (b : Bool). b && small_seats l) (ne_eqb (length l) roles (λ q. z (q ∙ sym f))))
-
 pub fits_short : (l : List ℕ) (roles : ℕ) → (eqb (length l) roles && small_seats l) ≡ true → length l ≡ roles
 fits_short l roles e = eqb-true (length l) roles ((and-eq-true_iff (eqb (length l) roles) (small_seats l)).0 e).0
 

@@ -7,7 +7,6 @@ use lib.ListN.{length, get_or, drop, length-drop}
 use Rattle.choices.proofs.RunLaws.{next}
 use Rattle.rounds.specs.Round.{Taken, refuses, waits, steps}
 use Rattle.seats.specs.Seats.{Limited, SeatedState, SeatedRan, follow_seated, seated_choice, seated_run, waits_by, waits_in, last_by, last_in}
-use Rattle.seated.specs.declared.SeatedWent.{SeatedWent}
 use Rattle.seated.specs.declared.Sat.{Sat}
 use Rattle.seated.specs.declared.Sat.TheVariants as sat
 use Rattle.seated.specs.SeatedTables.{seated_in, Seated, SatTold, beside_sat, ChoseSeated}

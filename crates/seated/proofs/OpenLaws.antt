@@ -1,7 +1,7 @@
 -- A run with seats from the file's start.
-use Prim.Native.Nat.{ℕ, zero, suc, ◌+◌, ◌*◌, ◌-◌, ◌≤◌, ◌<◌}
+use Prim.Native.Nat.{ℕ, zero, suc, ◌+◌, ◌*◌, ◌-◌}
 use mathlib.Core.Path.{◌≡◌, refl, sym, ap, ◌∙◌, subst}
-use mathlib.Core.Bool.{Bool, true, false, cond}
+use mathlib.Core.Bool.{Bool, true, false}
 use mathlib.Core.List.{List, []}
 use native.Mathlib.Omega.{arith}
 use lib.ListN.{length, get_or, take, drop, replicate, length-replicate}
@@ -13,10 +13,10 @@ use Rattle.steps.proofs.TableLaws.{threads_length}
 use Rattle.choices.specs.Choices.{start}
 use Rattle.choices.proofs.RunLaws.{threads_from_length}
 use Rattle.rounds.specs.Rounds.{numbers}
-use Rattle.seats.specs.Seats.{Limited, limited_of, SeatedState, seated_start, overfilled_at}
+use Rattle.seats.specs.Seats.{limited_of, SeatedState, seated_start, overfilled_at}
 use Rattle.seats.specs.SeatOrder.{Ordered}
 use Rattle.seats.proofs.SeatedStart.{start_ordered}
-use Rattle.seating.specs.SeatTables.{line_in, LineRows}
+use Rattle.seating.specs.SeatTables.{LineRows}
 use Rattle.seated.specs.declared.SeatedWent.{SeatedWent}
 use Rattle.seated.specs.SeatedTables.{lines_in, seated_in, Seated}
 use Rattle.seated.specs.SeatedLists.{SeatedThrough, SeatedOpen}

@@ -1,15 +1,15 @@
 -- The threads' sessions after an answer, and what tag a thread's node has at each answer.
 use Prim.Native.Nat.{ℕ, zero, suc, ◌+◌, ◌-◌, ◌≤◌, ◌<◌}
-use mathlib.Core.Path.{◌≡◌, refl, sym, ap, ap₂, ◌∙◌, subst}
+use mathlib.Core.Path.{◌≡◌, refl, sym, ap, ap₂, ◌∙◌}
 use mathlib.Core.Logic.{◌⊎◌, inl, inr}
-use mathlib.Core.Bool.{Bool, true, false, cond, not, ◌&&◌}
+use mathlib.Core.Bool.{Bool, true, false, cond, ◌&&◌}
 use mathlib.Core.List.{List, [], ◌∷◌, ◌++◌}
 use native.Mathlib.Omega.{arith}
 use lib.Dec.{eqb, ltb}
 use lib.ListN.{length, get_or, set, take, drop, length-drop}
 use lib.Seq.{paste, get_or-take, take-suc-set, take-take, take-paste}
 use borrow.Author.Tests.{eqb-true, ltb-true}
-use Rattle.masks.specs.Mask.{has, with, without}
+use Rattle.masks.specs.Mask.{has}
 use Rattle.format.specs.Contents.{in_count}
 use Rattle.format.proofs.ContentsLaws.{in_count_lem}
 use Rattle.format.specs.declared.Node.{Node}
@@ -19,15 +19,15 @@ use Rattle.steps.specs.declared.Made.{Made}
 use Rattle.steps.specs.declared.Partner.{Partner}
 use Rattle.steps.specs.declared.Partner.TheVariants.{Alone, With, Missing}
 use Rattle.steps.specs.declared.Outcome.{Outcome}
-use Rattle.steps.specs.declared.Outcome.TheVariants.{Refused, Moves, Adds, Makes, Ends, Meets}
+use Rattle.steps.specs.declared.Outcome.TheVariants.{Refused, Ends}
 use Rattle.steps.specs.declared.Answer.{Answer}
 use Rattle.steps.specs.declared.Answer.TheVariants as answers
 use Rattle.steps.specs.Acted.{acted_of}
-use Rattle.steps.specs.Threads.{value, onward, moved_to, masked, bound}
+use Rattle.steps.specs.Threads.{value}
 use Rattle.steps.specs.Choice.{Clinic, State, is_allowed, meeting, sending, lone, alone_only, acting, thread_at, partner_at, outcome}
 use Rattle.seats.specs.Seats.{owners_by}
 use Rattle.seats.proofs.StepOwners.{owners_gone, owners_more, owners_same}
-use Rattle.seated.specs.SeatedTables.{owners_passed, PassRoom}
+use Rattle.seated.specs.SeatedTables.{PassRoom}
 
 -- what an answer says of the tag of the thread's node, of the thread's number, and of the room
 abbrev pub Fits : ℕ → ℕ → ℕ → Answer → Type 0

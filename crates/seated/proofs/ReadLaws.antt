@@ -1,7 +1,7 @@
 -- What is read of a state with seats, word by word.
 use Prim.Native.Nat.{ℕ, zero, suc, ◌+◌, ◌*◌, ◌-◌, ◌/◌, ◌%◌, ◌≤◌, ◌<◌}
 use mathlib.Core.Path.{◌≡◌, refl, sym, ap, ap₂, ◌∙◌}
-use mathlib.Core.Bool.{Bool, true, false, cond}
+use mathlib.Core.Bool.{Bool, true, false}
 use mathlib.Core.List.{List, [], ◌∷◌, ◌++◌}
 use native.Mathlib.Omega.{arith}
 use lib.Dec.{ltb}
@@ -9,15 +9,13 @@ use lib.ListN.{length, get_or, set, take, drop, replicate, length-append, length
 use lib.Seq.{take-suc-set, take_all, ext_get_or, get_or-append-add, get_or-take, get_or-drop, length-take-le}
 use borrow.Author.Tests.{ltb-true, ltb-false, lt-ltb, le-ltb}
 use Rattle.masks.specs.Mask.{held}
-use Rattle.format.specs.Contents.{tabled, in_count}
+use Rattle.format.specs.Contents.{tabled}
 use Rattle.format.proofs.ContentsLaws.{tabled_length, tabled_same, in_count_iff}
 use Rattle.steps.specs.Records.{threads_in}
 use Rattle.steps.specs.Beside.{thread_count}
 use Rattle.steps.proofs.TableLaws.{threads_length}
-use Rattle.reading_exact.specs.Lists.{All}
-use Rattle.reading_exact.specs.File.{InCount}
-use Rattle.seats.specs.Seats.{Limited, SeatedState, seats_taken}
-use Rattle.seating.specs.SeatTables.{gathered, line_row, line_in, LineRows}
+use Rattle.seats.specs.Seats.{Limited, seats_taken}
+use Rattle.seating.specs.SeatTables.{gathered, line_row, LineRows}
 use Rattle.seating.specs.SeatsRead.{line_words, lines_from}
 use Rattle.seating.proofs.SessionLaws.{gathered_held}
 use Rattle.seated.specs.SeatedTables.{lines_in, seated_in, Seated}
@@ -41,8 +39,8 @@ filled_more g i l k v lt ev have =
     let one : suc k ≡ k + 1 = omega arith in
     ap (λ (x : ℕ). take x (set l k v)) (sym one) ∙ take-suc-set l k v lt ∙ ap₂ (λ (x : List ℕ) (y : ℕ). x ++ (y ∷ [])) have ev ∙ tabled_snoc g i k ∙ ap (tabled g i) one
 
-pub filled_all : (g : ℕ → ℕ) (i : ℕ) (l : List ℕ) (n : ℕ) → length l ≡ n → take n l ≡ tabled g i n → l ≡ tabled g i n
-filled_all g i l n e have = sym (take_all n l (omega (arith, e))) ∙ have
+pub filled_all : (g : ℕ → ℕ) (i : ℕ) (l : List ℕ) (k n : ℕ) → length l ≡ n → k ≡ n → take k l ≡ tabled g i k → l ≡ tabled g i n
+filled_all g i l k n e all have = sym (take_all k l (omega (arith, e, all))) ∙ have ∙ ap (tabled g i) all
 
 tabled_get : (g : ℕ → ℕ) (i k j : ℕ) → j < k → get_or (tabled g i k) j 0 ≡ g (i + j)
 unfolding tabled

@@ -1,7 +1,7 @@
 -- The role for which a choice may ask for a seat.
-use Prim.Native.Nat.{ℕ, zero, suc, ◌+◌, ◌-◌, ◌≤◌, ◌<◌}
-use mathlib.Core.Path.{◌≡◌, refl, sym, ap, ap₂, ◌∙◌, subst}
-use mathlib.Core.Bool.{Bool, true, false, cond, not, ◌&&◌, and-eq-true_iff, false≢true}
+use Prim.Native.Nat.{ℕ, zero, suc, ◌+◌, ◌-◌, ◌≤◌}
+use mathlib.Core.Path.{◌≡◌, refl, sym, ap, ap₂, ◌∙◌}
+use mathlib.Core.Bool.{Bool, true, false, not, ◌&&◌, and-eq-true_iff, false≢true}
 use mathlib.Core.List.{List, [], ◌∷◌}
 use native.Mathlib.Omega.{arith}
 use lib.Dec.{eqb, ltb}
@@ -19,7 +19,6 @@ use Rattle.steps.specs.Beside.{thread_count}
 use Rattle.steps.proofs.TableLaws.{threads_length, thread_get}
 use Rattle.reading_exact.specs.File.{InCount}
 use Rattle.seats.specs.Seats.{Limited, limited_of, seats_in, SeatedState, sits, thread_node, owner_of, asks_seat}
-use Rattle.seats.specs.SeatOrder.{AsksSeat}
 use Rattle.seats.proofs.SeatedTold.{asks_iff}
 use Rattle.seated.specs.SeatedTables.{role_asked}
 

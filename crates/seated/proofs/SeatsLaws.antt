@@ -1,7 +1,7 @@
 -- What is read of the seats, of whole files.
 use Prim.Native.Nat.{ℕ, ◌+◌, ◌*◌, ◌-◌, ◌/◌, ◌%◌, ◌≤◌}
-use mathlib.Core.Path.{◌≡◌, refl, sym, ap, ◌∙◌}
-use mathlib.Core.Bool.{Bool, true, false, cond}
+use mathlib.Core.Path.{◌≡◌, sym, ap, ◌∙◌}
+use mathlib.Core.Bool.{true, false, cond}
 use mathlib.Core.List.{List, []}
 use lib.Dec.{eqb}
 use lib.ListN.{length, get_or, replicate}
@@ -11,13 +11,13 @@ use Rattle.format.specs.Contents.{Contents, contents_at, tabled}
 use Rattle.format.specs.Answers.{fine, refused}
 use Rattle.format.specs.declared.Head.{Head}
 use Rattle.format.specs.declared.Verdict.{Verdict}
-use Rattle.reading.specs.declared.Opened.TheVariants.{Fine, Refused}
+use Rattle.std.specs.Prelude.{Ok, Err}
 use Rattle.naming.specs.Scopes.{awaited_by}
 use Rattle.checking.specs.Check.{reading_names, entered, scoped}
 use Rattle.checking.proofs.CheckLaws.{entered_fine, entered_refused}
 use Rattle.steps.specs.Records.{threads_in}
 use Rattle.steps.specs.Beside.{thread_count, start_beside, totals_in}
-use Rattle.choices.specs.Choices.{start, Ran}
+use Rattle.choices.specs.Choices.{start}
 use Rattle.choices.specs.Stored.{untried, beside_run}
 use Rattle.steps.specs.Choice.{clinic_of}
 use Rattle.running.specs.Run.{listed, stopped}
@@ -28,7 +28,6 @@ use Rattle.seating.specs.declared.Seats.{Seats}
 use Rattle.seating.specs.SeatTables.{gathered}
 use Rattle.seating.specs.SeatsRead.{lines_from, seats_of, no_seats, seats_after}
 use Rattle.seated.specs.declared.SeatedWent.{SeatedWent}
-use Rattle.seated.specs.SeatedTables.{seated_in}
 use Rattle.seated.specs.SeatedLists.{seated_beside, SeatedThrough}
 use Rattle.seated.specs.SeatedEntry.{seats_bar, ran_seated, seats_by}
 use Rattle.seated.specs.ReadWords.{line_word}
@@ -80,7 +79,7 @@ unfolding seats_after
 seats_unfit f ws table y e ey = ey ∙ rw e
 
 module _ (f ws table : List ℕ) (fits : listed (length ws) ≡ true) where
-  pub seats_refused : (v : Verdict) (y : Seats) → entered f ≡ Refused v → y ≡ no_seats v → y ≡ seats_after f ws table
+  pub seats_refused : (v : Verdict) (y : Seats) → entered f ≡ Err v → y ≡ no_seats v → y ≡ seats_after f ws table
   unfolding seats_after
   seats_refused v y e ey =
       let (loud, same) = entered_refused f v e in
@@ -88,7 +87,7 @@ module _ (f ws table : List ℕ) (fits : listed (length ws) ≡ true) where
       let whole : no_seats (reading_names f) ≡ seats_after f ws table = rw (fits, test) (rw test) in
       ey ∙ ap no_seats same ∙ whole
 
-  pub seats_done : (h : Head) (old scopes : List ℕ) (y : Seats) → entered f ≡ Fine h → length old ≡ 1025 → old ≡ replicate (length old) 0 → scopes ≡ scoped f old
+  pub seats_done : (h : Head) (old scopes : List ℕ) (y : Seats) → entered f ≡ Ok h → length old ≡ 1025 → old ≡ replicate (length old) 0 → scopes ≡ scoped f old
       → y ≡ seats_by (awaited_by scopes) (contents_at f h) table ws → y ≡ seats_after f ws table
   unfolding seats_after
   seats_done h old scopes y e long zeros its ey =

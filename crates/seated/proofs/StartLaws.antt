@@ -1,6 +1,6 @@
 -- The start of a run with seats: sessions that start with a role, the lowest that overfills one, and the threads' sessions.
 use Prim.Native.Nat.{ℕ, zero, suc, ◌+◌, ◌-◌, ◌≤◌, ◌<◌}
-use mathlib.Core.Path.{◌≡◌, refl, sym, ap, ap₂, ◌∙◌, subst}
+use mathlib.Core.Path.{◌≡◌, refl, sym, ap, ap₂, ◌∙◌}
 use mathlib.Core.Bool.{Bool, true, false, cond, ◌&&◌, ◌||◌, false≢true}
 use mathlib.Core.List.{List, [], ◌∷◌, ◌++◌}
 use native.Mathlib.Omega.{arith}
@@ -8,7 +8,7 @@ use mir.Val.{bool_byte}
 use lib.Dec.{eqb, ltb}
 use lib.ListN.{length, set, take, drop, length-append, length-drop, take-append-drop}
 use lib.Seq.{take-suc-set, drop-set-lt, drop-drop, take_at}
-use borrow.Author.Tests.{ltb-true, ltb-false, lt-ltb}
+use borrow.Author.Tests.{ltb-true, ltb-false, lt-ltb, eqb-true, eqb-false, ne_eqb}
 use Rattle.masks.specs.Mask.{has}
 use Rattle.masks.proofs.Laws.{has_none}
 use Rattle.format.specs.Contents.{Contents, item, no_session}
@@ -50,40 +50,58 @@ pub count-zero : (q : ℕ → Bool) → 0 ≡ count_to q 0
 unfolding count_to
 count-zero q = refl
 
-pub count_next : (C : Contents) (r n j at : ℕ) (s : Session) (h : Bool) → n ≡ count_to (λ x. sits (seated_start C) x r) j → at ≡ j + 1 → s ≡ item no_session C.sessions at → h ≡ has s.mask r
-    → n + bool_byte h ≡ count_to (λ x. sits (seated_start C) x r) (j + 1)
+pub count_next : (C : Contents) (r n at : ℕ) (s : Session) (h : Bool) → 1 ≤ at → n ≡ count_to (λ x. sits (seated_start C) x r) (at - 1) → s ≡ item no_session C.sessions at → h ≡ has s.mask r
+    → n + bool_byte h ≡ count_to (λ x. sits (seated_start C) x r) at
 unfolding count_to
-count_next C r n j at s h en ea es eh =
-    let one : suc j ≡ j + 1 = omega arith in
-    let it : h ≡ sits (seated_start C) (suc j) r = eh ∙ ap (λ (x : Session). has x.mask r) es ∙ ap (λ (x : ℕ). has (item no_session C.sessions x).mask r) (ea ∙ sym one) ∙ starts_with C (suc j) r in
+count_next C r n zero s h one en es eh = absurd (omega (arith, one))
+count_next C r n (suc j) s h one en es eh =
+    let back : suc j - 1 ≡ j = omega arith in
+    let it : h ≡ sits (seated_start C) (suc j) r = eh ∙ ap (λ (x : Session). has x.mask r) es ∙ starts_with C (suc j) r in
     let swap : n + bool_byte h ≡ cond h 1 0 + n = omega (arith, byte-is h) in
-    swap ∙ ap₂ (λ (x : Bool) (y : ℕ). cond x 1 0 + y) it en ∙ ap (count_to (λ x. sits (seated_start C) x r)) one
+    swap ∙ ap₂ (λ (x : Bool) (y : ℕ). cond x 1 0 + y) it (en ∙ ap (count_to (λ x. sits (seated_start C) x r)) back)
 
 -- one role more
 pub over_none : (L : Limited) (S : SeatedState) (k : ℕ) → false ≡ overfills L S 0 k
 unfolding overfills
 over_none L S k = refl
 
-pub over_next : (L : Limited) (S : SeatedState) (r k limit at : ℕ) (was is : Bool) → was ≡ overfills L S r k → at ≡ r + 1 → limit ≡ L.seats at → is ≡ (ltb 0 limit && ltb limit (count_to (λ j. sits S j at) k))
-    → (is || was) ≡ overfills L S (r + 1) k
+pub over_next : (L : Limited) (S : SeatedState) (k limit at : ℕ) (was is : Bool) → 1 ≤ at → was ≡ overfills L S (at - 1) k → limit ≡ L.seats at → is ≡ (ltb 0 limit && ltb limit (count_to (λ j. sits S j at) k))
+    → (is || was) ≡ overfills L S at k
 unfolding overfills
-over_next L S r k limit at was is ew ea el ei =
-    let one : suc r ≡ r + 1 = omega arith in
-    let it : is ≡ (ltb 0 (L.seats (suc r)) && ltb (L.seats (suc r)) (count_to (λ j. sits S j (suc r)) k)) =
-    ei ∙ ap (λ (x : ℕ). ltb 0 x && ltb x (count_to (λ j. sits S j at) k)) el ∙ ap (λ (x : ℕ). ltb 0 (L.seats x) && ltb (L.seats x) (count_to (λ j. sits S j x) k)) (ea ∙ sym one) in
-    ap₂ (λ (x y : Bool). x || y) it ew ∙ ap (λ (x : ℕ). overfills L S x k) one
+over_next L S k limit zero was is one ew el ei = absurd (omega (arith, one))
+over_next L S k limit (suc r) was is one ew el ei =
+    let back : suc r - 1 ≡ r = omega arith in
+    ap₂ (λ (x y : Bool). x || y) (ei ∙ ap (λ (x : ℕ). ltb 0 x && ltb x (count_to (λ j. sits S j (suc r)) k)) el) (ew ∙ ap (λ (x : ℕ). overfills L S x k) back)
 
--- one session more
-pub lowest_none : (q : ℕ → Bool) → 0 ≡ lowest_to q 0
+-- the lowest that meets a test: none yet, and none at k either; or k
+pub lowest_none : (q : ℕ → Bool) → lowest_to q 0 ≡ 0
 unfolding lowest_to
 lowest_none q = refl
 
-pub lowest_next : (q : ℕ → Bool) (k at l : ℕ) (over : Bool) (f : ℕ) → l ≡ lowest_to q k → at ≡ k + 1 → over ≡ q at → f ≡ cond (eqb l 0) (cond over at 0) l → f ≡ lowest_to q (k + 1)
+lowest_step : (q : ℕ → Bool) (k : ℕ) → lowest_to q k ≡ 0 → lowest_to q (suc k) ≡ cond (q (suc k)) (suc k) 0
 unfolding lowest_to
-lowest_next q k at l over f el ea eo ef =
-    let one : suc k ≡ k + 1 = omega arith in
-    ef ∙ ap (λ (x : Bool). cond (eqb l 0) (cond x at 0) l) eo ∙ ap (λ (x : ℕ). cond (eqb l 0) (cond (q x) x 0) l) (ea ∙ sym one)
-    ∙ ap (λ (x : ℕ). cond (eqb x 0) (cond (q (suc k)) (suc k) 0) x) el ∙ ap (lowest_to q) one
+lowest_step q k e = ap (λ (x : ℕ). cond (eqb x 0) (cond (q (suc k)) (suc k) 0) x) e
+
+pub lowest_not : (q : ℕ → Bool) (k : ℕ) → 1 ≤ k → lowest_to q (k - 1) ≡ 0 → q k ≡ false → lowest_to q k ≡ 0
+lowest_not q zero one e f = absurd (omega (arith, one))
+lowest_not q (suc k) one e f =
+    let back : k ≡ suc k - 1 = omega arith in
+    lowest_step q k (ap (lowest_to q) back ∙ e) ∙ ap (λ (x : Bool). cond x (suc k) 0) f
+
+pub lowest_here : (q : ℕ → Bool) (k n : ℕ) → 1 ≤ k → k ≤ n → lowest_to q (k - 1) ≡ 0 → q k ≡ true → k ≡ lowest_to q n
+unfolding lowest_to
+lowest_here q k zero one le e f = absurd (omega (arith, one, le))
+lowest_here q k (suc n) one le e f = go (λ l. lowest_here q k n one l e f) (eqb k (suc n)) refl
+  where
+    go : (k ≤ n → k ≡ lowest_to q n) → (b : Bool) → eqb k (suc n) ≡ b → k ≡ lowest_to q (suc n)
+    go lower true h =
+        let here : k ≡ suc n = eqb-true k (suc n) h in
+        let back : n ≡ k - 1 = omega (arith, here) in
+        here ∙ sym (lowest_step q n (ap (lowest_to q) back ∙ e) ∙ ap (λ (x : Bool). cond x (suc n) 0) (ap q (sym here) ∙ f))
+    go lower false h =
+        let past : (k ≡ suc n) → ⊥ = eqb-false k (suc n) h in
+        let before : k ≡ lowest_to q n = lower (omega (arith, le, past)) in
+        before ∙ sym (ap (λ (x : Bool). cond x (cond (q (suc n)) (suc n) 0) (lowest_to q n)) (ne_eqb (lowest_to q n) 0 (λ z. omega (arith, one, before, z))))
 
 -- the threads' sessions, one after the other
 pub numbered_none : (l : List ℕ) → take 0 l ≡ numbers 1 0

@@ -1,5 +1,5 @@
 -- Whether a choice has to wait, and the lines then.
-use Prim.Native.Nat.{ℕ, zero, suc, ◌+◌, ◌*◌, ◌-◌, ◌≤◌, ◌<◌}
+use Prim.Native.Nat.{ℕ, ◌+◌, ◌*◌, ◌-◌, ◌≤◌, ◌<◌}
 use mathlib.Core.Path.{◌≡◌, refl, sym, ap, ap₂, ◌∙◌, subst}
 use mathlib.Core.Bool.{Bool, true, false, cond, not, ◌&&◌}
 use mathlib.Core.List.{List, [], ◌∷◌, ◌++◌}
@@ -17,7 +17,7 @@ use Rattle.steps.specs.Beside.{thread_count}
 use Rattle.steps.specs.Kept.{state_in}
 use Rattle.steps.proofs.TableLaws.{threads_length}
 use Rattle.rounds.specs.Round.{Taken, waits}
-use Rattle.seats.specs.Seats.{Limited, limited_of, seats_in, SeatedState, sits, seats_taken, thread_node, owner_of, asks_seat, is_next, gets_seat, in_line, line_with, relined, lines_left, lines_joined, stand_in_line, seated_choice}
+use Rattle.seats.specs.Seats.{Limited, limited_of, seats_in, SeatedState, sits, seats_taken, owner_of, asks_seat, is_next, gets_seat, in_line, line_with, relined, lines_left, lines_joined, stand_in_line, seated_choice}
 use Rattle.seats.specs.SeatOrder.{Ordered, AfterAnswer}
 use Rattle.seats.proofs.SeatedKept.{line_at, choice_ordered}
 use Rattle.seats.proofs.SeatedStart.{table_roles}

@@ -1,6 +1,5 @@
 // One choice of a run with seats, in the tables that keep its state.
-ghost use Rattle.std.specs.Prelude.{◌≡◌, true, false, cond, not, ◌&&◌, ◌+◌, ◌*◌, ◌-◌, ◌≤◌, ◌<◌, length, get_or, drop, eqb};
-ghost use Rattle.std.proofs.Math.Seq.{paste};
+ghost use Rattle.std.specs.Prelude.{◌≡◌, false, ◌≤◌, ◌<◌, length};
 ghost use Rattle.format.specs.Header.{Laid};
 ghost use Rattle.format.specs.Contents.{contents_at};
 ghost use Rattle.rules.specs.Schema.{schema_of};
@@ -17,7 +16,6 @@ use super::Sat;
 use choices::list::go_through;
 use format::Head;
 use format::sections::{in_count, single_node, user_roles};
-use format::words::wide;
 use masks::{UserRole, has_role};
 use seating::lines::{in_line, join, leave};
 use seating::seat::seat_answer;
@@ -32,7 +30,7 @@ pub fn seats_of(seats: &[u16], role: UserRole) -> u16
     if role.0 == 0 {
         return 0;
     }
-    let at = wide(role.0 - 1);
+    let at = usize::from(role.0 - 1);
     if at < seats.len() {
         return seats[at];
     }
@@ -56,7 +54,7 @@ fn role_asked(
     if !(in_count(count, i) & (p == 0)) {
         return 0;
     }
-    let own = thread_at(threads, wide(i - 1));
+    let own = thread_at(threads, usize::from(i - 1));
     let n = single_node(file, head, own.node);
     if n.tag != 7 {
         return 0;
@@ -78,7 +76,7 @@ fn line_up(lines: &mut [u16], role: u16, k: u16, answer: u16)
     if answer == 0 {
         return;
     }
-    let row = wide(role - 1);
+    let row = usize::from(role - 1);
     if answer == 1 {
         if 0 < lines[33 * row] {
             leave(lines, row);
@@ -112,32 +110,19 @@ fn has_to_wait(
         return false;
     }
     let count = thread_count(beside);
-    let k = owners[wide(i - 1)];
+    let k = owners[usize::from(i - 1)];
     let limit = seats_of(seats, UserRole(role));
     let answer = seat_answer(
         threads,
         owners,
         &*lines,
-        wide(count),
+        usize::from(count),
         UserRole(role),
         limit,
         k,
     );
     line_up(lines, role, k, answer);
     answer == 2
-}
-
-// One of so many threads is gone: the sessions of those after it move down by one.
-fn move_down(owners: &mut [u16], count: usize, at: usize)
-    requires { (at < count) × (count ≤ length owners.old) }
-    ensures { owners.new ≡ paste owners.old at (drop (at + 1) owners.old) (count - 1 - at) }
-{
-    let end = count - 1;
-    let mut k = at;
-    while k < end {
-        owners[k] = owners[k + 1];
-        k += 1;
-    }
 }
 
 // The threads' sessions after an answer: a new last thread has its maker's, an end takes its away.
@@ -149,11 +134,11 @@ fn pass_on(owners: &mut [u16], count: usize, i: u16, answer: Answer)
         Answer::Refused(_) => {}
         Answer::Moves => {}
         Answer::Adds => {
-            owners[count] = owners[wide(i - 1)];
+            owners[count] = owners[usize::from(i - 1)];
         }
         Answer::Makes(_) => {}
         Answer::Ends => {
-            move_down(owners, count, wide(i - 1));
+            owners.copy_within(usize::from(i)..count, usize::from(i - 1));
         }
         Answer::Meets => {}
     }
@@ -194,7 +179,7 @@ fn step_on(
     let list = [i, p];
     let went = go_through(file, head, sends, receives, table, &list, threads, beside);
     let answer = went.last;
-    pass_on(owners, wide(count), i, answer);
+    pass_on(owners, usize::from(count), i, answer);
     sat_of(answer)
 }
 

@@ -21,7 +21,6 @@ use choices::Progress;
 use dispatching::output_length;
 use format::{Head, Verdict, Written};
 use read::{line_words, taken_words, waiting_words};
-use reading::Opened;
 use running::out::put_state;
 use running::{is_listed, stopped_at};
 use runs::run_seated_by;
@@ -114,8 +113,8 @@ pub fn run_seated(file: &[u8], choices: &[u16], seats: &[u16], out: &mut [u8]) -
     }
     let answer = enter(file);
     match answer {
-        Opened::Refused(first) => not_written(first),
-        Opened::Fine(head) => run_into(file, head, choices, seats, out),
+        Err(first) => not_written(first),
+        Ok(head) => run_into(file, head, choices, seats, out),
     }
 }
 
@@ -196,8 +195,8 @@ fn seats_with(file: &[u8], choices: &[u16], seats: &[u16], table: &mut [u64]) ->
     }
     let answer = enter_scoped(file, table);
     match answer {
-        Opened::Refused(first) => no_seats(first),
-        Opened::Fine(head) => seats_in(file, head, table, choices, seats),
+        Err(first) => no_seats(first),
+        Ok(head) => seats_in(file, head, table, choices, seats),
     }
 }
 

@@ -39,18 +39,16 @@ pub fn go_seated(
     let n = choices.len() / 2;
     let mut waited: u16 = 0;
     let mut last: u16 = 0;
-    let mut k: usize = 0;
-    while k < n {
+    for k in 0..n {
         let i = choices[2 * k];
         let p = choices[2 * k + 1];
         let sat = choose_seated(
             file, head, sends, receives, table, seats, threads, beside, owners, lines, i, p,
         );
-        k += 1;
         match sat {
             Sat::Refused(refusal) => {
                 return SeatedWent {
-                    count: narrow(k - 1),
+                    count: narrow(k),
                     refusal,
                     waited,
                     last,
@@ -69,7 +67,7 @@ pub fn go_seated(
         }
     }
     SeatedWent {
-        count: narrow(k),
+        count: narrow(n),
         refusal: 0,
         waited,
         last,

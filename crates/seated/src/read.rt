@@ -9,7 +9,7 @@ ghost use Rattle.seating.specs.SeatTables.{gathered, LineRows};
 ghost use Rattle.seated.specs.SeatedTables.{lines_in};
 ghost use Rattle.seated.specs.ReadWords.{line_word};
 
-use format::words::{narrow, wide};
+use format::words::narrow;
 use masks::UserRole;
 use seating::sessions::{session_count, sessions_in};
 use steps::beside::thread_count;
@@ -19,12 +19,10 @@ pub fn taken_words(threads: &[u16], beside: &[u16], owners: &[u16]) -> [u16; 16]
     requires { Sized threads.now beside.now × (length owners.now ≡ 64) }
     ensures { result ≡ tabled (λ role. held 32 (gathered (threads_in threads.now 0 (thread_count beside.now)) owners.now role 0)) 1 16 }
 {
-    let count = wide(thread_count(beside));
+    let count = usize::from(thread_count(beside));
     let mut all = [0u16; 16];
-    let mut k: usize = 0;
-    while k < 16 {
+    for k in 0..16 {
         all[k] = session_count(sessions_in(threads, owners, count, UserRole(narrow(k + 1))));
-        k += 1;
     }
     all
 }
@@ -35,10 +33,8 @@ pub fn waiting_words(lines: &[u16]) -> [u16; 16]
     ensures { result ≡ tabled (λ role. get_or lines.now (33 * (role - 1)) 0) 1 16 }
 {
     let mut all = [0u16; 16];
-    let mut k: usize = 0;
-    while k < 16 {
+    for k in 0..16 {
         all[k] = lines[33 * k];
-        k += 1;
     }
     all
 }
@@ -48,7 +44,7 @@ fn line_word(lines: &[u16], row: usize, at: usize) -> u16
     requires { LineRows lines.now × (row < 16) × (at < 32) }
     ensures { result ≡ line_word lines.now row at }
 {
-    if at < wide(lines[33 * row]) {
+    if at < usize::from(lines[33 * row]) {
         return lines[33 * row + 1 + at];
     }
     0
@@ -60,10 +56,8 @@ pub fn line_words(lines: &[u16]) -> [u16; 512]
     ensures { result ≡ tabled (λ x. line_word lines.now (x / 32) (x % 32)) 0 512 }
 {
     let mut all = [0u16; 512];
-    let mut k: usize = 0;
-    while k < 512 {
+    for k in 0..512 {
         all[k] = line_word(lines, k / 32, k % 32);
-        k += 1;
     }
     all
 }

@@ -1,5 +1,5 @@
 // The start of a run with seats: the lowest session that overfills a role, and each thread's session.
-ghost use Rattle.std.specs.Prelude.{◌≡◌, cond, ◌&&◌, ◌++◌, ◌≤◌, ◌<◌, eqb, ltb, length, drop};
+ghost use Rattle.std.specs.Prelude.{◌≡◌, ◌&&◌, ◌++◌, ◌≤◌, ◌<◌, ltb, length, drop};
 ghost use Rattle.format.specs.Header.{Laid};
 ghost use Rattle.format.specs.Contents.{contents_at};
 ghost use Rattle.rounds.specs.Rounds.{numbers};
@@ -8,7 +8,7 @@ ghost use Rattle.seats.specs.Seats.{limited_of, sits, count_to, seated_start, ov
 use super::choice::seats_of;
 use format::Head;
 use format::sections::session;
-use format::words::{narrow, wide};
+use format::words::narrow;
 use masks::{UserRole, has_role};
 
 // How many of the sessions 1 to k start with the role.
@@ -17,9 +17,7 @@ fn start_count(file: &[u8], head: Head, role: UserRole, k: u16) -> u16
     ensures { result ≡ count_to (λ j. sits (seated_start (contents_at file.now head)) j role.0) k }
 {
     let mut n: u16 = 0;
-    let mut j: u16 = 0;
-    while j < k {
-        j += 1;
+    for j in 1..=k {
         let it = session(file, head, j);
         n += has_role(it.mask, role) as u16;
     }
@@ -42,27 +40,11 @@ fn overfill(file: &[u8], head: Head, seats: &[u16], k: u16) -> bool
     requires { Laid file.now head × (length seats.now ≤ 16) }
     ensures { result ≡ overfills (limited_of (contents_at file.now head) seats.now) (seated_start (contents_at file.now head)) (length seats.now) k }
 {
-    let m = narrow(seats.len());
     let mut over = false;
-    let mut r: u16 = 0;
-    while r < m {
-        r += 1;
+    for r in 1..=narrow(seats.len()) {
         over = is_over(file, head, seats_of(seats, UserRole(r)), UserRole(r), k) | over;
     }
     over
-}
-
-// The first of two sessions that overfill: the one found before, else this one if it does.
-fn earlier(found: u16, over: bool, k: u16) -> u16
-    ensures { result ≡ cond (eqb found 0) (cond over k 0) found }
-{
-    if found == 0 {
-        if over {
-            return k;
-        }
-        return 0;
-    }
-    found
 }
 
 // The lowest session that overfills a role, 0 where none does.
@@ -70,14 +52,12 @@ pub fn overfilled_at(file: &[u8], head: Head, seats: &[u16]) -> u16
     requires { Laid file.now head × (length seats.now ≤ 16) }
     ensures { result ≡ overfilled_at (limited_of (contents_at file.now head) seats.now) (seated_start (contents_at file.now head)) (length seats.now) }
 {
-    let n = head.count.sessions;
-    let mut found: u16 = 0;
-    let mut k: u16 = 0;
-    while k < n {
-        k += 1;
-        found = earlier(found, overfill(file, head, seats, k), k);
+    for k in 1..=head.count.sessions {
+        if overfill(file, head, seats, k) {
+            return k;
+        }
     }
-    found
+    0
 }
 
 // At the start the threads are the sessions' own, 1 to n; the words past them stay.
@@ -85,10 +65,7 @@ pub fn number_owners(owners: &mut [u16], n: u16)
     requires { (n ≤ length owners.old) × (n < 65535) }
     ensures { owners.new ≡ numbers 1 n ++ drop n owners.old }
 {
-    let m = wide(n);
-    let mut k: usize = 0;
-    while k < m {
-        owners[k] = narrow(k + 1);
-        k += 1;
+    for k in 0..n {
+        owners[usize::from(k)] = k + 1;
     }
 }

@@ -6,32 +6,13 @@ ghost use Rattle.seating.specs.SeatedRunning.{small_seats};
 ghost use Rattle.seated.specs.SeatedEntry.{seats_bar};
 
 use super::start::overfilled_at;
-use format::words::wide;
 use format::{Head, Verdict};
-
-// Each word at most 32.
-fn are_small(seats: &[u16]) -> bool
-    ensures { result ≡ small_seats seats.now }
-{
-    let n = seats.len();
-    let mut k: usize = 0;
-    while k < n {
-        if 32 < seats[k] {
-            return false;
-        }
-        k += 1;
-    }
-    true
-}
 
 // One word a role, each at most 32.
 fn fits(seats: &[u16], roles: u16) -> bool
     ensures { result ≡ (eqb (length seats.now) roles && small_seats seats.now) }
 {
-    if seats.len() == wide(roles) {
-        return are_small(seats);
-    }
-    false
+    seats.len() == usize::from(roles) && seats.iter().all(|seat| *seat <= 32)
 }
 
 pub fn seats_bar(file: &[u8], head: Head, seats: &[u16]) -> Verdict
@@ -46,10 +27,7 @@ pub fn seats_bar(file: &[u8], head: Head, seats: &[u16]) -> Verdict
     }
     let k = overfilled_at(file, head, seats);
     if k == 0 {
-        return Verdict {
-            number: 0,
-            place: 0,
-        };
+        return Verdict::FINE;
     }
     Verdict {
         number: 26,

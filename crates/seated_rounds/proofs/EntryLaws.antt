@@ -13,7 +13,7 @@ use Rattle.format.specs.Words.{bytes_of}
 use Rattle.format.specs.Answers.{fine, refused}
 use Rattle.format.specs.declared.Head.{Head}
 use Rattle.format.specs.declared.Verdict.{Verdict}
-use Rattle.reading.specs.declared.Opened.TheVariants.{Fine, Refused}
+use Rattle.std.specs.Prelude.{Ok, Err}
 use Rattle.checking.specs.Check.{reading_names, entered}
 use Rattle.checking.proofs.CheckLaws.{entered_fine, entered_refused}
 use Rattle.steps.specs.Choice.{State}
@@ -109,7 +109,7 @@ unfolding seated_rounding seated_round_over
 round_unfit f ws table out y e ey = (ey ∙ rw e, rw e)
 
 module _ (f ws table out : List ℕ) (fits : round_listed (length ws) && leb 1800 (length out) ≡ true) where
-  pub round_refused : (v : Verdict) (y : Round) → entered f ≡ Refused v → y ≡ no_round v → (y ≡ seated_rounding f ws table (length out)) × (out ≡ seated_round_over f ws table out)
+  pub round_refused : (v : Verdict) (y : Round) → entered f ≡ Err v → y ≡ no_round v → (y ≡ seated_rounding f ws table (length out)) × (out ≡ seated_round_over f ws table out)
   unfolding seated_rounding seated_round_over
   round_refused v y e ey =
       let (loud, same) = entered_refused f v e in
@@ -117,7 +117,7 @@ module _ (f ws table out : List ℕ) (fits : round_listed (length ws) && leb 180
       let whole : no_round (reading_names f) ≡ seated_rounding f ws table (length out) = rw (fits, test) (rw test) in
       (ey ∙ ap no_round same ∙ whole, rw (fits, test) (rw test))
 
-  pub round_done : (h : Head) (y : Round) (out' : List ℕ) → entered f ≡ Fine h → y ≡ round_with_seats (contents_at f h) table ws → out' ≡ round_out_by (contents_at f h) table ws out
+  pub round_done : (h : Head) (y : Round) (out' : List ℕ) → entered f ≡ Ok h → y ≡ round_with_seats (contents_at f h) table ws → out' ≡ round_out_by (contents_at f h) table ws out
       → (y ≡ seated_rounding f ws table (length out)) × (out' ≡ seated_round_over f ws table out)
   unfolding seated_rounding seated_round_over
   round_done h y out' e ey eo = let (laid, same, clean) = entered_fine f h e in (ey ∙ rw (fits, clean, same), eo ∙ rw (fits, clean, same))

@@ -19,7 +19,6 @@ use checking::enter;
 use choices::Progress;
 use dispatching::{Round, is_listed_for_round, no_round, output_length};
 use format::{Head, Verdict};
-use reading::Opened;
 use running::out::put_state;
 use running::stopped_at;
 use seated::runs::run_seated_by;
@@ -129,7 +128,7 @@ pub fn round_seated(file: &[u8], choices: &[u16], seats: &[u16], out: &mut [u8])
     }
     let answer = enter(file);
     match answer {
-        Opened::Refused(first) => no_round(first),
-        Opened::Fine(head) => round_into(file, head, choices, seats, out),
+        Err(first) => no_round(first),
+        Ok(head) => round_into(file, head, choices, seats, out),
     }
 }

@@ -1,15 +1,15 @@
 -- The sessions that have a role, as a mask.
-use Prim.Native.Nat.{ℕ, zero, suc, ◌+◌, ◌-◌, ◌≤◌, ◌<◌}
-use mathlib.Core.Path.{◌≡◌, refl, sym, ap, ◌∙◌, subst}
-use mathlib.Core.Bool.{Bool, true, false, cond, ◌&&◌, ◌||◌}
-use mathlib.Core.List.{List, [], ◌∷◌}
+use Prim.Native.Nat.{ℕ, suc, ◌+◌, ◌-◌, ◌≤◌, ◌<◌}
+use mathlib.Core.Path.{◌≡◌, refl, sym, ap, ◌∙◌}
+use mathlib.Core.Bool.{Bool, true, false, ◌&&◌}
+use mathlib.Core.List.{List}
 use native.Mathlib.Omega.{arith}
-use lib.Dec.{eqb, leb, ltb}
+use lib.Dec.{ltb}
 use lib.ListN.{length, get_or, drop}
+use lib.Seq.{drop-cons}
 use borrow.Author.Tests.{le-ltb, lt-ltb, le-leb, lt-leb}
-use Rattle.masks.specs.Mask.{has, with}
-use Rattle.steps.specs.declared.Thread.{Thread}
-use Rattle.steps.specs.Records.{thread_in, threads_in, record_words, record_at}
+use Rattle.masks.specs.Mask.{with}
+use Rattle.steps.specs.Records.{threads_in, record_words, record_at}
 use Rattle.seating.specs.SeatTables.{with_session, put_session, gathered}
 
 and_right : (b : Bool) → (b && false) ≡ false
@@ -29,12 +29,6 @@ pub with_one : (m k : ℕ) → 1 ≤ k → k ≤ 32 → with m k ≡ with_sessio
 unfolding with_session
 with_one m k l n = rw (lt-ltb 0 k l, le-leb k 32 n)
 
--- the rest of a list from a place within it
-drop_get : (os : List ℕ) (i : ℕ) → i < length os → drop i os ≡ get_or os i 0 ∷ drop (suc i) os
-drop_get [] i l = absurd (omega (arith, l))
-drop_get (o ∷ os) zero l = refl
-drop_get (o ∷ os) (suc i) l = drop_get os i (omega (arith, l))
-
 -- the threads from i on: the thread at i, then those from i + 1 on
 pub gather_step : (w os : List ℕ) (n i r m : ℕ) → i < n → i < length os
     → gathered (threads_in w (record_at (i + 1)) (n - (i + 1))) (drop (i + 1) os) r (put_session m (get_or w (record_at i + 2) 0) r (get_or os i 0))
@@ -45,7 +39,7 @@ gather_step w os n i r m l k =
     let b : record_at (i + 1) ≡ record_at i + record_words = omega arith in
     let c : i + 1 ≡ suc i = omega arith in
     sym (ap (λ (x : ℕ). gathered (threads_in w (record_at i) x) (drop i os) r m) a
-    ∙ ap (λ (o : List ℕ). gathered (threads_in w (record_at i) (suc (n - (i + 1)))) o r m) (drop_get os i k)
+    ∙ ap (λ (o : List ℕ). gathered (threads_in w (record_at i) (suc (n - (i + 1)))) o r m) (drop-cons os i 0 k)
     ∙ ap (λ (x : ℕ). gathered (threads_in w (record_at i + record_words) (n - (i + 1))) (drop x os) r (put_session m (get_or w (record_at i + 2) 0) r (get_or os i 0))) (sym c)
     ∙ ap (λ (x : ℕ). gathered (threads_in w x (n - (i + 1))) (drop (i + 1) os) r (put_session m (get_or w (record_at i + 2) 0) r (get_or os i 0))) (sym b))
 

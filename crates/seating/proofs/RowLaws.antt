@@ -1,33 +1,28 @@
 -- Lines in rows.
 use Prim.Native.Nat.{ℕ, zero, suc, ◌+◌, ◌*◌, ◌-◌, ◌≤◌, ◌<◌}
 use mathlib.Core.Path.{◌≡◌, refl, sym, ap, ◌∙◌, subst}
-use mathlib.Core.Bool.{Bool, true, false, cond, ◌||◌}
+use mathlib.Core.Bool.{Bool, true, false, ◌||◌}
 use mathlib.Core.List.{List, [], ◌∷◌, ◌++◌}
 use native.Mathlib.Omega.{arith}
+use native.Mathlib.Numerals.{add-one}
 use lib.Dec.{eqb, ltb}
 use lib.ListN.{length, get_or, set, take, drop, length-set, length-drop}
-use lib.Seq.{length-paste, drop-paste, length-take-le, ext_get_or, get_or-take, get_or-drop, get_or-set_same, get_or-set_other, drop-set-lt, drop-set-add, take-suc-set}
+use lib.Seq.{length-paste, drop-paste, length-take-le, ext_get_or, get_or-take, get_or-drop, get_or-set_same, get_or-set_other, drop-set-lt, drop-set-add, take-suc-set, drop-cons}
 use mathlib.Core.Logic.{◌≢◌, ◌⊎◌, inl, inr}
 use borrow.Author.Tests.{eqb-true, eqb-false, ltb-true, ltb-false}
 use Rattle.steps.proofs.TableLaws.{down, down_below, down_above}
+use Rattle.std.specs.List.{list_any}
 use Rattle.running.specs.Ways.{stands_in}
 use Rattle.seats.specs.Seats.{is_next, in_line}
 use Rattle.seating.specs.SeatTables.{line_row, LineRows, joined_row, left_row}
-
--- the rest of a table from a place within it
-pub drop_at : (w : List ℕ) (p : ℕ) → p < length w → drop p w ≡ get_or w p 0 ∷ drop (p + 1) w
-drop_at [] p l = absurd (omega (arith, l))
-drop_at (x ∷ w) zero l = refl
-drop_at (x ∷ w) (suc p) l =
-    let e : suc p + 1 ≡ suc (p + 1) = omega arith in
-    drop_at w p (omega (arith, l)) ∙ ap (λ (q : ℕ). get_or w p 0 ∷ drop q (x ∷ w)) (sym e)
 
 -- of the next n words the first, and the rest
 pub take_at : (w : List ℕ) (n p : ℕ) → 1 ≤ n → p < length w → take n (drop p w) ≡ get_or w p 0 ∷ take (n - 1) (drop (p + 1) w)
 take_at w zero p l m = absurd (omega (arith, l))
 take_at w (suc n) p l m =
     let e : suc n - 1 ≡ n = omega arith in
-    ap (take (suc n)) (drop_at w p m) ∙ ap (λ (q : ℕ). get_or w p 0 ∷ take q (drop (p + 1) w)) (sym e)
+    let f : p + 1 ≡ suc p = add-one p in
+    ap (take (suc n)) (drop-cons w p 0 m) ∙ sym (rw (e, f))
 
 pub next-none : (w : List ℕ) (row k : ℕ) → get_or w (33 * row) 0 ≡ 0 → true ≡ is_next (line_row w row) k
 unfolding is_next
@@ -40,21 +35,11 @@ next_head w row k z l =
     let m : 1 ≤ n = omega (arith, z) in
     sym (ap (λ (x : List ℕ). is_next x k) (take_at w n (33 * row + 1) m l))
 
--- a search from i on
-pub search_step : (w : List ℕ) (n at i k : ℕ) → i < n → at + i < length w
-    → in_line k (take (n - i) (drop (at + i) w)) ≡ (eqb (get_or w (at + i) 0) k || in_line k (take (n - (i + 1)) (drop (at + (i + 1)) w)))
+-- a search for what equals a session
+pub any_in_line : (k : ℕ) (l : List ℕ) → list_any (λ x. eqb x k) l ≡ in_line k l
 unfolding stands_in
-search_step w n at i k l m =
-    let e : n - i - 1 ≡ n - (i + 1) = omega arith in
-    let d : at + i + 1 ≡ at + (i + 1) = omega arith in
-    let a : 1 ≤ n - i = omega (arith, l) in
-    ap (in_line k) (take_at w (n - i) (at + i) a m)
-    ∙ ap (λ (x : ℕ). eqb (get_or w (at + i) 0) k || in_line k (take x (drop (at + i + 1) w))) e
-    ∙ ap (λ (x : ℕ). eqb (get_or w (at + i) 0) k || in_line k (take (n - (i + 1)) (drop x w))) d
-
-pub search_end : (w : List ℕ) (n i p k : ℕ) → n ≤ i → in_line k (take (n - i) (drop p w)) ≡ false
-unfolding stands_in
-search_end w n i p k l = let e : n - i ≡ 0 = omega (arith, l) in ap (λ (x : ℕ). in_line k (take x (drop p w))) e
+any_in_line k [] = refl
+any_in_line k (x ∷ l) = ap (λ (b : Bool). eqb x k || b) (any_in_line k l)
 
 -- equal words, equal rows
 row_same : (w v : List ℕ) (p q n : ℕ) → p + n ≤ length w → q + n ≤ length v → ((j : ℕ) → j < n → get_or w (p + j) 0 ≡ get_or v (q + j) 0)

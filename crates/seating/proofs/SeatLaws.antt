@@ -1,16 +1,15 @@
 -- The answer about a seat, by its tests; and what it says of a choice that stands at an on of a role with a limit.
-use Prim.Native.Nat.{ℕ, zero, suc, ◌≤◌, ◌<◌}
-use mathlib.Core.Path.{◌≡◌, refl, sym, ap, ◌∙◌, subst}
-use mathlib.Core.Bool.{Bool, true, false, cond, not, ◌&&◌}
-use mathlib.Core.List.{List, [], ◌∷◌}
-use native.Mathlib.Omega.{arith}
-use lib.Dec.{eqb, leb, ltb}
+use Prim.Native.Nat.{ℕ, ◌≤◌, ◌<◌}
+use mathlib.Core.Path.{◌≡◌, refl, sym, ap, ◌∙◌}
+use mathlib.Core.Bool.{Bool, true, false, cond, ◌&&◌}
+use mathlib.Core.List.{List}
+use lib.Dec.{leb, ltb}
 use borrow.Author.Tests.{le-leb, lt-leb, leb-true, leb-false, lt-ltb, le-ltb}
 use Rattle.masks.specs.Mask.{has, held}
 use Rattle.steps.specs.declared.Thread.{Thread}
 use Rattle.reading_exact.specs.Lists.{All}
 use Rattle.reading_exact.specs.File.{InCount}
-use Rattle.seats.specs.Seats.{Limited, SeatedState, occupies, sits, count_to, seats_taken, is_next}
+use Rattle.seats.specs.Seats.{Limited, SeatedState, sits, seats_taken, is_next}
 use Rattle.seating.specs.SeatTables.{gathered, seat_answer}
 use Rattle.seating.proofs.SessionLaws.{gathered_has, gathered_held, counted_more}
 

@@ -1,12 +1,12 @@
 -- The mask of sessions that have a role says who has it, and its ones how many.
 use Prim.Native.Nat.{ℕ, zero, suc, ◌+◌, ◌-◌, ◌≤◌, ◌<◌}
-use mathlib.Core.Path.{◌≡◌, refl, sym, ap, ap₂, ◌∙◌, subst}
+use mathlib.Core.Path.{◌≡◌, refl, sym, ap, ap₂, ◌∙◌}
 use mathlib.Core.Bool.{Bool, true, false, cond, ◌&&◌, ◌||◌}
 use mathlib.Core.List.{List, [], ◌∷◌}
 use native.Mathlib.Omega.{arith}
-use lib.Dec.{eqb, leb, ltb}
+use lib.Dec.{eqb}
 use borrow.Author.Tests.{eqb-true, eqb-false, eq-eqb, ne_eqb}
-use Rattle.masks.specs.Mask.{has, with, held}
+use Rattle.masks.specs.Mask.{has, held}
 use Rattle.masks.proofs.Laws.{has_none, has_with}
 use Rattle.steps.specs.declared.Thread.{Thread}
 use Rattle.reading_exact.specs.Lists.{All}

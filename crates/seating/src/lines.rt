@@ -3,8 +3,6 @@ ghost use Rattle.std.specs.Prelude.{◌≡◌, ◌+◌, ◌*◌, ◌<◌, get_or
 ghost use Rattle.seats.specs.Seats.{is_next, in_line};
 ghost use Rattle.seating.specs.SeatTables.{line_row, LineRows, joined_row, left_row};
 
-use format::words::wide;
-
 // Whether nobody waits, or the session is the head.
 pub fn is_next(lines: &[u16], row: usize, k: u16) -> bool
     requires { LineRows lines.now × (row < 16) }
@@ -23,15 +21,8 @@ pub fn in_line(lines: &[u16], row: usize, k: u16) -> bool
     ensures { result ≡ in_line k (line_row lines.now row) }
 {
     let at = 33 * row + 1;
-    let n = wide(lines[33 * row]);
-    let mut i: usize = 0;
-    while i < n {
-        if lines[at + i] == k {
-            return true;
-        }
-        i += 1;
-    }
-    false
+    let n = usize::from(lines[33 * row]);
+    lines[at..at + n].contains(&k)
 }
 
 // The session joins the end of a line that has room.
@@ -41,7 +32,7 @@ pub fn join(lines: &mut [u16], row: usize, k: u16)
 {
     let at = 33 * row;
     let n = lines[at];
-    lines[at + 1 + wide(n)] = k;
+    lines[at + 1 + usize::from(n)] = k;
     lines[at] = n + 1;
 }
 
@@ -52,11 +43,6 @@ pub fn leave(lines: &mut [u16], row: usize)
 {
     let at = 33 * row;
     let n = lines[at];
-    let end = at + wide(n);
-    let mut i = at + 1;
-    while i < end {
-        lines[i] = lines[i + 1];
-        i += 1;
-    }
+    lines.copy_within(at + 2..at + 1 + usize::from(n), at + 1);
     lines[at] = n - 1;
 }

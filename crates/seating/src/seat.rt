@@ -5,7 +5,6 @@ ghost use Rattle.seating.specs.SeatTables.{line_in, LineRows, seat_answer};
 
 use crate::lines::is_next;
 use crate::sessions::{has_session, session_count, sessions_in};
-use format::words::wide;
 use masks::UserRole;
 
 // 0 where the session has the role, 1 where it gets a seat, 2 where it has to wait.
@@ -28,7 +27,7 @@ pub fn seat_answer(
     if limit <= session_count(sessions) {
         return 2;
     }
-    if is_next(lines, wide(role.0 - 1), k) {
+    if is_next(lines, usize::from(role.0 - 1), k) {
         return 1;
     }
     2

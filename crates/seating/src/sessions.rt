@@ -36,10 +36,8 @@ pub fn sessions_in(threads: &[u16], owners: &[u16], count: usize, role: UserRole
     ensures { result ≡ gathered (threads_in threads.now 0 count) owners.now role.0 0 }
 {
     let mut m: u32 = 0;
-    let mut i: usize = 0;
-    while i < count {
+    for i in 0..count {
         m = put_session(m, threads[RECORD * i + 2], role, owners[i]);
-        i += 1;
     }
     m
 }

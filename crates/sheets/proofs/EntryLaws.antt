@@ -1,25 +1,25 @@
 -- What a file adds to the sheet, from what is decided, and that it keeps within what the sums have room for.
-use Prim.Native.Nat.{ℕ, ◌+◌, ◌*◌, ◌≤◌}
-use mathlib.Core.Path.{◌≡◌, refl, sym, ap, ◌∙◌, subst}
+use Prim.Native.Nat.{ℕ, ◌*◌, ◌≤◌}
+use mathlib.Core.Path.{◌≡◌, refl, ap, ◌∙◌}
 use mathlib.Core.List.{List, [], ◌∷◌}
 use mathlib.Core.Bool.{Bool, true, false, cond}
 use native.Mathlib.Omega.{arith}
 use lib.Dec.{eqb}
 use lib.ListN.{length}
-use borrow.Author.Tests.{eqb-true, eqb-false, eq-eqb, ne_eqb}
-use Rattle.format.specs.Header.{head_at, Laid}
+use borrow.Author.Tests.{eqb-true, eq-eqb, ne_eqb}
+use Rattle.format.specs.Header.{head_at}
 use Rattle.format.specs.Contents.{Contents, contents_at, contents_of}
 use Rattle.format.specs.declared.Head.{Head}
 use Rattle.format.specs.declared.Verdict.{Verdict}
 use Rattle.format.proofs.AnswerLaws.{NoRefusal, both_quiet}
 use Rattle.format.proofs.ContentsLaws.{sessions_held}
-use Rattle.reading.specs.declared.Opened.TheVariants.{Fine}
+use Rattle.std.specs.Prelude.{Ok}
 use Rattle.reading_exact.specs.Order.{in_turn}
 use Rattle.reading_exact.proofs.FirstLaws.{number_of}
 use Rattle.checking.specs.Check.{reading_names, entered}
 use Rattle.checking.proofs.CheckLaws.{names_headed}
 use Rattle.states.specs.declared.Turn.{Turn}
-use Rattle.groups.specs.Groups.{size_of, sizes_of, on_of, ons_of}
+use Rattle.groups.specs.Groups.{sizes_of, ons_of}
 use Rattle.groups.proofs.WriteLaws.{size_switches, on_switch}
 use Rattle.placing.specs.Placing.{labels_in, Labelled, turns_for, placeable, judging}
 use Rattle.placing.proofs.DecideLaws.{few_nodes}
@@ -27,10 +27,9 @@ use Rattle.placing.proofs.PlaceLaws.{seen}
 use Rattle.placing_exact.proofs.AnswerStages.{Among, none, some, judging_among}
 use Rattle.sheets.specs.Entries.{most_from, refused_at, entry_by, entry_from, entry_of}
 use Rattle.sheets.specs.Sheets.{Within}
-use Rattle.sheets.specs.declared.Entry.{Entry}
 
 -- where the table has each node's candidates, what is found from it is the file's entry
-pub entry_from_lem : (f : List ℕ) (h : Head) (e : entered f ≡ Fine h) (roles : List ℕ) → Labelled (contents_at f h) roles → entry_from (contents_at f h) roles ≡ entry_of f
+pub entry_from_lem : (f : List ℕ) (h : Head) (e : entered f ≡ Ok h) (roles : List ℕ) → Labelled (contents_at f h) roles → entry_from (contents_at f h) roles ≡ entry_of f
 unfolding entry_of
 entry_from_lem f h e roles l = seen f h e roles l (λ version C ts v. entry_by C ts v)
 

@@ -1,55 +1,57 @@
 -- What the loop over an input keeps, over any account of what placing a file gives.
-use Prim.Native.Nat.{ℕ, zero, suc, ◌+◌, ◌-◌, ◌*◌, ◌≤◌, ◌<◌, max}
+use Prim.Native.Nat.{ℕ, zero, suc, ◌+◌, ◌-◌, ◌≤◌, ◌<◌}
 use mathlib.Core.Path.{◌≡◌, refl, sym, ap, ap₂, ◌∙◌, subst}
 use mathlib.Core.List.{List, [], ◌∷◌}
 use mathlib.Core.Bool.{Bool, true, false, cond}
+use mathlib.Core.Logic.{◌⊎◌, inl, inr}
+use denote.Bor.{Bor}
+use Rattle.std.specs.Option.{MatchOption, option_copied}
+use Rattle.std.specs.declared.option.Option.{Option}
+use Rattle.std.specs.declared.option.Option.TheVariants.{None, Some}
+use Rattle.std.specs.List.{slice_range}
 use native.Mathlib.Omega.{arith}
-use native.Mathlib.Numerals.{add-one}
 use lib.Dec.{eqb, leb}
-use borrow.Author.Tests.{leb-true, leb-false, le-leb, lt-leb, eqb-true, eqb-false, eq-eqb, ne_eqb}
-use lib.ListN.{length, get_or, set, take, drop, replicate, length-drop, length-set}
-use lib.Seq.{take_all, drop-drop, get_or-set_same, get_or-set_other, set_out}
-use Rattle.format.specs.Words.{word_at}
+use borrow.Author.Tests.{leb-true, leb-false, le-leb, lt-leb, eqb-true, eqb-false}
+use lib.ListN.{length, get_or, set, take, drop, length-drop, length-set}
+use lib.Seq.{take_all, drop-drop, length-take-le, get_or-set_same, get_or-set_other, set_out}
+use Rattle.states.proofs.AgreeLaws.{zeros}
 use Rattle.sheets.specs.declared.Entry.{Entry}
 use Rattle.sheets.specs.declared.Sheet.{Sheet}
-use Rattle.sheets.specs.Files.{said, is_whole, size_of, whole_up_to, whole_files}
+use Rattle.sheets.specs.Files.{said, is_whole, whole_up_to, whole_files}
 use Rattle.sheets.specs.Sheets.{counted, added, blank, closed, tally, sheet_for, sheet_of, Within, Small}
 
--- the record at a place, from its length word
-pub said_part : (l : List ℕ) (at n : ℕ) → n ≡ word_at (take (length l - at) (drop at l)) 0 → n ≡ said (drop at l)
-unfolding said
-said_part l at n e = e ∙ ap (λ (x : List ℕ). word_at x 0) (take_all (length l - at) (drop at l) (omega (arith, length-drop at l)))
+-- the first file
+abbrev pub first_of : List ℕ → Option (List ℕ)
+first_of l = cond (is_whole l) (Some (take (said l) (drop 2 l))) None
 
-pub size_none : (l : List ℕ) (at n : ℕ) → n ≡ said (drop at l) → length l - at < 2 + n → 0 ≡ size_of (drop at l)
-size_none l at n e h = rw (lt-leb (2 + said (drop at l)) (length (drop at l)) (omega (arith, e, length-drop at l)))
+-- as the code finds it
+pub first_got : (l : List ℕ) (n : ℕ) → n ≡ said l → (r : Option (Bor (List ℕ)))
+    → MatchOption r ((2 + n < 2) ⊎ (length l < 2 + n)) (λ x. (2 ≤ 2 + n) × (2 + n ≤ length l) × (x.now ≡ slice_range l 2 (2 + n)) × (length x.now + 2 ≡ 2 + n))
+    → option_copied r ≡ first_of l
+first_got l n e None (inl h) = absurd (omega arith)
+first_got l n e None (inr h) = rw (lt-leb (2 + said l) (length l) (omega arith))
+first_got l n e (Some x) (a, b, is, d) =
+    let all : 2 + n - 2 ≡ said l = omega (arith, e) in
+    rw (le-leb (2 + said l) (length l) (omega arith)) (ap (λ (f : List ℕ). Some f) (is ∙ ap (λ (k : ℕ). take k (drop 2 l)) all))
 
-pub size-some : (l : List ℕ) (at n : ℕ) → n ≡ said (drop at l) → 2 + n ≤ length l - at → 2 + n ≡ size_of (drop at l)
-size-some l at n e h = rw (le-leb (2 + said (drop at l)) (length (drop at l)) (omega (arith, e, length-drop at l))) (omega (arith, e))
-
-not_whole : (l : List ℕ) → size_of l ≡ 0 → is_whole l ≡ false
-not_whole l = go (is_whole l)
+first_none : (l : List ℕ) → None ≡ first_of l → is_whole l ≡ false
+first_none l = go (is_whole l)
   where
-    go : (b : Bool) → cond b (2 + said l) 0 ≡ 0 → b ≡ false
+    go : (b : Bool) → None ≡ cond b (Some (take (said l) (drop 2 l))) None → b ≡ false
     go false e = refl
-    go true e = let no : ⊥ = omega (arith, e) in absurd no
+    go true e = cc
 
-is_whole_lem : (l : List ℕ) (n : ℕ) → n ≡ size_of l → (n ≡ 0 → ⊥) → (is_whole l ≡ true) × (n ≡ 2 + said l)
-is_whole_lem l n = go (is_whole l)
+first_some : (l f : List ℕ) → Some f ≡ first_of l → (is_whole l ≡ true) × (f ≡ take (said l) (drop 2 l)) × (length f ≡ said l) × (2 + length f ≤ length l)
+first_some l f e = go (is_whole l) refl e
   where
-    go : (b : Bool) → n ≡ cond b (2 + said l) 0 → (n ≡ 0 → ⊥) → (b ≡ true) × (n ≡ 2 + said l)
-    go true e z = (refl, e)
-    go false e z = absurd (z e)
-
-pub size_fits : (l : List ℕ) (at n : ℕ) → at ≤ length l → n ≡ size_of (drop at l) → (n ≡ 0 → ⊥) → (2 ≤ n) × (at + n ≤ length l)
-size_fits l at n a e z =
-    let (w, s) = is_whole_lem (drop at l) n e z in
-    let h : 2 + said (drop at l) ≤ length (drop at l) = leb-true (2 + said (drop at l)) (length (drop at l)) w in
-    (omega (arith, s), omega (arith, s, h, length-drop at l))
-
-none_zero : (n i : ℕ) → ◌≡◌ {A = ℕ} (get_or {A = ℕ} (replicate n 0) i 0) 0
-none_zero zero i = refl
-none_zero (suc n) zero = refl
-none_zero (suc n) (suc i) = none_zero n i
+    go : (b : Bool) → is_whole l ≡ b → Some f ≡ cond b (Some (take (said l) (drop 2 l))) None
+        → (is_whole l ≡ true) × (f ≡ take (said l) (drop 2 l)) × (length f ≡ said l) × (2 + length f ≤ length l)
+    go false w e = let no : ⊥ = cc in absurd no
+    go true w e =
+        let is : f ≡ take (said l) (drop 2 l) = cc in
+        let h : 2 + said l ≤ length l = leb-true (2 + said l) (length l) w in
+        let n : length f ≡ said l = ap length is ∙ length-take-le (said l) (drop 2 l) (omega (arith, length-drop 2 l)) in
+        (w, is, n, omega (arith, h, n))
 
 pub length_counted : (l : List ℕ) (m : ℕ) → length (counted l m) ≡ length l
 length_counted l m = go (eqb m 0)
@@ -58,12 +60,8 @@ length_counted l m = go (eqb m 0)
     go true = refl
     go false = length-set l (m - 1) (get_or l (m - 1) 0 + 1)
 
--- one more of a number, as the code counts it
-pub one_counted : (l : List ℕ) (n i : ℕ) → (n ≡ 0 → ⊥) → i ≡ n → set l (i - 1) (get_or l (i - 1) 0 + 1) ≡ counted l n
-one_counted l n i z e = ap (λ (k : ℕ). set l (k - 1) (get_or l (k - 1) 0 + 1)) e ∙ rw (ne_eqb n 0 z)
-
 pub small_blank : Small blank
-small_blank = record { few = omega arith; room = refl; each = λ i. omega (arith, none_zero 28 i); served = omega arith; ons = omega arith }
+small_blank = record { few = omega arith; room = refl; each = λ i. omega (arith, zeros 28 i); served = omega arith; ons = omega arith }
 
 counted_small : (l : List ℕ) (m k : ℕ) → ((i : ℕ) → get_or l i 0 ≤ k) → (i : ℕ) → get_or (counted l m) i 0 ≤ k + 1
 counted_small l m k h i = go (eqb m 0) (eqb i (m - 1)) refl (leb (length l) i) refl
@@ -87,9 +85,9 @@ small_added s w m h l = record {
 }
 
 module _ (entry : List ℕ → Entry) where
-  -- the tally of what stands from a place on, into the sheet so far, is the whole tally
-  abbrev pub Going : List ℕ → Sheet → ℕ → Type 0
-  Going l s at = tally entry s (whole_up_to (1000 - s.files) (drop at l)) ≡ tally entry blank (whole_files l)
+  -- the tally of what is left, into the sheet so far, is the whole tally
+  abbrev pub Going : List ℕ → Sheet → List ℕ → Type 0
+  Going l s left = tally entry s (whole_up_to (1000 - s.files) left) ≡ tally entry blank (whole_files l)
 
   read_stop : (k : ℕ) (l : List ℕ) → is_whole l ≡ false → whole_up_to k l ≡ []
   unfolding whole_up_to
@@ -108,30 +106,28 @@ module _ (entry : List ℕ → Entry) where
   unfolding sheet_of sheet_for tally
   ends_with l s fs e g = ap closed (sym (ap (tally entry s) e) ∙ g)
 
-  pub stopped : (l : List ℕ) (s : Sheet) (at n : ℕ) → Going l s at → n ≡ size_of (drop at l) → n ≡ 0 → closed s ≡ sheet_of entry l
-  stopped l s at n g e z = ends_with l s (whole_up_to (1000 - s.files) (drop at l)) (read_stop (1000 - s.files) (drop at l) (not_whole (drop at l) (sym e ∙ z))) g
+  pub stopped : (l : List ℕ) (s : Sheet) (left : List ℕ) → Going l s left → None ≡ first_of left → closed s ≡ sheet_of entry l
+  stopped l s left g e = ends_with l s (whole_up_to (1000 - s.files) left) (read_stop (1000 - s.files) left (first_none left e)) g
 
-  pub filled : (l : List ℕ) (s : Sheet) (at : ℕ) → Going l s at → 1000 ≤ s.files → closed s ≡ sheet_of entry l
-  filled l s at g h =
+  pub filled : (l : List ℕ) (s : Sheet) (left : List ℕ) → Going l s left → 1000 ≤ s.files → closed s ≡ sheet_of entry l
+  filled l s left g h =
       let z : 1000 - s.files ≡ 0 = omega arith in
-      ends_with l s (whole_up_to (1000 - s.files) (drop at l)) (ap (λ (k : ℕ). whole_up_to k (drop at l)) z ∙ read_zero (drop at l)) g
+      ends_with l s (whole_up_to (1000 - s.files) left) (ap (λ (k : ℕ). whole_up_to k left) z ∙ read_zero left) g
 
   tally_cons : (s : Sheet) (f : List ℕ) (fs : List (List ℕ)) → tally entry s (f ∷ fs) ≡ tally entry (added s (entry f)) fs
   unfolding tally
   tally_cons s f fs = refl
 
-  pub goes_on : (l : List ℕ) (s : Sheet) (at n : ℕ) → Going l s at → s.files < 1000 → n ≡ size_of (drop at l) → (n ≡ 0 → ⊥)
-      → Going l (added s (entry (take (at + n - (at + 2)) (drop (at + 2) l)))) (at + n)
-  goes_on l s at n g h e z =
-      let (w, b) = is_whole_lem (drop at l) n e z in
-      let d = drop-drop 2 at l in
+  pub goes_on : (l : List ℕ) (s t : Sheet) (left f rest : List ℕ) → Going l s left → s.files < 1000 → Some f ≡ first_of left → t ≡ added s (entry f)
+      → rest ≡ take (length left - (2 + length f)) (drop (2 + length f) left) → Going l t rest
+  goes_on l s t left f rest g h e now cut =
+      let (w, b, n, _) = first_some left f e in
+      let is : rest ≡ drop (2 + length f) left = cut ∙ take_all (length left - (2 + length f)) (drop (2 + length f) left) (omega (arith, length-drop (2 + length f) left)) in
       let k : ℕ = 1000 - (s.files + 1) in
-      let p : said (drop at l) ≡ at + n - (at + 2) = omega (arith, b) in
-      let q : at + 2 + said (drop at l) ≡ at + n = omega (arith, b) in
       let r : 1000 - s.files ≡ suc k = omega arith in
-      let f : take (said (drop at l)) (drop 2 (drop at l)) ≡ take (at + n - (at + 2)) (drop (at + 2) l) = ap₂ (λ (x : ℕ) (y : List ℕ). take x y) p d in
-      let t : drop (said (drop at l)) (drop 2 (drop at l)) ≡ drop (at + n) l = ap (drop (said (drop at l))) d ∙ drop-drop (said (drop at l)) (at + 2) l ∙ ap (λ (x : ℕ). drop x l) q in
-      sym (ap (λ (x : ℕ). tally entry s (whole_up_to x (drop at l))) r
-      ∙ ap (tally entry s) (read_next k (drop at l) w ∙ ap₂ (λ (x : List ℕ) (y : List ℕ). x ∷ whole_up_to k y) f t)
-      ∙ tally_cons s (take (at + n - (at + 2)) (drop (at + 2) l)) (whole_up_to k (drop (at + n) l)))
+      let past : drop (said left) (drop 2 left) ≡ rest = drop-drop (said left) 2 left ∙ ap (λ (x : ℕ). drop (2 + x) left) (sym n) ∙ sym is in
+      ap (λ (u : Sheet). tally entry u (whole_up_to (1000 - u.files) rest)) now
+      ∙ sym (ap (λ (x : ℕ). tally entry s (whole_up_to x left)) r
+      ∙ ap (tally entry s) (read_next k left w ∙ ap₂ (λ (x : List ℕ) (y : List ℕ). x ∷ whole_up_to k y) (sym b) past)
+      ∙ tally_cons s f (whole_up_to k rest))
       ∙ g

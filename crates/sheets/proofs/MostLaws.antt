@@ -10,6 +10,7 @@ use lib.ListN.{length, get_or, take, drop, length-drop, length-map}
 use lib.Seq.{drop-cons, drop-drop, take-take, length-take-le}
 use borrow.Author.Tests.{eqb-true, eq-eqb, ne_eqb}
 use Rattle.format.specs.Answers.{refused}
+use Rattle.format.specs.Header.{Laid}
 use Rattle.format.specs.Contents.{contents_at, item, no_session}
 use Rattle.format.specs.Stacks.{top}
 use Rattle.format.specs.declared.Head.{Head}
@@ -17,7 +18,7 @@ use Rattle.format.specs.declared.Session.{Session}
 use Rattle.format.specs.declared.Node.{Node}
 use Rattle.format.specs.declared.Verdict.{Verdict}
 use Rattle.format.proofs.AnswerLaws.{NoRefusal, both_quiet}
-use Rattle.format.proofs.ContentsLaws.{next-item, none_past}
+use Rattle.format.proofs.ContentsLaws.{next-item, from_item, none_past, nodes_held, sessions_held}
 use Rattle.tables.specs.Records.{records_answer}
 use Rattle.trees.specs.Ends.{following}
 use Rattle.trees.specs.Shape.{bound_of, bound_below, root_fits, node_fits, depth_after, due_after, shape_from, roots, shape_answer}
@@ -25,7 +26,7 @@ use Rattle.trees.specs.declared.Due.{Due}
 use Rattle.trees.specs.declared.Due.TheVariants.{Root, Child}
 use Rattle.trees.proofs.FitsLaws.{fits_apart}
 use Rattle.reading.specs.Reading.{body_answer, reading}
-use Rattle.reading.specs.declared.Opened.TheVariants.{Fine}
+use Rattle.std.specs.Prelude.{Ok}
 use Rattle.reading.proofs.ReadingLaws.{by_body}
 use Rattle.checking.specs.Check.{entered}
 use Rattle.checking.proofs.CheckLaws.{entered_fine, names_parts}
@@ -35,7 +36,7 @@ use Rattle.groups.specs.Groups.{on_of, ons_of, turns_in}
 use Rattle.sheets.specs.Entries.{most_from, end_by}
 
 -- a file that 1 to 10 leave has passed 8
-pub entered_shape : (f : List ℕ) (h : Head) → entered f ≡ Fine h → NoRefusal (shape_from 1 (contents_at f h).nodes (roots (contents_at f h).sessions))
+entered_shape : (f : List ℕ) (h : Head) → entered f ≡ Ok h → NoRefusal (shape_from 1 (contents_at f h).nodes (roots (contents_at f h).sessions))
 unfolding shape_answer
 entered_shape f h e =
     let (laid, same, passes) = entered_fine f h e in
@@ -203,17 +204,17 @@ module _ (ns : List Node) (ss : List Session) (turns : List ℕ) (whole : ℕ) w
     pub left : NoRefusal (shape_from at (drop (at - 1) ns) (roots (drop k ss)))
     pub same : most_from 1 0 most (drop (at - 1) ns) (part turns at (1 + length ns)) ≡ whole
 
-  pub passing_next : (most at k end : ℕ) → length ns < length turns → k < length ss → end ≡ end_by (1 + length ns) (drop (k + 1) ss) → Passing most at k
-      → Passing (max most (ons_of (part turns at end))) end (k + 1)
+  passing_next : (most at k end : ℕ) → length ns < length turns → 1 ≤ k → k ≤ length ss → end ≡ end_by (1 + length ns) (drop k ss) → Passing most at (k - 1)
+      → Passing (max most (ons_of (part turns at end))) end k
   unfolding roots
-  passing_next most at k end room h e p =
+  passing_next most at k end room pos h e p =
       let rs : List Node = drop (at - 1) ns in
       let ts : List Turn = part turns at (1 + length ns) in
-      let later : List Session = drop (k + 1) ss in
+      let later : List Session = drop k ss in
       let long : length ts ≡ length rs = part_length turns at (1 + length ns) (omega (arith, room)) ∙ omega (arith, p.some, length-drop (at - 1) ns) in
-      let due : NoRefusal (shape_from at rs (Root (item no_session ss (k + 1)).root ∷ ([] ++ roots later))) =
-      subst (λ (x : List Session). NoRefusal (shape_from at rs (roots x))) (next-item no_session ss k h) p.left in
-      let r = ended at rs ts (Root (item no_session ss (k + 1)).root) [] later 0 most long due in
+      let due : NoRefusal (shape_from at rs (Root (item no_session ss k).root ∷ ([] ++ roots later))) =
+      subst (λ (x : List Session). NoRefusal (shape_from at rs (roots x))) (from_item no_session ss k pos h) p.left in
+      let r = ended at rs ts (Root (item no_session ss k).root) [] later 0 most long due in
       let j : ℕ = r.size in
       let fits : at + j ≤ 1 + length ns = omega (arith, r.within, p.some, p.within, length-drop (at - 1) ns) in
       let rest : drop j rs ≡ drop (at + j - 1) ns =
@@ -222,7 +223,7 @@ module _ (ns : List Node) (ss : List Session) (turns : List ℕ) (whole : ℕ) w
       let last : at + j + length (drop (at + j - 1) ns) ≡ 1 + length ns = omega (arith, fits, p.some, length-drop (at + j - 1) ns) in
       let here : at + j ≡ end = sym (e ∙ ap (λ (x : ℕ). end_by x later) (sym last) ∙ ends-here (at + j) (drop (at + j - 1) ns) later left) in
       let sums : 0 + ons_of (take j ts) ≡ ons_of (part turns at (at + j)) = let c : 0 + ons_of (take j ts) ≡ ons_of (take j ts) = omega arith in c ∙ ap ons_of (part_take turns at j (1 + length ns) fits) in
-      subst (λ (x : ℕ). Passing (max most (ons_of (part turns at x))) x (k + 1)) here
+      subst (λ (x : ℕ). Passing (max most (ons_of (part turns at x))) x k) here
       (record {
         some = omega (arith, p.some);
         within = fits;
@@ -233,7 +234,7 @@ module _ (ns : List Node) (ss : List Session) (turns : List ℕ) (whole : ℕ) w
             ∙ p.same;
       })
 
-  pub passing_last : (most at k : ℕ) → length ss ≤ k → Passing most at k → most ≡ whole
+  passing_last : (most at k : ℕ) → length ss ≤ k → Passing most at k → most ≡ whole
   unfolding shape_from roots most_from
   passing_last most at k h p = go (drop (at - 1) ns) (subst (λ (x : List Session). NoRefusal (shape_from at (drop (at - 1) ns) (roots x))) (none_past ss k h) p.left) p.same
     where
@@ -241,7 +242,7 @@ module _ (ns : List Node) (ss : List Session) (turns : List ℕ) (whole : ℕ) w
       go [] q e = e
       go (n ∷ rs) q e = let no : ⊥ = omega (arith, q) in absurd no
 
-pub passing_first : (ns : List Node) (ss : List Session) (turns : List ℕ) → NoRefusal (shape_from 1 ns (roots ss)) → Passing ns ss turns (most_from 1 0 0 ns (turns_in turns (length ns))) 0 1 0
+passing_first : (ns : List Node) (ss : List Session) (turns : List ℕ) → NoRefusal (shape_from 1 ns (roots ss)) → Passing ns ss turns (most_from 1 0 0 ns (turns_in turns (length ns))) 0 1 0
 passing_first ns ss turns q = record {
   some = omega arith;
   within = omega arith;
@@ -249,15 +250,39 @@ passing_first ns ss turns q = record {
   same = ap (most_from 1 0 0 ns) (part_all turns (length ns));
 }
 
+-- the same for a file that 1 to 10 leave clean
+abbrev pub Passed : List ℕ → Head → List ℕ → ℕ → ℕ → ℕ → Type 0
+Passed f h turns most at k =
+    Passing (contents_at f h).nodes (contents_at f h).sessions turns (most_from 1 0 0 (contents_at f h).nodes (turns_in turns h.count.nodes)) most at k
+
+pub passed_first : (f : List ℕ) (h : Head) (turns : List ℕ) → entered f ≡ Ok h → Passed f h turns 0 1 0
+passed_first f h turns e =
+    let ns : List Node = (contents_at f h).nodes in
+    let ss : List Session = (contents_at f h).sessions in
+    subst (λ (n : ℕ). Passing ns ss turns (most_from 1 0 0 ns (turns_in turns n)) 0 1 0) (nodes_held f h) (passing_first ns ss turns (entered_shape f h e))
+
+pub passed_next : (f : List ℕ) (h : Head) (turns : List ℕ) (most at k end : ℕ) → entered f ≡ Ok h → length turns ≡ 1025 → 1 ≤ k → k ≤ h.count.sessions
+    → end ≡ end_by (1 + h.count.nodes) (drop k (contents_at f h).sessions) → Passed f h turns most at (k - 1)
+    → Passed f h turns (max most (ons_of (part turns at end))) end k × (end ≤ 1025)
+passed_next f h turns most at k end e room pos le is p =
+    let ns : List Node = (contents_at f h).nodes in
+    let ss : List Session = (contents_at f h).sessions in
+    let laid : Laid f h = (entered_fine f h e).0 in
+    let n : length ns ≡ h.count.nodes = nodes_held f h in
+    let here : end ≡ end_by (1 + length ns) (drop k ss) = is ∙ ap (λ (m : ℕ). end_by (1 + m) (drop k ss)) (sym n) in
+    let next : Passed f h turns (max most (ons_of (part turns at end))) end k =
+    passing_next ns ss turns (most_from 1 0 0 ns (turns_in turns h.count.nodes)) most at k end (omega (arith, n, laid.nodes, room)) pos (omega (arith, sessions_held f h)) here p in
+    (next, omega (arith, next.within, n, laid.nodes))
+
+pub passed_last : (f : List ℕ) (h : Head) (turns : List ℕ) (most at k : ℕ) → h.count.sessions ≤ k → Passed f h turns most at k
+    → most ≡ most_from 1 0 0 (contents_at f h).nodes (turns_in turns h.count.nodes)
+passed_last f h turns most at k le p =
+    let ns : List Node = (contents_at f h).nodes in
+    passing_last ns (contents_at f h).sessions turns (most_from 1 0 0 ns (turns_in turns h.count.nodes)) most at k (omega (arith, sessions_held f h)) p
+
 -- where sessions before the k-th after them end, as the code finds it
 pub end_last : (ss : List Session) (k last x : ℕ) → k ≡ length ss → x ≡ last → 1 + x ≡ end_by (1 + last) (drop k ss)
 end_last ss k last x h e = ap (1 +◌) e ∙ sym (ap (end_by (1 + last)) (none_past ss k (omega (arith, h))))
 
 pub end_next : (ss : List Session) (k last x : ℕ) → k < length ss → x ≡ (item no_session ss (k + 1)).root → x ≡ end_by (1 + last) (drop k ss)
 end_next ss k last x h e = e ∙ sym (ap (end_by (1 + last)) (next-item no_session ss k h))
-
-pub below : (k n : ℕ) → k ≤ n → (k ≡ n → ⊥) → k < n
-below zero zero h z = absurd (z refl)
-below zero (suc n) h z = omega arith
-below (suc k) zero h z = let no : ⊥ = omega (arith, h) in absurd no
-below (suc k) (suc n) h z = let r = below k n (omega (arith, h)) (λ e. z (ap suc e)) in omega (arith, r)

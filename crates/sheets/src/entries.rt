@@ -1,7 +1,6 @@
 // What a file adds to the sheet.
-ghost use Rattle.std.specs.Prelude.{◌≡◌, length};
+ghost use Rattle.std.specs.Prelude.{◌≡◌, length, Ok};
 ghost use Rattle.format.specs.Contents.{contents_at};
-ghost use Rattle.reading.specs.declared.Opened.TheVariants.{Fine};
 ghost use Rattle.checking.specs.Check.{entered};
 ghost use Rattle.sheets.specs.Entries.{refused_at, entry_from, entry_of};
 ghost use Rattle.sheets.specs.Sheets.{Within};
@@ -11,7 +10,6 @@ use super::most::most_in;
 use checking::examine;
 use format::Head;
 use placing::decide::decide;
-use reading::Opened;
 
 // A refused file has its number alone.
 fn refused(number: u16) -> Entry
@@ -34,7 +32,7 @@ fn entry_body(
     turns: &mut [u16],
     starts: &mut [u16],
 ) -> Entry
-    requires { (entered file.now ≡ Fine head) × (length roles.now ≡ 1025) × (length turns.old ≡ 1025) × (length starts.old ≡ 1025) }
+    requires { (entered file.now ≡ Ok head) × (length roles.now ≡ 1025) × (length turns.old ≡ 1025) × (length starts.old ≡ 1025) }
     ensures { result ≡ entry_from (contents_at file.now head) roles.now }
 {
     let decision = decide(file, head, roles, turns, starts);
@@ -59,7 +57,7 @@ pub fn entry_of(file: &[u8], roles: &mut [u16], turns: &mut [u16], starts: &mut 
     let found = examine(file, roles);
     let names = found.names;
     match names {
-        Opened::Refused(first) => refused(first.number),
-        Opened::Fine(head) => entry_body(file, head, roles, turns, starts),
+        Err(first) => refused(first.number),
+        Ok(head) => entry_body(file, head, roles, turns, starts),
     }
 }

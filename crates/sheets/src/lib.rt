@@ -4,13 +4,13 @@
 mod entries;
 mod most;
 
-ghost use Rattle.std.specs.Prelude.{◌≡◌, ℕ, ◌≤◌, ◌<◌, max, length, get_or, drop};
-ghost use Rattle.sheets.specs.Files.{size_of};
+ghost use Rattle.std.specs.Prelude.{◌≡◌, ℕ, ◌≤◌, ◌<◌, cond, length, get_or, take, drop, None, Some, option_copied};
+ghost use Rattle.sheets.specs.Files.{is_whole, said};
 ghost use Rattle.sheets.specs.Sheets.{counted, added, closed, blank, sheet_of, Within, Small};
 ghost use Rattle.sheets.specs.Entries.{entry_of};
 
 use entries::entry_of;
-use format::words::{wide, word};
+use format::words::word;
 
 // What a caller gets; files refused at number n are counted in place n - 1.
 #[repr(C)]
@@ -34,22 +34,11 @@ pub struct Entry {
     pub most: u16,
 }
 
-// The bytes of the record that stands at a place, with its length word; 0 if it isn't whole.
-fn size_at(input: &[u8], at: usize) -> usize
-    requires { at ≤ length input.now }
-    ensures { result ≡ size_of (drop at input.now) }
+// The first file of an input, after one word with its length in bytes; none if it isn't whole.
+fn first_file(input: &[u8]) -> Option<&[u8]>
+    ensures { option_copied result ≡ cond (is_whole input.now) (Some (take (said input.now) (drop 2 input.now))) None }
 {
-    let size = 2 + wide(word(&input[at..], 0));
-    if input.len() - at < size {
-        return 0;
-    }
-    size
-}
-
-fn larger(a: u32, b: u32) -> u32
-    ensures { result ≡ max a b }
-{
-    if a < b { b } else { a }
+    input.get(2..2 + usize::from(word(input, 0)))
 }
 
 // One more refusal of a number; 0 is none.
@@ -60,9 +49,9 @@ fn count(refused: [u32; 28], number: u16) -> [u32; 28]
     if number == 0 {
         return refused;
     }
-    let i = wide(number) - 1;
+    let i = usize::from(number) - 1;
     let mut counts = refused;
-    counts[i] = counts[i] + 1;
+    counts[i] += 1;
     counts
 }
 
@@ -71,16 +60,13 @@ fn add(s: Sheet, e: Entry) -> Sheet
     requires { Small s × (s.files < 1000) × Within e }
     ensures { result ≡ added s e }
 {
-    let before = s.refused;
-    let refused = count(before, e.number);
     Sheet {
         files: s.files + 1,
-        refused,
-        sessions: s.sessions + e.sessions as u32,
-        on_steps: s.on_steps + e.on_steps as u32,
-        most: larger(s.most, e.most as u32),
-        quotient: s.quotient,
-        remainder: s.remainder,
+        refused: count(s.refused, e.number),
+        sessions: s.sessions + u32::from(e.sessions),
+        on_steps: s.on_steps + u32::from(e.on_steps),
+        most: s.most.max(u32::from(e.most)),
+        ..s
     }
 }
 
@@ -90,27 +76,18 @@ fn close(s: Sheet) -> Sheet
     ensures { result ≡ closed s }
 {
     let n = s.sessions;
-    let refused = s.refused;
     if n == 0 {
         return Sheet {
-            files: s.files,
-            refused,
-            sessions: s.sessions,
-            on_steps: s.on_steps,
-            most: s.most,
             quotient: 0,
             remainder: 0,
+            ..s
         };
     }
     let ons = 1000 * s.on_steps;
     Sheet {
-        files: s.files,
-        refused,
-        sessions: s.sessions,
-        on_steps: s.on_steps,
-        most: s.most,
         quotient: ons / n,
         remainder: ons % n,
+        ..s
     }
 }
 
@@ -136,16 +113,14 @@ pub fn sheet_of(input: &[u8]) -> Sheet
     let mut turns = [0u16; 1025];
     let mut starts = [0u16; 1025];
     let mut s = begin();
-    let mut at: usize = 0;
-    while s.files < 1000 {
-        let size = size_at(input, at);
-        if size == 0 {
-            return close(s);
-        }
-        let file = &input[at + 2..at + size];
+    let mut rest = input;
+    for _ in 0..1000u32 {
+        let Some(file) = first_file(rest) else {
+            break;
+        };
         let e = entry_of(file, &mut roles, &mut turns, &mut starts);
         s = add(s, e);
-        at += size;
+        rest = &rest[2 + file.len()..];
     }
     close(s)
 }

@@ -1,8 +1,7 @@
 // The most on steps in one session. Its nodes stand from its root up to the next session's, so that no tag is read and the on steps are counted without branches.
-ghost use Rattle.std.specs.Prelude.{◌≡◌, map, ◌+◌, ◌-◌, ◌≤◌, max, length, take, drop};
+ghost use Rattle.std.specs.Prelude.{◌≡◌, map, ◌+◌, ◌-◌, ◌≤◌, max, length, take, drop, Ok};
 ghost use Rattle.format.specs.Header.{Laid};
 ghost use Rattle.format.specs.Contents.{contents_at};
-ghost use Rattle.reading.specs.declared.Opened.TheVariants.{Fine};
 ghost use Rattle.checking.specs.Check.{entered};
 ghost use Rattle.states.specs.States.{unpacked};
 ghost use Rattle.groups.specs.Groups.{on_of, ons_of, turns_in};
@@ -10,13 +9,6 @@ ghost use Rattle.sheets.specs.Entries.{most_from, end_by};
 
 use format::Head;
 use format::sections::session;
-use format::words::wide;
-
-fn larger(a: u16, b: u16) -> u16
-    ensures { result ≡ max a b }
-{
-    if a < b { b } else { a }
-}
 
 // The on steps before a node, by its turn.
 fn on_before(turn: u16) -> u16
@@ -33,10 +25,8 @@ fn ons_between(turns: &[u16], at: usize, end: usize) -> u16
     ensures { result ≡ ons_of (map unpacked (take (end - at) (drop at turns.now))) }
 {
     let mut ons: u16 = 0;
-    let mut i = at;
-    while i < end {
+    for i in at..end {
         ons += on_before(turns[i]);
-        i += 1;
     }
     ons
 }
@@ -47,25 +37,22 @@ fn end_of(file: &[u8], head: Head, k: u16) -> usize
     ensures { result ≡ end_by (1 + head.count.nodes) (drop k (contents_at file.now head).sessions) }
 {
     if k == head.count.sessions {
-        return 1 + wide(head.count.nodes);
+        return 1 + usize::from(head.count.nodes);
     }
     let next = session(file, head, k + 1);
-    wide(next.root)
+    usize::from(next.root)
 }
 
 // Each node's turn stands at its number.
 pub fn most_in(file: &[u8], head: Head, turns: &[u16]) -> u16
-    requires { (entered file.now ≡ Fine head) × (length turns.now ≡ 1025) }
+    requires { (entered file.now ≡ Ok head) × (length turns.now ≡ 1025) }
     ensures { result ≡ most_from 1 0 0 (contents_at file.now head).nodes (turns_in turns.now head.count.nodes) }
 {
-    let count = head.count.sessions;
     let mut most: u16 = 0;
     let mut at: usize = 1;
-    let mut k: u16 = 0;
-    while k < count {
-        k += 1;
+    for k in 1..=head.count.sessions {
         let end = end_of(file, head, k);
-        most = larger(most, ons_between(turns, at, end));
+        most = most.max(ons_between(turns, at, end));
         at = end;
     }
     most

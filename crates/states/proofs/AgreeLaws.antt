@@ -44,13 +44,14 @@ saving_small tag us q = go (ltb q 16) refl
         omega (arith, lane f q h, (highest_is (floor tag) 16 (rank us)).most q h)
     go false e = omega (arith, up_past 0 16 f q (ltb-false q 16 e))
 
+-- zeros hold nothing else
+pub zeros : (n q : ℕ) → ◌≡◌ {A = ℕ} (get_or (replicate n 0) q 0) 0
+zeros zero q = refl
+zeros (suc n) zero = refl
+zeros (suc n) (suc q) = zeros n q
+
 pub none_saved : (q : ℕ) → get_or no_saving q 0 ≡ 0
-none_saved q = go 16 q
-  where
-    go : (n q : ℕ) → get_or {A = ℕ} (replicate n 0) q 0 ≡ 0
-    go zero q = refl
-    go (suc n) zero = refl
-    go (suc n) (suc q) = go n q
+none_saved q = zeros 16 q
 
 -- the savings d are those of the row r
 pub record Says (d r : List ℕ) : Type 0 where

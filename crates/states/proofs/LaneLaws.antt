@@ -11,7 +11,7 @@ use lib.Dec.{eqb, ltb}
 use lib.Bits.{bit_and}
 use lib.Pow.{pow_mono}
 use lib.ListN.{length, get_or, take, set}
-use lib.Seq.{take-suc-set, take_all}
+use lib.Seq.{take-suc-set}
 use borrow.Author.Tests.{eqb-true, eqb-false, ne_eqb, ltb-true, ltb-false, lt-ltb, le-ltb}
 use Rattle.masks.proofs.Bits.{bit, bit_lt, bit_and_lem, bit_same, bit_other, same_bits}
 use Rattle.states.specs.States.{up, needs}
@@ -29,9 +29,6 @@ pub fill_more : (l : List ℕ) (i v : ℕ) (f : ℕ → ℕ) → i < length l �
 fill_more l i v f h e w =
     let z : 0 + i ≡ i = omega arith in
     rw (add-one, take-suc-set l i v h, e, w) (sym (rw z at (up_snoc 0 i f)))
-
-pub filled : (l : List ℕ) (i n : ℕ) (f : ℕ → ℕ) → length l ≡ n → i ≡ n → take i l ≡ up 0 i f → l ≡ up 0 n f
-filled l i n f len e h = sym (take_all i l (omega arith)) ∙ h ∙ ap (λ k. up 0 k f) e
 
 pub highest_more : (base k : ℕ) (f : ℕ → ℕ) (t v r : ℕ) → t ≡ highest base k f → v ≡ f k → r ≡ max t v → r ≡ highest base (k + 1) f
 unfolding highest
@@ -68,11 +65,13 @@ gather_none zero = refl
 gather_none (suc k) = omega (arith, gather_none k)
 
 -- a lane's bit, and the test of it
-pub power_at : (bits : List ℕ) → bits ≡ powers → (q : ℕ) → q < 16 → get_or bits q 0 ≡ 2 ^ q
+power_at : (bits : List ℕ) → bits ≡ powers → (q : ℕ) → q < 16 → get_or bits q 0 ≡ 2 ^ q
 power_at bits e q h = ap (λ (b : List ℕ). get_or b q 0) e ∙ lane (λ q. 2 ^ q) q h
 
-pub lane_bit : (bits : List ℕ) → bits ≡ powers → (test : Bool) (q : ℕ) → q < 16 → cond test (get_or bits q 0) 0 ≡ cond test (2 ^ q) 0
-lane_bit bits e test q h = ap (λ (b : ℕ). cond test b 0) (power_at bits e q h)
+pub lane_bit : (bits : List ℕ) → bits ≡ powers → (least x q v : ℕ) → q < 16 → ((least < x) × (v ≡ get_or bits q 0)) ⊎ ((x ≤ least) × (v ≡ 0))
+    → v ≡ cond (ltb least x) (2 ^ q) 0
+lane_bit bits e least x q v h (inl (more, is)) = rw (lt-ltb least x more) (is ∙ power_at bits e q h)
+lane_bit bits e least x q v h (inr (no_more, is)) = rw (le-ltb least x no_more) is
 
 -- it is there exactly if the mask has it
 bit_test : (m q : ℕ) → not (eqb (bit_and m (2 ^ q)) 0) ≡ eqb (bit m q) 1
@@ -141,11 +140,7 @@ extra_most true = omega arith
 extra_most false = omega arith
 
 -- the rank of state 0
-pub floor_is : (t : Bool) → cond t 18467 36935 ≡ 18 * cond t 1025 2051 + 17
-floor_is true = refl
-floor_is false = refl
-
-pub floor_least : (t : Bool) → 18467 ≤ cond t 18467 36935
+pub floor_least : (t : Bool) → 18467 ≤ 18 * cond t 1025 2051 + 17
 floor_least true = omega arith
 floor_least false = omega arith
 

@@ -1,8 +1,8 @@
-// One node: its row of savings, and what is kept of it. A lane for each role, and loops without branches, so that all lanes go at once; only an
-// end, a node that needs no role, and the others go ways of their own.
-ghost use Rattle.std.specs.Prelude.{◌≡◌, cond, ℕ, ◌≤◌, max, eqb, get_or};
+// One node: its row of savings, and what is kept of it. A lane for each role, and loops without branches, so that all lanes go at once (what an `if`
+// of a lane may take is read before it); only an end, a node that needs no role, and the others go ways of their own.
+ghost use Rattle.std.specs.Prelude.{◌≡◌, cond, ℕ, ◌≤◌, eqb, get_or};
 ghost use Rattle.states.specs.States.{up};
-ghost use Rattle.states.specs.Kept.{Small, added, worth_at, rank, highest, powers, above, left_over, saving_by, saving_of, word_by, word_of};
+ghost use Rattle.states.specs.Kept.{Small, added, worth_at, rank, highest, powers, above, left_over, saving_by, saving_of, word_by, word_of, extra, floor};
 
 // A row, and what is kept for the way from the left.
 #[derive(Clone, Copy)]
@@ -20,34 +20,14 @@ pub fn lane_bits() -> [u16; 16]
     ]
 }
 
-fn either(test: bool, one: u16, other: u16) -> u16
-    ensures { result ≡ cond test one other }
-{
-    if test {
-        return one;
-    }
-    other
-}
-
-fn larger(a: u16, b: u16) -> u16
-    ensures { result ≡ max a b }
-{
-    if a < b {
-        return b;
-    }
-    a
-}
-
 // What two trees save together.
 fn sums(one: &[u16; 16], two: &[u16; 16]) -> [u16; 16]
     requires { Small one.now × Small two.now }
     ensures { result ≡ added one.now two.now }
 {
     let mut out = [0u16; 16];
-    let mut q: usize = 0;
-    while q < 16 {
+    for q in 0..16 {
         out[q] = one[q] + two[q];
-        q += 1;
     }
     out
 }
@@ -69,10 +49,9 @@ fn worths(roles: u16, saving: &[u16; 16], more: u16, bits: &[u16; 16]) -> [u16; 
     ensures { result ≡ up 0 16 (worth_at roles saving.now more) }
 {
     let mut us = [0u16; 16];
-    let mut q: usize = 0;
-    while q < 16 {
-        us[q] = either(roles & bits[q] != 0, saving[q] + more, 0);
-        q += 1;
+    for q in 0..16 {
+        let worth = saving[q] + more;
+        us[q] = if roles & bits[q] != 0 { worth } else { 0 };
     }
     us
 }
@@ -83,10 +62,8 @@ fn ranks(us: &[u16; 16]) -> [u16; 16]
     ensures { result ≡ up 0 16 (rank us.now) }
 {
     let mut out = [0u16; 16];
-    let mut q: usize = 0;
-    while q < 16 {
+    for q in 0..16 {
         out[q] = 18 * us[q] + (16 - q as u16);
-        q += 1;
     }
     out
 }
@@ -96,10 +73,8 @@ fn peak(base: u16, lanes: &[u16; 16]) -> u16
     ensures { result ≡ highest base 16 (λ q. get_or lanes.now q 0) }
 {
     let mut high = base;
-    let mut q: usize = 0;
-    while q < 16 {
-        high = larger(high, lanes[q]);
-        q += 1;
+    for lane in lanes {
+        high = high.max(*lane);
     }
     high
 }
@@ -110,10 +85,9 @@ fn lanes_above(least: u16, lanes: &[u16; 16], bits: &[u16; 16]) -> u16
     ensures { result ≡ above least lanes.now }
 {
     let mut set: u16 = 0;
-    let mut q: usize = 0;
-    while q < 16 {
-        set += either(least < lanes[q], bits[q], 0);
-        q += 1;
+    for q in 0..16 {
+        let bit = bits[q];
+        set += if least < lanes[q] { bit } else { 0 };
     }
     set
 }
@@ -123,10 +97,8 @@ fn left_over(least: u16, us: &[u16; 16]) -> [u16; 16]
     ensures { result ≡ left_over least us.now }
 {
     let mut out = [0u16; 16];
-    let mut q: usize = 0;
-    while q < 16 {
-        out[q] = larger(us[q], least) - least;
-        q += 1;
+    for q in 0..16 {
+        out[q] = us[q].saturating_sub(least);
     }
     out
 }
@@ -141,7 +113,25 @@ fn by_rank(base: u16, us: &[u16; 16], bits: &[u16; 16]) -> Kept
     let least = high - 18450;
     Kept {
         row: left_over(least / 18, us),
-        word: 2 * (lanes_above(least, &ranked, bits) as u32) + 131072 * ((17 - high % 18) as u32),
+        word: 2 * u32::from(lanes_above(least, &ranked, bits)) + 131072 * u32::from(17 - high % 18),
+    }
+}
+
+// What it is worth to have a role already: an on step, and one more where the node is not idle.
+fn extra(tag: u16) -> u16
+    ensures { result ≡ extra tag }
+{
+    if 4 < tag { 1026 } else { 1025 }
+}
+
+// The rank of state 0.
+fn floor(tag: u16) -> u16
+    ensures { result ≡ floor tag }
+{
+    if (tag == 5) | (tag == 6) {
+        18467
+    } else {
+        36935
     }
 }
 
@@ -158,12 +148,12 @@ pub fn keep(tag: u16, roles: u16, one: &[u16; 16], two: &[u16; 16], bits: &[u16;
         };
     }
     let saving = kids_of(tag, one, two);
-    let us = worths(roles, &saving, either(4 < tag, 1026, 1025), bits);
+    let us = worths(roles, &saving, extra(tag), bits);
     if (tag == 1) | (4 < tag) {
-        return by_rank(either((tag == 5) | (tag == 6), 18467, 36935), &us, bits);
+        return by_rank(floor(tag), &us, bits);
     }
     Kept {
         row: left_over(1026, &us),
-        word: 2 * (lanes_above(1026, &us, bits) as u32),
+        word: 2 * u32::from(lanes_above(1026, &us, bits)),
     }
 }

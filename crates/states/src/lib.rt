@@ -4,7 +4,7 @@
 mod costs;
 mod pass;
 
-ghost use Rattle.std.specs.Prelude.{◌≡◌, map, ◌≤◌, length, drop};
+ghost use Rattle.std.specs.Prelude.{◌≡◌, map, ◌≤◌, ◌<◌, length, drop};
 ghost use Rattle.std.proofs.lemmas.List.Edits.{sets};
 ghost use Rattle.format.specs.Header.{Laid};
 ghost use Rattle.format.specs.Contents.{contents_at};
@@ -22,28 +22,15 @@ pub struct Turn {
     pub to: u16,
 }
 
-// The turns, with tables for few nodes and for all: clearing the large ones costs as much as placing a small file.
-fn few(file: &[u8], head: Head, roles: &[u16], turns: &mut [u16])
-    requires { Laid file.now head × (head.count.nodes ≤ 64) × (length roles.now ≡ 1025) × (length turns.old ≡ 1025)
+// The turns, with tables of a length: clearing those for all nodes costs as much as placing a small file.
+fn with_room<const ROOM: usize>(file: &[u8], head: Head, roles: &[u16], turns: &mut [u16])
+    requires { Laid file.now head × (head.count.nodes < ROOM) × (ROOM ≤ 1025) × (length roles.now ≡ 1025) × (length turns.old ≡ 1025)
         × Served (labelled (contents_at file.now head).nodes (drop 1 roles.now)) }
     ensures { turns.new ≡ sets turns.old 1 (map packed (turns_of (labelled (contents_at file.now head).nodes (drop 1 roles.now)))) }
 {
-    let mut rows = [[0u16; 16]; 65];
-    let mut kept = [0u32; 64];
-    let mut waiting = [0u16; 65];
-    let bits = lane_bits();
-    decide(file, head, roles, &bits, &mut rows, &mut kept);
-    follow(file, head, &kept, &mut waiting, turns);
-}
-
-fn many(file: &[u8], head: Head, roles: &[u16], turns: &mut [u16])
-    requires { Laid file.now head × (length roles.now ≡ 1025) × (length turns.old ≡ 1025)
-        × Served (labelled (contents_at file.now head).nodes (drop 1 roles.now)) }
-    ensures { turns.new ≡ sets turns.old 1 (map packed (turns_of (labelled (contents_at file.now head).nodes (drop 1 roles.now)))) }
-{
-    let mut rows = [[0u16; 16]; 1025];
-    let mut kept = [0u32; 1024];
-    let mut waiting = [0u16; 1025];
+    let mut rows = [[0u16; 16]; ROOM];
+    let mut kept = [0u32; ROOM];
+    let mut waiting = [0u16; ROOM];
     let bits = lane_bits();
     decide(file, head, roles, &bits, &mut rows, &mut kept);
     follow(file, head, &kept, &mut waiting, turns);
@@ -56,8 +43,8 @@ pub fn turns(file: &[u8], head: Head, roles: &[u16], turns: &mut [u16])
     ensures { turns.new ≡ sets turns.old 1 (map packed (turns_of (labelled (contents_at file.now head).nodes (drop 1 roles.now)))) }
 {
     if head.count.nodes <= 64 {
-        few(file, head, roles, turns);
-        return;
+        with_room::<65>(file, head, roles, turns);
+    } else {
+        with_room::<1025>(file, head, roles, turns);
     }
-    many(file, head, roles, turns);
 }

@@ -1,5 +1,5 @@
 // Both ways over the nodes, each with a stack. Below a stack's values is one more, 0.
-ghost use Rattle.std.specs.Prelude.{◌≡◌, cond, [], map, ◌++◌, ◌+◌, ◌*◌, ◌-◌, ◌≤◌, ◌<◌, eqb, length, get_or, drop};
+ghost use Rattle.std.specs.Prelude.{◌≡◌, cond, [], map, ◌++◌, ◌≤◌, ◌<◌, eqb, length, get_or, drop};
 ghost use Rattle.std.proofs.lemmas.List.Edits.{sets};
 ghost use Rattle.format.specs.Header.{Laid};
 ghost use Rattle.format.specs.Contents.{contents_at};
@@ -9,17 +9,7 @@ ghost use Rattle.states.specs.Kept.{powers, kept_all, no_saving, state_after, fo
 use super::costs::keep;
 use format::Head;
 use format::sections::node_tag;
-use format::words::{narrow, wide};
-
-// The depth of a stack without its top.
-fn less(depth: usize) -> usize
-    ensures { result ≡ depth - 1 }
-{
-    if depth == 0 {
-        return 0;
-    }
-    depth - 1
-}
+use format::words::narrow;
 
 // One of three, by what a tag has below it: nothing, two trees, one.
 fn by_tag(tag: u16, none: usize, two: usize, one: usize) -> usize
@@ -46,14 +36,12 @@ pub fn decide(
 {
     let mut depth: usize = 0;
     let mut row = [0u16; 16];
-    let mut i = wide(head.count.nodes);
-    while 0 < i {
-        let tag = node_tag(file, head, narrow(i));
-        i -= 1;
+    for i in (0..usize::from(head.count.nodes)).rev() {
+        let tag = node_tag(file, head, narrow(i + 1));
         let two = stack[depth];
         let it = keep(tag, roles[i + 1], &row, &two, bits);
         stack[depth + 1] = row;
-        depth = by_tag(tag, depth + 1, less(depth), depth);
+        depth = by_tag(tag, depth + 1, depth.saturating_sub(1), depth);
         row = it.row;
         words[i] = it.word;
     }
@@ -70,16 +58,6 @@ fn state_after(word: u32, p: u16) -> u16
     (word / 131072 % 32) as u16
 }
 
-// The state above the next node: after an end it is one that waits.
-fn above_next(tag: u16, waits: u16, to: u16) -> u16
-    ensures { result ≡ cond (eqb tag 0) waits to }
-{
-    if tag == 0 {
-        return waits;
-    }
-    to
-}
-
 // From the left: the stack has the states above the trees that wait, but for the next.
 pub fn follow(file: &[u8], head: Head, words: &[u32], stack: &mut [u16], turns: &mut [u16])
     requires { Laid file.now head × (head.count.nodes ≤ length words.now) × (head.count.nodes < length stack.old) × (length turns.old ≡ 1025) × (get_or stack.old 0 0 ≡ 0) }
@@ -87,15 +65,14 @@ pub fn follow(file: &[u8], head: Head, words: &[u32], stack: &mut [u16], turns: 
 {
     let mut depth: usize = 0;
     let mut from: u16 = 0;
-    let n = wide(head.count.nodes);
-    let mut i: usize = 0;
-    while i < n {
+    for i in 0..usize::from(head.count.nodes) {
         let to = state_after(words[i], from);
-        i += 1;
-        let tag = node_tag(file, head, narrow(i));
-        turns[i] = from + 256 * to;
-        from = above_next(tag, stack[depth], to);
+        let tag = node_tag(file, head, narrow(i + 1));
+        turns[i + 1] = from + 256 * to;
+        // After an end, the state above the next node is one that waits.
+        let waits = stack[depth];
+        from = if tag == 0 { waits } else { to };
         stack[depth + 1] = to;
-        depth = by_tag(tag, less(depth), depth + 1, depth);
+        depth = by_tag(tag, depth.saturating_sub(1), depth + 1, depth);
     }
 }

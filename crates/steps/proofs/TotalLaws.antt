@@ -1,12 +1,11 @@
--- The totals among the words beside the threads: clearing them, and what one more or one less leaves of the other words.
-use Prim.Native.Nat.{ℕ, zero, suc, ◌+◌, ◌*◌, ◌-◌, ◌%◌, ◌≤◌, ◌<◌}
+-- The totals among the words beside the threads: what clearing them, one more and one less leave of the other words.
+use Prim.Native.Nat.{ℕ, zero, suc, ◌+◌, ◌*◌, ◌%◌, ◌≤◌, ◌<◌}
 use mathlib.Core.Path.{◌≡◌, refl, sym, ap, ap₂, ◌∙◌}
 use mathlib.Core.Bool.{Bool, true, false, cond}
-use mathlib.Core.List.{List, [], ◌∷◌, ◌++◌}
+use mathlib.Core.List.{List, [], ◌∷◌}
 use native.Mathlib.Omega.{arith}
-use lib.ListN.{length, get_or, set, take, drop, replicate, length-set, length-drop, get_or-eq_default}
-use mir.Val.{bool_byte}
-use lib.Seq.{sets, length-sets, set-get_or, get_or-set_same, get_or-set_other, get_or-drop, take-suc, take-suc-set, take_all}
+use lib.ListN.{length, get_or, set, replicate, length-set, get_or-eq_default}
+use lib.Seq.{length-sets, get_or-set_other}
 use Rattle.format.specs.Contents.{in_count}
 use Rattle.format.proofs.ContentsLaws.{in_count_lem}
 use Rattle.naming.specs.Scopes.{awaited_in, awaited_by}
@@ -14,33 +13,10 @@ use Rattle.steps.specs.declared.Thread.{Thread}
 use Rattle.steps.specs.declared.Made.{Made}
 use Rattle.steps.specs.declared.Outcome.{Outcome}
 use Rattle.steps.specs.declared.Outcome.TheVariants.{Refused, Moves, Adds, Makes, Ends, Meets}
-use Rattle.steps.specs.Choice.{State}
 use Rattle.steps.specs.Records.{threads_in}
 use Rattle.steps.specs.Beside.{made_in, cleared, one_more, one_less, counted, totals_by}
 use Rattle.steps.specs.Kept.{state_in, Sized}
 use Rattle.steps.proofs.TableLaws.{sets_other, sets_in}
-
--- clearing, word by word
-pub clear_on : (b : List ℕ) (k : ℕ) → k < 32 → sets (set b (130 + k) 0) (130 + (k + 1)) (replicate (32 - (k + 1)) 0) ≡ sets b (130 + k) (replicate (32 - k) 0)
-clear_on b k lt =
-    let m : 32 - k ≡ suc (32 - (k + 1)) = omega (arith, lt) in
-    let p : 130 + (k + 1) ≡ suc (130 + k) = omega arith in
-    ap (λ (x : ℕ). sets (set b (130 + k) 0) x (replicate (32 - (k + 1)) 0)) p ∙ sym (ap (λ (x : ℕ). sets b (130 + k) (replicate x 0)) m)
-
-pub clear_done : (b : List ℕ) (k : ℕ) → k ≡ 32 → b ≡ sets b (130 + k) (replicate (32 - k) 0)
-clear_done b k e = let z : 32 - k ≡ 0 = omega (arith, e) in sym (ap (λ (x : ℕ). sets b (130 + k) (replicate x 0)) z)
-
--- copying, word by word
-pub copy_on : (b all : List ℕ) (k : ℕ) → k < 32 → length b ≡ 162 → length all ≡ 32 → take k all ≡ take k (drop 130 b)
-    → take (k + 1) (set all k (get_or b (130 + k) 0)) ≡ take (k + 1) (drop 130 b)
-copy_on b all k lt long room have =
-    let one : k + 1 ≡ suc k = omega arith in
-    ap (λ (x : ℕ). take x (set all k (get_or b (130 + k) 0))) one ∙ take-suc-set all k (get_or b (130 + k) 0) (omega (arith, lt, room))
-    ∙ ap₂ (λ (l : List ℕ) (x : ℕ). l ++ (x ∷ [])) have (sym (get_or-drop 130 b k 0))
-    ∙ sym (take-suc (drop 130 b) k 0 (omega (arith, lt, long, length-drop 130 b))) ∙ ap (λ (x : ℕ). take x (drop 130 b)) (sym one)
-
-pub copy_done : (b all : List ℕ) (k : ℕ) → k ≡ 32 → length all ≡ 32 → take k all ≡ take k (drop 130 b) → all ≡ take 32 (drop 130 b)
-copy_done b all k e room have = sym (take_all k all (omega (arith, e, room))) ∙ have ∙ ap (λ (x : ℕ). take x (drop 130 b)) e
 
 pub length-replicate : (n : ℕ) → length {A = ℕ} (replicate n 0) ≡ n
 length-replicate zero = refl
@@ -146,23 +122,3 @@ aside_state w b d z a =
       ap₂ (λ (ts : List Thread) (ms : List Made). record { threads = ts; made = ms }) (ap (threads_in w 0) count) (ap (made_in d 2) made ∙ made_aside b d 2 (get_or b 1 0) (omega (arith, z.made)) a.same),
       record { words = z.words; beside = a.long ∙ z.beside; threads = omega (arith, count, z.threads); made = omega (arith, made, z.made) },
     )
-
--- a number added to a kind's total without a branch: for what is no kind nothing is added, to a word that stands before the totals
-pub below_bool : (x n : ℕ) (b : Bool) → x < n → x * bool_byte b < n
-below_bool x n true h = omega arith
-below_bool x n false h = omega arith
-
-pub in_place : (k : ℕ) (b : Bool) → b ≡ in_count 32 k → k * bool_byte b < 33
-in_place k true e = let some = in_count_lem 32 k (sym e) in omega (arith, some.1)
-in_place k false e = omega arith
-
-pub added_to : (l : List ℕ) (k by at c v w : ℕ) (t : Bool) → t ≡ in_count 32 k → c ≡ bool_byte t → at ≡ 129 + k * c → v ≡ get_or l at 0 → v < 65536 → w ≡ c
-    → set l at ((v + by * w) % 65536) ≡ cond (in_count 32 k) (set l (129 + k) ((get_or l (129 + k) 0 + by) % 65536)) l
-added_to l k by at c v w true e ec ea ev h ew =
-    let same : at ≡ 129 + k = omega (arith, ea ∙ ap (λ (x : ℕ). 129 + k * x) ec) in
-    let all : v + by * w ≡ get_or l (129 + k) 0 + by = omega (arith, ap (λ (x : ℕ). v + by * x) (ew ∙ ec), ev ∙ ap (λ (x : ℕ). get_or l x 0) same) in
-    ap (λ (x : ℕ). set l x ((v + by * w) % 65536)) same ∙ ap (λ (x : ℕ). set l (129 + k) (x % 65536)) all
-    ∙ ap (λ (b : Bool). cond b (set l (129 + k) ((get_or l (129 + k) 0 + by) % 65536)) l) e
-added_to l k by at c v w false e ec ea ev h ew =
-    let none : (v + by * w) % 65536 ≡ get_or l at 0 = ap (λ (x : ℕ). (v + by * x) % 65536) (ew ∙ ec) ∙ (let z : (v + by * 0) % 65536 ≡ v = omega (arith, h) in z) ∙ ev in
-    ap (set l at) none ∙ set-get_or l at 0 ∙ ap (λ (b : Bool). cond b (set l (129 + k) ((get_or l (129 + k) 0 + by) % 65536)) l) e

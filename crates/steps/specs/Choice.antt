@@ -1,5 +1,5 @@
 -- One choice: thread, partner (0 if alone).
-use Rattle.std.specs.Prelude.{ℕ, zero, suc, ◌+◌, ◌-◌, Bool, true, false, cond, not, ◌&&◌, List, [], ◌∷◌, ◌++◌, eqb, leb, ltb, length, get_or, set, take, drop}
+use Rattle.std.specs.Prelude.{ℕ, ◌+◌, ◌-◌, Bool, cond, ◌&&◌, List, [], ◌∷◌, ◌++◌, eqb, leb, ltb, length, get_or, set, take, drop}
 use Rattle.masks.specs.Mask.{has, with, without}
 use Rattle.format.specs.Contents.{Contents, in_count, item, no_node}
 use Rattle.format.specs.declared.Node.{Node}
@@ -11,8 +11,6 @@ use Rattle.steps.specs.declared.Thread.{Thread}
 use Rattle.steps.specs.declared.Made.{Made}
 use Rattle.steps.specs.declared.Partner.{Partner}
 use Rattle.steps.specs.declared.Partner.TheVariants.{Alone, With, Missing}
-use Rattle.steps.specs.declared.Pair.{Pair}
-use Rattle.steps.specs.declared.Making.{Making}
 use Rattle.steps.specs.declared.Outcome.{Outcome}
 use Rattle.steps.specs.declared.Outcome.TheVariants.{Refused, Moves, Adds, Makes, Ends, Meets}
 use Rattle.steps.specs.Threads.{no_thread, no_made, value, moved_to, onward, masked, bound}

@@ -16,7 +16,6 @@ use super::beside::{made_at, made_count, thread_count};
 use super::threads::no_thread;
 use super::{Acted, Answer, Made, Thread};
 use format::sections::{channel, in_count, single_node, user_roles};
-use format::words::wide;
 use format::{Head, Node};
 use masks::{ChannelKind, UserRole, has_role};
 use rules::grants::may;
@@ -33,8 +32,8 @@ pub fn kind_held(file: &[u8], head: Head, beside: &[u16], v: u16) -> ChannelKind
         let it = channel(file, head, v - 256);
         return it.kind;
     }
-    let i = wide(v - 385);
-    if i < wide(made_count(beside)) {
+    let i = usize::from(v - 385);
+    if i < usize::from(made_count(beside)) {
         let it = made_at(beside, i);
         return it.kind;
     }

@@ -8,7 +8,6 @@ ghost use Rattle.steps.specs.Beside.{beside_words, thread_count, made_count, mad
 
 use super::{Acted, Answer, Made};
 use format::sections::in_count;
-use format::words::wide;
 use masks::ChannelKind;
 use naming::scopes::awaited_by;
 
@@ -65,7 +64,7 @@ pub fn add_made(beside: &mut [u16], made: Made)
     ensures { beside.new ≡ one_made beside.old made }
 {
     let n = made_count(beside);
-    let at = 2 * wide(n);
+    let at = 2 * usize::from(n);
     beside[at + 2] = made.owner;
     beside[at + 3] = made.kind.0;
     beside[1] = n + 1;
@@ -76,11 +75,7 @@ fn clear_totals(beside: &mut [u16])
     requires { length beside.old ≡ beside_words }
     ensures { beside.new ≡ cleared beside.old }
 {
-    let mut k: usize = 0;
-    while k < TOTALS {
-        beside[FIRST + k] = 0;
-        k += 1;
-    }
+    beside[FIRST..FIRST + TOTALS].fill(0);
 }
 
 // So many threads, no channel made, and no thread that waits.
@@ -101,7 +96,7 @@ pub fn total(beside: &[u16], kind: u16) -> u16
         return 0;
     }
     if beside.len() == BESIDE {
-        return beside[129 + wide(kind)];
+        return beside[129 + usize::from(kind)];
     }
     0
 }
@@ -112,22 +107,18 @@ pub fn totals_of(beside: &[u16]) -> [u16; TOTALS]
     ensures { result ≡ totals_in beside.now }
 {
     let mut all = [0u16; TOTALS];
-    let mut k: usize = 0;
-    while k < TOTALS {
-        all[k] = beside[FIRST + k];
-        k += 1;
-    }
+    all.copy_from_slice(&beside[FIRST..FIRST + TOTALS]);
     all
 }
 
 // A number added to a kind's total, as words are added; what is no kind of 1 to 32 has none. No branch: whether a thread reaches a receive can't be foreseen.
-fn add_to(beside: &mut [u16], kind: ChannelKind, by: usize)
-    requires { (length beside.old ≡ beside_words) × (by < 65536) }
+fn add_to(beside: &mut [u16], kind: ChannelKind, by: u16)
+    requires { length beside.old ≡ beside_words }
     ensures { beside.new ≡ cond (in_count total_words kind.0) (set beside.old (total_at kind.0) ((get_or beside.old (total_at kind.0) 0 + by) % 65536)) beside.old }
 {
     let counts = in_count(32, kind.0) as u16;
-    let at = 129 + wide(kind.0 * counts);
-    beside[at] = ((wide(beside[at]) + by * wide(counts)) % 65536) as u16;
+    let at = 129 + usize::from(kind.0 * counts);
+    beside[at] = beside[at].wrapping_add(by * counts);
 }
 
 // One more thread waits for a kind.
@@ -158,15 +149,6 @@ pub fn reach(beside: &mut [u16], table: &[u64], node: u16)
     one_more(beside, awaited_by(table, node));
 }
 
-fn before(node: u16) -> u16
-    ensures { result ≡ node - 1 }
-{
-    if 0 < node {
-        return node - 1;
-    }
-    0
-}
-
 // A thread has gone on to a node from the one before it.
 fn leave(beside: &mut [u16], table: &[u64], next: u16)
     requires { length beside.old ≡ beside_words }
@@ -175,7 +157,7 @@ fn leave(beside: &mut [u16], table: &[u64], next: u16)
     if table.len() == 0 {
         return;
     }
-    one_less(beside, awaited_by(table, before(next)));
+    one_less(beside, awaited_by(table, next.saturating_sub(1)));
 }
 
 // The totals after a choice. A lone step leaves no receive, a meeting leaves the receiver's.

@@ -16,20 +16,13 @@ pub fn thread_at(threads: &[u16], i: usize) -> Thread
     ensures { result ≡ thread_in threads.now (record_at i) }
 {
     let at = RECORD * i;
+    let mut vars = [0; 8];
+    vars.copy_from_slice(&threads[at + 3..at + 11]);
     Thread {
         user: threads[at],
         node: threads[at + 1],
         mask: threads[at + 2],
-        vars: [
-            threads[at + 3],
-            threads[at + 4],
-            threads[at + 5],
-            threads[at + 6],
-            threads[at + 7],
-            threads[at + 8],
-            threads[at + 9],
-            threads[at + 10],
-        ],
+        vars,
     }
 }
 
@@ -42,14 +35,7 @@ pub fn put_thread(threads: &mut [u16], i: usize, t: Thread)
     threads[at] = t.user;
     threads[at + 1] = t.node;
     threads[at + 2] = t.mask;
-    threads[at + 3] = t.vars[0];
-    threads[at + 4] = t.vars[1];
-    threads[at + 5] = t.vars[2];
-    threads[at + 6] = t.vars[3];
-    threads[at + 7] = t.vars[4];
-    threads[at + 8] = t.vars[5];
-    threads[at + 9] = t.vars[6];
-    threads[at + 10] = t.vars[7];
+    threads[at + 3..at + 11].copy_from_slice(&t.vars);
 }
 
 // Of so many threads one is removed: those after it move down by one.
@@ -57,10 +43,6 @@ pub fn close_gap(threads: &mut [u16], count: usize, i: usize)
     requires { (i < count) × (record_at count ≤ length threads.old) }
     ensures { threads.new ≡ paste threads.old (record_at i) (drop (record_at i + record_words) threads.old) (record_at (count - 1) - record_at i) }
 {
-    let end = RECORD * (count - 1);
-    let mut k = RECORD * i;
-    while k < end {
-        threads[k] = threads[k + RECORD];
-        k += 1;
-    }
+    let at = RECORD * i;
+    threads.copy_within(at + RECORD..RECORD * count, at);
 }

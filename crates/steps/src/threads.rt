@@ -4,7 +4,6 @@ ghost use Rattle.masks.specs.Mask.{with, without};
 ghost use Rattle.steps.specs.Threads.{no_thread, value, moved_to, onward, masked, bound};
 
 use super::Thread;
-use format::words::wide;
 use masks::{UserRole, with_role, without_role};
 
 // What stands for no thread.
@@ -19,15 +18,6 @@ pub fn no_thread() -> Thread
     }
 }
 
-fn either(first: bool, one: u16, other: u16) -> u16
-    ensures { result ≡ cond first one other }
-{
-    if first {
-        return one;
-    }
-    other
-}
-
 impl Thread {
     // What an operand stands for.
     pub fn value(self, x: u16) -> u16
@@ -36,7 +26,7 @@ impl Thread {
         if x < 512 {
             return x;
         }
-        let k = wide(x - 512);
+        let k = usize::from(x - 512);
         if k < 8 {
             return self.vars[k];
         }
@@ -86,13 +76,11 @@ impl Thread {
         ensures { result ≡ bound self given }
     {
         let mut open = true;
-        let mut k: usize = 0;
-        while k < 8 {
+        for k in 0..8 {
             let v = self.vars[k];
             let free = open & (v == 0);
-            self.vars[k] = either(free, given, v);
+            self.vars[k] = if free { given } else { v };
             open = open & !free;
-            k += 1;
         }
         self.node += 1;
         self

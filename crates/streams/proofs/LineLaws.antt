@@ -1,34 +1,26 @@
 -- The bytes of a line, put one text after another.
 use Prim.Native.Nat.{ℕ, zero, suc, ◌+◌, ◌-◌, ◌/◌, ◌%◌, ◌^◌, ◌≤◌, ◌<◌}
-use mathlib.Core.Path.{◌≡◌, refl, sym, ap, subst, ◌∙◌}
+use mathlib.Core.Path.{◌≡◌, refl, sym, ap, ◌∙◌}
 use mathlib.Core.Bool.{Bool, true, false, cond}
-use mathlib.Core.List.{List, [], ◌∷◌, ◌++◌}
+use mathlib.Core.List.{List, [], ◌∷◌, ◌++◌, append_assoc}
 use native.Mathlib.Omega.{arith}
 use native.Mathlib.Nat.{pow-le-pow_right, zero-lt-suc}
 use native.Mathlib.Numerals.{add-one}
 use lib.Dec.{ltb}
-use lib.ListN.{length, get_or, set, take, drop, length-append}
-use lib.Seq.{sets, sets-eq, length-sets, drop-cons, take_at}
+use lib.ListN.{length, take, drop, length-append}
+use lib.Seq.{sets, sets-eq, length-sets, drop-drop, take_at}
+use borrow.Rule.Slice.PartMut.{put_mid}
 use borrow.Author.Tests.{lt-ltb, le-ltb}
 use Rattle.io.specs.Counts.{IsPrefixLen}
 use Rattle.io.specs.Digits.{last_digits, hex_digit_ascii, IsDigitCount}
 use Rattle.format.proofs.PutRuns.{sets_join}
-use Rattle.format.proofs.ContentsLaws.{none_past}
 use Rattle.streams.specs.Line.{places, decimal, refused_line}
 
--- a loop that puts a text, one byte a turn: those still to come, from where they go
-pub text_begin : (t l : List ℕ) (at : ℕ) → sets l (at + 0) (drop 0 t) ≡ sets l at t
-text_begin t l at = let z : at + 0 ≡ at = omega arith in rw z
-
-pub text_turn : (t l whole : List ℕ) (at i : ℕ) → i < length t → sets l (at + i) (drop i t) ≡ whole
-    → sets (set l (at + i) (get_or t i 0)) (at + (i + 1)) (drop (i + 1) t) ≡ whole
-text_turn t l whole at i h inv =
-    let next : at + (i + 1) ≡ suc (at + i) = omega arith in
-    let one : i + 1 ≡ suc i = add-one i in
-    rw (next, one) (subst (λ (r : List ℕ). sets l (at + i) r ≡ whole) (drop-cons t i 0 h) inv)
-
-pub text_end : (t l whole : List ℕ) (at i : ℕ) → length t ≤ i → sets l (at + i) (drop i t) ≡ whole → l ≡ whole
-text_end t l whole at i h inv = subst (λ (r : List ℕ). sets l (at + i) r ≡ whole) (none_past t i h) inv
+-- a text copied over the part from where it goes, as long as it is
+pub text_put : (t l : List ℕ) (at k : ℕ) → at + length t ≤ length l → k ≡ length t → put_mid at k l t ≡ sets l at t
+text_put t l at k fits e =
+    ap (λ (r : List ℕ). take at l ++ (t ++ r)) (drop-drop k at l ∙ ap (λ (n : ℕ). drop (at + n) l) e) ∙ sym (append_assoc (take at l) t (drop (at + length t) l))
+    ∙ sym (sets-eq t l at fits)
 
 -- the fewest digits that hold a word
 pub fewest_places : (n k : ℕ) → n < 65536 → IsDigitCount 10 1 n k → k ≡ places n

@@ -11,13 +11,6 @@ ghost use Rattle.streams.specs.Kept.{kept_of};
 use line::refused_line;
 use std::io::Read;
 
-// An input, once read to its end: how many bytes at the start of the buffer stand for it, and whether a read failed.
-#[derive(Clone, Copy)]
-pub struct Input {
-    pub kept: usize,
-    pub failed: bool,
-}
-
 // One read into the buffer behind what is kept, which stays; the answer is the read's: how many bytes came, none at the input's end, or why it failed.
 pub fn read_behind<R: Read>(
     reader: &mut R,
@@ -41,29 +34,23 @@ pub fn keep(buffer: &[u8], kept: usize, piece: usize) -> usize
     reading::long::enough(kept + piece)
 }
 
-// Reads an input to its end, of whatever length. Each piece is read behind what is kept, and of both enough is kept; of an input
+// Reads an input to its end, of whatever length; the answer is how many bytes at the start of the buffer stand for it, or why a read failed. Each piece is read behind what is kept, and of both enough is kept; of an input
 // longer than any file the start stays, and what comes is read over the rest of the buffer again and again. That what is kept has the
 // answer of the whole input is `stands_check` of checking/proofs/CheckLaws, `stands_placed` of placing/proofs/PlaceLaws, and `stands_run` and
 // `stands_over` of running/proofs/StandLaws.
-// A loop has to end, so the turns count down, from a number that no run uses up.
-pub fn read_input<R: Read>(reader: &mut R, buffer: &mut [u8]) -> Input
+// A loop has to end, so the reads are counted, up to a number that no run reaches.
+pub fn read_input<R: Read>(reader: &mut R, buffer: &mut [u8]) -> std::io::Result<usize>
     requires { length buffer.old ≡ 16384 }
-    ensures { IsPrefixLen result.kept buffer.new }
+    ensures { IfOk result (λ kept. IsPrefixLen kept buffer.new) }
 {
     let mut kept = 0;
-    let mut turns = u64::MAX;
-    while turns > 0 {
-        match read_behind(reader, buffer, kept) {
-            Ok(0) => break,
-            Ok(piece) => kept = keep(buffer, kept, piece),
-            Err(_) => return Input { kept, failed: true },
+    for _ in 0..u64::MAX {
+        match read_behind(reader, buffer, kept)? {
+            0 => break,
+            piece => kept = keep(buffer, kept, piece),
         }
-        turns -= 1;
     }
-    Input {
-        kept,
-        failed: false,
-    }
+    Ok(kept)
 }
 
 // Writes the bytes. What a write that fails leaves out stays unwritten, and nothing is said of it.

@@ -9,13 +9,9 @@ fn put_text(text: &[u8], line: &mut [u8], at: usize) -> usize
     requires { at + length text.now ≤ length line.old }
     ensures { (line.new ≡ sets line.old at text.now) × (result ≡ at + length text.now) }
 {
-    let count = text.len();
-    let mut i = 0;
-    while i < count {
-        line[at + i] = text[i];
-        i += 1;
-    }
-    at + count
+    let end = at + text.len();
+    line[at..end].copy_from_slice(text);
+    end
 }
 
 // A number in decimal likewise.
@@ -24,11 +20,12 @@ fn put_decimal(number: u16, line: &mut [u8], at: usize) -> usize
     ensures { (line.new ≡ sets line.old at (decimal number)) × (result ≡ at + length (decimal number)) }
 {
     let mut text = [0u8; 20];
-    let digits = io::decimal(number as u64, &mut text);
+    let digits = io::decimal(u64::from(number), &mut text);
     put_text(&text[..digits], line, at)
 }
 
 // The line `refused N P`, at the start of the buffer; the answer is its length.
+#[tactic(auto, using(crate::proofs::LineLaws::decimal_short))]
 pub fn refused_line(number: u16, place: u16, line: &mut [u8]) -> usize
     requires { 20 ≤ length line.old }
     ensures prefix_len { IsPrefixLen result line.new }

@@ -21,7 +21,7 @@ fn user_fits(file: &[u8], head: Head, n: u16) -> bool
     requires { Laid file.now head }
     ensures { result ≡ record_fits (contents_at file.now head) Users n }
 {
-    names_only(user_roles(file, head, n) as u32, head.count.roles)
+    names_only(u32::from(user_roles(file, head, n)), head.count.roles)
 }
 
 fn role_fits(file: &[u8], head: Head, n: u16) -> bool
@@ -36,7 +36,7 @@ fn juniors_fit(file: &[u8], head: Head, n: u16) -> bool
     requires { Laid file.now head × (0 < n) }
     ensures { result ≡ record_fits (contents_at file.now head) Juniors n }
 {
-    names_only(juniors(file, head, n) as u32, n - 1)
+    names_only(u32::from(juniors(file, head, n)), n - 1)
 }
 
 fn channel_fits(file: &[u8], head: Head, n: u16) -> bool
@@ -113,18 +113,12 @@ fn section_answer(file: &[u8], head: Head, section: Section) -> Verdict
     requires { Laid file.now head }
     ensures { result ≡ section_answer head (contents_at file.now head) section }
 {
-    let count = part_of(head.count, section);
-    let mut n: u16 = 1;
-    while n <= count {
+    for n in 1..=part_of(head.count, section) {
         if !record_fits(file, head, section, n) {
             return refusal_of(head, section, n);
         }
-        n += 1;
     }
-    Verdict {
-        number: 0,
-        place: 0,
-    }
+    Verdict::FINE
 }
 
 // 6, then 21, then 7.

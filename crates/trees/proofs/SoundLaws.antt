@@ -7,7 +7,7 @@ use native.Mathlib.Omega.{arith}
 use native.Mathlib.Numerals.{add-one}
 use lib.ListN.{length, set, drop}
 use lib.Dec.{eqb, leb, ltb}
-use borrow.Author.Tests.{leb-true, eqb-true, eqb-false, eq-eqb, ne_eqb, leb-false, lt-ltb, not-true}
+use borrow.Author.Tests.{leb-true, eqb-true, eqb-false, eq-eqb, ne_eqb, leb-false, lt-ltb}
 use Rattle.format.specs.Answers.{fine}
 use Rattle.format.specs.Contents.{item, no_session, no_node}
 use Rattle.format.specs.declared.Session.{Session}
@@ -243,12 +243,6 @@ module _ (ns : List Node) (i : ℕ) (pos : 1 ≤ i) (h : i ≤ length ns) (node 
       sym (turned b st)
       ∙ ap₂ (λ x y. fits && cond x (resumed (accepts (i + 1) (drop (i + 1 - 1) ns)) (i + 1) st) (cond y (Next b (waiting node.f1 b ∷ st)) one)) (ne_eqb node.tag 0 z) (ne_eqb node.tag 1 o)
       ∙ false_both fits (not (binds node.tag && leb 8 b)) (Next (bound_below node.tag b) st) bad
-
-  -- and where it binds, there is room
-  pub has_room : (b : ℕ) → ((leb node.tag 8 && unused_fit node) && not (binds node.tag && leb 8 b)) ≡ true → binds node.tag ≡ true → b < 8
-  has_room b fits one =
-      let p = (and-eq-true_iff (leb node.tag 8 && unused_fit node) (not (binds node.tag && leb 8 b))).0 fits in
-      leb-false 8 b (not-true (leb 8 b) (rw one at p.1))
 
 -- what waits, each as one number in an array
 abbrev pub unpack : ℕ → Waiting

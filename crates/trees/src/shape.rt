@@ -9,7 +9,7 @@ use super::Due;
 use super::ends::ends;
 use super::sound::sound_shape;
 use format::sections::{node, session};
-use format::words::{narrow, wide};
+use format::words::narrow;
 use format::{Head, Node, Verdict};
 
 // The variables bound on the path to a tree that is due.
@@ -107,45 +107,40 @@ fn walk(file: &[u8], head: Head, ends: &[u16]) -> Verdict
     ensures { result ≡ shape_answer (contents_at file.now head) }
 {
     let mut stack = [Due::Child(0); 1057];
-    let sessions = wide(head.count.sessions);
-    let mut depth: usize = 0;
-    while depth < sessions {
-        let it = session(file, head, narrow(sessions - depth));
-        stack[depth] = Due::Root(it.root);
-        depth += 1;
+    let sessions = usize::from(head.count.sessions);
+    for i in 0..sessions {
+        let it = session(file, head, narrow(sessions - i));
+        stack[i] = Due::Root(it.root);
     }
+    let mut depth = sessions;
     let nodes = head.count.nodes;
-    let mut i: u16 = 1;
-    while i <= nodes {
+    for i in 0..nodes {
+        let n = i + 1;
         if depth == 0 {
             return Verdict {
                 number: 8,
-                place: i,
+                place: n,
             };
         }
         let due = stack[depth - 1];
-        let it = node(file, head, i);
-        if !node_fits(i, it, due, ends[wide(i) + 1]) {
+        let it = node(file, head, n);
+        if !node_fits(n, it, due, ends[usize::from(n) + 1]) {
             return Verdict {
                 number: 8,
-                place: i,
+                place: n,
             };
         }
         let child = Due::Child(bound_below(it.tag, bound_of(due)));
         stack[depth - 1] = child;
         stack[depth] = child;
         depth = depth_after(it.tag, depth);
-        i += 1;
     }
     if depth == 0 {
-        return Verdict {
-            number: 0,
-            place: 0,
-        };
+        return Verdict::FINE;
     }
     Verdict {
         number: 8,
-        place: i,
+        place: nodes + 1,
     }
 }
 
@@ -164,12 +159,9 @@ pub fn shape(file: &[u8], head: Head) -> Verdict
     ensures { result ≡ shape_answer (contents_at file.now head) }
 {
     if sound_shape(file, head) {
-        return Verdict {
-            number: 0,
-            place: 0,
-        };
+        return Verdict::FINE;
     }
     let mut table = [0u16; 1026];
-    let n = wide(head.count.nodes);
+    let n = usize::from(head.count.nodes);
     shape_by(file, head, &mut table[..n + 2])
 }

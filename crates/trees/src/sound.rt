@@ -6,7 +6,7 @@ ghost use Rattle.trees.specs.Shape.{binds, unused_fit, shape_answer};
 
 use super::shape::{binds_one, bound_below, used_by};
 use format::sections::{node, session};
-use format::words::{narrow, paired, wide};
+use format::words::{narrow, paired};
 use format::{Head, Node};
 
 // The number that names a tree that waits, and the variables bound above it, as one number on the stack.
@@ -29,7 +29,7 @@ fn left_over(fits: bool, rest: u16) -> usize
     if fits {
         return 0;
     }
-    wide(rest)
+    usize::from(rest)
 }
 
 // Whether a node with one child fits, where so many variables are bound above it. An eighth of these is 0 exactly where there is room for one more. All that has
@@ -51,22 +51,20 @@ fn sound_by(file: &[u8], head: Head, stack: &mut [u32]) -> bool
     ensures { result ≡ eqb (shape_answer (contents_at file.now head)).number 0 }
 {
     let nodes = head.count.nodes;
-    let sessions = wide(head.count.sessions);
+    let sessions = usize::from(head.count.sessions);
     stack[0] = paired(nodes + 1, 0);
-    let mut depth: usize = 0;
-    while depth < sessions {
-        let it = session(file, head, narrow(sessions - depth));
-        depth += 1;
-        stack[depth] = paired(it.root, 0);
+    for i in 0..sessions {
+        let it = session(file, head, narrow(sessions - i));
+        stack[i + 1] = paired(it.root, 0);
     }
+    let mut depth = sessions;
     if named(stack[depth]) != 1 {
         return false;
     }
     let mut bound: u16 = 0;
-    let mut i: u16 = 0;
-    while i < nodes {
-        i += 1;
-        let it = node(file, head, i);
+    for i in 0..nodes {
+        let n = i + 1;
+        let it = node(file, head, n);
         let tag = it.tag;
         match tag {
             0 => {
@@ -78,7 +76,7 @@ fn sound_by(file: &[u8], head: Head, stack: &mut [u32]) -> bool
                 }
                 depth -= 1;
                 let next = stack[depth];
-                if named(next) != i + 1 {
+                if named(next) != n + 1 {
                     return false;
                 }
                 bound = bound_above(next);

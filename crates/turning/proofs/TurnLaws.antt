@@ -18,7 +18,7 @@ use Rattle.format.specs.declared.Head.{Head}
 use Rattle.format.specs.declared.Six.{Six}
 use Rattle.format.specs.declared.Node.{Node}
 use Rattle.format.specs.declared.Written.{Written}
-use Rattle.format.specs.declared.HeadAnswer.TheVariants.{Fine, Refused}
+use Rattle.std.specs.Prelude.{Ok, Err}
 use Rattle.format.proofs.HeadLaws.{headed, head_number_lem, head_laid, none_read}
 use Rattle.format.proofs.ContentsLaws.{next-item, none_past, users_held, roles_held, juniors_held, kinds_held, channels_held, sessions_held, nodes_held}
 use Rattle.format.proofs.PutRuns.{puts_then}
@@ -128,22 +128,22 @@ module _ (from to : ℕ) (f out : List ℕ) where
     refused n loud e r is = kept n loud (rw (le-ltb (length out) 6908 room, e, ne_eqb n 0 loud)) r is
 
     -- by the head
-    pub head_refused : (n : ℕ) → head_of f ≡ Refused n → (r : Written) → r ≡ not_written (cond (eqb n 1 || eqb (word_at f 0) from) n 2) 0 → Answers from to f out r out
+    pub head_refused : (n : ℕ) → head_of f ≡ Err n → (r : Written) → r ≡ not_written (cond (eqb n 1 || eqb (word_at f 0) from) n 2) 0 → Answers from to f out r out
     unfolding turn_refusal
     head_refused n e r is =
         let word : word_at f 0 ≡ version_at f = first_word f n e in
         let number : head_number (head_of f) ≡ n = ap head_number e in
         refused (cond (eqb n 1 || eqb (word_at f 0) from) n 2) (loud (eqb n 1 || eqb (word_at f 0) from)) (λ i. cond (eqb (number i) 1 || eqb (sym word i) from) (number i) 2) r is
       where
-        first_word : (g : List ℕ) (n : ℕ) → head_of g ≡ Refused n → word_at g 0 ≡ version_at g
-        first_word [] n e = let none : Fine (head_at []) ≡ Refused n = sym (none_read [] refl) ∙ e in let no : ◌≡◌ {A = ℕ} 0 1 = cc in absurd (omega arith)
+        first_word : (g : List ℕ) (n : ℕ) → head_of g ≡ Err n → word_at g 0 ≡ version_at g
+        first_word [] n e = let none : Ok (head_at []) ≡ Err n = sym (none_read [] refl) ∙ e in let no : ◌≡◌ {A = ℕ} 0 1 = cc in absurd (omega arith)
         first_word (b ∷ bs) n e = refl
 
         loud : (b : Bool) → cond b n 2 ≡ 0 → ⊥
         loud true z = omega (arith, z, head_number_lem f n e)
         loud false z = omega (arith, z)
 
-    module _ (h : Head) (e : head_of f ≡ Fine h) where
+    module _ (h : Head) (e : head_of f ≡ Ok h) where
       own : h ≡ head_at f
       own = (headed f h e).1
 

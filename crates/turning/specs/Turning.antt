@@ -1,20 +1,18 @@
 -- Turning a file to columns, and back to rows: 17 first of all, then 1 to 5, "another version being 2" at its turn; else the file of the other version that
 -- holds the same.
-use Rattle.std.specs.Prelude.{ℕ, cond, ◌||◌, List, eqb, ltb, length}
+use Rattle.std.specs.Prelude.{ℕ, cond, ◌||◌, List, eqb, ltb, length, Result, Ok, Err}
 use Rattle.std.proofs.lemmas.List.Edits.{sets}
 use Rattle.format.specs.Answers.{not_written}
 use Rattle.format.specs.Header.{version_at, largest, head_of}
 use Rattle.format.specs.Contents.{contents_of}
 use Rattle.format.specs.Writing.{encoded}
 use Rattle.format.specs.declared.Head.{Head}
-use Rattle.format.specs.declared.HeadAnswer.{HeadAnswer}
-use Rattle.format.specs.declared.HeadAnswer.TheVariants.{Fine, Refused}
 use Rattle.format.specs.declared.Written.{Written}
 
 -- the refusal of 1 to 5, or 0
-abbrev pub head_number : HeadAnswer → ℕ
-head_number (Fine h) = 0
-head_number (Refused n) = n
+abbrev pub head_number : Result Head ℕ → ℕ
+head_number (Ok h) = 0
+head_number (Err n) = n
 
 -- a file that is no file of the version that is turned is refused with 2, unless 1 is wrong with it
 unfoldable pub turn_refusal : ℕ → List ℕ → ℕ

@@ -1,39 +1,27 @@
 // A file turned to columns, and back to rows.
 #![tactic(auto)]
 
-ghost use Rattle.std.specs.Prelude.{◌≡◌, true, cond, ◌||◌, ◌≤◌, eqb, length};
+ghost use Rattle.std.specs.Prelude.{◌≡◌, true, cond, ◌||◌, ◌≤◌, eqb, length, Ok};
 ghost use Rattle.std.proofs.lemmas.List.Edits.{sets};
 ghost use Rattle.format.specs.Header.{Laid, has_juniors, length_for, head_of};
 ghost use Rattle.format.specs.Contents.{contents_at};
 ghost use Rattle.format.specs.Writing.{encoded, nodes_put};
-ghost use Rattle.format.specs.declared.HeadAnswer.TheVariants.{Fine};
-ghost use Rattle.turning.specs.Turning.{turning, turned_over, with_version};
+ghost use Rattle.turning.specs.Turning.{turning, turned_over};
 
 use format::answers::not_written;
 use format::header::{LARGEST, read_head};
 use format::sections::node;
 use format::words::{narrow, word};
 use format::writing::{put_head, put_node, put_sessions, put_tables};
-use format::{Head, HeadAnswer, Written};
-
-// A head of another version.
-fn with_version(head: Head, version: u16) -> Head
-    ensures { result ≡ with_version head version }
-{
-    let count = head.count;
-    let at = head.at;
-    Head { version, count, at }
-}
+use format::{Head, Written};
 
 // A file's nodes, in a file with another head.
 fn put_nodes(file: &[u8], head: Head, whole: Head, out: &mut [u8])
     requires { Laid file.now head × (whole.count.nodes ≡ head.count.nodes) × (length_for whole.at.nodes whole.count.nodes ≤ length out.old) }
     ensures { out.new ≡ nodes_put whole 1 (contents_at file.now head).nodes out.old }
 {
-    let nodes = head.count.nodes;
-    let mut n: u16 = 0;
-    while n < nodes {
-        n += 1;
+    for i in 0..head.count.nodes {
+        let n = i + 1;
         put_node(out, whole, n, node(file, head, n));
     }
 }
@@ -43,7 +31,10 @@ fn put_turned(file: &[u8], head: Head, to: u16, out: &mut [u8])
     requires { Laid file.now head × (has_juniors head.version ≡ true) × (has_juniors to ≡ true) × (6908 ≤ length out.old) }
     ensures { out.new ≡ sets out.old 0 (encoded to (contents_at file.now head)) }
 {
-    let whole = with_version(head, to);
+    let whole = Head {
+        version: to,
+        ..head
+    };
     put_head(out, whole);
     put_tables(file, head, out);
     put_sessions(file, head, out);
@@ -62,7 +53,7 @@ fn own_refusal(number: u16, version: u16, from: u16) -> u16
 
 // A file that 1 to 5 leave clean.
 fn turn_headed(file: &[u8], head: Head, from: u16, to: u16, out: &mut [u8]) -> Written
-    requires { (head_of file.now ≡ Fine head) × (has_juniors from ≡ true) × (has_juniors to ≡ true) × (6908 ≤ length out.old) }
+    requires { (head_of file.now ≡ Ok head) × (has_juniors from ≡ true) × (has_juniors to ≡ true) × (6908 ≤ length out.old) }
     ensures { (result ≡ turning from file.now (length out.old)) × (out.new ≡ turned_over from to file.now out.old) }
 {
     if head.version != from {
@@ -83,10 +74,9 @@ fn turn(file: &[u8], from: u16, to: u16, out: &mut [u8]) -> Written
     if out.len() < LARGEST {
         return not_written(17, 0);
     }
-    let answer = read_head(file);
-    match answer {
-        HeadAnswer::Refused(number) => { not_written(own_refusal(number, word(file, 0), from), 0) }
-        HeadAnswer::Fine(head) => turn_headed(file, head, from, to, out),
+    match read_head(file) {
+        Err(number) => { not_written(own_refusal(number, word(file, 0), from), 0) }
+        Ok(head) => turn_headed(file, head, from, to, out),
     }
 }
 

@@ -12,8 +12,7 @@ use Rattle.format.specs.Words.{word_at}
 use Rattle.format.specs.Answers.{refused}
 use Rattle.format.specs.Header.{is_version, more, six_at, offsets_at, head_in, as_read, head_at, version_at, head_bytes, counts_fit, offsets_fit, length_fits, Laid, from1, from2, from3, from4, from5, head_of}
 use Rattle.format.specs.declared.Head.{Head}
-use Rattle.format.specs.declared.HeadAnswer.{HeadAnswer}
-use Rattle.format.specs.declared.HeadAnswer.TheVariants.{Fine, Refused}
+use Rattle.std.specs.Prelude.{Result, Ok, Err}
 use Rattle.format.proofs.HeadLaws.{juniors_iff, IsVersion, Headed, headed, head_number_lem}
 use Rattle.reading.specs.Reading.{reading}
 use Rattle.reading.proofs.ReadingLaws.{refused_by_head}
@@ -25,26 +24,26 @@ use Rattle.reading_exact.proofs.FirstRefusal.{first_refusal}
 
 module _ (f : List ℕ) where
   -- a head's refusal is one of 1 to 5
-  pub head_few : (n : ℕ) → head_of f ≡ Refused n → n ≤ 5
+  pub head_few : (n : ℕ) → head_of f ≡ Err n → n ≤ 5
   unfolding head_of from1 from2 from3 from4 from5
   head_few n e =
       let g : List ℕ = as_read f in
-      other 1 (ltb (length g) (head_bytes (word_at g 0))) (cond (eqb (length g % 2) 1) (Refused 1) (from2 g)) (omega arith)
+      other 1 (ltb (length g) (head_bytes (word_at g 0))) (cond (eqb (length g % 2) 1) (Err 1) (from2 g)) (omega arith)
       (other 1 (eqb (length g % 2) 1) (from2 g) (omega arith)
       (next 2 (is_version (word_at g 0)) (from3 g) (omega arith)
       (next 3 (counts_fit (six_at g 1)) (from4 g) (omega arith)
       (next 4 (offsets_fit (word_at g 0) (six_at g 1) (offsets_at g (word_at g 0))) (from5 g) (omega arith)
-      (next 5 (length_fits (word_at g 6) (head_in g).at.nodes (length g)) (Fine (head_in g)) (omega arith)
+      (next 5 (length_fits (word_at g 6) (head_in g).at.nodes (length g)) (Ok (head_in g)) (omega arith)
       (λ q. let no : ◌≡◌ {A = ℕ} 0 1 = cc in absurd (omega arith))))))) e
     where
-      same : (k : ℕ) → k ≤ 5 → Refused k ≡ Refused n → n ≤ 5
+      same : (k : ℕ) → k ≤ 5 → ◌≡◌ {A = Result Head ℕ} (Err k) (Err n) → n ≤ 5
       same k l q = let r : k ≡ n = cc in omega arith
 
-      next : (k : ℕ) (b : Bool) (a : HeadAnswer) → k ≤ 5 → (a ≡ Refused n → n ≤ 5) → cond b a (Refused k) ≡ Refused n → n ≤ 5
+      next : (k : ℕ) (b : Bool) (a : Result Head ℕ) → k ≤ 5 → (a ≡ Err n → n ≤ 5) → cond b a (Err k) ≡ Err n → n ≤ 5
       next k true a l go q = go q
       next k false a l go q = same k l q
 
-      other : (k : ℕ) (b : Bool) (a : HeadAnswer) → k ≤ 5 → (a ≡ Refused n → n ≤ 5) → cond b (Refused k) a ≡ Refused n → n ≤ 5
+      other : (k : ℕ) (b : Bool) (a : Result Head ℕ) → k ≤ 5 → (a ≡ Err n → n ≤ 5) → cond b (Err k) a ≡ Err n → n ≤ 5
       other k true a l go q = same k l q
       other k false a l go q = go q
 
@@ -56,7 +55,7 @@ module _ (f : List ℕ) where
   by_size n m a b (inl l) = omega (arith, l, turn_of n a, turn_of m b)
   by_size n m a b (inr (e, _)) = omega (arith, e, turn_of n a, turn_of m b)
 
-  pub head_cause : (n : ℕ) → head_of f ≡ Refused n → Refusable f n 0 × ((m : ℕ) → m ≤ 5 → Refusable f m 0 → n ≤ m)
+  pub head_cause : (n : ℕ) → head_of f ≡ Err n → Refusable f n 0 × ((m : ℕ) → m ≤ 5 → Refusable f m 0 → n ≤ m)
   head_cause n e = go (first_refusal f)
     where
       is : reading f ≡ refused n 0
@@ -93,15 +92,15 @@ module _ (f : List ℕ) where
   head_clean d n p few (unassigned a m) = omega (arith, a, few)
   head_clean d n p few (misshapen a m) = omega (arith, a, few)
 
--- a head as code hands it back (`HeadAnswer`), by the number and the values of each case
+-- a head as code hands it back (`Result Head ℕ`), by the number and the values of each case
 pub head_answered : (f : List ℕ) → (head_number (head_of f) ≤ 5) × (head_number (head_of f) ≢ 0 → reading f ≡ refused (head_number (head_of f)) 0)
-    × ((h : Head) → head_of f ≡ Fine h → h ≡ head_at f)
+    × ((h : Head) → head_of f ≡ Ok h → h ≡ head_at f)
 head_answered f = (small (head_of f) refl, go (head_of f) refl, λ h e. (headed f h e).1)
   where
-    small : (a : HeadAnswer) → head_of f ≡ a → head_number a ≤ 5
-    small (Fine h) e = omega arith
-    small (Refused n) e = head_few f n e
+    small : (a : Result Head ℕ) → head_of f ≡ a → head_number a ≤ 5
+    small (Ok h) e = omega arith
+    small (Err n) e = head_few f n e
 
-    go : (a : HeadAnswer) → head_of f ≡ a → head_number a ≢ 0 → reading f ≡ refused (head_number a) 0
-    go (Fine h) e some = absurd (some refl)
-    go (Refused n) e some = refused_by_head f n e
+    go : (a : Result Head ℕ) → head_of f ≡ a → head_number a ≢ 0 → reading f ≡ refused (head_number a) 0
+    go (Ok h) e some = absurd (some refl)
+    go (Err n) e some = refused_by_head f n e

@@ -1,4 +1,5 @@
 -- What turning answers is what the request says, and nothing else.
+use Rattle.format.specs.declared.Head.{Head}
 use Prim.Native.Nat.{ℕ, ◌≤◌}
 use mathlib.Core.Path.{◌≡◌, refl, ap, subst}
 use mathlib.Core.Logic.{◌↔◌, ◌≢◌}
@@ -10,8 +11,7 @@ use lib.ListN.{length}
 use borrow.Author.Tests.{eqb-true, eqb-false, ltb-true, ltb-false}
 use Rattle.format.specs.Answers.{not_written}
 use Rattle.format.specs.Header.{version_at, head_of}
-use Rattle.format.specs.declared.HeadAnswer.{HeadAnswer}
-use Rattle.format.specs.declared.HeadAnswer.TheVariants.{Fine, Refused}
+use Rattle.std.specs.Prelude.{Result, Ok, Err}
 use Rattle.format.specs.declared.Written.{Written}
 use Rattle.format.proofs.HeadLaws.{headed, head_number_lem}
 use Rattle.reading_exact.specs.Refusals.{Refusable}
@@ -33,11 +33,11 @@ module _ (from : ℕ) (f : List ℕ) where
   unfolding turn_refusal
   refusal_clean z = go (head_of f) refl (eqb (version_at f) from) refl z
     where
-      go : (a : HeadAnswer) → head_of f ≡ a → (b : Bool) → eqb (version_at f) from ≡ b → cond (eqb (head_number a) 1 || b) (head_number a) 2 ≡ 0 → (n : ℕ) → TurnCause from f n → ⊥
-      go (Fine h) e true t z n (of_head few r) = head_clean f (headed f h e).0 n 0 few r
-      go (Fine h) e true t z n (other_version x o) = o (eqb-true (version_at f) from t)
-      go (Fine h) e false t z n c = omega (arith, z)
-      go (Refused k) e b t z n c = either (eqb k 1) b z
+      go : (a : Result Head ℕ) → head_of f ≡ a → (b : Bool) → eqb (version_at f) from ≡ b → cond (eqb (head_number a) 1 || b) (head_number a) 2 ≡ 0 → (n : ℕ) → TurnCause from f n → ⊥
+      go (Ok h) e true t z n (of_head few r) = head_clean f (headed f h e).0 n 0 few r
+      go (Ok h) e true t z n (other_version x o) = o (eqb-true (version_at f) from t)
+      go (Ok h) e false t z n c = omega (arith, z)
+      go (Err k) e b t z n c = either (eqb k 1) b z
         where
           either : (x y : Bool) → cond (x || y) k 2 ≡ 0 → ⊥
           either true y z = omega (arith, z, head_number_lem f k e)
@@ -55,10 +55,10 @@ module _ (from : ℕ) (f : List ℕ) where
           low m (of_head few r) = least m few r
           low m (other_version e o) = omega (arith, e)
 
-      go : (a : HeadAnswer) → head_of f ≡ a → (b : Bool) → eqb (version_at f) from ≡ b → cond (eqb (head_number a) 1 || b) (head_number a) 2 ≢ 0 → Lowest (cond (eqb (head_number a) 1 || b) (head_number a) 2)
-      go (Fine h) e true t loud = absurd (loud refl)
-      go (Fine h) e false t loud = two (eqb-false (version_at f) from t) (λ m few r. absurd (head_clean f (headed f h e).0 m 0 few r))
-      go (Refused k) e b t loud = by (eqb k 1) refl b t
+      go : (a : Result Head ℕ) → head_of f ≡ a → (b : Bool) → eqb (version_at f) from ≡ b → cond (eqb (head_number a) 1 || b) (head_number a) 2 ≢ 0 → Lowest (cond (eqb (head_number a) 1 || b) (head_number a) 2)
+      go (Ok h) e true t loud = absurd (loud refl)
+      go (Ok h) e false t loud = two (eqb-false (version_at f) from t) (λ m few r. absurd (head_clean f (headed f h e).0 m 0 few r))
+      go (Err k) e b t loud = by (eqb k 1) refl b t
         where
           cause : Refusable f k 0 × ((m : ℕ) → m ≤ 5 → Refusable f m 0 → k ≤ m)
           cause = head_cause f k e

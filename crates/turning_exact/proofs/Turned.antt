@@ -17,8 +17,7 @@ use Rattle.format.specs.Contents.{Contents, tabled, contents_at, contents_of}
 use Rattle.format.specs.Writing.{role_words, channel_words, session_words, node_rows, node_columns, table_words, file_words, head_for, encoded}
 use Rattle.format.specs.declared.Head.{Head}
 use Rattle.format.specs.declared.Node.{Node}
-use Rattle.format.specs.declared.HeadAnswer.{HeadAnswer}
-use Rattle.format.specs.declared.HeadAnswer.TheVariants.{Fine, Refused}
+use Rattle.std.specs.Prelude.{Result, Ok, Err}
 use Rattle.format.specs.declared.Written.{Written}
 use Rattle.format.proofs.HeadLaws.{juniors_iff, IsVersion, Headed, headed, headed_fine, head_number_lem, more_few, juniors_few}
 use Rattle.format.proofs.ContentsLaws.{roles_held, juniors_held, nodes_held}
@@ -128,15 +127,15 @@ turned_clean from f room zero = first (ltb room 6908) refl zero
         go true t e = eqb-true n 0 t
         go false t e = e
 
-    by_head : (a : HeadAnswer) → head_of f ≡ a → (b : Bool) → eqb (version_at f) from ≡ b → cond (eqb (head_number a) 1 || b) (head_number a) 2 ≡ 0 → Headed f × (version_at f ≡ from)
-    by_head (Refused n) e b t z = absurd (go (eqb n 1) b z)
+    by_head : (a : Result Head ℕ) → head_of f ≡ a → (b : Bool) → eqb (version_at f) from ≡ b → cond (eqb (head_number a) 1 || b) (head_number a) 2 ≡ 0 → Headed f × (version_at f ≡ from)
+    by_head (Err n) e b t z = absurd (go (eqb n 1) b z)
       where
         go : (x y : Bool) → cond (x || y) n 2 ≡ 0 → ⊥
         go true y z = omega (arith, z, head_number_lem f n e)
         go false true z = omega (arith, z, head_number_lem f n e)
         go false false z = omega (arith, z)
-    by_head (Fine k) e true t z = ((headed f k e).0, eqb-true (version_at f) from t)
-    by_head (Fine k) e false t z = absurd (omega (arith, z))
+    by_head (Ok k) e true t z = ((headed f k e).0, eqb-true (version_at f) from t)
+    by_head (Ok k) e false t z = absurd (omega (arith, z))
 
     first : (b : Bool) → ltb room 6908 ≡ b
         → (cond b (not_written 17 0) (cond (eqb (turn_refusal from f) 0) (record { number = 0; place = 0; length = length f }) (not_written (turn_refusal from f) 0))).number ≡ 0
@@ -195,8 +194,8 @@ module _ (from to : ℕ) (has : has_juniors from ≡ true) (has' : has_juniors t
 
 -- the same tests refuse the same
 same_number : (a b c d e : Bool) (h k : Head)
-    → head_number (cond a (Refused 1) (cond b (Refused 1) (cond c (cond d (cond e (Fine h) (Refused 5)) (Refused 4)) (Refused 3))))
-    ≡ head_number (cond a (Refused 1) (cond b (Refused 1) (cond c (cond d (cond e (Fine k) (Refused 5)) (Refused 4)) (Refused 3))))
+    → head_number (cond a (Err 1) (cond b (Err 1) (cond c (cond d (cond e (Ok h) (Err 5)) (Err 4)) (Err 3))))
+    ≡ head_number (cond a (Err 1) (cond b (Err 1) (cond c (cond d (cond e (Ok k) (Err 5)) (Err 4)) (Err 3))))
 same_number true b c d e h k = refl
 same_number false true c d e h k = refl
 same_number false false false d e h k = refl

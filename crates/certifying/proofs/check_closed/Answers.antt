@@ -1,5 +1,4 @@
 use Rattle.certifying.specs.Certificate.{closing}
-use borrow.Author.Rules.{rules}
 use Rattle.certifying.proofs.check_closed.Goals as goal
 
 pub returns : goal.returns

@@ -1,5 +1,4 @@
 use Rattle.certifying.specs.Parts.{closing_part}
-use borrow.Author.Rules.{rules}
 use Rattle.certifying.proofs.check_closed_part.Goals as goal
 
 pub returns : goal.returns

@@ -8,7 +8,6 @@ use Rattle.certifying.specs.Kept.{certificate_at}
 use Rattle.certifying.specs.Parts.{asked_fault}
 use Rattle.certifying.proofs.EntryLaws.{barred, not_barred}
 use native.Mathlib.Omega.{arith}
-use borrow.Author.Rules.{rules}
 use Rattle.certifying.proofs.closed_in.Goals as goal
 
 pub returns-then-bar-ne0 : goal.returns-then-bar-ne0

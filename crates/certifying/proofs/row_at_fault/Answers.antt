@@ -1,12 +1,8 @@
-use Prim.Native.Nat.{◌≤◌}
-use mathlib.Core.Path.{◌≡◌, refl, sym, ap, ◌∙◌}
-use lib.ListN.{length}
+use mathlib.Core.Path.{refl, ◌∙◌}
 use Rattle.format.specs.Contents.{contents_at}
 use Rattle.format.proofs.ContentsLaws.{sessions_held}
-use Rattle.rows.proofs.StandLaws.{not-true, not-false}
 use Rattle.certifying.proofs.EntryLaws.{asked_some, start_differs, start-known, start-same}
 use native.Mathlib.Omega.{arith}
-use borrow.Author.Rules.{rules}
 use Rattle.certifying.proofs.row_at_fault.Goals as goal
 
 pub run_seated_by-requires : goal.run_seated_by-requires

@@ -37,18 +37,18 @@ pub shut-requires : goal.shut-requires
 shut-requires c = ((table_exact c.args.hours.now c.args.minute).0 (quiet c.before.before.before.before.before.before.before)).1
 
 pub shut_on-requires : goal.shut_on-requires
-shut_on-requires c = head_laid c.args.file.now c.args.hours.now _ (sym (way c.before.before.before.before.before) ∙ c.in-Fine.is)
+shut_on-requires c = head_laid c.args.file.now c.args.hours.now _ (sym (way c.before.before.before.before.before) ∙ c.in-Ok.is)
 
-pub returns-in-Refused : goal.returns-in-Refused
-returns-in-Refused c =
+pub returns-in-Err : goal.returns-in-Err
+returns-in-Err c =
     let a = c.args in
-    check_at_early a.file.now a.hours.now a.minute (quiet c.before.before.before.before.before.before) _ (sym (way c.before.before.before) ∙ c.in-Refused.is)
+    check_at_early a.file.now a.hours.now a.minute (quiet c.before.before.before.before.before.before) _ (sym (way c.before.before.before) ∙ c.in-Err.is)
 
-pub returns-in-Fine : goal.returns-in-Fine
-returns-in-Fine c =
+pub returns-in-Ok : goal.returns-in-Ok
+returns-in-Ok c =
     let a = c.args in
-    let h = c.in-Fine.head in
-    let told = sym (way c.before.before.before.before.before.before.before) ∙ c.in-Fine.is in
+    let h = c.in-Ok.head in
+    let told = sym (way c.before.before.before.before.before.before.before) ∙ c.in-Ok.is in
     let roles = ap (λ (x : Examined). x.roles) c.examine_opened-found.ensures.0
     ∙ roles_from a.file.now a.hours.now (entered_at_fine a.file.now a.hours.now h told).0 _ (sym c.open_at.ensures) in
     c.sooner.ensures

@@ -1,7 +1,6 @@
 use Rattle.format.specs.Contents.{contents_at}
 use Rattle.steps.specs.Choice.{clinic_of}
 use Rattle.dispatching.proofs.EntryLaws.{none_added, round_added}
-use borrow.Author.Rules.{rules}
 use Rattle.dispatching.proofs.add_round.Goals as goal
 
 pub returns-then-refusal-ne0 : goal.returns-then-refusal-ne0

@@ -11,7 +11,6 @@ use Rattle.choices.proofs.TriedLaws.{gone_from}
 use Rattle.running.proofs.EntryLaws.{stopped_by, put_by}
 use Rattle.dispatching.specs.Dispatch.{both_by}
 use Rattle.dispatching.proofs.EntryLaws.{both_fit, both_place, both_is, both_state, answer_is}
-use borrow.Author.Rules.{rules}
 use Rattle.dispatching.proofs.round_into.Goals as goal
 
 pub go_through-own-requires : goal.go_through-own-requires

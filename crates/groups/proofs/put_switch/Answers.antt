@@ -12,11 +12,6 @@ pub returns-then-role-eq0 : goal.returns-then-role-eq0
 unfolding nodes_put
 returns-then-role-eq0 c = rw (ne_eqb _ _ c.if-from-to.false, eq-eqb _ _ c.if-role-eq0.true) (omega arith, refl)
 
-pub put_node-requires : goal.put_node-requires
-put_node-requires c =
-    let p = rw (ne_eqb _ _ c.if-from-to.false, ne_eqb _ _ c.if-role-eq0.false) at c.requires in
-    omega arith
-
 pub returns : goal.returns
 unfolding nodes_put
 returns c = rw (ne_eqb _ _ c.if-from-to.false, ne_eqb _ _ c.if-role-eq0.false) (omega arith, c.put_node.ensures)

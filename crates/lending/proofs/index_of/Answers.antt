@@ -3,7 +3,6 @@ use mathlib.Core.Bool.{true}
 use native.Mathlib.Omega.{arith}
 use Rattle.format.specs.Contents.{in_count}
 use Rattle.format.proofs.ContentsLaws.{in_count_lem}
-use borrow.Author.Rules.{rules}
 use Rattle.lending.proofs.index_of.Goals as goal
 use Rattle.lending.proofs.index_of.Lts as lts
 use Rattle.lending.proofs.index_of.Tie as tie
@@ -16,7 +15,7 @@ pub overflow_sub-i : goal.overflow_sub-i
 overflow_sub-i c = let some = in_count_lem c.args.count c.args.i (inside c) in omega (arith, some.0)
 
 pub returns-then-in_count : goal.returns-then-in_count
-returns-then-in_count c = rw (inside c.before) c.wide.ensures.0
+returns-then-in_count c = rw (inside c.before) c.from.ensures
 
 pub returns : goal.returns
 returns c = rw (sym c.in_count.ensures ∙ c.if-in_count.false) refl

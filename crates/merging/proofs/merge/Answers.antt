@@ -9,9 +9,9 @@ returns-then-out-lt-ROOM c =
     too_small a.first.now a.second.now a.out.now (omega (arith, c.if-out-lt-ROOM.true)) _ c.not_written.ensures
 
 pub join_second-requires : goal.join_second-requires
-join_second-requires c = (sym c.own-answer.ensures ∙ c.in-Fine.is, omega (arith, c.if-out-lt-ROOM.false))
+join_second-requires c = (sym c.in-Ok.ensures, omega (arith, c.if-out-lt-ROOM.false))
 
-pub returns-in-Refused : goal.returns-in-Refused
-returns-in-Refused c =
+pub returns-in-Err : goal.returns-in-Err
+returns-in-Err c =
     let a = c.args in
-    first_refused a.first.now a.second.now a.out.now (omega (arith, c.if-out-lt-ROOM.false)) _ (sym c.own-answer.ensures ∙ c.in-Refused.is) _ c.not_written-in-Refused.ensures
+    first_refused a.first.now a.second.now a.out.now (omega (arith, c.if-out-lt-ROOM.false)) _ (sym c.in-Err.ensures) _ c.not_written-in-Err.ensures

@@ -1,6 +1,5 @@
 use native.Mathlib.Omega.{arith}
 use Rattle.masks.proofs.Forms.{with_form}
-use borrow.Author.Rules.{rules}
 use Rattle.ordering.proofs.with_waiting.Goals as goal
 
 pub returns : goal.returns

@@ -1,12 +1,8 @@
 use mathlib.Core.Path.{◌≡◌}
-use Prim.Native.Nat.{◌+◌, ◌-◌, ◌≤◌}
+use Prim.Native.Nat.{◌+◌}
 use lib.ListN.{drop}
-use Rattle.phrases.specs.Table.{row_count}
 use Rattle.phrases.specs.Phrases.{phrases, leading}
 use Rattle.phrases.proofs.phrase_at.Given as goal
 
 abbrev pub invariant-loop-i : goal.invariant-loop-i
-invariant-loop-i l = (l.i ≤ row_count) × (l.i + leading (drop l.i phrases) (drop l.at l.s) ≡ leading phrases (drop l.at l.s))
-
-abbrev pub decreases-loop-i : goal.decreases-loop-i
-decreases-loop-i l = row_count - l.i
+invariant-loop-i l = l.i + leading (drop l.i phrases) (drop l.at l.s) ≡ leading phrases (drop l.at l.s)

@@ -1,26 +1,17 @@
 use mathlib.Core.Path.{◌≡◌, ap, ◌∙◌}
-use Prim.Native.Nat.{ℕ, ◌+◌}
+use Prim.Native.Nat.{ℕ, ◌+◌, ◌-◌}
 use native.Mathlib.Omega.{arith}
-use borrow.Author.Rules.{rules}
 use lib.ListN.{length}
-use Rattle.phrases.specs.Table.{byte_count}
-use Rattle.phrases.proofs.PhraseLaws.{span, text_length, pasted}
+use Rattle.phrases.specs.Phrases.{phrase}
+use Rattle.phrases.proofs.PhraseLaws.{put_mid-put}
+use borrow.Rule.Slice.PartMut.{put_mid}
 use Rattle.phrases.proofs.put_phrase.Goals as goal
-
-pub copy_part-requires : goal.copy_part-requires
-copy_part-requires c =
-    let a = c.args in
-    let w = span a.i (search rules) in
-    let e : length a.text.now ≡ byte_count = ap length c.requires.0 ∙ text_length in (
-      omega (arith, c.start_of.ensures, c.phrase_length-n.ensures, w.long, w.from_to, w.in-text, e),
-      omega (arith, c.phrase_length-n.ensures, c.requires.3),
-    )
 
 pub returns : goal.returns
 returns c =
-    let a = c.args in (
-      ap (λ (n : ℕ). a.at + n) c.phrase_length-n.ensures,
-      c.copy_part.ensures
-          ∙ pasted a.out.now a.text.now a.at a.i c.start_of.result c.phrase_length-n.result (search rules) c.requires.0
-          c.start_of.ensures c.phrase_length-n.ensures,
+    let a = c.args in
+    let e : length c.phrase_of-part.result.now ≡ length (phrase a.i) = ap length c.phrase_of-part.ensures in (
+      ap (λ (n : ℕ). a.at + n) e,
+      ap (put_mid a.at (a.at + length c.phrase_of-part.result.now - a.at) a.out.now) (c.copy_from_slice.ensures.after ∙ c.phrase_of-part.ensures)
+          ∙ put_mid-put a.out.now (phrase a.i) a.at (a.at + length c.phrase_of-part.result.now - a.at) (omega (arith, e)),
     )

@@ -1,28 +1,14 @@
-use mathlib.Core.Path.{refl, ◌∙◌}
-use native.Mathlib.Omega.{arith}
-use borrow.Author.Rules.{rules}
-use Rattle.phrases.proofs.PhraseLaws.{step_same, step_differ, step_short, step_whole}
+use Rattle.std.proofs.Common.{◌≡◌, ℕ, ◌-◌, List, length, drop, take, ap, ◌∙◌, nat_eq, arith}
+use Rattle.std.specs.List.{starts_with}
+use Rattle.std.proofs.lemmas.List.{drop_min}
+use Rattle.std.proofs.lemmas.Slice.{between_is, between_to_end}
+use Rattle.phrases.proofs.PhraseLaws.{starts_with-prefix}
 use Rattle.phrases.proofs.stands.Goals as goal
-
-pub loop-i-init : goal.loop-i-init
-loop-i-init c = (search rules, refl)
-
-pub returns-then-j-s : goal.returns-then-j-s
-returns-then-j-s c =
-    let a = c.args in
-    step_short a.text.now a.s.now c.loop-i.i a.to c.loop-i.j (search rules) (search rules) (search rules) ∙ c.loop-i.invariant.1
-
-pub returns-then-text-i : goal.returns-then-text-i
-returns-then-text-i c =
-    let a = c.args in
-    step_differ a.text.now a.s.now c.loop-i.i a.to c.loop-i.j (search rules) (search rules) (search rules) c.if-text-i.true ∙ c.loop-i.invariant.1
-
-pub loop-i-preserved : goal.loop-i-preserved
-loop-i-preserved c =
-    let a = c.args in
-    (search rules, step_same a.text.now a.s.now c.loop-i.i a.to c.loop-i.j (search rules) (search rules) (search rules) c.if-text-i.false ∙ c.loop-i.invariant.1)
 
 pub returns : goal.returns
 returns c =
     let a = c.args in
-    step_whole a.text.now a.s.now c.loop-i.i a.to c.loop-i.j (omega arith) ∙ c.loop-i.invariant.1
+    let rest : take (length a.s.now - c.min.result) (drop c.min.result a.s.now) ≡ drop a.at a.s.now =
+    between_to_end a.s.now c.min.result (length a.s.now) (omega arith) ∙ ap (λ (n : ℕ). drop n a.s.now) c.min.ensures ∙ drop_min a.at a.s.now in
+    c.starts_with.ensures.value ∙ ap (λ (q : List ℕ). starts_with nat_eq q (take (a.to - a.from) (drop a.from a.text.now))) rest
+    ∙ ap (starts_with nat_eq (drop a.at a.s.now)) (between_is a.text.now a.from a.to) ∙ starts_with-prefix _ (drop a.at a.s.now)

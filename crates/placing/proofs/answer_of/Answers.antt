@@ -3,7 +3,6 @@ use mathlib.Core.Path.{◌≡◌, ap, ◌∙◌}
 use borrow.Author.Tests.{eq-eqb, ne_eqb}
 use Rattle.format.specs.Header.{length_for}
 use Rattle.placing.specs.declared.Placed.{Placed}
-use borrow.Author.Rules.{rules}
 use Rattle.placing.proofs.answer_of.Goals as goal
 
 abbrev answer : ℕ → ℕ → Placed

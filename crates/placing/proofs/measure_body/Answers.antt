@@ -5,7 +5,6 @@ use Rattle.checking.proofs.CheckLaws.{entered_fine}
 use Rattle.placing.specs.Placing.{labels_from, answered}
 use Rattle.placing.specs.declared.Decision.{Decision}
 use Rattle.placing.proofs.PlaceLaws.{body_answered, few_decided}
-use borrow.Author.Rules.{rules}
 use Rattle.placing.proofs.measure_body.Goals as goal
 
 pub decide-decision-requires : goal.decide-decision-requires

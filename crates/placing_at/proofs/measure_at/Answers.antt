@@ -8,7 +8,7 @@ use Rattle.format.specs.Contents.{contents_at}
 use Rattle.format.specs.declared.Verdict.{Verdict}
 use Rattle.format.proofs.AnswerLaws.{NoRefusal}
 use Rattle.format.proofs.ContentsLaws.{nodes_held}
-use Rattle.reading.specs.declared.Opened.TheVariants.{Fine}
+use Rattle.std.specs.Prelude.{Ok}
 use Rattle.hours.specs.Hours.{table_answer, shut}
 use Rattle.hours.proofs.TableLaws.{table_exact}
 use Rattle.checking.specs.declared.Examined.{Examined}
@@ -31,12 +31,12 @@ quiet c = sym (ap (λ (v : Verdict). v.number) c.table_answer-first.ensures) ∙
 way : (c : lts.After-examine_opened tie.the-claims reads.Pre reads.Post) → c.examine_opened-found.result.names ≡ entered_at c.args.file.now c.args.hours.now
 way c = ap (λ (x : Examined). x.names) c.examine_opened-found.ensures.0 ∙ entered_at_lem c.args.file.now c.args.hours.now _ (sym c.open_at.ensures)
 
-told : (c : lts.Past-After-known_told2 tie.the-claims reads.Pre reads.Post) → entered_at c.args.file.now c.args.hours.now ≡ Fine c.in-Fine.head
-told c = sym (way c.before.before) ∙ c.in-Fine.is
+told : (c : lts.Past-After-known_told2 tie.the-claims reads.Pre reads.Post) → entered_at c.args.file.now c.args.hours.now ≡ Ok c.in-Ok.head
+told c = sym (way c.before.before) ∙ c.in-Ok.is
 
 -- the open ones of each node's candidates stand in the table
 labels : (c : lts.After-close tie.the-claims reads.Pre reads.Post)
-    → (labels_from (contents_at c.args.file.now c.in-Fine.head) c.close.new.roles ≡ labels_in (open_contents (shut c.args.hours.now c.args.minute) (contents_at c.args.file.now c.in-Fine.head)))
+    → (labels_from (contents_at c.args.file.now c.in-Ok.head) c.close.new.roles ≡ labels_in (open_contents (shut c.args.hours.now c.args.minute) (contents_at c.args.file.now c.in-Ok.head)))
     × (length c.close.new.roles ≡ 1025)
 labels c =
     let a = c.args in
@@ -44,10 +44,10 @@ labels c =
     let t = a.hours.now in
     let way_in = told c.before.before.before in
     let roles : List ℕ = c.examine_opened-found.new.roles in
-    let filled = c.examine_opened-found.ensures.1 ∙ surveyed_at f t (entered_at_fine f t c.in-Fine.head way_in).0 _ (sym c.open_at.ensures) (replicate 1025 0) in
+    let filled = c.examine_opened-found.ensures.1 ∙ surveyed_at f t (entered_at_fine f t c.in-Ok.head way_in).0 _ (sym c.open_at.ensures) (replicate 1025 0) in
     let closed : c.close.new.roles ≡ map (λ k. minus k (shut t a.minute)) roles = c.close.ensures ∙ ap (λ (s : ℕ). map (λ k. minus k s) roles) c.shut.ensures in
-    subst (λ (l : List ℕ). (labels_from (contents_at f c.in-Fine.head) l ≡ labels_in (open_contents (shut t a.minute) (contents_at f c.in-Fine.head))) × (length l ≡ 1025)) (sym closed)
-    (surveyed_open f t a.minute (quiet c.before.before.before.before.before.before.before.before) c.in-Fine.head way_in (replicate 1025 0) roles filled (omega (arith, nodes_held f c.in-Fine.head, (head_laid f t c.in-Fine.head way_in).nodes)))
+    subst (λ (l : List ℕ). (labels_from (contents_at f c.in-Ok.head) l ≡ labels_in (open_contents (shut t a.minute) (contents_at f c.in-Ok.head))) × (length l ≡ 1025)) (sym closed)
+    (surveyed_open f t a.minute (quiet c.before.before.before.before.before.before.before.before) c.in-Ok.head way_in (replicate 1025 0) roles filled (omega (arith, nodes_held f c.in-Ok.head, (head_laid f t c.in-Ok.head way_in).nodes)))
 
 pub returns-then-first-ne0 : goal.returns-then-first-ne0
 returns-then-first-ne0 c =
@@ -71,17 +71,17 @@ measure_body-requires c =
     let a = c.args in
     (entered_plain a.file.now a.hours.now a.minute _ (told c.before.before.before.before.before.before), (labels c.before.before.before).1)
 
-pub returns-in-Refused : goal.returns-in-Refused
-returns-in-Refused c =
+pub returns-in-Err : goal.returns-in-Err
+returns-in-Err c =
     let a = c.args in
-    let w : Verdict = c.in-Refused.first in
-    let (e, loud) = names_loud_at a.file.now a.hours.now a.minute (quiet c.before.before.before.before.before.before.before) w (sym (way c.before.before.before.before) ∙ c.in-Refused.is) in
-    c.no_place-in-Refused.ensures ∙ sym (measuring_refused_at a.file.now a.hours.now a.minute w e loud)
+    let w : Verdict = c.in-Err.first in
+    let (e, loud) = names_loud_at a.file.now a.hours.now a.minute (quiet c.before.before.before.before.before.before.before) w (sym (way c.before.before.before.before) ∙ c.in-Err.is) in
+    c.no_place-in-Err.ensures ∙ sym (measuring_refused_at a.file.now a.hours.now a.minute w e loud)
 
-pub returns-in-Fine : goal.returns-in-Fine
-returns-in-Fine c =
+pub returns-in-Ok : goal.returns-in-Ok
+returns-in-Ok c =
     let a = c.args in
-    let h = c.in-Fine.head in
+    let h = c.in-Ok.head in
     let roles : List ℕ = c.close.new.roles in
     c.measure_body.ensures
     ∙ measure_from_at a.file.now a.hours.now a.minute (quiet c.before.before.before.before.before.before.before.before.before.before.before.before) h (told c.before.before.before.before.before.before.before) roles (labels c.before.before.before.before).0

@@ -20,20 +20,20 @@ returns-then-p-gt65535 c =
     c.phrase_at-m.ensures c.phrase_length-a.ensures c.phrase_at-c.ensures c.phrase_length.ensures c.numeral_at-p.ensures.0 c.digits_end.ensures c.phrase_at-t.ensures refl refl in
     c.no_reason.ensures ∙ guess_dropped s r e c.if-p-gt65535.true
 
-pub overflow_cast-less : goal.overflow_cast-less
-overflow_cast-less c = omega (arith, c.less.ensures, c.phrase_at-m.ensures, leading_most c.args.s.now)
+pub overflow_cast-guess : goal.overflow_cast-guess
+overflow_cast-guess c = omega (arith, c.saturating_sub.ensures, c.phrase_at-m.ensures, leading_most c.args.s.now)
 
-pub overflow_cast-less-2 : goal.overflow_cast-less-2
-overflow_cast-less-2 c = omega (arith, c.less-2.ensures, c.phrase_at-c.ensures, leading_most (drop c.phrase_length-a.result c.args.s.now))
+pub overflow_cast-guess-2 : goal.overflow_cast-guess-2
+overflow_cast-guess-2 c = omega (arith, c.saturating_sub-2.ensures, c.phrase_at-c.ensures, leading_most (drop c.phrase_length-a.result c.args.s.now))
 
-pub overflow_cast-t : goal.overflow_cast-t
-overflow_cast-t c = omega (arith, c.phrase_at-t.ensures, leading_most (drop c.digits_end.result c.args.s.now))
+pub overflow_cast-guess-4 : goal.overflow_cast-guess-4
+overflow_cast-guess-4 c = omega (arith, c.phrase_at-t.ensures, leading_most (drop c.digits_end.result c.args.s.now))
 
 pub returns : goal.returns
 returns c =
     let s = c.args.s.now in
-    let r = reason_of c.less.result c.less-2.result c.numeral_at-p.result c.phrase_at-t.result in
+    let r = reason_of c.saturating_sub.result c.saturating_sub-2.result c.numeral_at-p.result c.phrase_at-t.result in
     let e : guess s ≡ r =
-    guess_is s c.phrase_at-m.result c.phrase_length-a.result c.phrase_at-c.result c.phrase_length.result c.numeral_at-p.result c.digits_end.result c.phrase_at-t.result c.less.result c.less-2.result
-    c.phrase_at-m.ensures c.phrase_length-a.ensures c.phrase_at-c.ensures c.phrase_length.ensures c.numeral_at-p.ensures.0 c.digits_end.ensures c.phrase_at-t.ensures c.less.ensures c.less-2.ensures in
+    guess_is s c.phrase_at-m.result c.phrase_length-a.result c.phrase_at-c.result c.phrase_length.result c.numeral_at-p.result c.digits_end.result c.phrase_at-t.result c.saturating_sub.result c.saturating_sub-2.result
+    c.phrase_at-m.ensures c.phrase_length-a.ensures c.phrase_at-c.ensures c.phrase_length.ensures c.numeral_at-p.ensures.0 c.digits_end.ensures c.phrase_at-t.ensures c.saturating_sub.ensures c.saturating_sub-2.ensures in
     c.confirmed.ensures ∙ guess_kept s r e

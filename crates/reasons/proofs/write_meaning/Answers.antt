@@ -18,7 +18,7 @@ put_phrase-requires c =
     let v : has_meaning a.number ≡ true = sym c.has_meaning.ensures ∙ c.if-not-has_meaning.false in
     let w = meaning_in a.number v in
     let room = meaning_room a.number w.0 w.1 in
-    (c.phrase_text-text.ensures, c.phrase_starts-starts.ensures, omega (arith, w.1), omega (arith, room.1, c.if-out-lt120.false))
+    (c.phrase_text-text.ensures, c.phrase_starts-starts.ensures, omega (arith, w.1), rw c.from.ensures (omega (arith, room.1, c.if-out-lt120.false)))
 
 pub overflow_cast-result : goal.overflow_cast-result
 overflow_cast-result c =
@@ -26,7 +26,7 @@ overflow_cast-result c =
     let v : has_meaning a.number ≡ true = sym c.has_meaning.ensures ∙ c.if-not-has_meaning.false in
     let w = meaning_in a.number v in
     let room = meaning_room a.number w.0 w.1 in
-    omega (arith, c.put_phrase.ensures.0, room.1)
+    omega (arith, rw c.from.ensures at c.put_phrase.ensures.0, room.1)
 
 pub returns : goal.returns
 returns c =
@@ -34,4 +34,4 @@ returns c =
     let v : has_meaning a.number ≡ true = sym c.has_meaning.ensures ∙ c.if-not-has_meaning.false in
     let w = meaning_in a.number v in
     let room = meaning_room a.number w.0 w.1 in
-    meant_yes a.number a.out.now c.put_phrase.new.out c.put_phrase.result c.if-out-lt120.false v c.put_phrase.ensures.0 c.put_phrase.ensures.1
+    meant_yes a.number a.out.now c.put_phrase.new.out c.put_phrase.result c.if-out-lt120.false v (rw c.from.ensures at c.put_phrase.ensures.0) (rw c.from.ensures at c.put_phrase.ensures.1)

@@ -1,13 +1,11 @@
 use mathlib.Core.Path.{◌≡◌, sym, ◌∙◌}
 use mathlib.Core.Bool.{true}
 use lib.ListN.{length}
-use borrow.Author.Tests.{not-true, not-false}
-use Rattle.reading.specs.declared.Opened.TheVariants.{Fine}
+use Rattle.std.specs.Prelude.{Ok}
 use Rattle.checking.specs.Check.{entered}
 use Rattle.checking.proofs.CheckLaws.{entered_fine}
 use Rattle.running.specs.Run.{listed}
 use Rattle.running.proofs.EntryLaws.{listed_word, ready_unfit, ready_refused, ready_done}
-use borrow.Author.Rules.{rules}
 use Rattle.running.proofs.ready_after.Goals as goal
 use Rattle.running.proofs.ready_after.Lts as lts
 use Rattle.running.proofs.ready_after.Tie as tie
@@ -18,8 +16,8 @@ fits : (c : lts.Else1 tie.the-claims reads.Pre reads.Post) → listed (length c.
 fits c = sym c.is_listed.ensures ∙ c.if-not-is_listed.false
 
 -- the head that was read
-told : (c : lts.Past-After-known_told2 tie.the-claims reads.Pre reads.Post) → entered c.args.file.now ≡ Fine c.in-Fine.head
-told c = sym c.enter-answer.ensures ∙ c.in-Fine.is
+told : (c : lts.Past-After-known_told2 tie.the-claims reads.Pre reads.Post) → entered c.args.file.now ≡ Ok c.in-Ok.head
+told c = sym c.enter-answer.ensures ∙ c.in-Ok.is
 
 pub returns-then-not-is_listed : goal.returns-then-not-is_listed
 returns-then-not-is_listed c =
@@ -31,12 +29,12 @@ ready_in-requires c =
     let a = c.args in
     ((entered_fine a.file.now _ (told c.before)).0, listed_word (length a.choices.now) (fits c.before.before.before))
 
-pub returns-in-Refused : goal.returns-in-Refused
-returns-in-Refused c =
+pub returns-in-Err : goal.returns-in-Err
+returns-in-Err c =
     let a = c.args in
-    ready_refused a.file.now a.choices.now (fits c.before.before.before.before) _ c.no_pair-in-Refused.result (sym c.enter-answer.ensures ∙ c.in-Refused.is) c.no_pair-in-Refused.ensures
+    ready_refused a.file.now a.choices.now (fits c.before.before.before.before) _ c.no_pair-in-Err.result (sym c.enter-answer.ensures ∙ c.in-Err.is) c.no_pair-in-Err.ensures
 
-pub returns-in-Fine : goal.returns-in-Fine
-returns-in-Fine c =
+pub returns-in-Ok : goal.returns-in-Ok
+returns-in-Ok c =
     let a = c.args in
     ready_done a.file.now a.choices.now (fits c.before.before.before.before) _ c.ready_in.result (told c.before.before) c.ready_in.ensures

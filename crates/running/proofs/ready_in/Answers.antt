@@ -2,7 +2,6 @@ use Rattle.format.specs.Contents.{contents_at}
 use Rattle.steps.specs.Choice.{clinic_of}
 use Rattle.choices.specs.Choices.{start, run}
 use Rattle.running.proofs.EntryLaws.{place_word, stopped_by, pair_stopped, pair_found}
-use borrow.Author.Rules.{rules}
 use Rattle.running.proofs.ready_in.Goals as goal
 
 pub stopped_at-verdict-requires : goal.stopped_at-verdict-requires

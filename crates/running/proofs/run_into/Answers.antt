@@ -2,7 +2,6 @@ use Rattle.format.specs.Contents.{contents_at}
 use Rattle.steps.specs.Choice.{clinic_of}
 use Rattle.choices.specs.Choices.{start, run}
 use Rattle.running.proofs.EntryLaws.{place_word, stopped_by, put_by}
-use borrow.Author.Rules.{rules}
 use Rattle.running.proofs.run_into.Goals as goal
 
 pub stopped_at-requires : goal.stopped_at-requires

@@ -5,7 +5,6 @@ use Rattle.steps.specs.Beside.{totals_in}
 use Rattle.choices.specs.Choices.{start, run}
 use Rattle.running.specs.Run.{totals_of}
 use Rattle.running.proofs.EntryLaws.{place_word, stopped_by}
-use borrow.Author.Rules.{rules}
 use Rattle.running.proofs.totals_in.Goals as goal
 
 pub stopped_at-verdict-requires : goal.stopped_at-verdict-requires

@@ -4,7 +4,6 @@ use Rattle.format.specs.Contents.{contents_at}
 use Rattle.format.specs.declared.Verdict.{Verdict}
 use Rattle.format.proofs.ContentsLaws.{roles_held}
 use Rattle.seated.proofs.EntryLaws.{bar_clear, into_barred, went_word, into_done}
-use borrow.Author.Rules.{rules}
 use Rattle.seated.proofs.run_into.Goals as goal
 
 pub returns-then-bar-ne0 : goal.returns-then-bar-ne0

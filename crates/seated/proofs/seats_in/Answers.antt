@@ -7,7 +7,6 @@ use Rattle.format.proofs.ContentsLaws.{roles_held, sessions_held}
 use Rattle.naming.specs.Scopes.{awaited_by}
 use Rattle.seated.proofs.EntryLaws.{bar_clear, went_word}
 use Rattle.seated.proofs.SeatsLaws.{read_barred, read_done}
-use borrow.Author.Rules.{rules}
 use Rattle.seated.proofs.seats_in.Goals as goal
 
 pub returns-then-bar-ne0 : goal.returns-then-bar-ne0

@@ -3,9 +3,6 @@ use mathlib.Core.Path.{◌≡◌}
 use lib.ListN.{length}
 use Rattle.streams.proofs.read_input.Given as goal
 
--- What is kept stays within the buffer, whose length does not change; the measure is the number of turns that are left.
-abbrev pub invariant-loop-turns : goal.invariant-loop-turns
-invariant-loop-turns g l = (l.kept ≤ 6910) × (length l.buffer ≡ 16384)
-
-abbrev pub decreases-loop-turns : goal.decreases-loop-turns
-decreases-loop-turns g l = l.turns
+-- What is kept stays within the buffer, whose length does not change.
+abbrev pub invariant-loop : goal.invariant-loop
+invariant-loop g l = (l.kept ≤ 6910) × (length l.buffer ≡ 16384)

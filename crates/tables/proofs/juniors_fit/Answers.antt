@@ -6,4 +6,4 @@ use Rattle.tables.proofs.juniors_fit.Goals as goal
 
 pub returns : goal.returns
 unfolding record_fits
-returns c = c.names_only.ensures ∙ ap (names_only (c.args.n - 1)) c.juniors.ensures
+returns c = c.names_only.ensures ∙ ap (names_only (c.args.n - 1)) (c.from.ensures ∙ c.juniors.ensures)

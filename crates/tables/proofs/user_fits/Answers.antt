@@ -8,4 +8,4 @@ pub returns : goal.returns
 unfolding record_fits
 returns c =
     let a = c.args in
-    rw (roles_held a.file.now a.head) (c.names_only.ensures ∙ ap (names_only a.head.count.roles) c.user_roles.ensures)
+    rw (roles_held a.file.now a.head) (c.names_only.ensures ∙ ap (names_only a.head.count.roles) (c.from.ensures ∙ c.user_roles.ensures))

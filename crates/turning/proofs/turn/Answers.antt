@@ -14,12 +14,12 @@ returns-then-out-lt-LARGEST c =
 pub turn_headed-requires : goal.turn_headed-requires
 turn_headed-requires c =
     let p = c.requires in
-    (sym c.read_head-answer.ensures ∙ c.in-Fine.is, p.0, p.1, omega (arith, c.if-out-lt-LARGEST.false))
+    (sym c.in-Ok.ensures, p.0, p.1, omega (arith, c.if-out-lt-LARGEST.false))
 
-pub returns-in-Refused : goal.returns-in-Refused
-returns-in-Refused c =
+pub returns-in-Err : goal.returns-in-Err
+returns-in-Err c =
     let a = c.args in
-    let n = c.in-Refused.number in
+    let n = c.in-Err.number in
     let refusal = c.own_refusal.ensures ∙ ap (λ w. cond (eqb n 1 || eqb w a.from) n 2) c.word.ensures in
-    head_refused a.from a.to a.file.now a.out.now (omega (arith, c.if-out-lt-LARGEST.false)) n (sym c.read_head-answer.ensures ∙ c.in-Refused.is) _
-    (c.not_written-in-Refused.ensures ∙ ap (λ n. not_written n 0) refusal)
+    head_refused a.from a.to a.file.now a.out.now (omega (arith, c.if-out-lt-LARGEST.false)) n (sym c.in-Err.ensures) _
+    (c.not_written-in-Err.ensures ∙ ap (λ n. not_written n 0) refusal)

@@ -1,12 +1,9 @@
-use Prim.Native.Nat.{ℕ, ◌+◌}
-use mathlib.Core.Path.{◌≡◌, refl, sym, ap, ◌∙◌}
+use Prim.Native.Nat.{ℕ}
+use mathlib.Core.Path.{refl, sym, ap, ◌∙◌}
 use Rattle.seated.specs.SeatedTables.{seated_in}
 use Rattle.rows.specs.Rows.{row_words, stands_at}
-use Rattle.rows.proofs.StandLaws.{not-true, not-false}
 use Rattle.certifying.proofs.ExploreLaws.{no_word, not_known, no_such_row, other_words, has_arrived, now-known, still-known}
 use native.Mathlib.Omega.{arith}
-use borrow.Author.Rules.{rules}
-use borrow.Author.Rules.{rules}
 use Rattle.certifying.proofs.explore.arrive.Goals as goal
 
 pub returns-then-next-search : goal.returns-then-next-search

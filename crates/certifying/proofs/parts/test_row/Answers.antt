@@ -1,20 +1,12 @@
-use Prim.Native.Nat.{ℕ}
-use mathlib.Core.Path.{◌≡◌, sym, ap, ◌∙◌, subst}
-use mathlib.Core.List.{List}
+use mathlib.Core.Path.{sym, ◌∙◌}
 use lib.ListN.{length}
 use Rattle.format.specs.Contents.{contents_at}
 use Rattle.format.proofs.ContentsLaws.{sessions_held}
-use Rattle.seats.specs.Seats.{limited_of}
-use Rattle.seats.specs.SeatOrder.{Ordered}
-use Rattle.rows.proofs.StandLaws.{not-true, not-false}
 use Rattle.rows.proofs.FitLaws.{row_fits_iff}
-use Rattle.ordering.specs.Order.{in_order}
-use Rattle.ordering.proofs.OrderLaws.{tables_ordered}
 use Rattle.certifying.specs.Kept.{certificate_at}
 use Rattle.certifying.proofs.ExploreLaws.{loaded_trying}
 use Rattle.certifying.proofs.PartLaws.{row_unknown_yet, row_unfit, row_unordered, row_tested_lem, order_tested}
 use native.Mathlib.Omega.{arith}
-use borrow.Author.Rules.{rules}
 use Rattle.certifying.proofs.parts.test_row.Goals as goal
 
 pub returns-then-search-j : goal.returns-then-search-j

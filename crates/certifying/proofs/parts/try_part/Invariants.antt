@@ -1,21 +1,15 @@
-use Prim.Native.Nat.{ℕ, ◌+◌, ◌-◌, ◌≤◌, ◌<◌}
-use mathlib.Core.Path.{◌≡◌, refl, sym, ap, ◌∙◌}
+use Prim.Native.Nat.{◌-◌}
+use mathlib.Core.Path.{◌≡◌}
 use lib.ListN.{length}
 use Rattle.steps.specs.Records.{thread_table_words}
 use Rattle.steps.specs.Beside.{beside_words}
 use Rattle.certifying.specs.Certificate.{Certificate}
 use Rattle.certifying.specs.Kept.{certificate_at}
 use Rattle.certifying.specs.Parts.{search_at, part_tried}
-use Rattle.certifying.proofs.PartLaws.{part_fails, part_passes, part_ends, part_ends_elsewhere}
-use native.Mathlib.Omega.{arith}
-use borrow.Author.Rules.{rules}
 use Rattle.certifying.proofs.parts.try_part.Given as goal
 
 -- The invariant: what the rows before j are answered, those from j on are left to be.
 abbrev pub invariant-loop-j : goal.invariant-loop-j
 invariant-loop-j l = let K : Certificate = certificate_at l.file l.head l.seats l.states l.places l.next in
-    (l.j ≤ l.to) × (length l.threads ≡ thread_table_words) × (length l.beside ≡ beside_words) × (length l.owners ≡ 64) × (length l.lines ≡ 528)
-    × (part_tried K l.part.end l.part.from (l.part.to - l.part.from) (search_at l.next l.part.begin) ≡ part_tried K l.part.end l.j (l.to - l.j) l.on)
-
-abbrev pub decreases-loop-j : goal.decreases-loop-j
-decreases-loop-j l = l.to - l.j
+    (length l.threads ≡ thread_table_words) × (length l.beside ≡ beside_words) × (length l.owners ≡ 64) × (length l.lines ≡ 528)
+    × (part_tried K l.part.end l.part.from (l.part.to - l.part.from) (search_at l.next l.part.begin) ≡ part_tried K l.part.end l.j (l.part.to - l.j) l.on)

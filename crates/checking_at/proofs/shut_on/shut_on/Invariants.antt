@@ -1,4 +1,4 @@
-use Prim.Native.Nat.{◌+◌, ◌-◌, ◌≤◌}
+use Prim.Native.Nat.{◌+◌, ◌-◌}
 use mathlib.Core.Bool.{not}
 use mathlib.Core.Path.{◌≡◌}
 use Rattle.format.specs.Answers.{refused, first_of}
@@ -7,8 +7,5 @@ use Rattle.checking_at.specs.CheckAt.{opens_shut, shut_answer}
 use Rattle.checking_at.proofs.shut_on.shut_on.Given as goal
 
 abbrev pub invariant-loop-n : goal.invariant-loop-n
-invariant-loop-n l = (1 ≤ l.n) × (l.count ≡ l.head.count.nodes) × (l.n ≤ l.count + 1)
-    × (first_of (λ k. not (opens_shut l.shut (item no_node (contents_at l.file l.head).nodes k))) (λ k. refused 24 k) l.n (l.count + 1 - l.n) ≡ shut_answer l.shut (contents_at l.file l.head))
-
-abbrev pub decreases-loop-n : goal.decreases-loop-n
-decreases-loop-n l = l.count + 1 - l.n
+invariant-loop-n l = first_of (λ k. not (opens_shut l.shut (item no_node (contents_at l.file l.head).nodes k))) (λ k. refused 24 k) l.n (l.head.count.nodes + 1 - l.n)
+    ≡ shut_answer l.shut (contents_at l.file l.head)

@@ -3,7 +3,6 @@ use mathlib.Core.Path.{◌≡◌, refl, sym, ap, subst, ◌∙◌}
 use mathlib.Core.Bool.{Bool, true, cond}
 use native.Mathlib.Omega.{arith}
 use lib.ListN.{get_or}
-use borrow.Author.Tests.{not-true, not-false}
 use Rattle.format.specs.Contents.{in_count, contents_at}
 use Rattle.format.proofs.ContentsLaws.{in_count_lem}
 use Rattle.steps.specs.declared.Outcome.{Outcome}
@@ -18,7 +17,6 @@ use Rattle.choices.proofs.StoreLaws.{recounted}
 use Rattle.choices.specs.Stored.{Chose}
 use Rattle.choices.proofs.ChoiceLaws.{looked, acted_placed, outcome_by_lem, outcome_none, thread_read}
 use Rattle.steps.proofs.TableLaws.{threads_length}
-use borrow.Author.Rules.{rules}
 use Rattle.choices.proofs.list.choose.Goals as goal
 use Rattle.choices.proofs.list.choose.Lts as lts
 use Rattle.choices.proofs.list.choose.Tie as tie
@@ -52,7 +50,7 @@ overflow_sub-i c =
 pub thread_at-own-requires : goal.thread_at-own-requires
 thread_at-own-requires c =
     let some = in_count_lem (get_or c.args.beside.now 0 0) c.args.i (inside c.before.before) in
-    omega (arith, some.0, some.1, c.wide.ensures.0, c.requires.3.words, c.requires.3.threads)
+    omega (arith, some.0, some.1, c.from.ensures, c.requires.3.words, c.requires.3.threads)
 
 pub overflow_sub-q : goal.overflow_sub-q
 overflow_sub-q c =
@@ -64,7 +62,7 @@ pub thread_at-other-requires : goal.thread_at-other-requires
 thread_at-other-requires c =
     let a = c.args in
     let some = looked (get_or a.beside.now 0 0) a.i a.p c.looked_at-q.result (inside c.before.before.before.before.before) (seen c.before.before) in
-    omega (arith, some.0, some.1, c.wide-2.ensures.0, c.requires.3.words, c.requires.3.threads)
+    omega (arith, some.0, some.1, c.from-2.ensures, c.requires.3.words, c.requires.3.threads)
 
 pub store-answer-requires : goal.store-answer-requires
 store-answer-requires c =
@@ -85,21 +83,21 @@ returns c =
     let a = c.args in
     let C = clinic_of (contents_at a.file.now a.head) in
     let own = c.thread_at-own in
-    let at = c.wide in
+    let at = c.from in
     let q = c.looked_at-q in
     let other = c.thread_at-other in
     let it = c.act-it in
     let stored = c.store-answer in
-    let to = c.wide-2 in
+    let to = c.from-2 in
     let n = get_or a.beside.now 0 0 in
     let w = a.threads.now in
     let within-i = inside c.before.before.before.before.before.before.before.before.before.before.before.before.before.before.before.before.before.before in
     let some = in_count_lem n a.i within-i in
     let look = seen c.before.before.before.before.before.before.before.before.before.before.before.before.before.before.before in
     let some-q = looked n a.i a.p q.result within-i look in
-    let mine = thread_read w n at.result own.result (omega (arith, some.0, some.1, at.ensures.0)) own.ensures in
-    let theirs = thread_read w n to.result other.result (omega (arith, some-q.0, some-q.1, to.ensures.0)) other.ensures in
-    let same = outcome_by_lem C a.beside.now a.p own.result other.result it.result it.ensures (threads_in w 0 n) (threads_length w 0 n) a.i q.result at.result to.result within-i look at.ensures.0 mine to.ensures.0 theirs in
+    let mine = thread_read w n at.result own.result (omega (arith, some.0, some.1, at.ensures)) own.ensures in
+    let theirs = thread_read w n to.result other.result (omega (arith, some-q.0, some-q.1, to.ensures)) other.ensures in
+    let same = outcome_by_lem C a.beside.now a.p own.result other.result it.result it.ensures (threads_in w 0 n) (threads_length w 0 n) a.i q.result at.result to.result within-i look at.ensures mine to.ensures theirs in
     let kind = awaited_by a.table.now in
     let all = recounted kind (outcome_of it.result) a.i a.p stored.result w a.beside.now stored.new.threads stored.new.beside c.recount.new.beside stored.ensures c.recount.ensures in
     subst (λ (o : Outcome). Chose (beside_by kind a.beside.now o) o a.i a.p stored.result w a.beside.now stored.new.threads c.recount.new.beside) same all

@@ -1,4 +1,4 @@
-use Prim.Native.Nat.{ℕ, ◌-◌, ◌/◌, ◌≤◌}
+use Prim.Native.Nat.{ℕ}
 use mathlib.Core.Path.{refl, sym, ap₂, subst, ◌∙◌}
 use mathlib.Core.List.{List, [], ◌∷◌}
 use types.Run.{OneOf, miss}
@@ -8,19 +8,16 @@ use Rattle.steps.specs.declared.Answer.{Answer}
 use Rattle.steps.specs.declared.Answer.TheVariants as answers
 use Rattle.steps.specs.contracts.Answer.{the_type}
 use native.Mathlib.Omega.{arith}
-use borrow.Author.Rules.{rules}
-use lib.ListN.{length}
 use Rattle.format.specs.Contents.{contents_at}
 use Rattle.naming.specs.Scopes.{awaited_by}
 use Rattle.steps.specs.Choice.{clinic_of}
 use Rattle.choices.specs.Choices.{run}
 use Rattle.choices.specs.Stored.{untried, tried}
-use Rattle.steps.specs.Kept.{state_in, Sized}
-use Rattle.choices.proofs.RunLaws.{Refuses, Left, left_begin, left_halts, left_goes, left_ends}
-use Rattle.choices.proofs.TriedLaws.{LeftTried, tried_halts, tried_goes, tried_ends, through}
+use Rattle.steps.specs.Kept.{state_in}
+use Rattle.choices.proofs.RunLaws.{Refuses, left_halts, left_goes, left_ends}
+use Rattle.choices.proofs.TriedLaws.{tried_halts, tried_goes, tried_ends, through}
 use Rattle.choices.proofs.list.go_through.Goals as goal
 
--- The invariant: k choices are done, and what is left from here gives what the whole gives, in the tables, beside them and for the last answer.
 -- the other arm of the match has no refusal
 going : (x : Answer) → OneOf (1 ∷ 2 ∷ 3 ∷ 4 ∷ 5 ∷ []) (tag_of the_type x) → Refuses x → ⊥
 going (answers.Refused n) h r = miss (1 ∷ 2 ∷ 3 ∷ 4 ∷ 5 ∷ []) 0 tt h
@@ -29,17 +26,6 @@ going answers.Adds h r = r
 going (answers.Makes m) h r = r
 going answers.Ends h r = r
 going answers.Meets h r = r
-
-pub loop-k-init : goal.loop-k-init
-loop-k-init c =
-    let a = c.args in
-    let p = c.requires in
-    (omega arith, p.3, p.4, left_begin (clinic_of (contents_at a.file.now a.head)) (state_in a.threads.now a.beside.now) a.choices.now, refl)
-
-pub choose-answer-requires : goal.choose-answer-requires
-choose-answer-requires c =
-    let p = c.requires in
-    (p.0, p.1, p.2, c.loop-k.invariant.2)
 
 pub returns-in-Refused : goal.returns-in-Refused
 returns-in-Refused c =
@@ -50,9 +36,9 @@ returns-in-Refused c =
     let s = state_in a.threads.now a.beside.now in
     let left = state_in l.threads l.beside in
     let refused = sym c.in-Refused.is ∙ chosen.ensures.0 in
-    let all = left_halts C s a.choices.now l.k left (state_in chosen.new.threads chosen.new.beside) (omega arith) l.invariant.3 _ refl chosen.ensures.1 c.in-Refused.refusal refused in
+    let all = left_halts C s a.choices.now l.k left (state_in chosen.new.threads chosen.new.beside) (omega arith) l.invariant.1 _ refl chosen.ensures.1 c.in-Refused.refusal refused in
     let also = tried_halts (awaited_by a.table.now) C s (untried a.beside.now) a.choices.now l.k left (state_in chosen.new.threads chosen.new.beside) (record { beside = l.beside; last = l.last }) (record { beside = chosen.new.beside; last = answers.Refused c.in-Refused.refusal })
-    (omega arith) l.invariant.4 _ refl chosen.ensures.1 (ap₂ (λ (b : List ℕ) (x : Answer). record { beside = b; last = x }) chosen.ensures.2 refused) c.in-Refused.refusal refused in
+    (omega arith) l.invariant.2 _ refl chosen.ensures.1 (ap₂ (λ (b : List ℕ) (x : Answer). record { beside = b; last = x }) chosen.ensures.2 refused) c.in-Refused.refusal refused in
     through (run C s a.choices.now) (tried (awaited_by a.table.now) C s (untried a.beside.now) a.choices.now) l.k _ _ c.narrow.result c.in-Refused.refusal (answers.Refused c.in-Refused.refusal) all also c.narrow.ensures chosen.ensures.3
 
 pub loop-k-preserved : goal.loop-k-preserved
@@ -62,12 +48,12 @@ loop-k-preserved c =
     let chosen = c.choose-answer in
     let C = clinic_of (contents_at a.file.now a.head) in
     let s = state_in a.threads.now a.beside.now in
-    let left = left_goes C s a.choices.now l.k (state_in l.threads l.beside) (state_in chosen.new.threads chosen.new.beside) (omega arith) l.invariant.3 _ refl chosen.ensures.1
+    let left = left_goes C s a.choices.now l.k (state_in l.threads l.beside) (state_in chosen.new.threads chosen.new.beside) (omega arith) l.invariant.1 _ refl chosen.ensures.1
     (λ r. going chosen.result (opened c.in_default.in_default-own.keys2) (subst Refuses (sym chosen.ensures.0) r)) in
     let also = tried_goes (awaited_by a.table.now) C s (untried a.beside.now) a.choices.now l.k (state_in l.threads l.beside) (state_in chosen.new.threads chosen.new.beside) (record { beside = l.beside; last = l.last }) (record { beside = chosen.new.beside; last = chosen.result })
-    (omega arith) l.invariant.4 _ refl chosen.ensures.1 (ap₂ (λ (b : List ℕ) (x : Answer). record { beside = b; last = x }) chosen.ensures.2 chosen.ensures.0)
+    (omega arith) l.invariant.2 _ refl chosen.ensures.1 (ap₂ (λ (b : List ℕ) (x : Answer). record { beside = b; last = x }) chosen.ensures.2 chosen.ensures.0)
     (λ r. going chosen.result (opened c.in_default.in_default-own.keys2) (subst Refuses (sym chosen.ensures.0) r)) in
-    (omega arith, l.invariant.1, chosen.ensures.3, left, also)
+    (chosen.ensures.3, left, also)
 
 pub returns : goal.returns
 returns c =
@@ -75,6 +61,6 @@ returns c =
     let l = c.loop-k in
     let C = clinic_of (contents_at a.file.now a.head) in
     let s = state_in a.threads.now a.beside.now in
-    let all = left_ends C s a.choices.now l.k (state_in l.threads l.beside) (omega arith) l.invariant.3 in
-    let also = tried_ends (awaited_by a.table.now) C s (untried a.beside.now) a.choices.now l.k (state_in l.threads l.beside) (record { beside = l.beside; last = l.last }) (omega arith) l.invariant.4 in
-    through (run C s a.choices.now) (tried (awaited_by a.table.now) C s (untried a.beside.now) a.choices.now) l.k _ _ c.narrow-2.result 0 l.last all also c.narrow-2.ensures l.invariant.2
+    let all = left_ends C s a.choices.now l.k (state_in l.threads l.beside) (omega arith) l.invariant.1 in
+    let also = tried_ends (awaited_by a.table.now) C s (untried a.beside.now) a.choices.now l.k (state_in l.threads l.beside) (record { beside = l.beside; last = l.last }) (omega arith) l.invariant.2 in
+    through (run C s a.choices.now) (tried (awaited_by a.table.now) C s (untried a.beside.now) a.choices.now) l.k _ _ c.narrow-2.result 0 l.last all also (omega (arith, c.narrow-2.ensures)) l.invariant.0

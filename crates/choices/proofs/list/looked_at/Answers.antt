@@ -1,6 +1,5 @@
 use mathlib.Core.Path.{◌≡◌, sym, ◌∙◌}
 use mathlib.Core.Bool.{true, false}
-use borrow.Author.Rules.{rules}
 use Rattle.format.specs.Contents.{in_count}
 use Rattle.choices.proofs.list.looked_at.Goals as goal
 

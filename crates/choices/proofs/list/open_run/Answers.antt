@@ -2,7 +2,6 @@ use Rattle.format.specs.Contents.{contents_at}
 use Rattle.rules.specs.declared.Way.TheVariants.{Sends, Receives}
 use Rattle.rules.specs.Schema.{schema_of}
 use Rattle.rules.proofs.GrantLaws.{granting}
-use borrow.Author.Rules.{rules}
 use Rattle.choices.proofs.list.open_run.Goals as goal
 
 pub returns : goal.returns

@@ -1,8 +1,7 @@
-use Prim.Native.Nat.{ℕ, ◌+◌, ◌*◌, ◌-◌, ◌≤◌}
+use Prim.Native.Nat.{ℕ, ◌+◌, ◌*◌}
 use mathlib.Core.Path.{◌≡◌, refl, sym, ap, subst, ◌∙◌}
 use mathlib.Core.List.{List}
 use native.Mathlib.Omega.{arith}
-use borrow.Author.Rules.{rules}
 use lib.ListN.{length}
 use Rattle.format.specs.Contents.{contents_at, item}
 use Rattle.format.proofs.ContentsLaws.{sessions_held}
@@ -17,19 +16,7 @@ use Rattle.choices.proofs.list.open_threads.Goals as goal
 
 pub loop-i-init : goal.loop-i-init
 unfolding threads_in threads_from
-loop-i-init c = (omega arith, c.requires.1, refl)
-
-pub overflow_add-i : goal.overflow_add-i
-overflow_add-i c = omega (arith, c.requires.0.sessions, c.wide-n.ensures.0)
-
-pub narrow-requires : goal.narrow-requires
-narrow-requires c = omega (arith, c.requires.0.sessions, c.wide-n.ensures.0)
-
-pub put_thread-requires : goal.put_thread-requires
-put_thread-requires c = omega (arith, c.requires.0.sessions, c.wide-n.ensures.0, c.loop-i.invariant.1)
-
-pub overflow_add-i-in-loop-i : goal.overflow_add-i-in-loop-i
-overflow_add-i-in-loop-i c = omega (arith, c.requires.0.sessions, c.wide-n.ensures.0)
+loop-i-init c = (c.requires.1, refl)
 
 pub loop-i-preserved : goal.loop-i-preserved
 loop-i-preserved c =
@@ -41,14 +28,10 @@ loop-i-preserved c =
     let is = c.opening.ensures ∙ ap (item no_thread (threads_from ss)) c.narrow.ensures ∙ sym (opened_item ss (l.i + 1)) in
     let held = sessions_held a.file.now a.head in
     let few = c.requires.0.sessions in
-    let all = c.wide-n.ensures.0 in (
-      omega arith,
-      ap length put.0 ∙ stored_length l.threads (12 * l.i) t ∙ l.invariant.1,
-      open_more ss l.threads _ l.i t (omega (arith, few, all, l.invariant.1)) (omega (arith, held, all)) is put l.invariant.2,
+    let all = c.from-n.ensures in (
+      ap length put.0 ∙ stored_length l.threads (12 * l.i) t ∙ l.invariant.0,
+      open_more ss l.threads _ l.i t (omega (arith, few, all, l.invariant.0)) (omega (arith, held, all)) is put l.invariant.1,
     )
-
-pub start_beside-requires : goal.start_beside-requires
-start_beside-requires c = let p = c.requires in (p.0, p.2)
 
 pub returns : goal.returns
 returns c =
@@ -56,8 +39,8 @@ returns c =
     let p = c.requires in
     let l = c.loop-i in
     let C = contents_at a.file.now a.head in
-    let all : l.i ≡ a.head.count.sessions = omega (arith, c.wide-n.ensures.0) in
+    let all : l.i ≡ a.head.count.sessions = omega (arith, c.from-n.ensures) in
     let e = c.start_beside.ensures in
-    let opened = open_state C (awaited_by a.table.now) l.threads a.beside.now a.head.count.sessions l.invariant.1 p.2 p.0.sessions (sessions_held a.file.now a.head) (subst (Opened C.sessions l.threads) all l.invariant.2) in
+    let opened = open_state C (awaited_by a.table.now) l.threads a.beside.now a.head.count.sessions l.invariant.0 p.2 p.0.sessions (sessions_held a.file.now a.head) (subst (Opened C.sessions l.threads) all l.invariant.1) in
     let kept = subst (λ (b : List ℕ). (state_in l.threads b ≡ start C) × Sized l.threads b) (sym e) opened in
     (kept.0, kept.1, e)

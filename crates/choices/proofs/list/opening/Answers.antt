@@ -3,7 +3,6 @@ use Rattle.format.specs.Contents.{contents_at}
 use Rattle.format.specs.declared.Session.{Session}
 use Rattle.steps.specs.Threads.{zeros}
 use Rattle.choices.proofs.RunLaws.{opened_item}
-use borrow.Author.Rules.{rules}
 use Rattle.choices.proofs.list.opening.Goals as goal
 
 pub returns : goal.returns

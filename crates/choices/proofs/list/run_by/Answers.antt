@@ -3,7 +3,6 @@ use Rattle.naming.specs.Scopes.{awaited_by}
 use Rattle.steps.specs.Choice.{clinic_of}
 use Rattle.choices.specs.Choices.{start}
 use Rattle.choices.proofs.TriedLaws.{gone_from}
-use borrow.Author.Rules.{rules}
 use Rattle.choices.proofs.list.run_by.Goals as goal
 
 pub returns : goal.returns

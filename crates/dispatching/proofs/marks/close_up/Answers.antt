@@ -4,7 +4,6 @@ use native.Mathlib.Omega.{arith}
 use lib.Pow.{pow_pos}
 use Rattle.masks.proofs.Bits.{one_bit}
 use Rattle.dispatching.proofs.MarkLaws.{close_form}
-use borrow.Author.Rules.{rules}
 use Rattle.dispatching.proofs.marks.close_up.Goals as goal
 
 pub nonzero_rem-result : goal.nonzero_rem-result

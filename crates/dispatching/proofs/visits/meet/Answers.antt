@@ -2,7 +2,6 @@ use native.Mathlib.Omega.{arith}
 use Rattle.format.specs.Contents.{contents_at}
 use Rattle.steps.specs.Choice.{clinic_of}
 use Rattle.dispatching.proofs.VisitLaws.{told_nothing, found_there, told_met}
-use borrow.Author.Rules.{rules}
 use Rattle.dispatching.proofs.visits.meet.Goals as goal
 
 pub returns-then-p-eq0 : goal.returns-then-p-eq0

@@ -1,7 +1,6 @@
 use Prim.Native.Nat.{◌*◌}
 use native.Mathlib.Omega.{arith}
 use lib.ListN.{length-set}
-use borrow.Author.Rules.{rules}
 use Rattle.dispatching.proofs.visits.put_choice.Goals as goal
 
 pub bounds-words-n-then-seen : goal.bounds-words-n-then-seen

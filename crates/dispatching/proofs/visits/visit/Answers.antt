@@ -13,7 +13,6 @@ use Rattle.steps.specs.Choice.{clinic_of}
 use Rattle.steps.specs.Beside.{thread_count}
 use Rattle.dispatching.proofs.ReceiverLaws.{no_lone, not_sending}
 use Rattle.dispatching.proofs.VisitLaws.{StaysOn, told_still, told_meeting, lone_refused, lone_ends, lone_goes}
-use borrow.Author.Rules.{rules}
 use borrow.Enum.Refused.{opened}
 use Rattle.dispatching.proofs.visits.visit.Goals as goal
 

@@ -20,7 +20,7 @@ store-requires c =
     let own = read_at c.args.list.now c.records_fit.new.list c.args.beside.now fit c.args.i c.index_of.result _ c.records_fit.ensures.1 (c.index_of.ensures ∙ at c.args.i) in
     let other = read_at c.args.list.now c.records_fit.new.list c.args.beside.now fit c.args.p c.index_of-2.result _ c.records_fit.ensures.1 (c.index_of-2.ensures ∙ at c.args.p) in
     let fits : threads_fit (contents_at c.args.file.now c.args.head) c.args.list.now c.args.beside.now ≡ true = sym c.records_fit.ensures.0 ∙ c.if-not-records_fit.false in
-    rw (c.records_fit.ensures.1, c.wide-n.ensures.0, c.thread_count-count.ensures, c.wide.ensures.0, c.wide-2.ensures.0)
+    rw (c.records_fit.ensures.1, c.from-n.ensures, c.thread_count-count.ensures, c.from.ensures, c.from-2.ensures)
     (judged (contents_at c.args.file.now c.args.head) c.args.list.now c.args.beside.now fit c.args.i c.args.p (awaited_by c.args.table.now) c.requires.2.kinds fits _ _ own other c.stepped-it.result c.stepped-it.ensures.0).0
 
 pub returns : goal.returns
@@ -32,6 +32,6 @@ returns c =
     let fits : threads_fit (contents_at c.args.file.now c.args.head) c.args.list.now c.args.beside.now ≡ true = sym c.records_fit.ensures.0 ∙ c.if-not-records_fit.false in
     let (may, answer, records, words) = judged (contents_at c.args.file.now c.args.head) c.args.list.now c.args.beside.now fit c.args.i c.args.p (awaited_by c.args.table.now) c.requires.2.kinds fits _ _ own other c.stepped-it.result c.stepped-it.ensures.0 in (
       c.answer_of.ensures ∙ answer,
-      rw (c.store.ensures, c.records_fit.ensures.1, c.wide-n.ensures.0, c.thread_count-count.ensures, c.wide.ensures.0, c.wide-2.ensures.0) records,
+      rw (c.store.ensures, c.records_fit.ensures.1, c.from-n.ensures, c.thread_count-count.ensures, c.from.ensures, c.from-2.ensures) records,
       c.stepped-it.ensures.1 ∙ words,
     )

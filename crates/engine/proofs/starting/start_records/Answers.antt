@@ -13,4 +13,4 @@ loop-k-preserved c =
     let ts : List Thread = (start (contents_at c.args.file.now c.args.head)).threads in
     let in_list : c.loop-k.k < length c.args.list.now = omega arith in
     let session : c.loop-k.k < length ts = omega (arith, start_long c.args.file.now c.args.head) in
-    (omega arith, rw (c.loop-k.invariant.1, c.opening.ensures) (one_more_lem c.args.list.now ts c.loop-k.k no_thread in_list session))
+    rw (c.loop-k.invariant, c.opening.ensures) (one_more_lem c.args.list.now ts c.loop-k.k no_thread in_list session)

@@ -1,4 +1,4 @@
-use Rattle.std.proofs.Common.{◌≡◌, ◌-◌, ◌≤◌, take, drop}
+use Rattle.std.proofs.Common.{◌≡◌, take, drop}
 use Rattle.format.specs.Contents.{contents_at}
 use Rattle.steps.specs.Beside.{made_of}
 use Rattle.lending.specs.Walk.{no_tally, tally_all}
@@ -7,8 +7,4 @@ use Rattle.engine.proofs.walk.records_fit.Given as goal
 -- what is found so far, and the records from k on, decide
 abbrev pub invariant-loop-k : goal.invariant-loop-k
 invariant-loop-k l =
-    (l.k ≤ l.n)
-    × (tally_all (contents_at l.file l.head) l.table (made_of l.beside) l.all (drop l.k (take l.n l.list)) ≡ tally_all (contents_at l.file l.head) l.table (made_of l.beside) no_tally (take l.n l.list))
-
-abbrev pub decreases-loop-k : goal.decreases-loop-k
-decreases-loop-k l = l.n - l.k
+    tally_all (contents_at l.file l.head) l.table (made_of l.beside) l.all (drop l.k (take l.n l.list)) ≡ tally_all (contents_at l.file l.head) l.table (made_of l.beside) no_tally (take l.n l.list)

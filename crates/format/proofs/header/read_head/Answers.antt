@@ -7,7 +7,8 @@ use lib.Dec.{ltb}
 use Rattle.format.specs.Words.{word_at}
 use Rattle.format.specs.declared.Six.{Six}
 use Rattle.format.specs.declared.Seven.{Seven}
-use Rattle.format.specs.declared.HeadAnswer.TheVariants.{Fine}
+use Rattle.format.specs.declared.Head.{Head}
+use Rattle.std.specs.Prelude.{Result, Ok}
 use lib.ListN.{length}
 use Rattle.format.specs.Header.{is_version, counts_fit, offsets_fit, length_fits, six_at, offsets_at, head_in, as_read, head_bytes, head_of, from1, from2, from3, from4, from5}
 use Rattle.format.proofs.HeadLaws.{read_whole, none_read}
@@ -17,7 +18,7 @@ use Rattle.format.proofs.header.read_head.Tie as tie
 use Rattle.format.proofs.header.read_head.Reads as reads
 
 all : {v w : ℕ} {n n' : Six} {at at' : Seven} → v ≡ w → n ≡ n' → at ≡ at'
-    → Fine (record { version = v; count = n; at = at }) ≡ Fine (record { version = w; count = n'; at = at' })
+    → ◌≡◌ {A = Result Head ℕ} (Ok (record { version = v; count = n; at = at })) (Ok (record { version = w; count = n'; at = at' }))
 all e f g = cc
 
 three : {A B C D : Type 0} (h : A → B → C → D) {a a' : A} {b b' : B} {c c' : C} → a ≡ a' → b ≡ b' → c ≡ c' → h a b c ≡ h a' b' c'
@@ -69,7 +70,7 @@ sized c h =
     ∙ sym c.length_fits.ensures ∙ h
 
 pub returns-then-file-eq0 : goal.returns-then-file-eq0
-returns-then-file-eq0 c = ap Fine c.nothing_planned.ensures ∙ sym (none_read c.args.file.now (omega (arith, c.if-file-eq0.true)))
+returns-then-file-eq0 c = ap Ok c.nothing_planned.ensures ∙ sym (none_read c.args.file.now (omega (arith, c.if-file-eq0.true)))
 
 pub returns-then-file-head_bytes : goal.returns-then-file-head_bytes
 unfolding head_of from1

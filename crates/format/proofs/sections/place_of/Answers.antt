@@ -12,10 +12,10 @@ times (suc (suc (suc (suc zero)))) x le h = omega arith
 times (suc (suc (suc (suc (suc w))))) x le h = let no : ⊥ = omega arith in absurd no
 
 pub overflow_mul-result : goal.overflow_mul-result
-overflow_mul-result c = omega (arith, times c.width_of.result c.wide-2.result c.width_of.ensures.1 (omega arith))
+overflow_mul-result c = omega (arith, times c.width_of.result c.from-2.result c.width_of.ensures.1 (omega arith))
 
 pub overflow_add-result : goal.overflow_add-result
-overflow_add-result c = omega (arith, times c.width_of.result c.wide-2.result c.width_of.ensures.1 (omega arith))
+overflow_add-result c = omega (arith, times c.width_of.result c.from-2.result c.width_of.ensures.1 (omega arith))
 
 pub returns : goal.returns
-returns c = (cc, omega (arith, times c.width_of.result c.wide-2.result c.width_of.ensures.1 (omega arith)))
+returns c = (cc, omega (arith, times c.width_of.result c.from-2.result c.width_of.ensures.1 (omega arith)))

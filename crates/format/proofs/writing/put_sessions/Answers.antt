@@ -19,5 +19,5 @@ returns c =
     let l = c.requires.0 in
     let size : a.head.at.nodes - a.head.at.sessions ≡ 3 * a.head.count.sessions = omega (arith, l) in
     c.put_words.ensures
-    ∙ ap₂ (λ p q. sets a.out.now (2 * p) (bytes_of (words_from a.file.now p (q - p)))) c.wide.ensures.0 c.wide-2.ensures.0
+    ∙ ap₂ (λ p q. sets a.out.now (2 * p) (bytes_of (words_from a.file.now p (q - p)))) c.from.ensures c.from-2.ensures
     ∙ ap (λ ws. sets a.out.now (2 * a.head.at.sessions) (bytes_of ws)) (ap (words_from a.file.now a.head.at.sessions) size ∙ sessions_words a.file.now a.head)

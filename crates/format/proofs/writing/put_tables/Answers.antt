@@ -17,5 +17,5 @@ pub returns : goal.returns
 returns c =
     let a = c.args in
     c.put_words.ensures
-    ∙ ap₂ (λ p q. sets a.out.now (2 * p) (bytes_of (words_from a.file.now p (q - p)))) c.wide.ensures.0 c.wide-2.ensures.0
-    ∙ ap (λ ws. sets a.out.now (2 * a.head.at.users) (bytes_of ws)) (tables_words a.file.now a.head c.requires.0 (λ x. (c.shared_slice_known-1.given x).fits))
+    ∙ ap₂ (λ p q. sets a.out.now (2 * p) (bytes_of (words_from a.file.now p (q - p)))) c.from.ensures c.from-2.ensures
+    ∙ ap (λ ws. sets a.out.now (2 * a.head.at.users) (bytes_of ws)) (tables_words a.file.now a.head c.requires.0 (λ x. (c.type_inv.file x).fits))

@@ -1,29 +1,25 @@
-use Prim.Native.Nat.{◌*◌}
-use mathlib.Core.Path.{refl}
+use Prim.Native.Nat.{◌*◌, ◌-◌}
+use mathlib.Core.Path.{◌≡◌, refl, ap, ◌∙◌}
 use native.Mathlib.Omega.{arith}
-use lib.ListN.{get_or, set, length-set}
-use Rattle.format.proofs.WriteLaws.{bytes_more, bytes_all}
+use lib.ListN.{take, drop}
+use lib.Seq.{sets}
+use Rattle.format.specs.Words.{bytes_of}
+use Rattle.format.specs.Sections.{words_from}
+use Rattle.format.proofs.PutRuns.{part_put}
+use Rattle.format.proofs.WriteLaws.{bytes_words}
 use Rattle.format.proofs.writing.put_words.Goals as goal
 
-pub loop-i-init : goal.loop-i-init
-loop-i-init c = (omega arith, omega arith, refl, λ h. absurd (omega (arith, h)), refl)
-
-pub bounds-file-i : goal.bounds-file-i
-bounds-file-i c = omega (arith, c.requires.1 (omega arith))
-
-pub loop-i-preserved : goal.loop-i-preserved
-loop-i-preserved c =
-    let l = c.loop-i in
-    let a = c.args in (
-      omega arith,
-      omega arith,
-      simp length-set (omega arith),
-      λ h x. (c.shared_slice_known-1.given x).fits,
-      bytes_more l.out (set l.out l.i (get_or a.file.now l.i 0)) a.file.now _ l.i (2 * a.to) (omega arith) (omega (arith, c.requires.1 (omega arith))) refl l.invariant.4,
-    )
-
-pub returns : goal.returns
-returns c =
-    let l = c.loop-i in
+pub returns-then-from-to : goal.returns-then-from-to
+returns-then-from-to c =
     let a = c.args in
-    bytes_all l.out a.out.now a.file.now a.from a.to l.i (omega arith) (omega arith) c.requires.1 l.invariant.3 l.invariant.4
+    let k = a.to - a.from in
+    let n : 2 * a.to - 2 * a.from ≡ 2 * k = omega arith in
+    let copy = c.copy_from_slice in
+    let words = bytes_words a.file.now a.from k (λ x. (c.type_inv.file x).fits) (omega (arith, c.requires.1 c.if-from-to.true)) in
+    part_put (2 * a.from) _ _ _ (omega (arith, copy.ensures.len)) (omega arith)
+    ∙ ap (sets a.out.now (2 * a.from)) (copy.ensures.after ∙ ap (λ m. take m (drop (2 * a.from) a.file.now)) n ∙ words)
+
+pub returns-else-from-to : goal.returns-else-from-to
+unfolding words_from bytes_of
+returns-else-from-to c =
+    let none : c.args.to - c.args.from ≡ 0 = omega arith in rw none refl

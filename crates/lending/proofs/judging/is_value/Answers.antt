@@ -1,5 +1,4 @@
 use mathlib.Core.Path.{sym, ◌∙◌}
-use borrow.Author.Rules.{rules}
 use Rattle.format.specs.Contents.{contents_at}
 use Rattle.format.proofs.ContentsLaws.{users_held, channels_held}
 use Rattle.rules.specs.Schema.{schema_of}

@@ -1,20 +1,11 @@
-use Prim.Native.Nat.{ℕ, ◌-◌, ◌≤◌}
-use mathlib.Core.List.{List}
-use mathlib.Core.Path.{◌≡◌, refl, sym, ◌∙◌}
+use mathlib.Core.Path.{sym, ◌∙◌}
 use native.Mathlib.Omega.{arith}
-use lib.ListN.{get_or, drop}
-use borrow.Author.Tests.{not-true, not-false}
-use borrow.Author.Rules.{rules}
+use lib.ListN.{get_or}
 use Rattle.format.specs.Contents.{contents_at}
 use Rattle.format.proofs.ContentsLaws.{users_held, kinds_held}
 use Rattle.rules.specs.Schema.{schema_of}
-use Rattle.steps.specs.Beside.{made_in}
-use Rattle.lending.specs.Lent.{every, made_fits}
 use Rattle.lending.proofs.JudgeLaws.{made_owner, made_kind, made_fits_lem, made_done}
 use Rattle.lending.proofs.judging.made_fit.Goals as goal
-
-pub loop-k-init : goal.loop-k-init
-loop-k-init c = (omega arith, λ bytes. refl)
 
 pub returns-then-not-in_count : goal.returns-then-not-in_count
 returns-then-not-in_count c =
@@ -22,7 +13,7 @@ returns-then-not-in_count c =
     let l = c.loop-k in
     let it = c.made_at-it in
     let owner = sym c.in_count.ensures ∙ c.if-not-in_count.true in
-    λ bytes. sym (made_owner (schema_of (contents_at bytes a.head)) a.beside.now (get_or a.beside.now 1 0) l.k a.head.count.users a.head.count.kinds (users_held bytes a.head) (kinds_held bytes a.head) it.result it.ensures (omega arith) owner) ∙ l.invariant.1 bytes
+    λ bytes. sym (made_owner (schema_of (contents_at bytes a.head)) a.beside.now (get_or a.beside.now 1 0) l.k a.head.count.users a.head.count.kinds (users_held bytes a.head) (kinds_held bytes a.head) it.result it.ensures (omega arith) owner) ∙ l.invariant bytes
 
 pub returns-then-not-in_count-2 : goal.returns-then-not-in_count-2
 returns-then-not-in_count-2 c =
@@ -31,7 +22,7 @@ returns-then-not-in_count-2 c =
     let it = c.made_at-it in
     let owner = sym c.in_count.ensures ∙ c.if-not-in_count.false in
     let kind = sym c.in_count-in-loop-k.ensures ∙ c.if-not-in_count-2.true in
-    λ bytes. sym (made_kind (schema_of (contents_at bytes a.head)) a.beside.now (get_or a.beside.now 1 0) l.k a.head.count.users a.head.count.kinds (users_held bytes a.head) (kinds_held bytes a.head) it.result it.ensures (omega arith) owner kind) ∙ l.invariant.1 bytes
+    λ bytes. sym (made_kind (schema_of (contents_at bytes a.head)) a.beside.now (get_or a.beside.now 1 0) l.k a.head.count.users a.head.count.kinds (users_held bytes a.head) (kinds_held bytes a.head) it.result it.ensures (omega arith) owner kind) ∙ l.invariant bytes
 
 pub loop-k-preserved : goal.loop-k-preserved
 loop-k-preserved c =
@@ -40,10 +31,10 @@ loop-k-preserved c =
     let it = c.made_at-it in
     let owner = sym c.in_count.ensures ∙ c.if-not-in_count.false in
     let kind = sym c.in_count-in-loop-k.ensures ∙ c.if-not-in_count-2.false in
-    (omega arith, λ bytes. sym (made_fits_lem (schema_of (contents_at bytes a.head)) a.beside.now (get_or a.beside.now 1 0) l.k a.head.count.users a.head.count.kinds (users_held bytes a.head) (kinds_held bytes a.head) it.result it.ensures (omega arith) owner kind) ∙ l.invariant.1 bytes)
+    λ bytes. sym (made_fits_lem (schema_of (contents_at bytes a.head)) a.beside.now (get_or a.beside.now 1 0) l.k a.head.count.users a.head.count.kinds (users_held bytes a.head) (kinds_held bytes a.head) it.result it.ensures (omega arith) owner kind) ∙ l.invariant bytes
 
 pub returns : goal.returns
 returns c =
     let a = c.args in
     let l = c.loop-k in
-    λ bytes. sym (made_done (schema_of (contents_at bytes a.head)) a.beside.now (get_or a.beside.now 1 0) l.k a.head.count.users a.head.count.kinds (users_held bytes a.head) (kinds_held bytes a.head) (omega arith)) ∙ l.invariant.1 bytes
+    λ bytes. sym (made_done (schema_of (contents_at bytes a.head)) a.beside.now (get_or a.beside.now 1 0) l.k a.head.count.users a.head.count.kinds (users_held bytes a.head) (kinds_held bytes a.head) (omega arith)) ∙ l.invariant bytes

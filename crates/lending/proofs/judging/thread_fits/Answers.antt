@@ -2,8 +2,6 @@ use mathlib.Core.Path.{◌≡◌, sym, ap, ◌∙◌}
 use mathlib.Core.Bool.{Bool}
 use native.Mathlib.Omega.{arith}
 use lib.ListN.{length, get_or}
-use borrow.Author.Tests.{not-true, not-false}
-use borrow.Author.Rules.{rules}
 use Rattle.masks.specs.Mask.{within}
 use Rattle.format.specs.Contents.{in_count, contents_at}
 use Rattle.format.proofs.ContentsLaws.{in_count_lem, nodes_held, nodes_counted}
@@ -23,28 +21,28 @@ returns-then-not-in_count c =
     let a = c.args in
     thread_nowhere (contents_at a.file.now a.head) (made_in a.beside.now 2 (get_or a.beside.now 1 0)) a.t (counted c.before.before c.if-not-in_count.true)
 
-pub bounds-table-wide : goal.bounds-table-wide
-bounds-table-wide c =
+pub bounds-table-from : goal.bounds-table-from
+bounds-table-from c =
     let a = c.args in
     let few = in_count_lem (length (contents_at a.file.now a.head).nodes) a.t.node (counted c.before.before.before.before c.if-not-in_count.false) in
-    omega (arith, few, nodes_held a.file.now a.head, c.requires.0.nodes, c.wide.ensures)
+    omega (arith, few, nodes_held a.file.now a.head, c.requires.0.nodes, c.from.ensures)
 
 pub returns-then-t-w : goal.returns-then-t-w
 returns-then-t-w c =
     let a = c.args in
     let node = counted c.before.before.before.before.before.before.before c.if-not-in_count.false in
-    thread_user (contents_at a.file.now a.head) (made_in a.beside.now 2 (get_or a.beside.now 1 0)) a.t a.table.now c.wide.result c.requires.2 c.wide.ensures.0 node c.scope_in-w.result c.scope_in-w.ensures c.if-t-w.true
+    thread_user (contents_at a.file.now a.head) (made_in a.beside.now 2 (get_or a.beside.now 1 0)) a.t a.table.now c.from.result c.requires.2 c.from.ensures node c.scope_in-w.result c.scope_in-w.ensures c.if-t-w.true
 
 pub returns-then-not-roles_within : goal.returns-then-not-roles_within
 returns-then-not-roles_within c =
     let a = c.args in
     let node = counted c.before.before.before.before.before.before.before.before.before.before c.if-not-in_count.false in
     let mask = ap (within a.t.mask) (sym c.user_roles.ensures) ∙ sym c.roles_within.ensures ∙ c.if-not-roles_within.true in
-    thread_mask (contents_at a.file.now a.head) (made_in a.beside.now 2 (get_or a.beside.now 1 0)) a.t a.table.now c.wide.result c.requires.2 c.wide.ensures.0 node c.scope_in-w.result c.scope_in-w.ensures c.if-t-w.false mask
+    thread_mask (contents_at a.file.now a.head) (made_in a.beside.now 2 (get_or a.beside.now 1 0)) a.t a.table.now c.from.result c.requires.2 c.from.ensures node c.scope_in-w.result c.scope_in-w.ensures c.if-t-w.false mask
 
 pub returns : goal.returns
 returns c =
     let a = c.args in
     let node = counted c.before.before.before.before.before.before.before.before.before.before.before.before c.if-not-in_count.false in
     let mask = ap (within a.t.mask) (sym c.user_roles.ensures) ∙ sym c.roles_within.ensures ∙ c.if-not-roles_within.false in
-    thread_vars (contents_at a.file.now a.head) (made_in a.beside.now 2 (get_or a.beside.now 1 0)) a.t a.table.now c.wide.result c.requires.2 c.wide.ensures.0 node c.scope_in-w.result c.scope_in-w.ensures c.vars_fit.result c.if-t-w.false mask c.vars_fit.ensures
+    thread_vars (contents_at a.file.now a.head) (made_in a.beside.now 2 (get_or a.beside.now 1 0)) a.t a.table.now c.from.result c.requires.2 c.from.ensures node c.scope_in-w.result c.scope_in-w.ensures c.vars_fit.result c.if-t-w.false mask c.vars_fit.ensures

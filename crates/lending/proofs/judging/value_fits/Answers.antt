@@ -1,7 +1,5 @@
 use mathlib.Core.Path.{sym, ◌∙◌}
 use lib.ListN.{get_or}
-use borrow.Author.Tests.{not-true, not-false}
-use borrow.Author.Rules.{rules}
 use Rattle.steps.specs.Beside.{made_in}
 use Rattle.steps.proofs.ActLaws.{length_made}
 use Rattle.lending.proofs.judging.value_fits.Goals as goal

@@ -1,7 +1,6 @@
 use Rattle.format.specs.Contents.{contents_at}
 use Rattle.choices.specs.Choices.{start}
 use Rattle.lending.proofs.StartingLaws.{opening-is}
-use borrow.Author.Rules.{rules}
 use Rattle.lending.proofs.starting.opening.Goals as goal
 
 pub returns : goal.returns

@@ -4,7 +4,6 @@ use native.Mathlib.Omega.{arith}
 use Rattle.steps.specs.declared.Answer.{Answer}
 use Rattle.lending.specs.Walk.{second_at}
 use Rattle.lending.proofs.StepLaws.{read_as}
-use borrow.Author.Rules.{rules}
 use Rattle.lending.proofs.stepping.read_back.Goals as goal
 
 pub returns-in-Refused : goal.returns-in-Refused

@@ -2,7 +2,6 @@ use Prim.Native.Nat.{ℕ}
 use mathlib.Core.Path.{◌≡◌, sym, ap, ◌∙◌}
 use mathlib.Core.Bool.{true, false, cond}
 use native.Mathlib.Omega.{arith}
-use borrow.Author.Tests.{not-true, not-false}
 use Rattle.format.specs.Contents.{in_count, contents_at}
 use Rattle.format.proofs.ContentsLaws.{in_count_lem}
 use Rattle.steps.specs.declared.Answer.TheVariants as answers
@@ -12,7 +11,6 @@ use Rattle.steps.specs.Beside.{thread_count}
 use Rattle.choices.proofs.ChoiceLaws.{looked}
 use Rattle.choices.proofs.TriedLaws.{one_chose}
 use Rattle.lending.proofs.StepLaws.{laid_long, laid_sized, step_second, step_left, step-none}
-use borrow.Author.Rules.{rules}
 use Rattle.lending.proofs.stepping.step_in.Goals as goal
 use Rattle.lending.proofs.stepping.step_in.Lts as lts
 use Rattle.lending.proofs.stepping.step_in.Tie as tie
@@ -47,38 +45,38 @@ put_thread-requires c =
     let a = c.args in
     let q = c.requires in
     let some = looked (thread_count a.beside.now) a.i a.p c.looked_at-q.result (inside c.before.before.before.before.before) (seen c.before.before.before) in
-    omega (arith, some.0, some.1, c.wide-to.ensures.0, q.3.words, q.3.threads)
+    omega (arith, some.0, some.1, c.from-to.ensures, q.3.words, q.3.threads)
 
 pub put_thread-requires-2 : goal.put_thread-requires-2
 put_thread-requires-2 c =
     let a = c.args in
     let q = c.requires in
     let some = in_count_lem (thread_count a.beside.now) a.i (inside c.before.before.before.before.before.before.before.before.before) in
-    omega (arith, some.0, some.1, c.wide-at.ensures.0, q.3.words, q.3.threads, laid_long a.words.now _ _ a.other c.put_thread.ensures)
+    omega (arith, some.0, some.1, c.from-at.ensures, q.3.words, q.3.threads, laid_long a.words.now _ _ a.other c.put_thread.ensures)
 
 pub go_through-went-requires : goal.go_through-went-requires
 go_through-went-requires c =
     let a = c.args in
     let q = c.requires in
     let C = clinic_of (contents_at a.file.now a.head) in
-    let at = c.wide-at in
+    let at = c.from-at in
     let look = c.looked_at-q in
-    let to = c.wide-to in
-    (q.0, q.1, q.2, omega arith, laid_sized C a.words.now _ _ a.beside.now q.3 a.i a.p look.result at.result to.result a.own a.other (inside c.before.before.before.before.before.before.before.before.before.before.before.before.before.before.before) (seen c.before.before.before.before.before.before.before.before.before.before.before.before.before) at.ensures.0 to.ensures.0 q.4 c.put_thread.ensures c.put_thread-2.ensures)
+    let to = c.from-to in
+    (q.0, q.1, q.2, omega arith, laid_sized C a.words.now _ _ a.beside.now q.3 a.i a.p look.result at.result to.result a.own a.other (inside c.before.before.before.before.before.before.before.before.before.before.before.before.before.before.before) (seen c.before.before.before.before.before.before.before.before.before.before.before.before.before) at.ensures to.ensures q.4 c.put_thread.ensures c.put_thread-2.ensures)
 
 pub read_back-requires : goal.read_back-requires
 read_back-requires c =
     let a = c.args in
     let q = c.requires in
     let C = clinic_of (contents_at a.file.now a.head) in
-    let at = c.wide-at in
+    let at = c.from-at in
     let look = c.looked_at-q in
-    let to = c.wide-to in
+    let to = c.from-to in
     let did = c.go_through-went in
     let some = in_count_lem (thread_count a.beside.now) a.i (inside c.before.before.before.before.before.before.before.before.before.before.before.before.before.before.before.before.before.before.before.before.before) in (
       did.ensures.3.words,
-      omega (arith, some.0, some.1, at.ensures.0, q.3.threads),
-      step_second C a.words.now _ _ a.beside.now q.3 a.i a.p look.result at.result to.result a.own a.other (inside c.before.before.before.before.before.before.before.before.before.before.before.before.before.before.before.before.before.before.before.before.before) (seen c.before.before.before.before.before.before.before.before.before.before.before.before.before.before.before.before.before.before.before) at.ensures.0 to.ensures.0 q.4 c.put_thread.ensures c.put_thread-2.ensures (awaited_by a.table.now) did.result.last _ _ (one_chose (awaited_by a.table.now) C _ a.beside.now _ _ a.i a.p did.result did.ensures) c.wide.result (c.wide.ensures.0 ∙ c.thread_count-count.ensures),
+      omega (arith, some.0, some.1, at.ensures, q.3.threads),
+      step_second C a.words.now _ _ a.beside.now q.3 a.i a.p look.result at.result to.result a.own a.other (inside c.before.before.before.before.before.before.before.before.before.before.before.before.before.before.before.before.before.before.before.before.before) (seen c.before.before.before.before.before.before.before.before.before.before.before.before.before.before.before.before.before.before.before) at.ensures to.ensures q.4 c.put_thread.ensures c.put_thread-2.ensures (awaited_by a.table.now) did.result.last _ _ (one_chose (awaited_by a.table.now) C _ a.beside.now _ _ a.i a.p did.result did.ensures) c.from.result (c.from.ensures ∙ c.thread_count-count.ensures),
     )
 
 pub shape_of-words : goal.shape_of-words
@@ -89,8 +87,8 @@ returns c =
     let a = c.args in
     let q = c.requires in
     let C = clinic_of (contents_at a.file.now a.head) in
-    let at = c.wide-at in
+    let at = c.from-at in
     let look = c.looked_at-q in
-    let to = c.wide-to in
+    let to = c.from-to in
     let did = c.go_through-went in
-    step_left C a.words.now _ _ a.beside.now q.3 a.i a.p look.result at.result to.result a.own a.other (inside c.before.before.before.before.before.before.before.before.before.before.before.before.before.before.before.before.before.before.before.before.before.before) (seen c.before.before.before.before.before.before.before.before.before.before.before.before.before.before.before.before.before.before.before.before) at.ensures.0 to.ensures.0 q.4 c.put_thread.ensures c.put_thread-2.ensures (awaited_by a.table.now) did.result.last _ _ (one_chose (awaited_by a.table.now) C _ a.beside.now _ _ a.i a.p did.result did.ensures) c.wide.result (c.wide.ensures.0 ∙ c.thread_count-count.ensures) c.read_back.result c.read_back.ensures
+    step_left C a.words.now _ _ a.beside.now q.3 a.i a.p look.result at.result to.result a.own a.other (inside c.before.before.before.before.before.before.before.before.before.before.before.before.before.before.before.before.before.before.before.before.before.before) (seen c.before.before.before.before.before.before.before.before.before.before.before.before.before.before.before.before.before.before.before.before) at.ensures to.ensures q.4 c.put_thread.ensures c.put_thread-2.ensures (awaited_by a.table.now) did.result.last _ _ (one_chose (awaited_by a.table.now) C _ a.beside.now _ _ a.i a.p did.result did.ensures) c.from.result (c.from.ensures ∙ c.thread_count-count.ensures) c.read_back.result c.read_back.ensures

@@ -2,7 +2,6 @@ use Rattle.format.specs.Contents.{contents_at}
 use Rattle.rules.specs.declared.Way.TheVariants.{Sends, Receives}
 use Rattle.rules.specs.Schema.{schema_of}
 use Rattle.rules.proofs.GrantLaws.{granting}
-use borrow.Author.Rules.{rules}
 use Rattle.lending.proofs.stepping.step_with.Goals as goal
 
 pub step_in-requires : goal.step_in-requires

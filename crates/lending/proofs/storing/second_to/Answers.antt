@@ -2,7 +2,6 @@ use mathlib.Core.Path.{sym, ap, subst}
 use Prim.Native.Nat.{◌<◌, ◌^◌}
 use Rattle.steps.specs.declared.Answer.{Answer}
 use Rattle.lending.specs.Storing.{second_to}
-use borrow.Author.Rules.{rules}
 use Rattle.lending.proofs.storing.second_to.Goals as goal
 
 pub overflow_add-result : goal.overflow_add-result

@@ -8,8 +8,8 @@ pub move_words-requires : goal.move_words-requires
 move_words-requires c =
     let a = c.args in
     let p = c.requires in
-    tables_fit a.first.now a.second.now a.one a.two p.0 a.whole p.1 _ (omega arith) _ _ _ c.wide-5.ensures.0 c.wide-4.ensures.0
-    (ap₂ ◌+◌ (ap₂ (λ x y. 4 * x + y) c.wide.ensures.0 c.wide-2.ensures.0) (ap (λ x. 2 * x) c.wide-3.ensures.0))
+    tables_fit a.first.now a.second.now a.one a.two p.0 a.whole p.1 _ (omega arith) _ _ _ c.from-5.ensures c.from-4.ensures
+    (ap₂ ◌+◌ (ap₂ (λ x y. 4 * x + y) c.from.ensures c.from-2.ensures) (ap (λ x. 2 * x) c.from-3.ensures))
 
 pub put_channels-requires : goal.put_channels-requires
 put_channels-requires c =
@@ -25,6 +25,6 @@ returns c =
     let two = c.move_words in
     let three = c.put_channels in
     tables_put a.first.now a.second.now a.one a.two p.0 a.whole p.1 a.out.now one.new.out two.new.out three.new.out _ _ _ _
-    (λ x. (c.shared_slice_known-1.given x).fits) c.wide-5.ensures.0 c.wide-4.ensures.0
-    (ap₂ ◌+◌ (ap₂ (λ x y. 4 * x + y) c.wide.ensures.0 c.wide-2.ensures.0) (ap (λ x. 2 * x) c.wide-3.ensures.0)) c.shift_after.ensures
+    (λ x. (c.shared_slice_known-1.given x).fits) c.from-5.ensures c.from-4.ensures
+    (ap₂ ◌+◌ (ap₂ (λ x y. 4 * x + y) c.from.ensures c.from-2.ensures) (ap (λ x. 2 * x) c.from-3.ensures)) c.shift_after.ensures
     one.ensures two.ensures three.ensures

@@ -8,7 +8,7 @@ pub move_words-requires : goal.move_words-requires
 move_words-requires c =
     let a = c.args in
     let p = c.requires in
-    sessions_fit a.first.now a.second.now a.one a.two p.0 a.whole p.1 _ (omega arith) _ _ _ c.wide-2.ensures.0 c.wide.ensures.0 (ap (λ x. 3 * x) c.wide-sessions.ensures.0)
+    sessions_fit a.first.now a.second.now a.one a.two p.0 a.whole p.1 _ (omega arith) _ _ _ c.from-2.ensures c.from.ensures (ap (λ x. 3 * x) c.from-sessions.ensures)
 
 pub put_sessions-requires : goal.put_sessions-requires
 put_sessions-requires c =
@@ -20,7 +20,7 @@ pub move_words-requires-2 : goal.move_words-requires-2
 move_words-requires-2 c =
     let a = c.args in
     let p = c.requires in
-    nodes_fit a.first.now a.second.now a.one a.two p.0 a.whole p.1 _ (omega (arith, p.2)) _ _ _ c.wide-4.ensures.0 c.wide-3.ensures.0 (ap (λ x. 3 * x) c.wide-nodes.ensures.0)
+    nodes_fit a.first.now a.second.now a.one a.two p.0 a.whole p.1 _ (omega (arith, p.2)) _ _ _ c.from-4.ensures c.from-3.ensures (ap (λ x. 3 * x) c.from-nodes.ensures)
 
 pub put_nodes-requires : goal.put_nodes-requires
 put_nodes-requires c =
@@ -37,5 +37,5 @@ returns c =
     let three = c.move_words-2 in
     let four = c.put_nodes in
     trees_put a.first.now a.second.now a.one a.two p.0 a.whole p.1 a.out.now one.new.out two.new.out three.new.out four.new.out _ _ _ _ _ _ _
-    c.shift_after-by.ensures c.wide-2.ensures.0 c.wide.ensures.0 (ap (λ x. 3 * x) c.wide-sessions.ensures.0) c.wide-4.ensures.0 c.wide-3.ensures.0 (ap (λ x. 3 * x) c.wide-nodes.ensures.0)
+    c.shift_after-by.ensures c.from-2.ensures c.from.ensures (ap (λ x. 3 * x) c.from-sessions.ensures) c.from-4.ensures c.from-3.ensures (ap (λ x. 3 * x) c.from-nodes.ensures)
     one.ensures two.ensures three.ensures four.ensures

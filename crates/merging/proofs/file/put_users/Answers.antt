@@ -20,4 +20,4 @@ returns c =
     let two = c.move_words-2 in
     users_put a.first.now a.second.now a.one a.two c.requires.0 a.out.now one.new.out two.new.out _ _ _ _
     (λ x. (c.shared_slice_known-1.given x).fits) (λ x. (c.shared_slice_known-2-1.given x).fits)
-    c.wide.ensures.0 c.wide-users.ensures.0 c.wide-2.ensures.0 c.wide-3.ensures.0 one.ensures two.ensures
+    c.from.ensures c.from-users.ensures c.from-2.ensures c.from-3.ensures one.ensures two.ensures

@@ -21,10 +21,10 @@ pub same_words-requires : goal.same_words-requires
 same_words-requires c =
     let a = c.args in
     let p = c.requires in
-    let three = c.wide-3.ensures.0 in
-    let four = c.wide-4.ensures.0 in (
-      tables_inside a.first.now a.one p.0 p.2 _ _ _ c.wide.ensures.0 three four,
-      tables_inside a.second.now a.two p.1 p.3 _ _ _ c.wide-2.ensures.0 (three ∙ c.if-roles-two.false) (four ∙ c.if-kinds-two.false),
+    let three = c.from-3.ensures in
+    let four = c.from-4.ensures in (
+      tables_inside a.first.now a.one p.0 p.2 _ _ _ c.from.ensures three four,
+      tables_inside a.second.now a.two p.1 p.3 _ _ _ c.from-2.ensures (three ∙ c.if-roles-two.false) (four ∙ c.if-kinds-two.false),
     )
 
 pub returns : goal.returns
@@ -33,9 +33,9 @@ returns c =
     let p = c.requires in
     let roles = c.if-roles-two.false in
     let kinds = c.if-kinds-two.false in
-    let count : 4 * c.wide-3.result + c.wide-4.result ≡ 4 * a.one.count.roles + a.one.count.kinds = ap₂ (λ x y. 4 * x + y) c.wide-3.ensures.0 c.wide-4.ensures.0 in
+    let count : 4 * c.from-3.result + c.from-4.result ≡ 4 * a.one.count.roles + a.one.count.kinds = ap₂ (λ x y. 4 * x + y) c.from-3.ensures c.from-4.ensures in
     let other : 4 * a.one.count.roles + a.one.count.kinds ≡ 4 * a.two.count.roles + a.two.count.kinds = ap₂ (λ x y. 4 * x + y) roles kinds in
     c.same_words.ensures
-    ∙ ap₂ same_words (ap₂ (words_from a.first.now) c.wide.ensures.0 count ∙ roles_kinds_words a.first.now a.one p.0 p.2 (λ x. (c.shared_slice_known-1.given x).fits))
-    (ap₂ (words_from a.second.now) c.wide-2.ensures.0 (count ∙ other) ∙ roles_kinds_words a.second.now a.two p.1 p.3 (λ x. (c.shared_slice_known-2-1.given x).fits))
+    ∙ ap₂ same_words (ap₂ (words_from a.first.now) c.from.ensures count ∙ roles_kinds_words a.first.now a.one p.0 p.2 (λ x. (c.shared_slice_known-1.given x).fits))
+    (ap₂ (words_from a.second.now) c.from-2.ensures (count ∙ other) ∙ roles_kinds_words a.second.now a.two p.1 p.3 (λ x. (c.shared_slice_known-2-1.given x).fits))
     ∙ tables_compared (contents_at a.first.now a.one) (contents_at a.second.now a.two) (roles_held a.first.now a.one ∙ roles ∙ sym (roles_held a.second.now a.two))

@@ -21,40 +21,30 @@ pub loop-depth-init : goal.loop-depth-init
 unfolding stacked openings_from
 loop-depth-init c =
     let a = c.args in
-    let none : drop (c.wide-sessions.result - 0) (contents_at a.file.now a.head).sessions ≡ [] =
-    none_past (contents_at a.file.now a.head).sessions (c.wide-sessions.result - 0) (omega (arith, sessions_held a.file.now a.head, c.wide-sessions.ensures.0)) in
-    (omega arith, refl, tt, rw none, refl, rw none)
+    let none : drop (c.from-sessions.result - 0) (contents_at a.file.now a.head).sessions ≡ [] =
+    none_past (contents_at a.file.now a.head).sessions (c.from-sessions.result - 0) (omega (arith, sessions_held a.file.now a.head, c.from-sessions.ensures)) in
+    (refl, tt, rw none, refl, rw none)
 
 pub loop-depth-preserved : goal.loop-depth-preserved
 unfolding openings_from scope_of scope_from
 loop-depth-preserved c =
     let a = c.args in
     let l = c.loop-depth in
-    let s = c.wide-sessions.result in
+    let s = c.from-sessions.result in
     let D = schema_of (contents_at a.file.now a.head) in
     let S = (contents_at a.file.now a.head).sessions in
     let it = c.session-it in
     let its : it.result ≡ item no_session S (s - l.depth) = it.ensures ∙ ap (item no_session S) c.narrow.ensures in
-    let turn = from_item no_session S (s - l.depth) (omega arith) (omega (arith, sessions_held a.file.now a.head, c.wide-sessions.ensures.0)) in
+    let turn = from_item no_session S (s - l.depth) (omega arith) (omega (arith, sessions_held a.file.now a.head, c.from-sessions.ensures)) in
     let one : s - (l.depth + 1) ≡ s - l.depth - 1 = omega arith in
     let p : Point = bare_point D it.result.user 0 in
     let low : kind_in c.paired.result ≡ it.result.user = omega (arith, c.paired.ensures) in
     let high : owner_in c.paired.result ≡ 0 = omega (arith, c.paired.ensures) in
     let is : unpaired D c.paired.result ≡ p = ap₂ (bare_point D) low high in
     let small : it.result.user < 65534 = subst (λ (x : Session). x.user < 65534) (sym its) (c.requires.1.1 (s - l.depth)) in (
-      omega arith,
-      simp length-set l.invariant.1,
-      waits_push (unpaired D) Ownable 0 l.stack l.depth c.paired.result p (omega arith) is (omega arith) small l.invariant.2,
-      rw (one, turn, ← its) (contexts_push (unpaired D) [] l.stack l.depth c.paired.result p (omega arith) is (context_bare p.user p.assigned 0) l.invariant.3),
-      simp length-set l.invariant.4,
-      rw (one, turn, ← its) (scope_pushed l.waits l.depth (it.result.user % 64) (record { user = it.result.user; mask = 0; vars = [] }) (map unmasked (openings_from (drop (s - l.depth) S))) (omega arith) refl l.invariant.5),
+      simp length-set l.invariant.0,
+      waits_push (unpaired D) Ownable 0 l.stack l.depth c.paired.result p (omega arith) is (omega arith) small l.invariant.1,
+      rw (one, turn, ← its) (contexts_push (unpaired D) [] l.stack l.depth c.paired.result p (omega arith) is (context_bare p.user p.assigned 0) l.invariant.2),
+      simp length-set l.invariant.3,
+      rw (one, turn, ← its) (scope_pushed l.waits l.depth (it.result.user % 64) (record { user = it.result.user; mask = 0; vars = [] }) (map unmasked (openings_from (drop (s - l.depth) S))) (omega arith) refl l.invariant.4),
     )
-
-pub returns : goal.returns
-returns c =
-    let a = c.args in
-    let l = c.loop-depth in
-    let all : l.depth ≡ a.head.count.sessions = omega (arith, c.wide-sessions.ensures.0) in
-    let none : c.wide-sessions.result - l.depth ≡ 0 = omega arith in
-    let S = (contents_at a.file.now a.head).sessions in
-    (all, l.invariant.2, l.invariant.3 ∙ ap (λ k. map unmasked (openings_from (drop k S))) none, l.invariant.5 ∙ ap (λ k. map scope_of (map unmasked (openings_from (drop k S)))) none)

@@ -1,4 +1,4 @@
-use Prim.Native.Nat.{◌-◌, ◌≤◌}
+use Prim.Native.Nat.{◌-◌}
 use mathlib.Core.Path.{◌≡◌}
 use mathlib.Core.List.{[], map}
 use lib.ListN.{length, drop}
@@ -12,9 +12,6 @@ use Rattle.naming.specs.Kept.{queued}
 use Rattle.naming.proofs.pass.open_users.Given as goal
 
 abbrev pub invariant-loop-depth : goal.invariant-loop-depth
-invariant-loop-depth l = (l.depth ≤ l.sessions) × (length l.stack ≡ length l.initial.stack) × Waits Ownable 0 (queued (schema_of (contents_at l.file l.head)) l.stack l.depth)
+invariant-loop-depth l = (length l.stack ≡ length l.initial.stack) × Waits Ownable 0 (queued (schema_of (contents_at l.file l.head)) l.stack l.depth)
     × (map (context_of []) (queued (schema_of (contents_at l.file l.head)) l.stack l.depth) ≡ map unmasked (openings_from (drop (l.sessions - l.depth) (contents_at l.file l.head).sessions)))
     × (length l.waits ≡ length l.initial.waits) × (stacked 0 l.waits l.depth ≡ map scope_of (map unmasked (openings_from (drop (l.sessions - l.depth) (contents_at l.file l.head).sessions))))
-
-abbrev pub decreases-loop-depth : goal.decreases-loop-depth
-decreases-loop-depth l = l.sessions - l.depth

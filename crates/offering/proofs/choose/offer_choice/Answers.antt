@@ -1,4 +1,3 @@
-use mathlib.Core.Path.{◌≡◌, sym, ◌∙◌}
 use Rattle.format.specs.Contents.{contents_at}
 use Rattle.naming.specs.Scopes.{awaited_by}
 use Rattle.seats.specs.Seats.{limited_of}
@@ -6,7 +5,6 @@ use lib.ListN.{length}
 use Rattle.offering.specs.Offers.{output_of}
 use Rattle.offering.proofs.OfferLaws.{put_full, choice_none, choice_done, held_again}
 use native.Mathlib.Omega.{arith}
-use borrow.Author.Rules.{rules}
 use Rattle.offering.proofs.choose.offer_choice.Goals as goal
 
 pub returns-then-noted : goal.returns-then-noted

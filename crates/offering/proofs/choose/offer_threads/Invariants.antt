@@ -1,22 +1,16 @@
 use Prim.Native.Nat.{◌+◌, ◌*◌, ◌-◌, ◌≤◌}
-use mathlib.Core.Path.{◌≡◌, refl}
+use mathlib.Core.Path.{◌≡◌}
 use lib.ListN.{length}
 use Rattle.format.specs.Contents.{contents_at}
 use Rattle.seats.specs.Seats.{limited_of}
 use Rattle.rows.specs.Rows.{seated_at}
 use Rattle.offering.specs.Offers.{threads_offered, offers_of, output_of, offers_put, begun, Holds}
-use Rattle.offering.proofs.OfferLaws.{threads_begin, threads_turn, threads_end, held_count}
-use native.Mathlib.Omega.{arith}
-use borrow.Author.Rules.{rules}
 use Rattle.offering.proofs.choose.offer_threads.Given as goal
 
--- The invariant: the choices of the first i threads are tried.
+-- The invariant: the choices of the threads before i are tried.
 abbrev pub invariant-loop-i : goal.invariant-loop-i
-invariant-loop-i l = (l.i ≤ l.count) × (l.count ≤ 64) × (l.count ≡ length (seated_at (length l.seats) l.state 0).state.threads)
+invariant-loop-i l = (l.i ≤ l.count + 1) × (l.count ≤ 64) × (l.count ≡ length (seated_at (length l.seats) l.state 0).state.threads)
     × Holds (limited_of (contents_at l.file l.head) l.seats) (seated_at (length l.seats) l.state 0) l.threads l.beside l.owners l.lines
-    × (l.on.count ≤ 65 * l.i) × (l.on.length ≤ 97500 * l.i) × (l.on.length ≤ length l.out) × (length l.out ≡ length l.initial.out)
-    × (offers_put (length l.seats) (output_of l.on l.out) (threads_offered (limited_of (contents_at l.file l.head) l.seats) (seated_at (length l.seats) l.state 0) (l.i + 1) (l.count - l.i))
+    × (l.on.count ≤ 65 * (l.i - 1)) × (l.on.length ≤ 97500 * (l.i - 1)) × (l.on.length ≤ length l.out)
+    × (offers_put (length l.seats) (output_of l.on l.out) (threads_offered (limited_of (contents_at l.file l.head) l.seats) (seated_at (length l.seats) l.state 0) l.i (l.count + 1 - l.i))
     ≡ offers_put (length l.seats) (begun l.initial.out) (offers_of (limited_of (contents_at l.file l.head) l.seats) (seated_at (length l.seats) l.state 0)))
-
-abbrev pub decreases-loop-i : goal.decreases-loop-i
-decreases-loop-i l = l.count - l.i

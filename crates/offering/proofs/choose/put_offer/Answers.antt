@@ -1,5 +1,5 @@
-use Prim.Native.Nat.{ℕ, ◌+◌, ◌*◌}
-use mathlib.Core.Path.{◌≡◌, refl, sym, ◌∙◌}
+use Prim.Native.Nat.{◌+◌, ◌*◌}
+use mathlib.Core.Path.{refl, sym, ◌∙◌}
 use Rattle.steps.specs.Beside.{thread_count, made_count}
 use Rattle.seated.specs.SeatedTables.{seated_in}
 use Rattle.offering.specs.Offers.{Offer}

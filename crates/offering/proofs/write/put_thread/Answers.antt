@@ -5,7 +5,6 @@ use mathlib.Core.Path.{◌∙◌, ap}
 use mathlib.Core.List.{List, [], ◌∷◌}
 use lib.ListN.{get_or}
 use lib.Seq.{sets}
-use Rattle.steps.proofs.ThreadLaws.{unmapped}
 use Rattle.offering.proofs.WriteLaws.{copied, thread_listed}
 use native.Mathlib.Omega.{arith}
 use borrow.Author.Rules.{rules}

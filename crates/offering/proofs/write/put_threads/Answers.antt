@@ -1,28 +1,19 @@
-use Prim.Native.Nat.{◌+◌, ◌*◌, ◌-◌, ◌≤◌}
-use mathlib.Core.Path.{◌≡◌, refl}
-use lib.ListN.{length}
-use lib.Seq.{sets}
-use Rattle.running.specs.Run.{thread_words}
-use Rattle.steps.specs.Records.{threads_in}
+use Prim.Native.Nat.{◌+◌, ◌*◌}
 use Rattle.offering.proofs.WriteLaws.{threads_begin, threads_turn, threads_end}
 use native.Mathlib.Omega.{arith}
-use borrow.Author.Rules.{rules}
 use Rattle.offering.proofs.write.put_threads.Goals as goal
 
 pub loop-k-init : goal.loop-k-init
-loop-k-init c = let a = c.args in (omega arith, refl, threads_begin a.threads.now a.out.now a.at a.n)
+loop-k-init c = let a = c.args in threads_begin a.threads.now a.out.now a.at a.n
 
 pub loop-k-preserved : goal.loop-k-preserved
 loop-k-preserved c =
     let a = c.args in
-    let l = c.loop-k in (
-      omega arith,
-      search rules,
-      threads_turn a.threads.now l.out c.put_thread.new.out _ a.at a.n l.k c.thread_at.result (omega arith) c.thread_at.ensures c.put_thread.ensures l.invariant.2,
-    )
+    let l = c.loop-k in
+    threads_turn a.threads.now l.out c.put_thread.new.out _ a.at a.n l.k c.thread_at.result (omega arith) c.thread_at.ensures c.put_thread.ensures l.invariant
 
 pub returns : goal.returns
 returns c =
     let a = c.args in
     let l = c.loop-k in
-    threads_end a.threads.now l.out _ a.n l.k (a.at + 12 * l.k) (omega arith) l.invariant.2
+    threads_end a.threads.now l.out _ a.n l.k (a.at + 12 * l.k) (omega arith) l.invariant

@@ -1,6 +1,5 @@
 use mathlib.Core.Path.{ap₂, ◌∙◌}
 use Rattle.format.specs.Answers.{or_else}
-use borrow.Author.Rules.{rules}
 use Rattle.placing.proofs.bare.bare.Goals as goal
 
 pub returns : goal.returns

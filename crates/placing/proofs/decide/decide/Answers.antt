@@ -7,7 +7,6 @@ use Rattle.states.specs.States.{Label, turns_of}
 use Rattle.placing.specs.Placing.{labels_from, placeable_by, decided, no_sums, unsettled}
 use Rattle.placing.specs.declared.Decision.{Decision}
 use Rattle.placing.proofs.DecideLaws.{decided_loud, settled_before, bare_number, bare_loud, bare_quiet, bare as of_bare}
-use borrow.Author.Rules.{rules}
 use Rattle.placing.proofs.decide.decide.Goals as goal
 
 pub returns-then-first-ne0 : goal.returns-then-first-ne0

@@ -16,7 +16,6 @@ use Rattle.placing.specs.Placing.{unserved_from, settling, no_sums, summed, unse
 use Rattle.placing.specs.declared.Decision.{Decision}
 use Rattle.placing.proofs.DecideLaws.{decided_loud, decided_quiet, settled_before, settled_after, unserved_number, unserved_loud, too_large, not_too_large, turns_written}
 use Rattle.placing.proofs.ServedLaws.{all_served}
-use borrow.Author.Rules.{rules}
 use Rattle.placing.proofs.decide.settle.Goals as goal
 
 abbrev decision : Verdict → Sums → Decision

@@ -1,47 +1,42 @@
-use Prim.Native.Nat.{◌+◌, ◌-◌, ◌≤◌}
-use mathlib.Core.Bool.{◌&&◌}
-use mathlib.Core.Path.{◌≡◌, refl, sym, ap₂, ◌∙◌}
+use Prim.Native.Nat.{◌+◌, ◌-◌}
+use mathlib.Core.Bool.{not, ◌&&◌}
+use mathlib.Core.Path.{◌≡◌, sym, ap, ap₂, ◌∙◌}
 use native.Mathlib.Omega.{arith}
 use lib.Dec.{eqb}
-use lib.ListN.{get_or, drop}
-use borrow.Author.Rules.{rules}
-use Rattle.format.specs.Contents.{item, no_node, contents_at}
+use lib.ListN.{length, get_or}
+use Rattle.format.specs.Contents.{contents_at}
+use Rattle.format.proofs.AnswerLaws.{first_stops, first_goes_on, first_ends, first_last}
 use Rattle.format.proofs.ContentsLaws.{nodes_held}
-use Rattle.states.specs.States.{needs as needy, labelled}
-use Rattle.placing.specs.Placing.{unserved_from}
-use Rattle.placing.proofs.ServedLaws.{labels_left, left_served, left_unserved, left_none}
+use Rattle.states.specs.States.{needs as needy}
+use Rattle.placing.proofs.ServedLaws.{served_at, first_unserved}
 use Rattle.placing.proofs.served.unserved.Goals as goal
+use Rattle.placing.proofs.served.unserved.Goals.{After-is_unserved}
 
 pub loop-n-init : goal.loop-n-init
-loop-n-init c = (omega arith, refl, omega arith, refl)
+loop-n-init c =
+    let a = c.args in
+    let all : a.head.count.nodes + 1 - 1 ≡ length (contents_at a.file.now a.head).nodes = omega (arith, nodes_held a.file.now a.head) in
+    rw all (sym (first_unserved (contents_at a.file.now a.head).nodes a.roles.now (omega (arith, nodes_held a.file.now a.head, c.requires))))
+
+-- the test of the node in hand
+tested : (c : After-is_unserved) → served_at (contents_at c.args.file.now c.args.head).nodes c.args.roles.now c.loop-n.n ≡ not c.is_unserved.result
+tested c =
+    ap not (sym (c.is_unserved.ensures ∙ ap₂ (λ t j. needy t && eqb (get_or c.args.roles.now j 0) 0) c.node_tag.ensures c.from.ensures))
 
 pub returns-then-is_unserved : goal.returns-then-is_unserved
 returns-then-is_unserved c =
     let a = c.args in
-    let l = c.loop-n in
-    let ns = (contents_at a.file.now a.head).nodes in
-    let found : c.is_unserved.result ≡ (needy (item no_node ns l.n).tag && eqb (get_or a.roles.now l.n 0) 0) =
-    c.is_unserved.ensures ∙ ap₂ (λ t j. needy t && eqb (get_or a.roles.now j 0) 0) c.node_tag.ensures c.wide.ensures.0 in
-    sym (left_unserved ns a.roles.now l.n (omega arith) (omega (arith, nodes_held a.file.now a.head)) (omega (arith, c.requires)) (sym found ∙ c.if-is_unserved.true)) ∙ l.invariant.3
-
-pub overflow_add-n : goal.overflow_add-n
-overflow_add-n c = omega (arith, c.requires)
+    sym (first_stops _ _ c.loop-n.n a.head.count.nodes (omega arith) (tested (goal.at.returns-then-is_unserved c).After-is_unserved ∙ ap not c.if-is_unserved.true)) ∙ c.loop-n.invariant
 
 pub loop-n-preserved : goal.loop-n-preserved
 loop-n-preserved c =
     let a = c.args in
-    let l = c.loop-n in
-    let ns = (contents_at a.file.now a.head).nodes in
-    let found : c.is_unserved.result ≡ (needy (item no_node ns l.n).tag && eqb (get_or a.roles.now l.n 0) 0) =
-    c.is_unserved.ensures ∙ ap₂ (λ t j. needy t && eqb (get_or a.roles.now j 0) 0) c.node_tag.ensures c.wide.ensures.0 in (
-      omega arith,
-      refl,
-      omega arith,
-      sym (left_served ns a.roles.now l.n (omega arith) (omega (arith, nodes_held a.file.now a.head)) (omega (arith, c.requires)) (sym found ∙ c.if-is_unserved.false)) ∙ l.invariant.3,
-    )
+    sym (first_goes_on _ _ c.loop-n.n a.head.count.nodes (omega arith) (tested (goal.at.loop-n-preserved c).After-is_unserved ∙ ap not c.if-is_unserved.false)) ∙ c.loop-n.invariant
 
 pub returns : goal.returns
-returns c =
+returns c = sym (first_ends _ _ c.loop-n.n c.args.head.count.nodes (omega arith)) ∙ c.loop-n.invariant
+
+pub returns-else-is_unserved : goal.returns-else-is_unserved
+returns-else-is_unserved c =
     let a = c.args in
-    let l = c.loop-n in
-    sym (left_none (contents_at a.file.now a.head).nodes a.roles.now l.n (omega (arith, nodes_held a.file.now a.head))) ∙ l.invariant.3
+    sym (first_last _ _ c.loop-n.n a.head.count.nodes (omega arith) (tested (goal.at.returns-else-is_unserved c).After-is_unserved ∙ ap not c.if-is_unserved.false)) ∙ c.loop-n.invariant

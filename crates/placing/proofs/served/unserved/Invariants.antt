@@ -1,20 +1,13 @@
-use Prim.Native.Nat.{◌+◌, ◌-◌, ◌≤◌}
-use mathlib.Core.Bool.{◌&&◌}
-use mathlib.Core.Path.{◌≡◌, refl, sym, ap₂, ◌∙◌}
-use native.Mathlib.Omega.{arith}
-use lib.Dec.{eqb}
-use lib.ListN.{get_or, drop}
-use borrow.Author.Rules.{rules}
-use Rattle.format.specs.Contents.{item, no_node, contents_at}
-use Rattle.format.proofs.ContentsLaws.{nodes_held}
-use Rattle.states.specs.States.{needs as needy, labelled}
+use Prim.Native.Nat.{◌+◌, ◌-◌}
+use mathlib.Core.Path.{◌≡◌}
+use lib.ListN.{drop}
+use Rattle.format.specs.Answers.{refused, first_of}
+use Rattle.format.specs.Contents.{contents_at}
+use Rattle.states.specs.States.{labelled}
 use Rattle.placing.specs.Placing.{unserved_from}
-use Rattle.placing.proofs.ServedLaws.{labels_left, left_served, left_unserved, left_none}
+use Rattle.placing.proofs.ServedLaws.{served_at}
 use Rattle.placing.proofs.served.unserved.Given as goal
 
 abbrev pub invariant-loop-n : goal.invariant-loop-n
-invariant-loop-n l = (1 ≤ l.n) × (l.count ≡ l.head.count.nodes) × (l.n ≤ l.count + 1)
-    × (unserved_from l.n (labels_left (contents_at l.file l.head).nodes l.roles l.n) ≡ unserved_from 1 (labelled (contents_at l.file l.head).nodes (drop 1 l.roles)))
-
-abbrev pub decreases-loop-n : goal.decreases-loop-n
-decreases-loop-n l = l.count + 1 - l.n
+invariant-loop-n l = first_of (served_at (contents_at l.file l.head).nodes l.roles) (refused 15) l.n (l.head.count.nodes + 1 - l.n)
+    ≡ unserved_from 1 (labelled (contents_at l.file l.head).nodes (drop 1 l.roles))

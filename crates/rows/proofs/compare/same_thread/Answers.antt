@@ -1,8 +1,6 @@
 use mathlib.Core.Path.{◌≡◌, ◌∙◌}
 use lib.ListN.{length}
-use Rattle.steps.proofs.ThreadLaws.{unmapped}
 use Rattle.rows.proofs.StandLaws.{thread_stands}
-use native.Mathlib.Omega.{arith}
 use borrow.Author.Rules.{rules}
 use borrow.Author.Rules.{rules}
 use Rattle.rows.proofs.compare.same_thread.Goals as goal

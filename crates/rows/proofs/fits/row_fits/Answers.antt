@@ -1,24 +1,21 @@
-use Prim.Native.Nat.{ℕ, ◌+◌, ◌*◌}
+use Prim.Native.Nat.{◌+◌, ◌*◌}
 use mathlib.Core.Path.{refl, ◌∙◌}
 use mathlib.Core.Bool.{true, false}
-use native.Mathlib.Omega.{arith}
 use Rattle.rows.proofs.FitLaws.{row_by_parts}
-use borrow.Author.Rules.{rules}
-use borrow.Author.Tests.{not-true, not-false}
 use Rattle.rows.proofs.fits.row_fits.Goals as goal
 
 pub returns-then-not-n-m : goal.returns-then-not-n-m
 returns-then-not-n-m c =
     let a = c.args in
-    let n = c.wide-n.result in
-    let m = c.wide-m.result in
-    row_by_parts a.roles a.states.now a.at n m (a.at + 2 + 2 * m + 12 * n + n) (c.wide-n.ensures.0 ∙ c.word_at.ensures)
-    (c.wide-m.ensures.0 ∙ c.word_at-2.ensures) refl false c.if-not-n-m.true
+    let n = c.from-n.result in
+    let m = c.from-m.result in
+    row_by_parts a.roles a.states.now a.at n m (a.at + 2 + 2 * m + 12 * n + n) (c.from-n.ensures ∙ c.word_at.ensures)
+    (c.from-m.ensures ∙ c.word_at-2.ensures) refl false c.if-not-n-m.true
 
 pub returns : goal.returns
 returns c =
     c.lines_fit.ensures ∙ (let a = c.args in
-    let n = c.wide-n.result in
-    let m = c.wide-m.result in
-    row_by_parts a.roles a.states.now a.at n m (a.at + 2 + 2 * m + 12 * n + n) (c.wide-n.ensures.0 ∙ c.word_at.ensures)
-    (c.wide-m.ensures.0 ∙ c.word_at-2.ensures) refl true c.if-not-n-m.false)
+    let n = c.from-n.result in
+    let m = c.from-m.result in
+    row_by_parts a.roles a.states.now a.at n m (a.at + 2 + 2 * m + 12 * n + n) (c.from-n.ensures ∙ c.word_at.ensures)
+    (c.from-m.ensures ∙ c.word_at-2.ensures) refl true c.if-not-n-m.false)

@@ -1,5 +1,4 @@
 use mathlib.Core.Path.{◌≡◌}
-use Prim.Native.Nat.{◌≤◌, ◌-◌}
 use lib.ListN.{length}
 use Rattle.rules.specs.Kept.{add_role}
 use Rattle.rules.proofs.GrantLaws.{add_from}
@@ -7,9 +6,6 @@ use Rattle.rules.proofs.grants.add_role.Given as goal
 
 -- The invariant: with the role added from k on, the tables are what they are to be.
 abbrev pub invariant-loop-k : goal.invariant-loop-k
-invariant-loop-k l = (l.k ≤ 33) × (length l.sends ≡ 33) × (length l.receives ≡ 33)
+invariant-loop-k l = (length l.sends ≡ 33) × (length l.receives ≡ 33)
     × (add_from l.it.sends l.juniors l.role.0 l.k l.sends ≡ add_role l.it.sends l.juniors l.role.0 0 l.initial.sends)
     × (add_from l.it.receives l.juniors l.role.0 l.k l.receives ≡ add_role l.it.receives l.juniors l.role.0 0 l.initial.receives)
-
-abbrev pub decreases-loop-k : goal.decreases-loop-k
-decreases-loop-k l = 33 - l.k

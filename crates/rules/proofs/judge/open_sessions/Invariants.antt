@@ -1,4 +1,4 @@
-use Prim.Native.Nat.{◌-◌, ◌≤◌}
+use Prim.Native.Nat.{◌-◌}
 use mathlib.Core.Path.{◌≡◌}
 use mathlib.Core.List.{[], map}
 use lib.ListN.{length, drop}
@@ -9,8 +9,5 @@ use Rattle.rules.specs.Kept.{context_of, waiting, Waits, Given}
 use Rattle.rules.proofs.judge.open_sessions.Given as goal
 
 abbrev pub invariant-loop-depth : goal.invariant-loop-depth
-invariant-loop-depth l = (l.depth ≤ l.sessions) × (length l.stack ≡ length l.initial.stack) × Waits (Given (schema_of (contents_at l.file l.head))) 0 (waiting l.stack l.depth)
+invariant-loop-depth l = (length l.stack ≡ length l.initial.stack) × Waits (Given (schema_of (contents_at l.file l.head))) 0 (waiting l.stack l.depth)
     × (map (context_of []) (waiting l.stack l.depth) ≡ openings_from (drop (l.sessions - l.depth) (contents_at l.file l.head).sessions))
-
-abbrev pub decreases-loop-depth : goal.decreases-loop-depth
-decreases-loop-depth l = l.sessions - l.depth

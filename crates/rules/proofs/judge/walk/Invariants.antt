@@ -1,4 +1,4 @@
-use Prim.Native.Nat.{◌+◌, ◌-◌, ◌≤◌, ◌<◌}
+use Prim.Native.Nat.{◌+◌, ◌≤◌, ◌<◌}
 use mathlib.Core.Path.{◌≡◌}
 use mathlib.Core.List.{◌∷◌, map}
 use lib.ListN.{length}
@@ -9,13 +9,10 @@ use Rattle.rules.proofs.NameLaws.{Held}
 use Rattle.rules.proofs.PassLaws.{Left}
 use Rattle.rules.proofs.judge.walk.Given as goal
 
--- The invariant: i is the node due, `here` is its context, the contexts on the stack have fewer and fewer variables from its top down, and what is
+-- The invariant: n + 1 is the node due, `here` is its context, the contexts on the stack have fewer and fewer variables from its top down, and what is
 -- left from here gives what the whole gives.
-abbrev pub invariant-loop-i : goal.invariant-loop-i
-invariant-loop-i l = (1 ≤ l.i + 1) × (l.i + 1 ≤ l.nodes + 1) × (length l.stack ≡ length l.initial.stack) × (length l.names ≡ length l.initial.names) × (length l.roles ≡ 1025) × (l.depth + 2 ≤ l.head.count.sessions + (l.i + 1)) × (l.here.bound < l.i + 1)
+abbrev pub invariant-loop-n : goal.invariant-loop-n
+invariant-loop-n l = (length l.stack ≡ length l.initial.stack) × (length l.names ≡ length l.initial.names) × (length l.roles ≡ 1025) × (l.depth + 2 ≤ l.head.count.sessions + (l.n + 1)) × (l.here.bound < l.n + 1)
     × Given (schema_of (contents_at l.file l.head)) l.here × NameTable (schema_of (contents_at l.file l.head)) l.head.count.users l.head.count.channels l.names
     × Held l.names l.here.bound × Waits (Given (schema_of (contents_at l.file l.head))) l.here.bound (waiting l.stack l.depth)
-    × Left (contents_at l.file l.head) l.initial.roles (l.i + 1) (context_of l.names l.here ∷ map (context_of l.names) (waiting l.stack l.depth)) l.first l.roles
-
-abbrev pub decreases-loop-i : goal.decreases-loop-i
-decreases-loop-i l = l.nodes + 1 - (l.i + 1)
+    × Left (contents_at l.file l.head) l.initial.roles (l.n + 1) (context_of l.names l.here ∷ map (context_of l.names) (waiting l.stack l.depth)) l.first l.roles

@@ -1,55 +1,46 @@
-use Prim.Native.Nat.{◌+◌, ◌<◌}
-use mathlib.Core.Path.{◌≡◌, refl, sym, ap, subst, ◌∙◌}
+use Prim.Native.Nat.{ℕ, ◌+◌, ◌-◌}
+use mathlib.Core.Path.{◌≡◌, refl, ap, ap₂, ◌∙◌}
 use native.Mathlib.Omega.{arith}
-use lib.ListN.{length-set}
+use borrow.Author.Rules.{rules}
+use lib.ListN.{length, take, drop, replicate, length-drop, length-set}
+use Rattle.std.proofs.lemmas.List.{length-take}
+use Rattle.std.proofs.lemmas.Slice.{drop-put_mid}
 use lib.Seq.{drop-set-lt}
 use Rattle.format.specs.Contents.{contents_at}
 use Rattle.format.specs.declared.Channel.{Channel}
 use Rattle.rules.specs.Schema.{schema_of}
-use Rattle.rules.proofs.NameLaws.{named_none, users_more, channels_more}
+use Rattle.rules.specs.Kept.{entry}
+use Rattle.rules.proofs.NameLaws.{users_named, channels_more}
 use Rattle.rules.proofs.names.name_all.Goals as goal
 
-pub loop-n-init : goal.loop-n-init
-loop-n-init c = let a = c.args in (omega arith, refl, named_none (schema_of (contents_at a.file.now a.head)) a.names.now c.requires.3, refl)
-
-pub loop-n-preserved : goal.loop-n-preserved
-loop-n-preserved c =
+pub loop-i-init : goal.loop-i-init
+loop-i-init c =
     let a = c.args in
-    let l = c.loop-n in
-    let at : c.wide.result ≡ l.n + 1 = c.wide.ensures.0 in (
-      omega arith,
-      simp length-set l.invariant.1,
-      rw (at, c.paired.ensures) (users_more (schema_of (contents_at a.file.now a.head)) l.n (l.n + 1) l.names refl (omega arith) l.invariant.2),
-      drop-set-lt 512 l.names c.wide.result c.paired.result (omega (arith, at, c.requires.0.users)) ∙ l.invariant.3,
-    )
+    let n = a.head.count.users in
+    let few : c.from.result + 1 - 1 ≡ n = omega (arith, c.from.ensures) in
+    let long : length (take (c.from.result + 1 - 1) (drop 1 a.names.now)) ≡ n = rw few (omega (arith, length-take n (drop 1 a.names.now), length-drop 1 a.names.now, c.requires.0.users)) in
+    let all : c.fill.new.self ≡ replicate n (entry 0 1) = c.fill.ensures.after (λ y e. e) ∙ ap₂ (replicate {A = ℕ}) long c.paired.ensures in
+    (refl, users_named (schema_of (contents_at a.file.now a.head)) n _ a.names.now c.fill.new.self c.requires.3 few (omega (arith, c.requires.0.users)) all, refl)
 
-pub loop-c-init : goal.loop-c-init
-loop-c-init c =
-    let l = c.loop-n in
-    let all : l.n ≡ c.args.head.count.users = omega arith in
-    (omega arith, refl, rw all at l.invariant.2, refl)
-
-pub overflow_add-it : goal.overflow_add-it
-overflow_add-it c =
-    let it = c.channel-it in
-    omega (arith, subst (λ (x : Channel). x.owner < 65534) (sym it.ensures) (c.requires.1.0 _))
-
-pub loop-c-preserved : goal.loop-c-preserved
-loop-c-preserved c =
+pub loop-i-preserved : goal.loop-i-preserved
+loop-i-preserved c =
     let a = c.args in
-    let l = c.loop-c in
+    let l = c.loop-i in
     let it = c.channel-it in
-    let at : c.wide-in-loop-c.result ≡ l.c + 1 = c.wide-in-loop-c.ensures.0 in (
-      omega arith,
-      simp length-set l.invariant.1,
-      rw (at, c.paired-in-loop-c.ensures)
-          (channels_more (schema_of (contents_at a.file.now a.head)) a.head.count.users l.c (l.c + 1) it.result.kind.0 (it.result.owner + 2) l.names refl
-          c.requires.0.users (omega arith) (ap (λ (x : Channel). x.kind.0) it.ensures) (ap (λ (x : Channel). x.owner + 2) it.ensures) (omega (arith, c.requires.0.channels)) l.invariant.2),
-      drop-set-lt 512 l.names (256 + c.wide-in-loop-c.result) c.paired-in-loop-c.result (omega (arith, at, c.requires.0.channels)) ∙ l.invariant.3,
+    let at : c.from-in-loop-i.result ≡ l.i + 1 = c.from-in-loop-i.ensures in (
+      simp length-set l.invariant.0,
+      rw (at, c.paired-in-loop-i.ensures)
+          (channels_more (schema_of (contents_at a.file.now a.head)) a.head.count.users l.i (l.i + 1) it.result.kind.0 (it.result.owner + 2) l.names refl
+          c.requires.0.users (omega arith) (ap (λ (x : Channel). x.kind.0) it.ensures) (ap (λ (x : Channel). x.owner + 2) it.ensures) (omega (arith, c.requires.0.channels)) l.invariant.1),
+      drop-set-lt 512 l.names (256 + c.from-in-loop-i.result) c.paired-in-loop-i.result (omega (arith, at, c.requires.0.channels)) ∙ l.invariant.2,
     )
 
 pub returns : goal.returns
 returns c =
-    let l = c.loop-c in
-    let all : l.c ≡ c.args.head.count.channels = omega arith in
-    (l.invariant.1 ∙ c.loop-n.invariant.1, rw all at l.invariant.2, l.invariant.3 ∙ c.loop-n.invariant.3)
+    let a = c.args in
+    let l = c.loop-i in
+    let long : length c.fill.new.self ≡ c.from.result + 1 - 1 =
+    omega (arith, c.fill.ensures.len, length-take (c.from.result + 1 - 1) (drop 1 a.names.now), length-drop 1 a.names.now, c.from.ensures, c.requires.0.users) in
+    let past = drop-put_mid 1 (c.from.result + 1 - 1) a.names.now c.fill.new.self 512 (omega (arith, c.from.ensures, c.requires.0.users)) (omega arith) long in
+    let all : l.i ≡ c.args.head.count.channels = omega arith in
+    (search rules, rw all at l.invariant.1, l.invariant.2 ∙ past)

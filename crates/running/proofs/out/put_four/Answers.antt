@@ -2,7 +2,6 @@ use native.Mathlib.Omega.{arith}
 use mathlib.Core.List.{[], ◌∷◌}
 use Prim.Native.Nat.{◌+◌}
 use Rattle.format.proofs.PutRuns.{puts_then}
-use borrow.Author.Rules.{rules}
 use Rattle.running.proofs.out.put_four.Goals as goal
 
 pub returns : goal.returns

@@ -1,6 +1,5 @@
 use mathlib.Core.Path.{◌≡◌}
 use lib.ListN.{length}
-use Rattle.steps.proofs.ThreadLaws.{unmapped}
 use Rattle.running.proofs.PutLaws.{thread_put}
 use borrow.Author.Rules.{rules}
 use Rattle.running.proofs.out.put_thread.Goals as goal

@@ -2,7 +2,6 @@ use mathlib.Core.Path.{sym, ◌∙◌}
 use mathlib.Core.Bool.{true, false}
 use Rattle.running.specs.Ways.{stands_in}
 use Rattle.running.proofs.PairLaws.{left_none, left_by}
-use borrow.Author.Rules.{rules}
 use Rattle.running.proofs.pairs.left_out.Goals as goal
 
 pub returns-then-over-eq0 : goal.returns-then-over-eq0

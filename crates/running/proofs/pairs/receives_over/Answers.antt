@@ -1,7 +1,6 @@
 use Rattle.format.specs.Contents.{contents_at}
 use Rattle.steps.specs.Beside.{made_of}
 use Rattle.running.proofs.WayLaws.{over_elsewhere, over_other, over_there}
-use borrow.Author.Rules.{rules}
 use Rattle.running.proofs.pairs.receives_over.Goals as goal
 
 pub returns-then-it-ne5 : goal.returns-then-it-ne5

@@ -4,7 +4,6 @@ use Rattle.rules.specs.Schema.{schema_of}
 use Rattle.steps.specs.Threads.{value}
 use Rattle.steps.specs.Beside.{made_of}
 use Rattle.running.proofs.WayLaws.{worked_on}
-use borrow.Author.Rules.{rules}
 use Rattle.running.proofs.pairs.works_on.Goals as goal
 
 pub returns-then-may : goal.returns-then-may

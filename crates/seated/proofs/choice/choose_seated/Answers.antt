@@ -1,7 +1,6 @@
 use Rattle.format.specs.Contents.{contents_at}
 use Rattle.naming.specs.Scopes.{awaited_by}
 use Rattle.seated.proofs.ChoseLaws.{chose_waits, chose_steps}
-use borrow.Author.Rules.{rules}
 use Rattle.seated.proofs.choice.choose_seated.Goals as goal
 
 pub has_to_wait-requires : goal.has_to_wait-requires

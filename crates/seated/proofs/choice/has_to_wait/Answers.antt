@@ -15,7 +15,6 @@ use Rattle.seats.specs.Seats.{limited_of, in_line}
 use Rattle.seating.specs.SeatTables.{line_in}
 use Rattle.seated.proofs.RoleLaws.{role_some}
 use Rattle.seated.proofs.WaitLaws.{no_role, role_low, answer_is, seat_room, waited}
-use borrow.Author.Rules.{rules}
 use Rattle.seated.proofs.choice.has_to_wait.Goals as goal
 
 few : (f : List ℕ) (h : Head) → Laid f h → length (contents_at f h).sessions ≤ 32
@@ -33,12 +32,12 @@ overflow_sub-i c =
     let asked = role_some (limited_of (contents_at a.file.now a.head) a.seats.now) (state_in a.threads.now a.beside.now) a.i a.p c.role_asked-role.result c.role_asked-role.ensures c.if-role-eq0.false in
     omega (arith, asked.thread.0)
 
-pub bounds-owners-wide : goal.bounds-owners-wide
-bounds-owners-wide c =
+pub bounds-owners-from : goal.bounds-owners-from
+bounds-owners-from c =
     let a = c.args in
     let q = c.requires in
     let asked = role_some (limited_of (contents_at a.file.now a.head) a.seats.now) (state_in a.threads.now a.beside.now) a.i a.p c.role_asked-role.result c.role_asked-role.ensures c.if-role-eq0.false in
-    omega (arith, asked.thread.0, asked.thread.1, threads_length a.threads.now 0 (thread_count a.beside.now), q.2.sized.threads, q.2.owners, c.wide.ensures.0)
+    omega (arith, asked.thread.0, asked.thread.1, threads_length a.threads.now 0 (thread_count a.beside.now), q.2.sized.threads, q.2.owners, c.from.ensures)
 
 pub seat_answer-answer-requires : goal.seat_answer-answer-requires
 seat_answer-answer-requires c =
@@ -46,7 +45,7 @@ seat_answer-answer-requires c =
     let q = c.requires in
     let asked = role_some (limited_of (contents_at a.file.now a.head) a.seats.now) (state_in a.threads.now a.beside.now) a.i a.p c.role_asked-role.result c.role_asked-role.ensures c.if-role-eq0.false in
     let (one, low) = role_low (contents_at a.file.now a.head) a.seats.now a.threads.now a.beside.now a.owners.now a.lines.now (few a.file.now a.head q.0) q.1 q.2 a.i a.p c.role_asked-role.result asked in
-    let count = c.wide-2.ensures.0 ∙ c.thread_count-count.ensures in
+    let count = c.from-2.ensures ∙ c.thread_count-count.ensures in
     (omega (arith, count, q.2.sized.threads, q.2.sized.words), omega (arith, count, q.2.sized.threads, q.2.owners), q.2.rows, one, low)
 
 pub line_up-requires : goal.line_up-requires
@@ -55,7 +54,7 @@ line_up-requires c =
     let q = c.requires in
     let asked = role_some (limited_of (contents_at a.file.now a.head) a.seats.now) (state_in a.threads.now a.beside.now) a.i a.p c.role_asked-role.result c.role_asked-role.ensures c.if-role-eq0.false in
     let (one, low) = role_low (contents_at a.file.now a.head) a.seats.now a.threads.now a.beside.now a.owners.now a.lines.now (few a.file.now a.head q.0) q.1 q.2 a.i a.p c.role_asked-role.result asked in
-    let (mine, is) = answer_is (contents_at a.file.now a.head) a.seats.now a.threads.now a.beside.now a.owners.now a.lines.now (few a.file.now a.head q.0) q.1 q.2 a.i a.p c.role_asked-role.result asked c.seat_answer-answer.result c.wide-2.result c.seats_of-limit.result _ c.wide.result c.seat_answer-answer.ensures (c.wide-2.ensures.0 ∙ c.thread_count-count.ensures) c.seats_of-limit.ensures refl c.wide.ensures.0 in
+    let (mine, is) = answer_is (contents_at a.file.now a.head) a.seats.now a.threads.now a.beside.now a.owners.now a.lines.now (few a.file.now a.head q.0) q.1 q.2 a.i a.p c.role_asked-role.result asked c.seat_answer-answer.result c.from-2.result c.seats_of-limit.result _ c.from.result c.seat_answer-answer.ensures (c.from-2.ensures ∙ c.thread_count-count.ensures) c.seats_of-limit.ensures refl c.from.ensures in
     (q.2.rows, one, low, λ none first out. seat_room (contents_at a.file.now a.head) a.seats.now a.threads.now a.beside.now a.owners.now a.lines.now (few a.file.now a.head q.0) q.1 q.2 a.i a.p c.role_asked-role.result asked c.seat_answer-answer.result is none first (subst (λ (k : ℕ). in_line k (line_in a.lines.now c.role_asked-role.result) ≡ false) mine out))
 
 pub returns : goal.returns
@@ -63,5 +62,5 @@ returns c =
     let a = c.args in
     let q = c.requires in
     let asked = role_some (limited_of (contents_at a.file.now a.head) a.seats.now) (state_in a.threads.now a.beside.now) a.i a.p c.role_asked-role.result c.role_asked-role.ensures c.if-role-eq0.false in
-    let (mine, is) = answer_is (contents_at a.file.now a.head) a.seats.now a.threads.now a.beside.now a.owners.now a.lines.now (few a.file.now a.head q.0) q.1 q.2 a.i a.p c.role_asked-role.result asked c.seat_answer-answer.result c.wide-2.result c.seats_of-limit.result _ c.wide.result c.seat_answer-answer.ensures (c.wide-2.ensures.0 ∙ c.thread_count-count.ensures) c.seats_of-limit.ensures refl c.wide.ensures.0 in
+    let (mine, is) = answer_is (contents_at a.file.now a.head) a.seats.now a.threads.now a.beside.now a.owners.now a.lines.now (few a.file.now a.head q.0) q.1 q.2 a.i a.p c.role_asked-role.result asked c.seat_answer-answer.result c.from-2.result c.seats_of-limit.result _ c.from.result c.seat_answer-answer.ensures (c.from-2.ensures ∙ c.thread_count-count.ensures) c.seats_of-limit.ensures refl c.from.ensures in
     waited (contents_at a.file.now a.head) a.seats.now a.threads.now a.beside.now a.owners.now a.lines.now (few a.file.now a.head q.0) q.1 q.2 a.i a.p c.role_asked-role.result asked c.seat_answer-answer.result is _ _ mine c.line_up.ensures

@@ -1,11 +1,8 @@
-use mathlib.Core.Path.{sym, ap, ◌∙◌, subst}
-use Prim.Native.Nat.{ℕ, ◌-◌}
+use mathlib.Core.Path.{◌≡◌, sym, ap, ◌∙◌, subst}
+use Prim.Native.Nat.{ℕ, ◌+◌, ◌-◌}
 use native.Mathlib.Omega.{arith}
 use lib.ListN.{get_or, set}
-use Rattle.steps.specs.declared.Answer.TheVariants as answers
-use Rattle.steps.proofs.TableLaws.{down}
 use Rattle.seated.specs.SeatedTables.{owners_passed, PassRoom}
-use borrow.Author.Rules.{rules}
 use Rattle.seated.proofs.choice.pass_on.Goals as goal
 
 pub overflow_sub-i : goal.overflow_sub-i
@@ -14,11 +11,11 @@ overflow_sub-i c =
     let r = subst (PassRoom a.count a.i) c.in-Adds.is c.requires.1 in
     omega (arith, r.0)
 
-pub bounds-owners-wide : goal.bounds-owners-wide
-bounds-owners-wide c =
+pub bounds-owners-from : goal.bounds-owners-from
+bounds-owners-from c =
     let a = c.args in
     let r = subst (PassRoom a.count a.i) c.in-Adds.is c.requires.1 in
-    omega (arith, r.0, r.1, r.2, c.wide.ensures.0, c.requires.0)
+    omega (arith, r.0, r.1, r.2, c.from.ensures, c.requires.0)
 
 pub offset_bounds-owners-count : goal.offset_bounds-owners-count
 offset_bounds-owners-count c =
@@ -32,18 +29,6 @@ bounds-owners-count c =
     let r = subst (PassRoom a.count a.i) c.in-Adds.is c.requires.1 in
     omega (arith, r.2, c.requires.0)
 
-pub overflow_sub-i-in-Ends : goal.overflow_sub-i-in-Ends
-overflow_sub-i-in-Ends c =
-    let a = c.args in
-    let r = subst (PassRoom a.count a.i) c.in-Ends.is c.requires.1 in
-    omega (arith, r.0)
-
-pub move_down-requires : goal.move_down-requires
-move_down-requires c =
-    let a = c.args in
-    let r = subst (PassRoom a.count a.i) c.in-Ends.is c.requires.1 in
-    (omega (arith, r.0, r.1, c.wide-in-Ends.ensures.0), omega (arith, r.2, c.requires.0))
-
 pub returns-in-Refused : goal.returns-in-Refused
 returns-in-Refused c = sym (ap (owners_passed _ _ _) c.in-Refused.is)
 
@@ -53,7 +38,7 @@ returns-in-Moves c = sym (ap (owners_passed _ _ _) c.in-Moves.is)
 pub returns-in-Adds : goal.returns-in-Adds
 returns-in-Adds c =
     let a = c.args in
-    ap (λ (x : ℕ). set a.owners.now a.count (get_or a.owners.now x 0)) c.wide.ensures.0 ∙ sym (ap (owners_passed a.owners.now a.count a.i) c.in-Adds.is)
+    ap (λ (x : ℕ). set a.owners.now a.count (get_or a.owners.now x 0)) c.from.ensures ∙ sym (ap (owners_passed a.owners.now a.count a.i) c.in-Adds.is)
 
 pub returns-in-Makes : goal.returns-in-Makes
 returns-in-Makes c = sym (ap (owners_passed _ _ _) c.in-Makes.is)
@@ -61,7 +46,12 @@ returns-in-Makes c = sym (ap (owners_passed _ _ _) c.in-Makes.is)
 pub returns-in-Ends : goal.returns-in-Ends
 returns-in-Ends c =
     let a = c.args in
-    c.move_down.ensures ∙ ap (λ (x : ℕ). down a.owners.now x 1 (a.count - 1 - x)) c.wide-in-Ends.ensures.0 ∙ sym (ap (owners_passed a.owners.now a.count a.i) c.in-Ends.is)
+    let os = a.owners.now in
+    let r = subst (PassRoom a.count a.i) c.in-Ends.is c.requires.1 in
+    let from : c.from-in-Ends.result ≡ a.i - 1 + 1 = omega (arith, r.0, c.from-in-Ends.ensures) in
+    let to : c.from-in-Ends-2.result ≡ a.i - 1 = c.from-in-Ends-2.ensures in
+    let n : a.count - (a.i - 1 + 1) ≡ a.count - 1 - (a.i - 1) = omega arith in
+    c.copy_within.ensures.after ∙ rw (from, to, n) (sym (ap (owners_passed os a.count a.i) c.in-Ends.is))
 
 pub returns-in-Meets : goal.returns-in-Meets
 returns-in-Meets c = sym (ap (owners_passed _ _ _) c.in-Meets.is)

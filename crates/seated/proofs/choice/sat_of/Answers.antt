@@ -1,6 +1,5 @@
 use mathlib.Core.Path.{sym, ap}
 use Rattle.seated.specs.SeatedTables.{sat_of}
-use borrow.Author.Rules.{rules}
 use Rattle.seated.proofs.choice.sat_of.Goals as goal
 
 pub returns-in-Refused : goal.returns-in-Refused

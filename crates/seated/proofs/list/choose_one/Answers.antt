@@ -4,7 +4,6 @@ use Rattle.format.specs.Contents.{contents_at}
 use Rattle.naming.specs.Scopes.{awaited_by}
 use Rattle.seats.specs.Seats.{limited_of}
 use Rattle.seated.proofs.OneLaws.{one_refused, one_waits, one_ends, one_steps}
-use borrow.Author.Rules.{rules}
 use Rattle.seated.proofs.list.choose_one.Goals as goal
 
 pub returns-then-went-ne0 : goal.returns-then-went-ne0

@@ -5,7 +5,6 @@ use Rattle.naming.specs.Scopes.{awaited_by}
 use native.Mathlib.Omega.{arith}
 use Rattle.seated.proofs.StartLaws.{numbered_first, numbered_length}
 use Rattle.seated.proofs.OpenLaws.{opened}
-use borrow.Author.Rules.{rules}
 use Rattle.seated.proofs.runs.open_seated.Goals as goal
 
 pub returns : goal.returns

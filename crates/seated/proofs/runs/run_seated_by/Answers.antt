@@ -1,7 +1,6 @@
 use Rattle.format.specs.Contents.{contents_at}
 use Rattle.naming.specs.Scopes.{awaited_by}
 use Rattle.seated.proofs.OpenLaws.{open_kept, open_through}
-use borrow.Author.Rules.{rules}
 use Rattle.seated.proofs.runs.run_seated_by.Goals as goal
 
 pub open_seated-requires : goal.open_seated-requires

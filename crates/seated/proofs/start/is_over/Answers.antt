@@ -1,5 +1,4 @@
 use Rattle.seated.proofs.StartLaws.{not_over, over_by}
-use borrow.Author.Rules.{rules}
 use Rattle.seated.proofs.start.is_over.Goals as goal
 
 pub returns-then-limit-eq0 : goal.returns-then-limit-eq0

@@ -3,7 +3,6 @@ use native.Mathlib.Omega.{arith}
 use Rattle.format.specs.Contents.{contents_at}
 use Rattle.format.proofs.ContentsLaws.{roles_held}
 use Rattle.seated.proofs.EntryLaws.{fits_short, test_is, bar_table, bar_none, bar_start}
-use borrow.Author.Rules.{rules}
 use Rattle.seated.proofs.table.seats_bar.Goals as goal
 
 pub returns-then-not-fits : goal.returns-then-not-fits

@@ -1,6 +1,5 @@
 use native.Mathlib.Omega.{arith}
 use Rattle.seating.proofs.RowLaws.{next-none, next_head}
-use borrow.Author.Rules.{rules}
 use Rattle.seating.proofs.lines.is_next.Goals as goal
 
 pub returns-then-lines-at-eq0 : goal.returns-then-lines-at-eq0

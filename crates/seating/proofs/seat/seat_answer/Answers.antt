@@ -6,7 +6,6 @@ use Rattle.steps.specs.Records.{threads_in}
 use Rattle.seats.specs.Seats.{is_next}
 use Rattle.seating.specs.SeatTables.{line_row, line_in}
 use Rattle.seating.proofs.SeatLaws.{seat_has, seat_full, seat_free}
-use borrow.Author.Rules.{rules}
 use Rattle.seating.proofs.seat.seat_answer.Goals as goal
 
 pub returns-then-has_session : goal.returns-then-has_session
@@ -29,7 +28,7 @@ returns-then-is_next c =
     let ts = threads_in a.threads.now 0 a.count in
     let e = c.sessions_in-sessions.ensures in
     seat_free ts a.owners.now (line_in a.lines.now a.role.0) a.role.0 a.limit a.k c.sessions_in-sessions.result e true (sym c.has_session.ensures ∙ c.if-has_session.false) (omega (arith, c.session_count.ensures))
-    (ap (λ (x : ℕ). is_next (line_row a.lines.now x) a.k) (sym c.wide.ensures.0) ∙ sym c.is_next.ensures ∙ c.if-is_next.true)
+    (ap (λ (x : ℕ). is_next (line_row a.lines.now x) a.k) (sym c.from.ensures) ∙ sym c.is_next.ensures ∙ c.if-is_next.true)
 
 pub returns : goal.returns
 returns c =
@@ -37,4 +36,4 @@ returns c =
     let ts = threads_in a.threads.now 0 a.count in
     let e = c.sessions_in-sessions.ensures in
     seat_free ts a.owners.now (line_in a.lines.now a.role.0) a.role.0 a.limit a.k c.sessions_in-sessions.result e false (sym c.has_session.ensures ∙ c.if-has_session.false) (omega (arith, c.session_count.ensures))
-    (ap (λ (x : ℕ). is_next (line_row a.lines.now x) a.k) (sym c.wide.ensures.0) ∙ sym c.is_next.ensures ∙ c.if-is_next.false)
+    (ap (λ (x : ℕ). is_next (line_row a.lines.now x) a.k) (sym c.from.ensures) ∙ sym c.is_next.ensures ∙ c.if-is_next.false)

@@ -3,7 +3,6 @@ use native.Mathlib.Omega.{arith}
 use Rattle.masks.specs.Mask.{has}
 use Rattle.masks.proofs.Laws.{has_above}
 use Rattle.masks.proofs.Forms.{has_form}
-use borrow.Author.Rules.{rules}
 use Rattle.seating.proofs.sessions.has_session.Goals as goal
 
 pub returns-then-k-eq0 : goal.returns-then-k-eq0

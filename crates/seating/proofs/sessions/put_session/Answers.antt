@@ -1,7 +1,6 @@
 use mathlib.Core.Bool.{true, false}
 use Rattle.masks.specs.Mask.{has}
 use mathlib.Core.Path.{◌≡◌, sym, ◌∙◌}
-use borrow.Author.Rules.{rules}
 use Rattle.seating.proofs.sessions.put_session.Goals as goal
 
 pub returns-then-has_role : goal.returns-then-has_role

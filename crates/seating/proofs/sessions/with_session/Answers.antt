@@ -1,7 +1,6 @@
 use mathlib.Core.Path.{◌∙◌}
 use native.Mathlib.Omega.{arith}
 use Rattle.masks.proofs.Forms.{with_form}
-use borrow.Author.Rules.{rules}
 use Rattle.seating.proofs.GatherLaws.{with_none, with_far, with_one}
 use Rattle.seating.proofs.sessions.with_session.Goals as goal
 

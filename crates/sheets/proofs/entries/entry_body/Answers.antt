@@ -17,7 +17,6 @@ use Rattle.placing.specs.declared.Decision.{Decision}
 use Rattle.placing.proofs.DecideLaws.{decided_quiet, settled_quiet, turns_written}
 use Rattle.sheets.specs.Entries.{most_from, refused_at}
 use Rattle.sheets.proofs.EntryLaws.{entry_loud, entry_quiet}
-use borrow.Author.Rules.{rules}
 use Rattle.sheets.proofs.entries.entry_body.Goals as goal
 use Rattle.sheets.proofs.entries.entry_body.Lts as lts
 use Rattle.sheets.proofs.entries.entry_body.Tie as tie

@@ -4,7 +4,6 @@ use lib.Dec.{eqb}
 use Rattle.states.specs.declared.Turn.{Turn}
 use Rattle.states.specs.States.{unpacked}
 use Rattle.groups.proofs.WriteLaws.{switch_counted, one_at_most, on_switch}
-use borrow.Author.Rules.{rules}
 use Rattle.sheets.proofs.most.on_before.Goals as goal
 
 pub returns : goal.returns

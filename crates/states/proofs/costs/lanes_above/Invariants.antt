@@ -1,4 +1,3 @@
-use Prim.Native.Nat.{◌-◌, ◌≤◌}
 use mathlib.Core.Path.{◌≡◌}
 use lib.Dec.{ltb}
 use lib.ListN.{get_or}
@@ -6,7 +5,4 @@ use Rattle.states.specs.Kept.{gather}
 use Rattle.states.proofs.costs.lanes_above.Given as goal
 
 abbrev pub invariant-loop-q : goal.invariant-loop-q
-invariant-loop-q l = (l.q ≤ 16) × (l.set ≡ gather l.q (λ q. ltb l.least (get_or l.lanes q 0)))
-
-abbrev pub decreases-loop-q : goal.decreases-loop-q
-decreases-loop-q l = 16 - l.q
+invariant-loop-q l = (l.set ≡ gather l.q (λ q. ltb l.least (get_or l.lanes q 0)))

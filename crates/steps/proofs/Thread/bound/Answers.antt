@@ -1,32 +1,24 @@
-use Prim.Native.Nat.{◌+◌, ◌-◌, ◌≤◌}
-use mathlib.Core.Path.{◌≡◌, refl, ◌∙◌}
+use mathlib.Core.Path.{◌≡◌, refl, ap, sym, ◌∙◌}
+use mathlib.Core.Bool.{Bool, cond, ◌&&◌}
 use native.Mathlib.Omega.{arith}
-use lib.ListN.{length, length-set}
-use borrow.Author.Rules.{rules}
-use Rattle.steps.proofs.ThreadLaws.{Passed, pass_more, passed_all, unmapped}
+use lib.Dec.{eqb}
+use lib.ListN.{get_or, length-set}
+use Rattle.steps.proofs.ThreadLaws.{pass_more}
 use Rattle.steps.proofs.Thread.bound.Goals as goal
-
-pub loop-k-init : goal.loop-k-init
-loop-k-init c =
-    let l : length c.args.self.vars ≡ 8 = search rules in
-    (omega arith, l, l, (refl, omega arith), refl, refl, refl)
+use Rattle.steps.proofs.Thread.bound.Goals.{then-free, else-free}
 
 pub loop-k-preserved : goal.loop-k-preserved
 loop-k-preserved c =
     let a = c.args in
-    let l = c.loop-k in (
-      omega arith,
-      l.invariant.1,
-      length-set l.self.vars l.k c.either.result ∙ l.invariant.2,
-      pass_more a.self.vars a.given l.k l.«open» _ l.self.vars c.either.result (omega (arith, l.invariant.1)) refl c.either.ensures l.invariant.3,
+    let l = c.loop-k in
+    let v = get_or l.self.vars l.k 0 in
+    let free : Bool = l.«open» && eqb v 0 in
+    let chosen : c.if-free.self ≡ cond free a.given v =
+    elim c.if-free.branch [ then-free w ↦ w.self-is ∙ sym (ap (λ (b : Bool). cond b a.given v) w.if-free.true) | else-free w ↦ w.self-is ∙ sym (ap (λ (b : Bool). cond b a.given v) w.if-free.false) ] in (
+      l.invariant.0,
+      length-set l.self.vars l.k c.if-free.self ∙ l.invariant.1,
+      pass_more a.self.vars a.given l.k l.«open» free l.self.vars c.if-free.self (omega (arith, l.invariant.0)) refl chosen l.invariant.2,
+      l.invariant.3,
       l.invariant.4,
       l.invariant.5,
-      l.invariant.6,
     )
-
-pub returns : goal.returns
-returns c =
-    let l = c.loop-k in
-    let a = c.args in
-    let vars = passed_all a.self.vars a.given l.k l.«open» l.self.vars (omega (arith, l.invariant.1)) l.invariant.3 in
-    λ i. record { user = l.invariant.4 i; node = l.invariant.5 i + 1; mask = l.invariant.6 i; vars = vars i }

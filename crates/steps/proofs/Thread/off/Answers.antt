@@ -1,5 +1,4 @@
 use mathlib.Core.Path.{ap}
-use borrow.Author.Rules.{rules}
 use Rattle.steps.specs.Threads.{masked}
 use Rattle.steps.proofs.Thread.off.Goals as goal
 

@@ -3,14 +3,12 @@ use mathlib.Core.Path.{◌≡◌, sym, ap₂, ◌∙◌}
 use mathlib.Core.Bool.{Bool}
 use native.Mathlib.Omega.{arith}
 use lib.ListN.{length, get_or}
-use borrow.Author.Tests.{not-true, not-false}
 use Rattle.format.specs.Contents.{in_count, contents_at}
 use Rattle.format.proofs.ContentsLaws.{in_count_lem, nodes_held, nodes_counted}
 use Rattle.steps.specs.Choice.{clinic_of, lone}
 use Rattle.steps.specs.Acted.{acted_of}
 use Rattle.steps.specs.Beside.{made_in}
 use Rattle.steps.proofs.ActLaws.{answered, length_made, acting_out, acting_send, acting_receive, acting_partner, acting_lone}
-use borrow.Author.Rules.{rules}
 use Rattle.steps.proofs.act.act.Goals as goal
 use Rattle.steps.proofs.act.act.Lts as lts
 use Rattle.steps.proofs.act.act.Tie as tie

@@ -1,5 +1,4 @@
 use borrow.Author.Tests.{lt-ltb, le-ltb}
-use borrow.Author.Rules.{rules}
 use Rattle.steps.proofs.act.adds.Goals as goal
 
 pub returns-then-threads-lt64 : goal.returns-then-threads-lt64

@@ -2,7 +2,6 @@ use mathlib.Core.Path.{ap, ◌∙◌}
 use borrow.Author.Tests.{lt-ltb, le-ltb}
 use Rattle.steps.specs.declared.Answer.TheVariants as answers
 use Rattle.steps.proofs.ActLaws.{leaving}
-use borrow.Author.Rules.{rules}
 use Rattle.steps.proofs.act.makes.Goals as goal
 
 pub returns-then-made-lt64 : goal.returns-then-made-lt64

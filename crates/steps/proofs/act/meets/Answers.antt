@@ -1,7 +1,6 @@
 use mathlib.Core.Path.{◌≡◌, sym, ap, ap₂, ◌∙◌}
 use mathlib.Core.Bool.{Bool}
 use lib.ListN.{get_or}
-use borrow.Author.Tests.{not-true, not-false}
 use Rattle.format.specs.Contents.{contents_at}
 use Rattle.rules.specs.Schema.{schema_of}
 use Rattle.rules.specs.declared.Way.TheVariants.{Sends, Receives}
@@ -12,7 +11,6 @@ use Rattle.steps.specs.Choice.{clinic_of, is_allowed}
 use Rattle.steps.specs.Beside.{made_in}
 use Rattle.steps.specs.Acted.{acted_of}
 use Rattle.steps.proofs.ActLaws.{answered, able_by, meeting_sender, meeting_receiver, meeting_apart, meeting_both}
-use borrow.Author.Rules.{rules}
 use Rattle.steps.proofs.act.meets.Goals as goal
 use Rattle.steps.proofs.act.meets.Lts as lts
 use Rattle.steps.proofs.act.meets.Tie as tie

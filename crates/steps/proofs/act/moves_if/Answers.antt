@@ -1,4 +1,3 @@
-use borrow.Author.Rules.{rules}
 use Rattle.steps.proofs.act.moves_if.Goals as goal
 
 pub returns-then-fits : goal.returns-then-fits

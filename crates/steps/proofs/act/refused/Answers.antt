@@ -1,7 +1,6 @@
 use mathlib.Core.Path.{ap, ◌∙◌}
 use Rattle.steps.specs.declared.Answer.TheVariants as answers
 use Rattle.steps.proofs.ActLaws.{leaving}
-use borrow.Author.Rules.{rules}
 use Rattle.steps.proofs.act.refused.Goals as goal
 
 pub returns : goal.returns

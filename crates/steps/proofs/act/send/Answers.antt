@@ -2,13 +2,11 @@ use mathlib.Core.Path.{◌≡◌, sym, ◌∙◌}
 use mathlib.Core.Bool.{Bool}
 use native.Mathlib.Omega.{arith}
 use lib.ListN.{length, get_or}
-use borrow.Author.Tests.{not-true, not-false}
 use Rattle.format.specs.Contents.{in_count, contents_at}
 use Rattle.format.proofs.ContentsLaws.{in_count_lem, nodes_held, nodes_counted}
 use Rattle.steps.specs.Choice.{clinic_of}
 use Rattle.steps.specs.Beside.{made_in}
 use Rattle.steps.proofs.ActLaws.{answered, sending_alone, sending_missing, sending_out, sending_elsewhere, sending_received}
-use borrow.Author.Rules.{rules}
 use Rattle.steps.proofs.act.send.Goals as goal
 use Rattle.steps.proofs.act.send.Lts as lts
 use Rattle.steps.proofs.act.send.Tie as tie

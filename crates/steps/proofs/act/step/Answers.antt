@@ -3,7 +3,6 @@ use Rattle.format.specs.Contents.{contents_at}
 use Rattle.steps.specs.declared.Answer.TheVariants as answers
 use Rattle.steps.specs.Choice.{clinic_of}
 use Rattle.steps.proofs.ActLaws.{answered, leaving, lone_end, lone_fork, lone_repeat, lone_new, lone_compare, lone_on, lone_off, lone_other}
-use borrow.Author.Rules.{rules}
 use Rattle.steps.proofs.act.step.Goals as goal
 
 pub returns-in-0 : goal.returns-in-0

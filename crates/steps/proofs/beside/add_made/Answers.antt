@@ -1,10 +1,9 @@
 use native.Mathlib.Omega.{arith}
 use lib.ListN.{length-set}
-use borrow.Author.Rules.{rules}
 use Rattle.steps.proofs.beside.add_made.Goals as goal
 
 pub bounds-beside-at-2 : goal.bounds-beside-at-2
 bounds-beside-at-2 c = simp length-set (omega arith)
 
 pub returns : goal.returns
-returns c = rw (c.wide-at.ensures.0, c.made_count-n.ensures)
+returns c = rw (c.from-at.ensures, c.made_count-n.ensures)

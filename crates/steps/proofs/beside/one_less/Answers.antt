@@ -1,5 +1,4 @@
 use Rattle.steps.specs.Beside.{one_less}
-use borrow.Author.Rules.{rules}
 use Rattle.steps.proofs.beside.one_less.Goals as goal
 
 pub returns : goal.returns

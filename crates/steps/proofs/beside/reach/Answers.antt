@@ -1,5 +1,4 @@
 use mathlib.Core.Path.{ap, ◌∙◌}
-use borrow.Author.Rules.{rules}
 use Rattle.naming.specs.Scopes.{awaited_by}
 use Rattle.steps.specs.Beside.{one_more}
 use Rattle.steps.proofs.TotalLaws.{kinds_none, more_none}

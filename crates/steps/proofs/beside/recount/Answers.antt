@@ -1,7 +1,6 @@
 use Prim.Native.Nat.{ℕ}
 use mathlib.Core.Path.{sym, ap, ◌∙◌}
 use mathlib.Core.List.{List}
-use borrow.Author.Rules.{rules}
 use Rattle.naming.specs.Scopes.{awaited_by}
 use Rattle.steps.specs.declared.Answer.{Answer}
 use Rattle.steps.specs.Acted.{outcome_by}

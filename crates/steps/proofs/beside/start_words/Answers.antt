@@ -1,6 +1,5 @@
 use mathlib.Core.Path.{ap, ◌∙◌}
 use lib.ListN.{length, set, length-set}
-use borrow.Author.Rules.{rules}
 use Rattle.steps.proofs.TotalLaws.{cleared_length}
 use Rattle.steps.proofs.beside.start_words.Goals as goal
 

@@ -1,3 +1,4 @@
+use Prim.Native.Nat.{ℕ, ◌+◌}
 use mathlib.Core.Path.{◌≡◌, refl, ap, ◌∙◌}
 use native.Mathlib.Omega.{arith}
 use lib.ListN.{length, get_or, drop, length-set}
@@ -6,37 +7,31 @@ use Rattle.format.proofs.ContentsLaws.{nodes_held}
 use Rattle.trees.proofs.EndsLaws.{in_table, same_end, again, begin, finish, keep_first}
 use Rattle.trees.proofs.ends.ends.Goals as goal
 
-pub bounds-ends-n : goal.bounds-ends-n
-bounds-ends-n c = simp length-set (omega arith)
-
 pub loop-i-init : goal.loop-i-init
 loop-i-init c =
     let a = c.args in
-    let n = c.wide-n.result in
+    let n = c.from-n.result in
     let all : length (contents_at a.file.now a.head).nodes ≡ n = omega (arith, nodes_held a.file.now a.head) in
-    let h = begin (contents_at a.file.now a.head).nodes n a.ends.now all (omega arith) in
-    (omega arith, omega arith, simp length-set (omega arith), h.0, h.1)
+    begin (contents_at a.file.now a.head).nodes n a.ends.now all (omega arith)
 
-pub bounds-ends-wide : goal.bounds-ends-wide
-bounds-ends-wide c =
+pub bounds-ends-from : goal.bounds-ends-from
+bounds-ends-from c =
     let a = c.args in
     let l = c.loop-i in
-    omega (arith, in_table l.ends l.i (drop l.i (contents_at a.file.now a.head).nodes) (omega arith) l.invariant.3 l.invariant.4)
+    omega (arith, in_table l.ends l.i (drop l.i (contents_at a.file.now a.head).nodes) (omega (arith, length-set {A = ℕ})) l.invariant.0 l.invariant.1)
 
 pub loop-i-preserved : goal.loop-i-preserved
 loop-i-preserved c =
     let a = c.args in
     let l = c.loop-i in
     let ns = (contents_at a.file.now a.head).nodes in
-    let all : length ns ≡ a.head.count.nodes = nodes_held a.file.now a.head in (
-      l.invariant.0,
-      omega arith,
-      simp length-set (omega arith),
-      keep_first l.ends l.i c.end_of.result (omega arith) l.invariant.3,
-      again ns l.i l.ends c.end_of.result (omega arith) (omega arith) (omega arith) l.invariant.3 l.invariant.4
+    let all : length ns ≡ a.head.count.nodes = nodes_held a.file.now a.head in
+    let long : length l.ends ≡ a.head.count.nodes + 2 = omega (arith, length-set {A = ℕ}) in (
+      keep_first l.ends l.i c.end_of.result (omega arith) l.invariant.0,
+      again ns l.i l.ends c.end_of.result (omega arith) (omega arith) (omega arith) l.invariant.0 l.invariant.1
           (c.end_of.ensures
           ∙ same_end (c.node_tag-tag.ensures ∙ ap (λ k. (item no_node ns k).tag) c.narrow.ensures) c.narrow-in-loop-i.ensures refl
-          (ap (λ k. get_or l.ends k 0) c.wide.ensures.0)),
+          (ap (λ k. get_or l.ends k 0) c.from.ensures)),
     )
 
 pub returns : goal.returns
@@ -44,4 +39,4 @@ returns c =
     let a = c.args in
     let l = c.loop-i in
     let z : l.i ≡ 0 = omega arith in
-    finish l.ends (contents_at a.file.now a.head).nodes (omega arith) l.invariant.3 (rw z at l.invariant.4)
+    finish l.ends (contents_at a.file.now a.head).nodes (omega (arith, length-set {A = ℕ})) l.invariant.0 (rw z at l.invariant.1)
