@@ -24,7 +24,7 @@ fn is_done(sat: Sat) -> bool
     !matches!(sat, Sat::Refused(_))
 }
 
-// The tables hold the state that a choice led to: its row is looked up.
+// The tables hold the state that a choice led to: its row is looked up; none where the choice names no row with that state.
 fn arrive(
     roles: usize,
     states: &[u16],
@@ -100,10 +100,10 @@ fn try_choice(
         states,
         places,
         next,
-        &*threads,
-        &*beside,
-        &*owners,
-        &*lines,
+        threads,
+        beside,
+        owners,
+        lines,
         search,
     );
     load_row(states, at, seats.len(), threads, beside, owners, lines);
@@ -170,7 +170,7 @@ pub fn try_threads(
         places.now next.now) at (λ K S. row_tried K S search) result
         threads.new beside.new owners.new lines.new }
 {
-    let count = thread_count(&*beside);
+    let count = thread_count(beside);
     let mut on = search;
     for i in 1..=count {
         on = try_partners(

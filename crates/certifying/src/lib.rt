@@ -113,6 +113,7 @@ fn begins_fine(
     same_row(states, at, roles, threads, beside, owners, lines)
 }
 
+// What is asked: a part of the rows, or none, which stands for all of them.
 fn fits_asked(rows: usize, words: usize, asked: Option<Part>) -> bool
     ensures { result ≡ asked_fits rows words asked }
 {

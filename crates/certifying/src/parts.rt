@@ -57,14 +57,7 @@ fn test_row(
         return None;
     }
     load_row(states, at, seats.len(), threads, beside, owners, lines);
-    if !in_order(
-        seats,
-        head.count.sessions,
-        &*threads,
-        &*beside,
-        &*owners,
-        &*lines,
-    ) {
+    if !in_order(seats, head.count.sessions, threads, beside, owners, lines) {
         return None;
     }
     try_threads(

@@ -17,6 +17,7 @@ use Rattle.std.specs.Prelude.{Result, Ok, Err}
 use Rattle.reading.proofs.ReadingLaws.{by_body, head_given, refusal_given, opened_fine, opened_refused}
 use Rattle.rules.specs.Checking.{names_answer, roles_answer, judgement}
 use Rattle.rules.specs.Candidates.{candidates_in}
+use Rattle.checking.specs.declared.Examined.{Examined}
 use Rattle.checking.specs.Check.{Admitted, examined_from, surveyed_from}
 use Rattle.hours.specs.Hours.{table_answer, rows_answer, shut}
 use Rattle.checking_at.specs.CheckAt.{shut_answer, sooner, roles_answer_at, reading_at, opened_at, reading_names_at, entered_at, checking_at}
@@ -57,6 +58,10 @@ module _ (f t : List ℕ) where
       ap (λ (k : Head). with_head k (names_answer (contents_at f k))) same ∙ ap (with_head (head_at f)) (sym (quiet_first (reading_at f t) (names_answer (contents_of f)) q))
   entered_at_lem (Err w) e =
       sym (ap (with_head (head_at f)) (loud_first (reading_at f t) (names_answer (contents_of f)) (refusal_given (head_at f) (reading_at f t) w e).0) ∙ e)
+
+  -- the way in, as it was found
+  pub way_found : (a : Result Head Verdict) (x : Examined) → a ≡ opened_at f t → x ≡ examined_from f a → x.names ≡ entered_at f t
+  way_found a x o e = ap (λ (y : Examined). y.names) e ∙ entered_at_lem a (sym o)
 
   pub entered_at_fine : (h : Head) → entered_at f t ≡ Ok h → NoRefusal (reading_names_at f t) × (h ≡ head_at f)
   unfolding entered_at

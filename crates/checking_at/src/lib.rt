@@ -47,8 +47,7 @@ pub fn check_at(file: &[u8], hours: &[u16], minute: u16) -> Verdict
     }
     let mut roles = [0u16; 1025];
     let found = examine_opened(file, open_at(file, hours), &mut roles);
-    let names = found.names;
-    match names {
+    match found.names {
         Err(first) => first,
         Ok(head) => sooner(found.roles, shut_on(file, head, shut(hours, minute))),
     }

@@ -127,15 +127,12 @@ pub fn go_through(
         let i = choices[2 * k];
         let p = choices[2 * k + 1];
         let answer = choose(file, head, sends, receives, table, threads, beside, i, p);
-        match answer {
-            Answer::Refused(refusal) => {
-                return Went {
-                    count: narrow(k),
-                    refusal,
-                    last: answer,
-                };
-            }
-            _ => {}
+        if let Answer::Refused(refusal) = answer {
+            return Went {
+                count: narrow(k),
+                refusal,
+                last: answer,
+            };
         }
         last = answer;
     }

@@ -27,14 +27,14 @@ pub fn choose_by(
         × (list.new ≡ judged_records (contents_at file.now head) list.old beside.old i p)
         × (beside.new ≡ judged_beside (contents_at file.now head) list.old beside.old i p) }
 {
-    let count = thread_count(&*beside);
+    let count = thread_count(beside);
     let n = usize::from(count);
-    if !records_fit(&mut *list, n, file, head, table, &*beside) {
+    if !records_fit(list, n, file, head, table, beside) {
         return unlendable();
     }
     let own = list[index_of(count, i)];
     let other = list[index_of(count, p)];
-    let it = stepped(file, head, table, &mut *beside, i, own, p, other);
-    store(&mut *list, n, usize::from(i), usize::from(p), it);
+    let it = stepped(file, head, table, beside, i, own, p, other);
+    store(list, n, usize::from(i), usize::from(p), it);
     answer_of(it)
 }

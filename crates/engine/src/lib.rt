@@ -322,17 +322,9 @@ pub extern "C" fn pilzdamo_choose(
         × (beside.new ≡ beside_over file.now threads.old beside.old thread partner) }
 {
     let mut table = [0u64; 1025];
-    match admit(file, threads.len(), &*beside, &mut table) {
+    match admit(file, threads.len(), beside, &mut table) {
         Err(first) => first,
-        Ok(head) => choose_by(
-            &mut *threads,
-            file,
-            head,
-            &table,
-            &mut *beside,
-            thread,
-            partner,
-        ),
+        Ok(head) => choose_by(threads, file, head, &table, beside, thread, partner),
     }
 }
 
@@ -344,10 +336,10 @@ pub extern "C" fn pilzdamo_start(file: &[u8], threads: &mut [Thread], beside: &m
         × (threads.new ≡ records_started file.now threads.old beside.old)
         × (beside.new ≡ beside_started file.now threads.old beside.old) }
 {
-    match begin(file, threads.len(), &mut *beside) {
+    match begin(file, threads.len(), beside) {
         Err(first) => first,
         Ok(head) => {
-            start_records(&mut *threads, file, head, usize::from(head.count.sessions));
+            start_records(threads, file, head, usize::from(head.count.sessions));
             Verdict::FINE
         }
     }

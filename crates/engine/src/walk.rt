@@ -58,7 +58,7 @@ pub fn store(list: &mut [Thread], count: usize, i: usize, p: usize, it: Acted)
     requires { Storable (length list.old) count i p it.answer }
     ensures { list.new ≡ stored_in list.old count i p (outcome_of it) }
 {
-    put_record(&mut *list, first_to(i, it), first_of(it));
-    put_record(&mut *list, second_to(count, p, it), second_of(it));
-    close_gap(&mut *list, i, down_to(count, i, it));
+    put_record(list, first_to(i, it), first_of(it));
+    put_record(list, second_to(count, p, it), second_of(it));
+    close_gap(list, i, down_to(count, i, it));
 }

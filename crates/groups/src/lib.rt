@@ -46,7 +46,7 @@ pub fn starts(turns: &[u16], nodes: u16, starts: &mut [u16]) -> Sums
     }
 }
 
-// The new number of what a number names: where its group starts, and 0 for a number of no node.
+// The new number of a node: where its group starts; 0 for a number that no node has.
 fn renamed(starts: &[u16], n: u16) -> u16
     ensures { result ≡ get_or starts.now n 0 }
 {

@@ -80,10 +80,8 @@ fn vars_fit(file: &[u8], head: Head, beside: &[u16], w: u64, vars: [u16; 8]) -> 
             if !value_fits(file, head, beside, kind_at(w, k as u64), v) {
                 return false;
             }
-        } else {
-            if v != 0 {
-                return false;
-            }
+        } else if v != 0 {
+            return false;
         }
     }
     true

@@ -7,15 +7,14 @@ pub mod starting;
 pub mod stepping;
 pub mod storing;
 
-ghost use Rattle.std.specs.Prelude.{◌≡◌, length, replicate, Ok};
+ghost use Rattle.std.specs.Prelude.{◌≡◌, length, replicate};
 ghost use Rattle.format.specs.Answers.{refused};
-ghost use Rattle.format.specs.declared.Head.{Head};
 ghost use Rattle.lending.specs.Lent.{sizes_fit};
 ghost use Rattle.lending.specs.Walk.{admitted, Admits, index_of, answer_of};
 
 use checking::enter_scoped;
 use format::sections::in_count;
-use format::{Head, Seven, Six, Verdict};
+use format::{Head, Verdict};
 use judging::made_fit;
 use steps::beside::{BESIDE, made_count, thread_count};
 use steps::{Acted, Answer};
@@ -81,26 +80,8 @@ pub fn index_of(count: u16, i: u16) -> usize
 pub fn answer_of(it: Acted) -> Verdict
     ensures { result ≡ answer_of it.answer }
 {
-    let done = Verdict::FINE;
-    let answer = it.answer;
-    match answer {
-        Answer::Refused(number) => {
-            return Verdict { number, place: 1 };
-        }
-        Answer::Moves => {
-            return done;
-        }
-        Answer::Adds => {
-            return done;
-        }
-        Answer::Makes(_) => {
-            return done;
-        }
-        Answer::Ends => {
-            return done;
-        }
-        Answer::Meets => {
-            return done;
-        }
+    match it.answer {
+        Answer::Refused(number) => Verdict { number, place: 1 },
+        _ => Verdict::FINE,
     }
 }

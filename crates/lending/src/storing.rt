@@ -20,14 +20,9 @@ pub fn second_of(it: Acted) -> Thread
 pub fn first_to(i: usize, it: Acted) -> usize
     ensures { result ≡ first_to i it.answer }
 {
-    let answer = it.answer;
-    match answer {
-        Answer::Refused(_) => 0,
-        Answer::Moves => i,
-        Answer::Adds => i,
-        Answer::Makes(_) => i,
-        Answer::Ends => 0,
-        Answer::Meets => i,
+    match it.answer {
+        Answer::Refused(_) | Answer::Ends => 0,
+        _ => i,
     }
 }
 
@@ -36,14 +31,10 @@ pub fn second_to(count: usize, p: usize, it: Acted) -> usize
     requires { second_to count p it.answer < 2 ^ 64 }
     ensures { result ≡ second_to count p it.answer }
 {
-    let answer = it.answer;
-    match answer {
-        Answer::Refused(_) => 0,
-        Answer::Moves => 0,
+    match it.answer {
         Answer::Adds => count + 1,
-        Answer::Makes(_) => 0,
-        Answer::Ends => 0,
         Answer::Meets => p,
+        _ => 0,
     }
 }
 
@@ -51,13 +42,8 @@ pub fn second_to(count: usize, p: usize, it: Acted) -> usize
 pub fn down_to(count: usize, i: usize, it: Acted) -> usize
     ensures { result ≡ down_to count i it.answer }
 {
-    let answer = it.answer;
-    match answer {
-        Answer::Refused(_) => i,
-        Answer::Moves => i,
-        Answer::Adds => i,
-        Answer::Makes(_) => i,
+    match it.answer {
         Answer::Ends => count,
-        Answer::Meets => i,
+        _ => i,
     }
 }

@@ -36,7 +36,9 @@ fn put_channel(out: &mut [u8], head: Head, n: u16, it: Channel)
     put_word(out, at + 1, it.kind.0);
 }
 
-// The next three loops have one shape, and stay three: one function would be lent how to read, move and write a record, and say less in more lines.
+// The three loops have one shape and stay three: one function would have to be told how a record is read, moved and written,
+// and would be longer.
+
 pub fn put_channels(file: &[u8], head: Head, by: Shift, whole: Head, others: u16, out: &mut [u8])
     requires { Laid file.now head × Limited (contents_at file.now head) × FewBefore by
         × (others ≤ 64) × (2 * (whole.at.channels + 2 * (others + head.count.channels)) ≤ length out.old) }

@@ -112,10 +112,10 @@ fn offer_choice(
         p,
         went.last,
         seats.len(),
-        &*threads,
-        &*beside,
-        &*owners,
-        &*lines,
+        threads,
+        beside,
+        owners,
+        lines,
     );
     load_row(state, 0, seats.len(), threads, beside, owners, lines);
     on
@@ -187,7 +187,7 @@ pub fn offer_threads(
         (seated_at (length seats.now) state.now 0))) × (result.length < 4294967296) }
 {
     let table = [0u64; 0];
-    let count = thread_count(&*beside);
+    let count = thread_count(beside);
     let mut on = Noted {
         full: false,
         count: 0,

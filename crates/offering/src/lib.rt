@@ -78,20 +78,13 @@ fn load_state(
         return false;
     }
     load_row(state, 0, roles, threads, beside, owners, lines);
-    if row_length(&*beside, &*lines, roles) != state.len() {
+    if row_length(beside, lines, roles) != state.len() {
         return false;
     }
-    if !same_row(state, 0, roles, &*threads, &*beside, &*owners, &*lines) {
+    if !same_row(state, 0, roles, threads, beside, owners, lines) {
         return false;
     }
-    in_order(
-        seats,
-        head.count.sessions,
-        &*threads,
-        &*beside,
-        &*owners,
-        &*lines,
-    )
+    in_order(seats, head.count.sessions, threads, beside, owners, lines)
 }
 
 // What is answered: 17 where an offer had no room.

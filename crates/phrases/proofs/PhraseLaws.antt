@@ -56,14 +56,6 @@ spans : at_each span_test row_count ≡ true
 unfolding at_each same_bytes all_text laid_out all_starts starts_after phrases phrase spelled in_words
 spans = refl
 
-pub starts_length : length all_starts ≡ row_count + 1
-unfolding all_starts starts_after phrases spelled in_words
-starts_length = refl
-
-pub text_length : length all_text ≡ byte_count
-unfolding all_text laid_out phrases spelled in_words
-text_length = refl
-
 pub many : length phrases ≡ row_count
 unfolding phrases spelled in_words
 many = refl

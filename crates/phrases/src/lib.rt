@@ -6,7 +6,7 @@ ghost use Rattle.std.proofs.Math.Seq.{slice};
 ghost use Rattle.phrases.specs.Table.{row_count};
 ghost use Rattle.phrases.specs.Phrases.{phrases, phrase, prefix, all_text, all_starts, leading, put_into};
 
-const TEXT: [u8; 1973] = *b"\
+static TEXT: [u8; 1973] = *b"\
     , an end.\
     , a fork.\
     , a repeat.\
@@ -53,7 +53,7 @@ const TEXT: [u8; 1973] = *b"\
     Refused 27: the notice has under 4 bytes, a wrong length word or a refused file\
     Refused 28: neither notice has begun on that day";
 
-const STARTS: [u16; 46] = [
+static STARTS: [u16; 46] = [
     0, 9, 18, 29, 45, 57, 69, 78, 86, 95, 96, 106, 115, 127, 136, 147, 155, 166, 249, 304, 338,
     394, 451, 517, 598, 682, 752, 813, 878, 920, 963, 1034, 1095, 1150, 1234, 1311, 1384, 1439,
     1504, 1587, 1652, 1704, 1762, 1846, 1925, 1973,
@@ -61,20 +61,6 @@ const STARTS: [u16; 46] = [
 
 // How many phrases there are.
 const COUNT: usize = 45;
-
-// All phrases one after the other.
-pub fn phrase_text() -> [u8; 1973]
-    ensures { result ≡ all_text }
-{
-    TEXT
-}
-
-// Where each starts, and where the last ends.
-pub fn phrase_starts() -> [u16; 46]
-    ensures { result ≡ all_starts }
-{
-    STARTS
-}
 
 // Whether a part of a text stands at a place of a list.
 pub fn stands(text: &[u8], from: usize, to: usize, s: &[u8], at: usize) -> bool
@@ -85,39 +71,37 @@ pub fn stands(text: &[u8], from: usize, to: usize, s: &[u8], at: usize) -> bool
 }
 
 // Where a phrase starts in the text.
-fn start_of(starts: &[u16], i: usize) -> usize
-    requires { (starts.now ≡ all_starts) × (i ≤ row_count) }
+fn start_of(i: usize) -> usize
+    requires { i ≤ row_count }
     ensures { result ≡ get_or all_starts i 0 }
 {
-    usize::from(starts[i])
+    usize::from(STARTS[i])
+}
+
+// A phrase of the table.
+fn phrase_of(i: usize) -> &'static [u8]
+    requires { i < row_count }
+    ensures { result.now ≡ phrase i }
+{
+    &TEXT[start_of(i)..start_of(i + 1)]
 }
 
 // A phrase's length, 0 past the table.
-pub fn phrase_length(starts: &[u16], i: usize) -> usize
-    requires { starts.now ≡ all_starts }
+pub fn phrase_length(i: usize) -> usize
     ensures { result ≡ length (phrase i) }
 {
     if i < COUNT {
-        return start_of(starts, i + 1) - start_of(starts, i);
+        return start_of(i + 1) - start_of(i);
     }
     0
 }
 
-// A phrase of the table.
-fn phrase_of<'a>(text: &'a [u8], starts: &[u16], i: usize) -> &'a [u8]
-    requires { (text.now ≡ all_text) × (starts.now ≡ all_starts) × (i < row_count) }
-    ensures { result.now ≡ phrase i }
-{
-    &text[start_of(starts, i)..start_of(starts, i + 1)]
-}
-
 // The phrase that stands at a place of a list; as many as there are for none.
-pub fn phrase_at(text: &[u8], starts: &[u16], s: &[u8], at: usize) -> usize
-    requires { (text.now ≡ all_text) × (starts.now ≡ all_starts) }
+pub fn phrase_at(s: &[u8], at: usize) -> usize
     ensures { result ≡ leading phrases (drop at s.now) }
 {
     for i in 0..COUNT {
-        let part = phrase_of(text, starts, i);
+        let part = phrase_of(i);
         if stands(part, 0, part.len(), s, at) {
             return i;
         }
@@ -126,11 +110,11 @@ pub fn phrase_at(text: &[u8], starts: &[u16], s: &[u8], at: usize) -> usize
 }
 
 // A phrase written; where it ends.
-pub fn put_phrase(text: &[u8], starts: &[u16], i: usize, out: &mut [u8], at: usize) -> usize
-    requires { (text.now ≡ all_text) × (starts.now ≡ all_starts) × (i < row_count) × (at + length (phrase i) ≤ length out.old) }
+pub fn put_phrase(i: usize, out: &mut [u8], at: usize) -> usize
+    requires { (i < row_count) × (at + length (phrase i) ≤ length out.old) }
     ensures { (result ≡ at + length (phrase i)) × (out.new ≡ put_into out.old at (phrase i)) }
 {
-    let part = phrase_of(text, starts, i);
+    let part = phrase_of(i);
     let end = at + part.len();
     out[at..end].copy_from_slice(part);
     end

@@ -1,13 +1,13 @@
 -- What is decided, from the answers for its parts.
 use Prim.Native.Nat.{ℕ, zero, suc, ◌+◌, ◌≤◌, ◌<◌}
-use mathlib.Core.Path.{◌≡◌, refl, sym, ap, subst, ◌∙◌}
+use mathlib.Core.Path.{◌≡◌, refl, sym, ap, ◌∙◌}
 use mathlib.Core.List.{List, [], ◌∷◌, ◌++◌, map}
 use mathlib.Core.Bool.{Bool, true, false, cond, ◌&&◌}
 use native.Mathlib.Omega.{arith}
 use lib.Dec.{eqb, leb, ltb}
 use lib.ListN.{length, take, drop, replicate, length-map, length-drop}
 use lib.Seq.{sets, sets-eq, take-append_seam}
-use borrow.Author.Tests.{eq-eqb, ne_eqb, le-leb, lt-leb, leb-true}
+use borrow.Author.Tests.{eq-eqb, ne_eqb, eqb-true, eqb-false, le-leb, lt-leb, leb-true}
 use Rattle.format.specs.Contents.{Contents, item, no_session, no_node}
 use Rattle.format.specs.Answers.{fine, refused, or_else, first_of}
 use Rattle.format.specs.declared.Verdict.{Verdict}
@@ -19,31 +19,39 @@ use Rattle.rules.specs.Candidates.{candidates_in}
 use Rattle.states.specs.States.{Label, needs, labelled, turns_of, packed, unpacked}
 use Rattle.states.specs.declared.Turn.{Turn}
 use Rattle.groups.specs.Groups.{sizes_of, starts_from, starts_of, placed_contents, turns_in}
+use Rattle.groups.specs.declared.Sums.{Sums}
+use Rattle.std.specs.Prelude.{Result, Ok, Err}
 use Rattle.states.proofs.TurnLaws.{turns_length, turns_unpacked}
 use Rattle.groups.proofs.GroupLaws.{placed_same, starts_table}
-use Rattle.placing.specs.Placing.{Labelled, masks_answer, switches_answer, unserved_from, size_answer, unsettled, Settled, settling, placeable_by, decided, no_sums, summed}
+use Rattle.placing.specs.Placing.{Labelled, masks_answer, switches_answer, unserved_from, size_answer, unsettled, Settled, settling, placeable_by, decided, summed}
 use Rattle.placing.proofs.CandidateLaws.{candidates_length, labelled_more}
 
-pub decided_loud : (v : Verdict) (ts : List Turn) → (NoRefusal v → ⊥) → decided v ts ≡ record { verdict = v; sums = no_sums }
+pub decided_loud : (v : Verdict) (ts : List Turn) → (NoRefusal v → ⊥) → decided v ts ≡ Err v
 decided_loud v ts l = rw (ne_eqb v.number 0 l)
 
-pub decided_quiet : (v : Verdict) (ts : List Turn) → NoRefusal v → decided v ts ≡ record { verdict = v; sums = summed ts }
+pub decided_quiet : (v : Verdict) (ts : List Turn) → NoRefusal v → decided v ts ≡ Ok (summed ts)
 decided_quiet v ts q = rw (eq-eqb v.number 0 q)
 
+-- and what an outcome says of it
+pub sums_given : (v : Verdict) (ts : List Turn) (s : Sums) → decided v ts ≡ Ok s → NoRefusal v × (s ≡ summed ts)
+sums_given v ts s e = go (eqb v.number 0) refl e
+  where
+    go : (b : Bool) → eqb v.number 0 ≡ b → cond b (Ok (summed ts)) (Err v) ≡ Ok s → NoRefusal v × (s ≡ summed ts)
+    go true q e = (eqb-true v.number 0 q, cc)
+    go false q e = let no : ◌≡◌ {A = ℕ} 0 1 = cc in absurd (omega arith)
+
+pub refusal_decided : (v : Verdict) (ts : List Turn) (w : Verdict) → decided v ts ≡ Err w → (NoRefusal v → ⊥) × (w ≡ v)
+refusal_decided v ts w e = go (eqb v.number 0) refl e
+  where
+    go : (b : Bool) → eqb v.number 0 ≡ b → cond b (Ok (summed ts)) (Err v) ≡ Err w → (NoRefusal v → ⊥) × (w ≡ v)
+    go true q e = let no : ◌≡◌ {A = ℕ} 0 1 = cc in absurd (omega arith)
+    go false q e = (eqb-false v.number 0 q, cc)
+
 -- the tables as they were, or filled
-module _ (n : ℕ) (ts : List Turn) where
-  pub settled_before : (turns starts : List ℕ) → unsettled n ≡ true → Settled n ts turns turns starts starts
+module _ (d : Result Sums Verdict) (ts : List Turn) where
+  pub settled_before : (turns starts : List ℕ) → unsettled d ≡ true → Settled d ts turns turns starts starts
   settled_before turns starts e =
       (ap (λ b. cond b turns (sets turns 1 (map packed ts))) (sym e), ap (λ b. cond b starts (sets starts 1 (starts_from 1 ts))) (sym e))
-
-  pub settled_after : (turns turns' starts starts' : List ℕ) → unsettled n ≡ false → turns' ≡ sets turns 1 (map packed ts) → starts' ≡ sets starts 1 (starts_from 1 ts)
-      → Settled n ts turns turns' starts starts'
-  settled_after turns turns' starts starts' e t s =
-      (t ∙ ap (λ b. cond b turns (sets turns 1 (map packed ts))) (sym e), s ∙ ap (λ b. cond b starts (sets starts 1 (starts_from 1 ts))) (sym e))
-
-  pub settled_quiet : (turns turns' starts starts' : List ℕ) → n ≡ 0 → Settled n ts turns turns' starts starts'
-      → (turns' ≡ sets turns 1 (map packed ts)) × (starts' ≡ sets starts 1 (starts_from 1 ts))
-  settled_quiet turns turns' starts starts' z s = subst (λ k. Settled k ts turns turns' starts starts') z s
 
 pub unserved_number : (i : ℕ) (ls : List Label) → (NoRefusal (unserved_from i ls) → ⊥) → (unserved_from i ls).number ≡ 15
 unfolding unserved_from

@@ -1,7 +1,7 @@
 -- Placing, whole, from what is decided.
 use Prim.Native.Nat.{ℕ, ◌+◌, ◌*◌, ◌≤◌, ◌<◌}
 use mathlib.Core.Path.{◌≡◌, refl, sym, ap, ap₂, subst, ◌∙◌}
-use mathlib.Core.List.{List, [], ◌∷◌}
+use mathlib.Core.List.{List, [], ◌∷◌, map}
 use mathlib.Core.Bool.{Bool, true, false, cond, ◌&&◌}
 use native.Mathlib.Omega.{arith}
 use lib.Dec.{eqb, ltb}
@@ -15,10 +15,10 @@ use Rattle.format.specs.Header.{has_juniors, WithJuniors, more, junior_records, 
 use Rattle.format.specs.Words.{word_at}
 use Rattle.format.specs.declared.Verdict.{Verdict}
 use Rattle.format.specs.declared.Head.{Head}
-use Rattle.std.specs.Prelude.{Ok, Err}
+use Rattle.std.specs.Prelude.{Result, Ok, Err}
 use Rattle.format.proofs.AnswerLaws.{NoRefusal, quiet_first, loud_first, both_quiet}
 use Rattle.format.proofs.HeadLaws.{juniors_iff, Headed, head_number_lem}
-use Rattle.format.proofs.ContentsLaws.{users_held, roles_held, kinds_held, channels_held, sessions_held}
+use Rattle.format.proofs.ContentsLaws.{users_held, roles_held, kinds_held, channels_held, sessions_held, nodes_held}
 use Rattle.tables.specs.Records.{records_answer}
 use Rattle.trees.specs.Shape.{shape_answer}
 use Rattle.reading.specs.Reading.{body_answer, reading}
@@ -28,11 +28,12 @@ use Rattle.rules.specs.Candidates.{candidates_in}
 use Rattle.checking.specs.Check.{reading_names, entered, surveyed}
 use Rattle.checking.proofs.CheckLaws.{names_refused, names_parts, names_headed, entered_fine, entered_refused}
 use Rattle.states.specs.declared.Turn.{Turn}
-use Rattle.states.specs.States.{Label, turns_of}
-use Rattle.groups.specs.Groups.{sizes_of, ons_of}
-use Rattle.placing.specs.Placing.{labels_in, labels_from, Labelled, turns_for, placeable_by, placeable, judging, no_place, no_sums, summed, decided, answered, placed_by, placed_in, answer_by, answer_from, placed_answer, measuring, placing, bytes_by, placed_bytes, over_by, over_from, placed_over}
+use Rattle.states.specs.States.{Label, turns_of, packed}
+use Rattle.groups.specs.Groups.{sizes_of, turns_in}
+use Rattle.groups.specs.declared.Sums.{Sums}
+use Rattle.placing.specs.Placing.{labels_in, labels_from, Labelled, turns_for, placeable_by, placeable, judging, no_place, summed, decided, answered, placed_by, placed_in, answer_by, answer_from, placed_answer, measuring, placing, bytes_by, placed_bytes, over_by, over_from, placed_over}
 use Rattle.placing.specs.declared.Placed.{Placed}
-use Rattle.placing.proofs.DecideLaws.{labels_kept, few_nodes}
+use Rattle.placing.proofs.DecideLaws.{labels_kept, few_nodes, sums_given, turns_written}
 
 -- the nodes of a file that is laid out begin where what it holds says
 nodes_begin : (f : List ℕ) (h : Head) → Laid f h → h.at.nodes ≡ (head_for h.version (contents_at f h)).at.nodes
@@ -87,34 +88,6 @@ room_enough (x ∷ xs) n d few = go (has_juniors (word_at f 0)) refl
         let first : more (word_at f 0) ≡ 0 = rw e in
         omega (arith, room_least f, none, first, few, l)
 
--- what is answered of a decision
-decided_answered : (at : ℕ) (v : Verdict) (ts : List Turn)
-    → answered at (decided v ts) ≡ cond (eqb v.number 0) (record { number = 0; place = 0; length = length_for at (sizes_of ts); on_steps = ons_of ts }) (no_place v.number v.place)
-decided_answered at v ts = go (eqb v.number 0)
-  where
-    go : (b : Bool)
-        → cond b (record { number = 0; place = 0; length = length_for at (cond b (summed ts) no_sums).nodes; on_steps = (cond b (summed ts) no_sums).on_steps }) (no_place v.number v.place)
-        ≡ cond b (record { number = 0; place = 0; length = length_for at (sizes_of ts); on_steps = ons_of ts }) (no_place v.number v.place)
-    go true = refl
-    go false = refl
-
-pub body_answered : (f : List ℕ) (h : Head) → Laid f h → (roles : List ℕ)
-    → answered h.at.nodes (decided (placeable_by (contents_at f h) (labels_from (contents_at f h) roles)) (turns_of (labels_from (contents_at f h) roles))) ≡ answer_from h.version (contents_at f h) roles
-body_answered f h l roles =
-    let C : Contents = contents_at f h in
-    let ts : List Turn = turns_of (labels_from C roles) in
-    let v : Verdict = placeable_by C (labels_from C roles) in
-    decided_answered h.at.nodes v ts
-    ∙ ap (λ (n : ℕ). cond (eqb v.number 0) (record { number = 0; place = 0; length = length_for n (sizes_of ts); on_steps = ons_of ts }) (no_place v.number v.place)) (nodes_begin f h l)
-
--- and it has no more nodes than a file may have
-pub few_decided : (C : Contents) (ls : List Label) → (decided (placeable_by C ls) (turns_of ls)).sums.nodes ≤ 1024
-few_decided C ls = go (eqb (placeable_by C ls).number 0) refl
-  where
-    go : (b : Bool) → eqb (placeable_by C ls).number 0 ≡ b → (cond b (summed (turns_of ls)) no_sums).nodes ≤ 1024
-    go true e = few_nodes C ls (eqb-true (placeable_by C ls).number 0 e)
-    go false e = omega arith
-
 -- an answer, and the output, by a verdict
 module _ (version : ℕ) (C : Contents) (ts : List Turn) (v : Verdict) where
   pub answer_loud : (NoRefusal v → ⊥) → answer_by version C ts v ≡ no_place v.number v.place
@@ -136,6 +109,31 @@ module _ (version : ℕ) (C : Contents) (ts : List Turn) (v : Verdict) where
       go : (b : Bool) → eqb v.number 0 ≡ b → cond b (sets out 0 (bytes_by version C ts)) out ≡ cond (eqb (cond b (placed_by version C ts) (no_place v.number v.place)).number 0) (sets out 0 (bytes_by version C ts)) out
       go true e = refl
       go false e = rw e
+
+-- what was decided, in a file that is laid out: the sums, which have no more nodes than a file may have, or the refusal
+module _ (f : List ℕ) (h : Head) (l : Laid f h) (roles : List ℕ) where
+  abbrev whole : Result Sums Verdict
+  whole = decided (placeable_by (contents_at f h) (labels_from (contents_at f h) roles)) (turns_of (labels_from (contents_at f h) roles))
+
+  pub sums_few : (s : Sums) → whole ≡ Ok s → s.nodes ≤ 1024
+  sums_few s e =
+      let ls : List Label = labels_from (contents_at f h) roles in
+      let (q, w) = sums_given (placeable_by (contents_at f h) ls) (turns_of ls) s e in
+      omega (arith, ap (λ (x : Sums). x.nodes) w, few_nodes (contents_at f h) ls q)
+
+  pub sums_answered : (s : Sums) → whole ≡ Ok s → answered h.at.nodes s ≡ answer_from h.version (contents_at f h) roles
+  sums_answered s e =
+      let C : Contents = contents_at f h in
+      let ts : List Turn = turns_of (labels_from C roles) in
+      let v : Verdict = placeable_by C (labels_from C roles) in
+      let (q, w) = sums_given v ts s e in
+      ap (answered h.at.nodes) w ∙ ap (λ (n : ℕ). answered n (summed ts)) (nodes_begin f h l) ∙ sym (answer_quiet h.version C ts v q)
+
+  pub turns_seen : length roles ≡ 1025 → (t t' : List ℕ) → length t ≡ 1025 → t' ≡ sets t 1 (map packed (turns_of (labels_from (contents_at f h) roles)))
+      → turns_in t' h.count.nodes ≡ turns_of (labels_from (contents_at f h) roles)
+  turns_seen r t t' n w =
+      ap (turns_in t') (sym (nodes_held f h))
+      ∙ turns_written (contents_at f h).nodes roles t t' (omega (arith, nodes_held f h, l.nodes, r)) (omega (arith, nodes_held f h, l.nodes, n)) w
 
 module _ (f : List ℕ) where
   pub too_small : (room : ℕ) → room < room_for f → placing f room ≡ no_place 17 0
@@ -216,16 +214,17 @@ module _ (f : List ℕ) where
           ∙ ap (λ a. cond (eqb a.number 0) (sets out 0 (placed_bytes f)) out) (sym (answers (length out) wide))
 
     -- the candidates of its nodes
-    pub surveyed_labels : (t t' : List ℕ) → t' ≡ surveyed f t → length (contents_at f h).nodes < length t → Labelled (contents_at f h) t' × (length t' ≡ length t)
+    pub surveyed_labels : (t t' : List ℕ) → t' ≡ surveyed f t → length t ≡ 1025 → Labelled (contents_at f h) t' × (length t' ≡ 1025)
     unfolding surveyed
-    surveyed_labels t t' q room =
+    surveyed_labels t t' q n1025 =
+        let room : length (contents_at f h).nodes < length t = omega (arith, nodes_held f h, (entered_fine f h e).0.nodes, n1025) in
         let (r, n) = names_parts f names_quiet in
         let body : NoRefusal (body_answer (head_at f) (contents_of f)) = subst NoRefusal (by_body f r).1 r in
         let shaped = ((both_quiet NoRefusal (records_answer (head_at f) (contents_of f)) (shape_answer (contents_of f)) (λ z. z)).0 body).1 in
         let filled : t' ≡ sets t 1 (candidates_in (contents_of f)) = q ∙ rw (eq-eqb (reading f).number 0 r) in
         let fits = subst (λ (k : Head). length (contents_at f k).nodes < length t) same room in
         let labels = subst (Labelled (contents_of f)) (sym filled) (labels_kept (contents_of f) t shaped n fits) in
-        (subst (λ (k : Head). Labelled (contents_at f k) t') (sym same) labels, ap length filled ∙ length-sets t 1 (candidates_in (contents_of f)))
+        (subst (λ (k : Head). Labelled (contents_at f k) t') (sym same) labels, ap length filled ∙ length-sets t 1 (candidates_in (contents_of f)) ∙ n1025)
 
 -- what a caller keeps of a long input is placed as the whole is
 pub stands_measured : (kept input : List ℕ) → StandsFor kept input → measuring kept ≡ measuring input

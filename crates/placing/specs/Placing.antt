@@ -1,5 +1,5 @@
 -- Placing a file's bytes: 17 first of all, then 1 to 10, then 14 to 16, then the placed file.
-use Rattle.std.specs.Prelude.{ℕ, zero, suc, Bool, true, false, cond, ◌&&◌, ◌||◌, ◌≡◌, List, [], ◌∷◌, map, eqb, leb, ltb, length, drop}
+use Rattle.std.specs.Prelude.{ℕ, suc, Bool, false, Result, Ok, Err, cond, ◌&&◌, ◌||◌, ◌≡◌, List, [], ◌∷◌, map, eqb, leb, ltb, length, drop}
 use Rattle.std.proofs.lemmas.List.Edits.{sets}
 use Rattle.format.specs.Answers.{fine, refused, or_else, first_of}
 use Rattle.format.specs.Header.{version_at, length_for, room_for}
@@ -13,7 +13,6 @@ use Rattle.states.specs.declared.Turn.{Turn}
 use Rattle.groups.specs.Groups.{sizes_of, ons_of, starts_from, starts_of, placed_contents}
 use Rattle.groups.specs.declared.Sums.{Sums}
 use Rattle.placing.specs.declared.Placed.{Placed}
-use Rattle.placing.specs.declared.Decision.{Decision}
 
 -- the nodes as placing sees them, and what becomes of each
 abbrev pub labels_in : Contents → List Label
@@ -47,13 +46,14 @@ abbrev pub size_answer : ℕ → Verdict
 size_answer nodes = cond (leb nodes 1024) fine (refused 16 0)
 
 -- refused before there are turns: 14 or 15
-abbrev pub unsettled : ℕ → Bool
-unsettled number = eqb number 14 || eqb number 15
+abbrev pub unsettled : Result Sums Verdict → Bool
+unsettled (Ok sums) = false
+unsettled (Err v) = eqb v.number 14 || eqb v.number 15
 
 -- what a decision leaves in the tables: what they held, or, once there are turns, these and the starts, each at its node's number
-abbrev pub Settled : ℕ → List Turn → List ℕ → List ℕ → List ℕ → List ℕ → Type 0
-Settled number ts turns turns' starts starts' =
-    (turns' ≡ cond (unsettled number) turns (sets turns 1 (map packed ts))) × (starts' ≡ cond (unsettled number) starts (sets starts 1 (starts_from 1 ts)))
+abbrev pub Settled : Result Sums Verdict → List Turn → List ℕ → List ℕ → List ℕ → List ℕ → Type 0
+Settled d ts turns turns' starts starts' =
+    (turns' ≡ cond (unsettled d) turns (sets turns 1 (map packed ts))) × (starts' ≡ cond (unsettled d) starts (sets starts 1 (starts_from 1 ts)))
 
 -- 15 and 16, by the nodes as placing sees them
 abbrev pub settling : List Label → Verdict
@@ -70,15 +70,12 @@ placeable C = placeable_by C (labels_in C)
 unfoldable pub judging : List ℕ → Verdict
 judging f = or_else (reading_names f) (placeable (contents_of f))
 
--- what is decided before anything is written: 14 to 16, and the sums where nothing is refused
-abbrev pub no_sums : Sums
-no_sums = record { nodes = 0; on_steps = 0 }
-
+-- what is decided before anything is written: 14 to 16, or the sums where nothing is refused
 abbrev pub summed : List Turn → Sums
 summed ts = record { nodes = sizes_of ts; on_steps = ons_of ts }
 
-abbrev pub decided : Verdict → List Turn → Decision
-decided v ts = record { verdict = v; sums = cond (eqb v.number 0) (summed ts) no_sums }
+abbrev pub decided : Verdict → List Turn → Result Sums Verdict
+decided v ts = cond (eqb v.number 0) (Ok (summed ts)) (Err v)
 
 abbrev pub no_place : ℕ → ℕ → Placed
 no_place n p = record { number = n; place = p; length = 0; on_steps = 0 }
@@ -93,10 +90,9 @@ placed_in version C = placed_by version C (turns_for C)
 abbrev pub answer_by : ℕ → Contents → List Turn → Verdict → Placed
 answer_by version C ts v = cond (eqb v.number 0) (placed_by version C ts) (no_place v.number v.place)
 
--- the same of a decision, for a file whose nodes begin at an offset
-abbrev pub answered : ℕ → Decision → Placed
-answered at d =
-    cond (eqb d.verdict.number 0) (record { number = 0; place = 0; length = length_for at d.sums.nodes; on_steps = d.sums.on_steps }) (no_place d.verdict.number d.verdict.place)
+-- the same of the sums where nothing is refused, for a file whose nodes begin at an offset
+abbrev pub answered : ℕ → Sums → Placed
+answered at sums = record { number = 0; place = 0; length = length_for at sums.nodes; on_steps = sums.on_steps }
 
 -- of a file that 1 to 10 leave clean, with each node's roles in a table
 abbrev pub answer_from : ℕ → Contents → List ℕ → Placed

@@ -13,9 +13,9 @@ ghost use Rattle.placing.specs.Placing.{answer_from, over_from, no_place, answer
 
 use checking::examine;
 use decide::decide;
+use format::Head;
 use format::header::{length_for, room_for};
 use format::words::narrow;
-use format::{Head, Verdict};
 use groups::{Sums, put_file};
 
 // What a caller gets: a refusal's number and place, or 0 and 0 with the length of the placed file in bytes and its on steps.
@@ -26,13 +26,6 @@ pub struct Placed {
     pub place: u16,
     pub length: u16,
     pub on_steps: u16,
-}
-
-// What is decided before anything is written.
-#[derive(Clone, Copy)]
-pub struct Decision {
-    pub verdict: Verdict,
-    pub sums: Sums,
 }
 
 pub fn no_place(number: u16, place: u16) -> Placed
@@ -46,21 +39,16 @@ pub fn no_place(number: u16, place: u16) -> Placed
     }
 }
 
-// What is answered of a decision.
-fn answer_of(head: Head, decision: Decision) -> Placed
-    requires { (head.at.nodes ≤ 2000) × (decision.sums.nodes ≤ 1024) }
-    ensures { result ≡ answered head.at.nodes decision }
+// What is answered where nothing is refused.
+fn answer_of(head: Head, sums: Sums) -> Placed
+    requires { (head.at.nodes ≤ 2000) × (sums.nodes ≤ 1024) }
+    ensures { result ≡ answered head.at.nodes sums }
 {
-    let verdict = decision.verdict;
-    if verdict.number != 0 {
-        return no_place(verdict.number, verdict.place);
-    }
-    let nodes = decision.sums.nodes;
     Placed {
         number: 0,
         place: 0,
-        length: narrow(length_for(head.at.nodes, nodes)),
-        on_steps: decision.sums.on_steps,
+        length: narrow(length_for(head.at.nodes, sums.nodes)),
+        on_steps: sums.on_steps,
     }
 }
 
@@ -72,11 +60,13 @@ pub fn place_body(file: &[u8], head: Head, roles: &[u16], out: &mut [u8]) -> Pla
 {
     let mut turns = [0u16; 1025];
     let mut starts = [0u16; 1025];
-    let decision = decide(file, head, roles, &mut turns, &mut starts);
-    if decision.verdict.number == 0 {
-        put_file(file, head, &turns, &starts, decision.sums.nodes, out);
+    match decide(file, head, roles, &mut turns, &mut starts) {
+        Err(first) => no_place(first.number, first.place),
+        Ok(sums) => {
+            put_file(file, head, &turns, &starts, sums.nodes, out);
+            answer_of(head, sums)
+        }
     }
-    answer_of(head, decision)
 }
 
 // The answer of `place_body`, without an output.
@@ -86,8 +76,10 @@ pub fn measure_body(file: &[u8], head: Head, roles: &[u16]) -> Placed
 {
     let mut turns = [0u16; 1025];
     let mut starts = [0u16; 1025];
-    let decision = decide(file, head, roles, &mut turns, &mut starts);
-    answer_of(head, decision)
+    match decide(file, head, roles, &mut turns, &mut starts) {
+        Err(first) => no_place(first.number, first.place),
+        Ok(sums) => answer_of(head, sums),
+    }
 }
 
 // The answer that placing gives in an output long enough: 1 to 10, then 14 to 16, else length and on steps.
@@ -95,9 +87,7 @@ pub fn measure(file: &[u8]) -> Placed
     ensures { result ≡ measuring file.now }
 {
     let mut roles = [0u16; 1025];
-    let found = examine(file, &mut roles);
-    let names = found.names;
-    match names {
+    match examine(file, &mut roles).names {
         Err(first) => no_place(first.number, first.place),
         Ok(head) => measure_body(file, head, &roles),
     }
@@ -112,9 +102,7 @@ pub fn place(file: &[u8], out: &mut [u8]) -> Placed
         return no_place(17, 0);
     }
     let mut roles = [0u16; 1025];
-    let found = examine(file, &mut roles);
-    let names = found.names;
-    match names {
+    match examine(file, &mut roles).names {
         Err(first) => no_place(first.number, first.place),
         Ok(head) => place_body(file, head, &roles, out),
     }

@@ -3,8 +3,9 @@ use Prim.Native.Nat.{ℕ, ◌≤◌, ◌<◌}
 use mathlib.Core.Path.{◌≡◌, refl, sym, ap, subst, ◌∙◌}
 use mathlib.Core.List.{List, [], ◌∷◌, map}
 use mathlib.Core.Bool.{cond}
+use native.Mathlib.Omega.{arith}
 use lib.Dec.{eqb}
-use lib.ListN.{length, drop, length-map}
+use lib.ListN.{length, replicate, drop, length-map}
 use lib.Seq.{sets, length-sets}
 use borrow.Author.Tests.{eq-eqb, ne_eqb, lt-ltb, le-ltb}
 use Rattle.masks.specs.Mask.{minus}
@@ -15,17 +16,18 @@ use Rattle.format.specs.declared.Verdict.{Verdict}
 use Rattle.format.specs.declared.Head.{Head}
 use Rattle.format.specs.declared.Node.{Node}
 use Rattle.format.proofs.AnswerLaws.{NoRefusal, quiet_first, loud_first, both_quiet}
+use Rattle.format.proofs.ContentsLaws.{nodes_held}
 use Rattle.tables.specs.Records.{records_answer}
 use Rattle.trees.specs.Shape.{shape_answer}
 use Rattle.reading.specs.Reading.{body_answer, reading}
-use Rattle.std.specs.Prelude.{Ok, Err}
+use Rattle.std.specs.Prelude.{Result, Ok, Err}
 use Rattle.reading.proofs.ReadingLaws.{by_body}
 use Rattle.rules.specs.Checking.{names_answer}
 use Rattle.rules.specs.Candidates.{candidates_in}
-use Rattle.checking.specs.Check.{reading_names, entered}
+use Rattle.checking.specs.Check.{reading_names, entered, surveyed_from}
 use Rattle.hours.specs.Hours.{table_answer, shut}
-use Rattle.checking_at.specs.CheckAt.{reading_names_at, entered_at}
-use Rattle.checking_at.proofs.CheckAtLaws.{entered_at_fine, entered_at_refused, names_quiet}
+use Rattle.checking_at.specs.CheckAt.{reading_names_at, opened_at, entered_at}
+use Rattle.checking_at.proofs.CheckAtLaws.{entered_at_fine, entered_at_refused, head_laid, names_quiet, surveyed_at}
 use Rattle.states.specs.States.{Label, labelled, turns_of}
 use Rattle.states.specs.declared.Turn.{Turn}
 use Rattle.placing.specs.Placing.{labels_in, labels_from, turns_for, masks_answer, switches_answer, placeable_by, placeable, no_place, answer_by, answer_from, over_by, over_from}
@@ -119,7 +121,7 @@ module _ (f t : List ℕ) (m : ℕ) where
           ∙ ap (λ (k : Head). placeable (open_contents s (contents_at f k))) (sym same)
 
       -- the open ones of its nodes' candidates
-      pub surveyed_open : (old roles : List ℕ) → roles ≡ sets old 1 (candidates_in (contents_of f)) → length (contents_at f h).nodes < length old
+      surveyed_open : (old roles : List ℕ) → roles ≡ sets old 1 (candidates_in (contents_of f)) → length (contents_at f h).nodes < length old
           → (labels_from (contents_at f h) (map (λ k. minus k (shut t m)) roles) ≡ labels_in (open_contents (shut t m) (contents_at f h)))
           × (length (map (λ k. minus k (shut t m)) roles) ≡ length old)
       surveyed_open old roles filled room =
@@ -131,6 +133,16 @@ module _ (f t : List ℕ) (m : ℕ) where
             subst (λ (k : Head). labels_from (contents_at f k) (map (λ k. minus k s) roles) ≡ labels_in (open_contents s (contents_at f k))) (sym same) labels,
             length-map roles (λ k. minus k s) ∙ ap length filled ∙ length-sets old 1 (candidates_in (contents_of f)),
           )
+
+      -- they stand in the table from which the shut ones were taken
+      pub closed_labels : (a : Result Head Verdict) → a ≡ opened_at f t → (roles : List ℕ) → roles ≡ surveyed_from f a (replicate 1025 0) → (k : ℕ) → k ≡ shut t m
+          → (closed : List ℕ) → closed ≡ map (λ r. minus r k) roles
+          → (labels_from (contents_at f h) closed ≡ labels_in (open_contents (shut t m) (contents_at f h))) × (length closed ≡ 1025)
+      closed_labels a o roles r k is closed d =
+          let filled = r ∙ surveyed_at f t quiet a (sym o) (replicate 1025 0) in
+          let l : closed ≡ map (λ r. minus r (shut t m)) roles = d ∙ ap (λ (s : ℕ). map (λ r. minus r s) roles) is in
+          subst (λ (x : List ℕ). (labels_from (contents_at f h) x ≡ labels_in (open_contents (shut t m) (contents_at f h))) × (length x ≡ 1025)) (sym l)
+          (surveyed_open (replicate 1025 0) roles filled (omega (arith, nodes_held f h, (head_laid f t h e).nodes)))
 
       -- what is placed from such a table is what is placed for the minute
       module _ (roles : List ℕ) (l : labels_from (contents_at f h) roles ≡ labels_in (open_contents (shut t m) (contents_at f h))) where

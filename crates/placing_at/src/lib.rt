@@ -30,9 +30,7 @@ pub fn measure_at(file: &[u8], hours: &[u16], minute: u16) -> Placed
         return no_place(first.number, first.place);
     }
     let mut roles = [0u16; 1025];
-    let found = examine_opened(file, open_at(file, hours), &mut roles);
-    let names = found.names;
-    match names {
+    match examine_opened(file, open_at(file, hours), &mut roles).names {
         Err(first) => no_place(first.number, first.place),
         Ok(head) => {
             close(&mut roles, shut(hours, minute));
@@ -54,9 +52,7 @@ pub fn place_at(file: &[u8], hours: &[u16], minute: u16, out: &mut [u8]) -> Plac
         return no_place(first.number, first.place);
     }
     let mut roles = [0u16; 1025];
-    let found = examine_opened(file, open_at(file, hours), &mut roles);
-    let names = found.names;
-    match names {
+    match examine_opened(file, open_at(file, hours), &mut roles).names {
         Err(first) => no_place(first.number, first.place),
         Ok(head) => {
             close(&mut roles, shut(hours, minute));

@@ -11,6 +11,8 @@ use Rattle.phrases.specs.Phrases.{put_into, phrase}
 use Rattle.reasons.specs.declared.Reason.{Reason}
 use Rattle.phrases.specs.Table.{last_number, meaning_row}
 use Rattle.reasons.specs.Reasons.{is_reason, sentence, reason_over, reason_length, has_meaning, meaning, meaning_length, meaning_over}
+use Rattle.reasons.proofs.ReasonTests.{reason_exactly}
+use Rattle.reasons.proofs.TableBounds.{InTable, parts, sentence_length, meaning_room}
 
 abbrev pub SentenceWritten : Reason → List ℕ → ℕ → List ℕ → Type 0
 SentenceWritten r out j m = (j ≡ reason_length r (length out)) × (m ≡ reason_over r out)
@@ -50,3 +52,13 @@ meant_yes n out m j h v e k =
 pub meaning_in : (n : ℕ) → has_meaning n ≡ true → (1 ≤ n) × (n ≤ last_number)
 unfolding has_meaning
 meaning_in n h = let x = (and-eq-true_iff (leb 1 n) (leb n last_number)).0 h in (leb-true 1 n x.0, leb-true n last_number x.1)
+
+-- what the tests say of the room that is needed
+pub parts_in : (r : Reason) → is_reason r ≡ true → InTable r
+parts_in r v = parts r ((reason_exactly r).0 v)
+
+pub sentence_most : (r : Reason) → is_reason r ≡ true → length (sentence r) ≤ 120
+sentence_most r v = (sentence_length r ((reason_exactly r).0 v)).1
+
+pub meaning_fits : (n : ℕ) → has_meaning n ≡ true → (n ≤ last_number) × (length (phrase (meaning_row n)) ≤ 87)
+meaning_fits n v = let x = meaning_in n v in (x.1, (meaning_room n x.0 x.1).1)

@@ -1,7 +1,7 @@
 -- A written sentence compared.
 use Prim.Native.Nat.{ℕ, ◌+◌}
 use mathlib.Core.Path.{◌≡◌, refl, sym, ap, ◌∙◌}
-use mathlib.Core.Bool.{Bool, true, false, ◌&&◌}
+use mathlib.Core.Bool.{Bool, true, ◌&&◌}
 use mathlib.Core.List.{List, [], ◌∷◌}
 use lib.Dec.{eqb}
 use Rattle.std.specs.Cmp.Lexicographic.{pointwise}
@@ -18,9 +18,6 @@ pointwise-same_bytes [] [] = refl
 pointwise-same_bytes [] (y ∷ s) = refl
 pointwise-same_bytes (x ∷ p) [] = refl
 pointwise-same_bytes (x ∷ p) (y ∷ s) = ap (λ (b : Bool). eqb x y && b) (pointwise-same_bytes p s)
-
-pub no_sentence : (r : Reason) (s : List ℕ) → is_reason r ≡ false → false ≡ is_sentence r s
-no_sentence r s v = sym (ap (λ (b : Bool). b && same_bytes (sentence r) s) v)
 
 pub compared : (r : Reason) (out m s : List ℕ) (k : ℕ) → is_reason r ≡ true → k ≡ length (sentence r) → m ≡ put_into out 0 (sentence r)
     → pointwise eqb (take k m) s ≡ is_sentence r s

@@ -25,11 +25,11 @@ pub fn put_digits(n: u16, out: &mut [u8], at: usize) -> usize
     let tens = n / 10;
     let hundreds = tens / 10;
     let thousands = hundreds / 10;
-    let a = put_digit(thousands / 10, &mut *out, at);
-    let b = put_digit(thousands, &mut *out, a);
-    let c = put_digit(hundreds, &mut *out, b);
-    let d = put_digit(tens, &mut *out, c);
-    put_digit(n, &mut *out, d)
+    let a = put_digit(thousands / 10, out, at);
+    let b = put_digit(thousands, out, a);
+    let c = put_digit(hundreds, out, b);
+    let d = put_digit(tens, out, c);
+    put_digit(n, out, d)
 }
 
 // At most five bytes from a place.

@@ -4,11 +4,11 @@
 pub mod digits;
 
 ghost use Rattle.std.specs.Prelude.{◌≡◌, true, false, cond, ◌+◌, ◌-◌, ◌<◌, ◌≤◌, length, drop};
-ghost use Rattle.phrases.specs.Phrases.{put_into, all_text, all_starts};
+ghost use Rattle.phrases.specs.Phrases.{put_into};
 ghost use Rattle.reasons.specs.Reasons.{by_none, by_node, by_choice, may_count, at_node, is_reason, reason_of, sentence, is_sentence, no_reason, understood, reason_length, reason_over, has_meaning, meaning_length, meaning_over};
 
 use digits::{digits_end, numeral_at, put_digits};
-use phrases::{phrase_at, phrase_length, phrase_starts, phrase_text, put_phrase};
+use phrases::{phrase_at, phrase_length, put_phrase};
 
 // A refusal's number, what its place counts (0 none, 1 word, 2 session, 3 node, 4 choice, 5 row, 6 notice), the place, and the tag of the node there, 9 where none belongs.
 #[repr(C)]
@@ -82,14 +82,14 @@ fn is_reason(r: Reason) -> bool
 }
 
 // The sentence of a reason at the start of an output; its length.
-fn put_sentence(text: &[u8], starts: &[u16], r: Reason, out: &mut [u8]) -> usize
-    requires { (text.now ≡ all_text) × (starts.now ≡ all_starts) × (is_reason r ≡ true) × (120 ≤ length out.old) }
+fn put_sentence(r: Reason, out: &mut [u8]) -> usize
+    requires { (is_reason r ≡ true) × (120 ≤ length out.old) }
     ensures { (result ≡ length (sentence r)) × (out.new ≡ put_into out.old 0 (sentence r)) }
 {
-    let a = put_phrase(text, starts, MEANINGS + usize::from(r.number), &mut *out, 0);
-    let b = put_phrase(text, starts, COUNTS + usize::from(r.counts), &mut *out, a);
-    let d = put_digits(r.place, &mut *out, b);
-    put_phrase(text, starts, usize::from(r.tag), &mut *out, d)
+    let a = put_phrase(MEANINGS + usize::from(r.number), out, 0);
+    let b = put_phrase(COUNTS + usize::from(r.counts), out, a);
+    let d = put_digits(r.place, out, b);
+    put_phrase(usize::from(r.tag), out, d)
 }
 
 // The sentence of a reason: its length; 0, and nothing is written, for four numbers that are none and for an output under 120 bytes.
@@ -109,9 +109,7 @@ pub fn write_reason(number: u16, counts: u16, place: u16, tag: u16, out: &mut [u
     if !is_reason(r) {
         return 0;
     }
-    let text = phrase_text();
-    let starts = phrase_starts();
-    put_sentence(&text, &starts, r, &mut *out) as u16
+    put_sentence(r, out) as u16
 }
 
 fn has_meaning(n: u16) -> bool
@@ -130,21 +128,18 @@ pub fn write_meaning(number: u16, out: &mut [u8]) -> u16
     if !has_meaning(number) {
         return 0;
     }
-    let text = phrase_text();
-    let starts = phrase_starts();
-    put_phrase(&text, &starts, MEANINGS + usize::from(number), &mut *out, 0) as u16
+    put_phrase(MEANINGS + usize::from(number), out, 0) as u16
 }
 
 // Whether bytes are the sentence of a reason.
-fn is_sentence(text: &[u8], starts: &[u16], r: Reason, s: &[u8]) -> bool
-    requires { (text.now ≡ all_text) × (starts.now ≡ all_starts) }
+fn is_sentence(r: Reason, s: &[u8]) -> bool
     ensures { result ≡ is_sentence r s.now }
 {
     if !is_reason(r) {
         return false;
     }
     let mut out = [0u8; 120];
-    let k = put_sentence(text, starts, r, &mut out);
+    let k = put_sentence(r, &mut out);
     &out[..k] == s
 }
 
@@ -160,27 +155,21 @@ fn no_reason() -> Reason
 }
 
 // The reason that was guessed, if the bytes are its sentence.
-fn confirmed(text: &[u8], starts: &[u16], r: Reason, s: &[u8]) -> Reason
-    requires { (text.now ≡ all_text) × (starts.now ≡ all_starts) }
+fn confirmed(r: Reason, s: &[u8]) -> Reason
     ensures { result ≡ cond (is_sentence r s.now) r no_reason }
 {
-    if is_sentence(text, starts, r, s) {
-        r
-    } else {
-        no_reason()
-    }
+    if is_sentence(r, s) { r } else { no_reason() }
 }
 
-fn read_by(text: &[u8], starts: &[u16], s: &[u8]) -> Reason
-    requires { (text.now ≡ all_text) × (starts.now ≡ all_starts) }
+fn read_by(s: &[u8]) -> Reason
     ensures { result ≡ understood s.now }
 {
-    let m = phrase_at(text, starts, s, 0);
-    let a = phrase_length(starts, m);
-    let c = phrase_at(text, starts, s, a);
-    let b = a + phrase_length(starts, c);
+    let m = phrase_at(s, 0);
+    let a = phrase_length(m);
+    let c = phrase_at(s, a);
+    let b = a + phrase_length(c);
     let p = numeral_at(s, b);
-    let t = phrase_at(text, starts, s, digits_end(s, b));
+    let t = phrase_at(s, digits_end(s, b));
     if p > 65535 {
         return no_reason();
     }
@@ -190,14 +179,12 @@ fn read_by(text: &[u8], starts: &[u16], s: &[u8]) -> Reason
         place: p as u16,
         tag: t as u16,
     };
-    confirmed(text, starts, guess, s)
+    confirmed(guess, s)
 }
 
 // What a sentence says; all 0 for other bytes.
 pub fn read_reason(sentence: &[u8]) -> Reason
     ensures { result ≡ understood sentence.now }
 {
-    let text = phrase_text();
-    let starts = phrase_starts();
-    read_by(&text, &starts, sentence)
+    read_by(sentence)
 }

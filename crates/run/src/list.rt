@@ -42,8 +42,8 @@ fn keep(buffer: &[u8], kept: usize, piece: usize) -> usize
     enough(kept + piece)
 }
 
-// Reads the choices to their end, of whatever length; the answer is how many bytes at the start of the buffer are kept, or why a read failed. Each
-// piece is read behind what is kept, and of both enough is kept.
+// Reads the choices to their end, of whatever length; the answer is how many bytes at the start of the buffer are kept,
+// or why a read failed. Each piece is read behind what is kept, and of both enough is kept.
 // A loop has to end, so the reads are counted, up to a number that no run reaches.
 pub fn read_choices<R: Read>(reader: &mut R, buffer: &mut [u8]) -> std::io::Result<usize>
     requires { length buffer.old ≡ 278528 }

@@ -115,7 +115,7 @@ fn has_to_wait(
     let answer = seat_answer(
         threads,
         owners,
-        &*lines,
+        lines,
         usize::from(count),
         UserRole(role),
         limit,
@@ -131,16 +131,9 @@ fn pass_on(owners: &mut [u16], count: usize, i: u16, answer: Answer)
     ensures { owners.new ≡ owners_passed owners.old count i answer }
 {
     match answer {
-        Answer::Refused(_) => {}
-        Answer::Moves => {}
-        Answer::Adds => {
-            owners[count] = owners[usize::from(i - 1)];
-        }
-        Answer::Makes(_) => {}
-        Answer::Ends => {
-            owners.copy_within(usize::from(i)..count, usize::from(i - 1));
-        }
-        Answer::Meets => {}
+        Answer::Adds => owners[count] = owners[usize::from(i - 1)],
+        Answer::Ends => owners.copy_within(usize::from(i)..count, usize::from(i - 1)),
+        _ => {}
     }
 }
 
@@ -149,11 +142,8 @@ fn sat_of(answer: Answer) -> Sat
 {
     match answer {
         Answer::Refused(n) => Sat::Refused(n),
-        Answer::Moves => Sat::Steps,
-        Answer::Adds => Sat::Steps,
-        Answer::Makes(_) => Sat::Steps,
         Answer::Ends => Sat::Ends,
-        Answer::Meets => Sat::Steps,
+        _ => Sat::Steps,
     }
 }
 
@@ -203,9 +193,7 @@ pub fn choose_seated(
     ensures { ChoseSeated (awaited_by table.now) (limited_of (contents_at file.now head) seats.now) i p result
         threads.old beside.old owners.old lines.old threads.new beside.new owners.new lines.new }
 {
-    if has_to_wait(
-        file, head, seats, &*threads, &*beside, &*owners, lines, i, p,
-    ) {
+    if has_to_wait(file, head, seats, threads, beside, owners, lines, i, p) {
         return Sat::Waits;
     }
     step_on(

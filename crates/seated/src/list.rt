@@ -94,7 +94,7 @@ pub fn choose_one(
     ensures { ChoseSeated (awaited_by table.now) (limited_of (contents_at file.now head) seats.now) i p result
         threads.old beside.old owners.old lines.old threads.new beside.new owners.new lines.new }
 {
-    let count = thread_count(&*beside);
+    let count = thread_count(beside);
     let list = [i, p];
     let went = go_seated(
         file, head, sends, receives, table, seats, &list, threads, beside, owners, lines,
@@ -105,7 +105,7 @@ pub fn choose_one(
     if went.waited != 0 {
         return Sat::Waits;
     }
-    if thread_count(&*beside) < count {
+    if thread_count(beside) < count {
         return Sat::Ends;
     }
     Sat::Steps

@@ -63,6 +63,6 @@ pub fn run_seated_by(
 {
     open_seated(file, head, sends, receives, table, threads, beside, owners);
     go_seated(
-        file, head, &*sends, &*receives, table, seats, choices, threads, beside, owners, lines,
+        file, head, sends, receives, table, seats, choices, threads, beside, owners, lines,
     )
 }

@@ -47,7 +47,7 @@ fn meet_seated(
         i there result threads.new beside.new owners.new lines.new }
 {
     let p = receiver_for(
-        file, head, sends, receives, &*threads, &*beside, i, there, moved,
+        file, head, sends, receives, threads, beside, i, there, moved,
     );
     if p == 0 {
         return Visit {
@@ -145,7 +145,7 @@ pub fn go_round_seated(
         threads.new beside.new owners.new lines.new words.new }
 {
     let mut i: u16 = 1;
-    let mut there = thread_count(&*beside);
+    let mut there = thread_count(beside);
     let mut moved: u64 = 0;
     let mut n: usize = 0;
     while i <= there {

@@ -35,16 +35,14 @@ fn entry_body(
     requires { (entered file.now ≡ Ok head) × (length roles.now ≡ 1025) × (length turns.old ≡ 1025) × (length starts.old ≡ 1025) }
     ensures { result ≡ entry_from (contents_at file.now head) roles.now }
 {
-    let decision = decide(file, head, roles, turns, starts);
-    let number = decision.verdict.number;
-    if number != 0 {
-        return refused(number);
-    }
-    Entry {
-        number: 0,
-        sessions: head.count.sessions,
-        on_steps: decision.sums.on_steps,
-        most: most_in(file, head, turns),
+    match decide(file, head, roles, turns, starts) {
+        Err(first) => refused(first.number),
+        Ok(sums) => Entry {
+            number: 0,
+            sessions: head.count.sessions,
+            on_steps: sums.on_steps,
+            most: most_in(file, head, turns),
+        },
     }
 }
 
@@ -54,9 +52,7 @@ pub fn entry_of(file: &[u8], roles: &mut [u16], turns: &mut [u16], starts: &mut 
     requires { (length roles.old ≡ 1025) × (length turns.old ≡ 1025) × (length starts.old ≡ 1025) }
     ensures { (result ≡ entry_of file.now) × Within result }
 {
-    let found = examine(file, roles);
-    let names = found.names;
-    match names {
+    match examine(file, roles).names {
         Err(first) => refused(first.number),
         Ok(head) => entry_body(file, head, roles, turns, starts),
     }

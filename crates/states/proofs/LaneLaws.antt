@@ -68,10 +68,8 @@ gather_none (suc k) = omega (arith, gather_none k)
 power_at : (bits : List ℕ) → bits ≡ powers → (q : ℕ) → q < 16 → get_or bits q 0 ≡ 2 ^ q
 power_at bits e q h = ap (λ (b : List ℕ). get_or b q 0) e ∙ lane (λ q. 2 ^ q) q h
 
-pub lane_bit : (bits : List ℕ) → bits ≡ powers → (least x q v : ℕ) → q < 16 → ((least < x) × (v ≡ get_or bits q 0)) ⊎ ((x ≤ least) × (v ≡ 0))
-    → v ≡ cond (ltb least x) (2 ^ q) 0
-lane_bit bits e least x q v h (inl (more, is)) = rw (lt-ltb least x more) (is ∙ power_at bits e q h)
-lane_bit bits e least x q v h (inr (no_more, is)) = rw (le-ltb least x no_more) is
+pub lane_bit : (bits : List ℕ) → bits ≡ powers → (test : Bool) (q : ℕ) → q < 16 → cond test (get_or bits q 0) 0 ≡ cond test (2 ^ q) 0
+lane_bit bits e test q h = ap (λ (b : ℕ). cond test b 0) (power_at bits e q h)
 
 -- it is there exactly if the mask has it
 bit_test : (m q : ℕ) → not (eqb (bit_and m (2 ^ q)) 0) ≡ eqb (bit m q) 1

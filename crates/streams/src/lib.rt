@@ -34,10 +34,11 @@ pub fn keep(buffer: &[u8], kept: usize, piece: usize) -> usize
     reading::long::enough(kept + piece)
 }
 
-// Reads an input to its end, of whatever length; the answer is how many bytes at the start of the buffer stand for it, or why a read failed. Each piece is read behind what is kept, and of both enough is kept; of an input
-// longer than any file the start stays, and what comes is read over the rest of the buffer again and again. That what is kept has the
-// answer of the whole input is `stands_check` of checking/proofs/CheckLaws, `stands_placed` of placing/proofs/PlaceLaws, and `stands_run` and
-// `stands_over` of running/proofs/StandLaws.
+// Reads an input to its end, of whatever length; the answer is how many bytes at the start of the buffer stand for it,
+// or why a read failed. Each piece is read behind what is kept, and of both enough is kept; of an input longer than any
+// file the start stays, and what comes is read over the rest of the buffer again and again. That what is kept has the
+// answer of the whole input is `stands_check` of checking/proofs/CheckLaws, `stands_placed` of placing/proofs/PlaceLaws,
+// and `stands_run` and `stands_over` of running/proofs/StandLaws.
 // A loop has to end, so the reads are counted, up to a number that no run reaches.
 pub fn read_input<R: Read>(reader: &mut R, buffer: &mut [u8]) -> std::io::Result<usize>
     requires { length buffer.old ≡ 16384 }

@@ -1,9 +1,10 @@
-use mathlib.Core.Path.{◌≡◌, ap, ◌∙◌}
+use mathlib.Core.Path.{◌≡◌, refl, ◌∙◌}
+use Rattle.phrases.specs.Table.{in_words}
+use Rattle.phrases.specs.Phrases.{all_text, laid_out, phrases, spelled}
+use Rattle.phrases.specs.declared.TheConstants.{TEXT}
 use native.Mathlib.Omega.{arith}
 use borrow.Author.Rules.{rules}
-use lib.ListN.{length}
-use Rattle.phrases.specs.Table.{byte_count}
-use Rattle.phrases.proofs.PhraseLaws.{span, text_length, part}
+use Rattle.phrases.proofs.PhraseLaws.{span, part}
 use Rattle.std.proofs.lemmas.Slice.{between_is}
 use Rattle.phrases.proofs.phrase_of.Goals as goal
 
@@ -15,12 +16,14 @@ slice_bounds-result-start c = omega (arith, (span c.args.i (search rules)).from_
 
 pub slice_bounds-result-end : goal.slice_bounds-result-end
 slice_bounds-result-end c =
-    let e : length c.args.text.now ≡ byte_count = ap length c.requires.0 ∙ text_length in
-    let w = span c.args.i (search rules) in
-    omega (arith, w.from_to, w.in-text)
+    let w = span c.args.i (search rules) in omega (arith, w.from_to, w.in-text)
+
+text_is : TEXT ≡ all_text
+unfolding all_text laid_out phrases spelled in_words
+text_is = refl
 
 pub returns : goal.returns
 returns c =
-    let a = c.args in
-    between_is a.text.now c.start_of.result c.start_of-2.result
-    ∙ part a.text.now a.i c.start_of.result c.start_of-2.result (search rules) c.requires.0 c.start_of.ensures c.start_of-2.ensures
+    let i = c.args.i in
+    between_is TEXT c.start_of.result c.start_of-2.result
+    ∙ part TEXT i c.start_of.result c.start_of-2.result (search rules) text_is c.start_of.ensures c.start_of-2.ensures

@@ -1,24 +1,19 @@
-use mathlib.Core.Path.{refl, ap, ◌∙◌}
+use mathlib.Core.Path.{refl, sym, ◌∙◌}
 use native.Mathlib.Omega.{arith}
-use Rattle.format.specs.Contents.{contents_at}
 use Rattle.checking.proofs.CheckLaws.{entered_fine}
-use Rattle.placing.specs.Placing.{labels_from, answered}
-use Rattle.placing.specs.declared.Decision.{Decision}
-use Rattle.placing.proofs.PlaceLaws.{body_answered, few_decided}
+use Rattle.placing.proofs.PlaceLaws.{sums_few, sums_answered}
 use Rattle.placing.proofs.measure_body.Goals as goal
 
-pub decide-decision-requires : goal.decide-decision-requires
-decide-decision-requires c = let a = c.args in ((entered_fine a.file.now a.head c.requires.0).0, c.requires.1, refl, refl)
+pub decide-requires : goal.decide-requires
+decide-requires c = let a = c.args in ((entered_fine a.file.now a.head c.requires.0).0, c.requires.1, refl, refl)
 
 pub answer_of-requires : goal.answer_of-requires
 answer_of-requires c =
     let a = c.args in
     let laid = (entered_fine a.file.now a.head c.requires.0).0 in
-    let C = contents_at a.file.now a.head in
-    (omega (arith, laid), omega (arith, ap (λ (d : Decision). d.sums.nodes) c.decide-decision.ensures.0, few_decided C (labels_from C a.roles.now)))
+    (omega (arith, laid), sums_few a.file.now a.head laid a.roles.now _ (sym c.in-Ok.ensures.0))
 
-pub returns : goal.returns
-returns c =
+pub returns-in-Ok : goal.returns-in-Ok
+returns-in-Ok c =
     let a = c.args in
-    c.answer_of.ensures ∙ ap (answered a.head.at.nodes) c.decide-decision.ensures.0
-    ∙ body_answered a.file.now a.head (entered_fine a.file.now a.head c.requires.0).0 a.roles.now
+    c.answer_of.ensures ∙ sums_answered a.file.now a.head (entered_fine a.file.now a.head c.requires.0).0 a.roles.now _ (sym c.in-Ok.ensures.0)

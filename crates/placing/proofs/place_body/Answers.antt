@@ -4,101 +4,75 @@ use mathlib.Core.List.{List, map}
 use native.Mathlib.Omega.{arith}
 use lib.ListN.{length, replicate, drop, length-drop}
 use lib.Seq.{sets, length-sets}
-use Rattle.format.specs.Contents.{Contents, contents_at}
+use Rattle.format.specs.Contents.{contents_at}
 use Rattle.format.specs.Writing.{encoded}
 use Rattle.format.specs.declared.Verdict.{Verdict}
-use Rattle.format.proofs.AnswerLaws.{NoRefusal}
 use Rattle.format.proofs.ContentsLaws.{nodes_held}
 use Rattle.checking.proofs.CheckLaws.{entered_fine}
 use Rattle.states.specs.States.{Label, turns_of, packed}
-use Rattle.groups.specs.Groups.{sizes_of, starts_from, placed_contents, turns_in}
+use Rattle.groups.specs.Groups.{sizes_of, starts_from, placed_contents}
 use Rattle.groups.specs.declared.Sums.{Sums}
-use Rattle.placing.specs.Placing.{labels_from, placeable_by, summed, answered}
-use Rattle.placing.specs.declared.Decision.{Decision}
-use Rattle.placing.proofs.DecideLaws.{decided_quiet, settled_quiet, few_nodes, labelled_length, turns_written, starts_kept}
-use Rattle.placing.proofs.PlaceLaws.{enough_room, room_least, over_loud, over_quiet, body_answered, few_decided}
+use Rattle.placing.specs.Placing.{labels_from, placeable_by, no_place}
+use Rattle.placing.proofs.DecideLaws.{sums_given, refusal_decided, few_nodes, labelled_length, starts_kept}
+use Rattle.placing.proofs.PlaceLaws.{enough_room, room_least, answer_loud, over_loud, over_quiet, sums_few, sums_answered, turns_seen}
 use Rattle.placing.proofs.place_body.Goals as goal
-use Rattle.placing.proofs.place_body.Goals.{After-decide-decision, then-decision-eq0, else-decision-eq0}
 
--- what the file holds, its nodes as they are seen, and what is decided
-module _ (c : After-decide-decision) where
-  abbrev held : Contents
-  held = contents_at c.args.file.now c.args.head
-
-  abbrev seen : List Label
-  seen = labels_from held c.args.roles.now
-
-  judged : c.decide-decision.result.verdict ≡ placeable_by held seen
-  judged = ap (λ (d : Decision). d.verdict) c.decide-decision.ensures.0
-
-  few-at : length held.nodes ≤ 1024
-  few-at = omega (arith, nodes_held c.args.file.now c.args.head, (entered_fine c.args.file.now c.args.head c.requires.0).0.nodes)
-
-  labels_at : length seen ≡ length held.nodes
-  labels_at = labelled_length held.nodes (drop 1 c.args.roles.now) (omega (arith, few-at, length-drop 1 c.args.roles.now, c.requires.1))
-
-  -- where nothing is refused
-  module _ (fine : c.decide-decision.result.verdict.number ≡ 0) where
-    quiet : NoRefusal (placeable_by held seen)
-    quiet = sym (ap (λ (x : Verdict). x.number) judged) ∙ fine
-
-    sums_at : c.decide-decision.result.sums ≡ summed (turns_of seen)
-    sums_at = ap (λ (d : Decision). d.sums) (c.decide-decision.ensures.0 ∙ decided_quiet _ _ quiet)
-
-    tables-at : (c.decide-decision.new.turns ≡ sets (replicate 1025 0) 1 (map packed (turns_of seen)))
-        × (c.decide-decision.new.starts ≡ sets (replicate 1025 0) 1 (starts_from 1 (turns_of seen)))
-    tables-at =
-        let d = c.decide-decision in
-        settled_quiet d.result.verdict.number (turns_of seen) (replicate 1025 0) d.new.turns (replicate 1025 0) d.new.starts fine d.ensures.1
-
-    turns_at : turns_in c.decide-decision.new.turns c.args.head.count.nodes ≡ turns_of seen
-    turns_at =
-        let t = c.decide-decision.new.turns in
-        ap (turns_in t) (sym (nodes_held c.args.file.now c.args.head))
-        ∙ turns_written held.nodes c.args.roles.now (replicate 1025 0) t (omega (arith, few-at, c.requires.1)) (omega (arith, few-at)) tables-at.0
-
-pub decide-decision-requires : goal.decide-decision-requires
-decide-decision-requires c = let a = c.args in ((entered_fine a.file.now a.head c.requires.0).0, c.requires.1, refl, refl)
+pub decide-requires : goal.decide-requires
+decide-requires c = let a = c.args in ((entered_fine a.file.now a.head c.requires.0).0, c.requires.1, refl, refl)
 
 pub put_file-requires : goal.put_file-requires
 put_file-requires c =
     let a = c.args in
-    let d = (goal.at.put_file-requires c).After-decide-decision in
-    let q = c.if-decision-eq0.true in
-    let tables = tables-at d q in
-    let nodes : c.decide-decision.result.sums.nodes ≡ sizes_of (turns_of (seen d)) = ap (λ (x : Sums). x.nodes) (sums_at d q) in
-    let few = few_nodes (held d) (seen d) (quiet d q) in (
-      (entered_fine a.file.now a.head c.requires.0).0,
-      ap length tables.0 ∙ length-sets {A = ℕ} (replicate 1025 0) 1 (map packed (turns_of (seen d))),
-      ap length tables.1 ∙ length-sets {A = ℕ} (replicate 1025 0) 1 (starts_from 1 (turns_of (seen d))),
-      nodes ∙ ap sizes_of (sym (turns_at d q)),
+    let f = a.file.now in
+    let pre = c.requires in
+    let laid = (entered_fine f a.head pre.0).0 in
+    let ls : List Label = labels_from (contents_at f a.head) a.roles.now in
+    let (w, (t, s)) = c.in-Ok.ensures in
+    let (quiet, sums) = sums_given (placeable_by (contents_at f a.head) ls) (turns_of ls) c.in-Ok.sums (sym w) in
+    let nodes : c.in-Ok.sums.nodes ≡ sizes_of (turns_of ls) = ap (λ (x : Sums). x.nodes) sums in
+    let few = few_nodes (contents_at f a.head) ls quiet in (
+      laid,
+      ap length t ∙ length-sets {A = ℕ} (replicate 1025 0) 1 (map packed (turns_of ls)),
+      ap length s ∙ length-sets {A = ℕ} (replicate 1025 0) 1 (starts_from 1 (turns_of ls)),
+      nodes ∙ ap sizes_of (sym (turns_seen f a.head laid a.roles.now pre.1 (replicate 1025 0) c.decide.new.turns refl t)),
       omega (arith, nodes, few),
-      omega (arith, nodes, enough_room a.file.now a.head c.requires.0 (sizes_of (turns_of (seen d))) few, c.requires.2),
-      omega (arith, room_least a.file.now, c.requires.2),
+      omega (arith, nodes, enough_room f a.head pre.0 (sizes_of (turns_of ls)) few, pre.2),
+      omega (arith, room_least f, pre.2),
     )
 
 pub answer_of-requires : goal.answer_of-requires
 answer_of-requires c =
     let a = c.args in
     let laid = (entered_fine a.file.now a.head c.requires.0).0 in
-    let C = contents_at a.file.now a.head in
-    (omega (arith, laid), omega (arith, ap (λ (d : Decision). d.sums.nodes) c.decide-decision.ensures.0, few_decided C (labels_from C a.roles.now)))
+    (omega (arith, laid), sums_few a.file.now a.head laid a.roles.now _ (sym c.in-Ok.ensures.0))
 
-pub returns : goal.returns
-returns c =
+pub returns-in-Err : goal.returns-in-Err
+returns-in-Err c =
     let a = c.args in
-    let d = (goal.at.returns c).After-decide-decision in
-    let s = c.decide-decision.new.starts in (
-      c.answer_of.ensures ∙ ap (answered a.head.at.nodes) c.decide-decision.ensures.0
-          ∙ body_answered a.file.now a.head (entered_fine a.file.now a.head c.requires.0).0 a.roles.now,
-      elim c.if-decision-eq0.branch [
-        | then-decision-eq0 w ↦
-            let q = w.if-decision-eq0.true in
-            let placed = ap (λ l. placed_contents (held d) l s) (turns_at d q) ∙ starts_kept (held d) (seen d) (omega (arith, labels_at d, few-at d)) s (tables-at d q).1 in
-            w.out-is ∙ w.put_file.ensures ∙ ap (λ D. sets a.out.now 0 (encoded a.head.version D)) placed
-            ∙ sym (over_quiet a.head.version (held d) (turns_of (seen d)) (placeable_by (held d) (seen d)) a.out.now (quiet d q))
-        | else-decision-eq0 w ↦
-            w.out-is ∙ sym (over_loud a.head.version (held d) (turns_of (seen d)) (placeable_by (held d) (seen d)) a.out.now
-            (λ q. w.if-decision-eq0.false (ap (λ (x : Verdict). x.number) (judged d) ∙ q)))
-      ],
+    let h = a.head in
+    let C = contents_at a.file.now h in
+    let ls : List Label = labels_from C a.roles.now in
+    let v : Verdict = placeable_by C ls in
+    let (loud, first) = refusal_decided v (turns_of ls) c.in-Err.first (sym c.in-Err.ensures.0) in (
+      c.no_place.ensures ∙ ap (λ (x : Verdict). no_place x.number x.place) first ∙ sym (answer_loud h.version C (turns_of ls) v loud),
+      sym (over_loud h.version C (turns_of ls) v a.out.now loud),
+    )
+
+pub returns-in-Ok : goal.returns-in-Ok
+returns-in-Ok c =
+    let a = c.args in
+    let f = a.file.now in
+    let h = a.head in
+    let pre = c.requires in
+    let laid = (entered_fine f h pre.0).0 in
+    let C = contents_at f h in
+    let ls : List Label = labels_from C a.roles.now in
+    let (w, (t, s)) = c.in-Ok.ensures in
+    let quiet = (sums_given (placeable_by C ls) (turns_of ls) c.in-Ok.sums (sym w)).0 in
+    let starts = c.decide.new.starts in
+    let nodes : length C.nodes ≤ 1024 = omega (arith, nodes_held f h, laid.nodes) in
+    let few : length ls ≤ 1024 = omega (arith, nodes, labelled_length C.nodes (drop 1 a.roles.now) (omega (arith, nodes, length-drop 1 a.roles.now, pre.1))) in
+    let placed = ap (λ l. placed_contents C l starts) (turns_seen f h laid a.roles.now pre.1 (replicate 1025 0) c.decide.new.turns refl t) ∙ starts_kept C ls few starts s in (
+      c.answer_of.ensures ∙ sums_answered f h laid a.roles.now c.in-Ok.sums (sym w),
+      c.put_file.ensures ∙ ap (λ D. sets a.out.now 0 (encoded h.version D)) placed ∙ sym (over_quiet h.version C (turns_of ls) (placeable_by C ls) a.out.now quiet),
     )

@@ -1,10 +1,7 @@
-use mathlib.Core.Path.{◌≡◌, sym, ◌∙◌}
-use mathlib.Core.Bool.{true}
+use mathlib.Core.Path.{sym, ◌∙◌}
 use native.Mathlib.Omega.{arith}
-use Rattle.reasons.specs.Reasons.{is_reason, reason_of}
-use Rattle.reasons.proofs.ReasonAnswers.{said_short, said_not, said_yes}
-use Rattle.reasons.proofs.TableBounds.{sentence_length}
-use Rattle.reasons.proofs.ReasonTests.{reason_exactly}
+use Rattle.reasons.specs.Reasons.{reason_of}
+use Rattle.reasons.proofs.ReasonAnswers.{said_short, said_not, said_yes, sentence_most}
 use Rattle.reasons.proofs.write_reason.Goals as goal
 
 pub returns-then-out-lt120 : goal.returns-then-out-lt120
@@ -19,23 +16,14 @@ returns-then-not-is_reason c =
     let r = reason_of a.number a.counts a.place a.tag in
     said_not r a.out.now c.if-out-lt120.false (sym c.is_reason.ensures ∙ c.if-not-is_reason.true)
 
-pub put_sentence-requires : goal.put_sentence-requires
-put_sentence-requires c =
-    let a = c.args in
-    let r = reason_of a.number a.counts a.place a.tag in
-    let v : is_reason r ≡ true = sym c.is_reason.ensures ∙ c.if-not-is_reason.false in
-    (c.phrase_text-text.ensures, c.phrase_starts-starts.ensures, v, c.if-out-lt120.false)
-
 pub overflow_cast-result : goal.overflow_cast-result
 overflow_cast-result c =
     let a = c.args in
     let r = reason_of a.number a.counts a.place a.tag in
-    let v : is_reason r ≡ true = sym c.is_reason.ensures ∙ c.if-not-is_reason.false in
-    omega (arith, c.put_sentence.ensures.0, (sentence_length r ((reason_exactly r).0 v)).1)
+    omega (arith, c.put_sentence.ensures.0, sentence_most r (sym c.is_reason.ensures ∙ c.if-not-is_reason.false))
 
 pub returns : goal.returns
 returns c =
     let a = c.args in
     let r = reason_of a.number a.counts a.place a.tag in
-    let v : is_reason r ≡ true = sym c.is_reason.ensures ∙ c.if-not-is_reason.false in
-    said_yes r a.out.now c.put_sentence.new.out c.put_sentence.result c.if-out-lt120.false v c.put_sentence.ensures.0 c.put_sentence.ensures.1
+    said_yes r a.out.now c.put_sentence.new.out c.put_sentence.result c.if-out-lt120.false (sym c.is_reason.ensures ∙ c.if-not-is_reason.false) c.put_sentence.ensures.0 c.put_sentence.ensures.1

@@ -1,4 +1,4 @@
-use mathlib.Core.Path.{◌≡◌, sym, ap, ap₂, subst, ◌∙◌}
+use mathlib.Core.Path.{◌≡◌, sym, ap, subst, ◌∙◌}
 use mathlib.Core.List.{List}
 use Prim.Native.Nat.{ℕ}
 use native.Mathlib.Omega.{arith}
@@ -12,14 +12,11 @@ use Rattle.format.proofs.ContentsLaws.{nodes_held}
 use Rattle.states.specs.States.{Label, labelled, turns_of}
 use Rattle.groups.specs.Groups.{starts_from, turns_in}
 use Rattle.groups.specs.declared.Sums.{Sums}
-use Rattle.placing.specs.Placing.{unserved_from, settling, no_sums, summed, unsettled}
-use Rattle.placing.specs.declared.Decision.{Decision}
-use Rattle.placing.proofs.DecideLaws.{decided_loud, decided_quiet, settled_before, settled_after, unserved_number, unserved_loud, too_large, not_too_large, turns_written}
+use Rattle.placing.specs.Placing.{unserved_from, settling, summed}
+use Rattle.std.specs.Prelude.{Ok, Err}
+use Rattle.placing.proofs.DecideLaws.{decided_loud, decided_quiet, settled_before, unserved_number, unserved_loud, too_large, not_too_large, turns_written}
 use Rattle.placing.proofs.ServedLaws.{all_served}
 use Rattle.placing.proofs.decide.settle.Goals as goal
-
-abbrev decision : Verdict → Sums → Decision
-decision v k = record { verdict = v; sums = k }
 
 pub returns-then-first-ne0 : goal.returns-then-first-ne0
 returns-then-first-ne0 c =
@@ -27,12 +24,10 @@ returns-then-first-ne0 c =
     let ls : List Label = labelled (contents_at a.file.now a.head).nodes (drop 1 a.roles.now) in
     let e = c.unserved-first.ensures in
     let loud : NoRefusal (unserved_from 1 ls) → ⊥ = λ q. c.if-first-ne0.true (ap (λ (x : Verdict). x.number) e ∙ q) in
-    let s : settling ls ≡ unserved_from 1 ls = unserved_loud ls loud in (
-      c.refused.ensures
-          ∙ ap (λ (x : Verdict). record { verdict = x; sums = no_sums }) (e ∙ sym s)
-          ∙ sym (decided_loud (settling ls) (turns_of ls) (λ q. loud (subst NoRefusal s q))),
-      settled_before c.refused.result.verdict.number (turns_of ls) a.turns.now a.starts.now
-          (ap unsettled (ap (λ (d : Decision). d.verdict.number) c.refused.ensures ∙ ap (λ (x : Verdict). x.number) e ∙ unserved_number 1 ls loud)),
+    let s : settling ls ≡ unserved_from 1 ls = unserved_loud ls loud in
+    let number : ◌≡◌ {A = ℕ} c.unserved-first.result.number 15 = ap (λ (x : Verdict). x.number) e ∙ unserved_number 1 ls loud in (
+      ap (λ (x : Verdict). Err x) (e ∙ sym s) ∙ sym (decided_loud (settling ls) (turns_of ls) (λ q. loud (subst NoRefusal s q))),
+      settled_before (Err c.unserved-first.result) (turns_of ls) a.turns.now a.starts.now (rw number),
     )
 
 pub turns-requires : goal.turns-requires
@@ -56,12 +51,8 @@ returns-then-sums-gt1024 c =
     let sums : c.starts-sums.result ≡ summed (turns_of ls) = c.starts-sums.ensures.0 ∙ ap summed written in
     let s : settling ls ≡ refused 16 0 = too_large ls quiet (omega (arith, c.if-sums-gt1024.true, ap (λ (x : Sums). x.nodes) sums)) in
     let loud : NoRefusal (settling ls) → ⊥ = λ q. let no_way : ⊥ = omega (arith, sym (ap (λ (x : Verdict). x.number) s) ∙ q) in no_way in (
-      c.refused-then-sums-gt1024.ensures
-          ∙ ap (λ (x : Verdict). record { verdict = x; sums = no_sums }) (sym s)
-          ∙ sym (decided_loud (settling ls) (turns_of ls) loud),
-      settled_after c.refused-then-sums-gt1024.result.verdict.number (turns_of ls) a.turns.now t a.starts.now _ (ap unsettled (ap (λ (d : Decision). d.verdict.number) c.refused-then-sums-gt1024.ensures))
-          c.turns.ensures
-          (c.starts-sums.ensures.1 ∙ ap (λ l. sets a.starts.now 1 (starts_from 1 l)) written),
+      ap (λ (x : Verdict). Err x) (sym s) ∙ sym (decided_loud (settling ls) (turns_of ls) loud),
+      (c.turns.ensures, c.starts-sums.ensures.1 ∙ ap (λ l. sets a.starts.now 1 (starts_from 1 l)) written),
     )
 
 pub returns : goal.returns
@@ -76,6 +67,6 @@ returns c =
     ap (turns_in t) (sym held) ∙ turns_written (contents_at a.file.now a.head).nodes a.roles.now a.turns.now t (omega (arith, held, pre.0.nodes, pre.1)) (omega (arith, held, pre.0.nodes, pre.2)) c.turns.ensures in
     let sums : c.starts-sums.result ≡ summed (turns_of ls) = c.starts-sums.ensures.0 ∙ ap summed written in
     let s : settling ls ≡ fine = not_too_large ls quiet (omega (arith, c.if-sums-gt1024.false, ap (λ (x : Sums). x.nodes) sums)) in (
-      ap₂ (λ v k. decision v k) (sym s) sums ∙ sym (decided_quiet (settling ls) (turns_of ls) (ap (λ (x : Verdict). x.number) s)),
+      ap (λ (k : Sums). Ok k) sums ∙ sym (decided_quiet (settling ls) (turns_of ls) (ap (λ (x : Verdict). x.number) s)),
       (c.turns.ensures, c.starts-sums.ensures.1 ∙ ap (λ l. sets a.starts.now 1 (starts_from 1 l)) written),
     )

@@ -29,19 +29,10 @@ bounds-owners-count c =
     let r = subst (PassRoom a.count a.i) c.in-Adds.is c.requires.1 in
     omega (arith, r.2, c.requires.0)
 
-pub returns-in-Refused : goal.returns-in-Refused
-returns-in-Refused c = sym (ap (owners_passed _ _ _) c.in-Refused.is)
-
-pub returns-in-Moves : goal.returns-in-Moves
-returns-in-Moves c = sym (ap (owners_passed _ _ _) c.in-Moves.is)
-
 pub returns-in-Adds : goal.returns-in-Adds
 returns-in-Adds c =
     let a = c.args in
     ap (λ (x : ℕ). set a.owners.now a.count (get_or a.owners.now x 0)) c.from.ensures ∙ sym (ap (owners_passed a.owners.now a.count a.i) c.in-Adds.is)
-
-pub returns-in-Makes : goal.returns-in-Makes
-returns-in-Makes c = sym (ap (owners_passed _ _ _) c.in-Makes.is)
 
 pub returns-in-Ends : goal.returns-in-Ends
 returns-in-Ends c =
@@ -52,6 +43,3 @@ returns-in-Ends c =
     let to : c.from-in-Ends-2.result ≡ a.i - 1 = c.from-in-Ends-2.ensures in
     let n : a.count - (a.i - 1 + 1) ≡ a.count - 1 - (a.i - 1) = omega arith in
     c.copy_within.ensures.after ∙ rw (from, to, n) (sym (ap (owners_passed os a.count a.i) c.in-Ends.is))
-
-pub returns-in-Meets : goal.returns-in-Meets
-returns-in-Meets c = sym (ap (owners_passed _ _ _) c.in-Meets.is)

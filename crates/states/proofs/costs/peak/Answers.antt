@@ -4,12 +4,12 @@ use Rattle.states.specs.Kept.{highest}
 use Rattle.states.proofs.LaneLaws.{highest_more}
 use Rattle.states.proofs.costs.peak.Goals as goal
 
-pub loop-lane-init : goal.loop-lane-init
+pub loop-q-init : goal.loop-q-init
 unfolding highest
-loop-lane-init c = refl
+loop-q-init c = refl
 
-pub loop-lane-preserved : goal.loop-lane-preserved
-loop-lane-preserved c =
-    let l = c.loop-lane in
+pub loop-q-preserved : goal.loop-q-preserved
+loop-q-preserved c =
+    let l = c.loop-q in
     let a = c.args in
-    highest_more a.base l.lane-index (λ q. get_or a.lanes.now q 0) l.high _ _ l.invariant refl c.max-high.ensures
+    highest_more a.base l.q (λ q. get_or a.lanes.now q 0) l.high _ c.larger-high.result l.invariant refl c.larger-high.ensures
