@@ -1,12 +1,12 @@
 -- Bytes that are copied are words as they are, a file's words before its sessions are its tables', and how many words a section has.
 use Prim.Native.Nat.{ℕ, zero, suc, ◌+◌, ◌*◌, ◌-◌, ◌/◌, ◌%◌, ◌≤◌, ◌<◌}
-use mathlib.Core.Path.{◌≡◌, refl, ap, ap₂, ◌∙◌}
+use mathlib.Core.Path.{◌≡◌, refl, sym, ap, ap₂, ◌∙◌}
 use mathlib.Core.Bool.{Bool, true, false, cond}
 use mathlib.Core.List.{List, [], ◌∷◌, ◌++◌}
 use native.Mathlib.Omega.{arith}
 use native.Mathlib.Numerals.{add-one}
-use lib.ListN.{length, get_or, take, drop, length-append}
-use lib.Seq.{sets, drop-cons}
+use lib.ListN.{length, get_or, set, take, drop, length-append, length-drop}
+use lib.Seq.{sets, sets-eq, drop-cons, get_or-drop, length-take-le, paste, paste-zero, paste-suc}
 use Rattle.format.specs.Words.{word_at, wide_at, bytes_of}
 use Rattle.format.specs.Header.{Laid, has_juniors, more, junior_records, six_words, offset_words, head_words}
 use Rattle.format.specs.Sections.{words_from, place_of, juniors_of, session_of}
@@ -66,6 +66,34 @@ bytes_words f p (suc k) b h =
     let low : word_at f p % 256 ≡ get_or f (2 * p) 0 = omega (arith, b (2 * p)) in
     let high : word_at f p / 256 ≡ get_or f (2 * p + 1) 0 = omega (arith, b (2 * p)) in
     rw (two, drop-cons f (2 * p) 0 (omega arith), drop-cons f (suc (2 * p)) 0 (omega arith), next, low, high, add-one (2 * p), bytes_words f (suc p) k b (omega arith))
+
+-- what a loop that copies bytes has done, and what is left when it has copied whole words
+pub copy_turn : (f out : List ℕ) (from at i : ℕ) → from + i < length f → at + i < length out
+    → set (paste out at (drop from f) i) (at + i) (get_or f (from + i) 0) ≡ paste out at (drop from f) (i + 1)
+copy_turn f out from at i there room =
+    let one : suc i ≡ i + 1 = omega arith in
+    ap (set (paste out at (drop from f) i) (at + i)) (sym (get_or-drop from f i 0))
+    ∙ paste-suc out at (drop from f) i 0 room (omega (arith, there, length-drop from f))
+    ∙ ap (paste out at (drop from f)) one
+
+pub copied_words : (f out : List ℕ) (from at k n : ℕ) → Bytes f → n ≡ 2 * k → (0 < k → 2 * (from + k) ≤ length f) → 2 * (at + k) ≤ length out
+    → paste out (2 * at) (drop (2 * from) f) n ≡ sets out (2 * at) (bytes_of (words_from f from k))
+unfolding bytes_of words_from
+copied_words f out from at k n b e there room = ap (paste out (2 * at) (drop (2 * from) f)) e ∙ go k there room
+  where
+    go : (k : ℕ) → (0 < k → 2 * (from + k) ≤ length f) → 2 * (at + k) ≤ length out
+        → paste out (2 * at) (drop (2 * from) f) (2 * k) ≡ sets out (2 * at) (bytes_of (words_from f from k))
+    go zero there room = sym (paste-zero out (2 * at) (drop (2 * from) f))
+    go (suc k) there room =
+        let p : ℕ = 2 * at in
+        let m : ℕ = 2 * suc k in
+        let bytes : List ℕ = bytes_of (words_from f from (suc k)) in
+        let fits : 2 * (from + suc k) ≤ length f = there (omega arith) in
+        let same : take m (drop (2 * from) f) ≡ bytes = bytes_words f from (suc k) b fits in
+        let long : length bytes ≡ m = ap length (sym same) ∙ length-take-le m (drop (2 * from) f) (omega (arith, fits, length-drop (2 * from) f)) in
+        ap (λ (x : List ℕ). take p out ++ x ++ drop (p + m) out) same
+        ∙ ap (λ (x : ℕ). take p out ++ bytes ++ drop (p + x) out) (sym long)
+        ∙ sym (sets-eq bytes out p (omega (arith, long, room)))
 
 -- the words of each table's items, from the place q of the one after i on
 module _ (f : List ℕ) (p : ℕ) where

@@ -54,8 +54,9 @@ fn put_words(file: &[u8], from: usize, to: usize, out: &mut [u8])
     requires { (from ≤ to) × (from < to → 2 * to ≤ length file.now) × (2 * to ≤ length out.old) }
     ensures { out.new ≡ sets out.old (2 * from) (bytes_of (words_from file.now from (to - from))) }
 {
-    if from < to {
-        out[2 * from..2 * to].copy_from_slice(&file[2 * from..2 * to]);
+    let at = 2 * from;
+    for i in 0..2 * (to - from) {
+        out[at + i] = file[at + i];
     }
 }
 

@@ -22,8 +22,8 @@ pub fn move_words(file: &[u8], from: usize, count: usize, at: usize, out: &mut [
     requires { (0 < count → 2 * (from + count) ≤ length file.now) × (2 * (at + count) ≤ length out.old) }
     ensures { out.new ≡ sets out.old (2 * at) (bytes_of (words_from file.now from count)) }
 {
-    if 0 < count {
-        out[2 * at..2 * (at + count)].copy_from_slice(&file[2 * from..2 * (from + count)]);
+    for i in 0..2 * count {
+        out[2 * at + i] = file[2 * from + i];
     }
 }
 

@@ -16,7 +16,9 @@ pub fn copy_words(states: &[u16], at: usize, table: &mut [u16], to: usize, n: us
     requires { (at + n ≤ length states.now) × (to + n ≤ length table.old) }
     ensures { table.new ≡ paste table.old to (drop at states.now) n }
 {
-    table[to..to + n].copy_from_slice(&states[at..at + n]);
+    for k in 0..n {
+        table[to + k] = states[at + k];
+    }
 }
 
 // A word of a table, 0 past its end.

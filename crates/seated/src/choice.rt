@@ -1,5 +1,6 @@
 // One choice of a run with seats, in the tables that keep its state.
-ghost use Rattle.std.specs.Prelude.{◌≡◌, false, ◌≤◌, ◌<◌, length};
+ghost use Rattle.std.specs.Prelude.{◌≡◌, false, ◌+◌, ◌-◌, ◌≤◌, ◌<◌, length, drop};
+ghost use Rattle.std.proofs.Math.Seq.{paste};
 ghost use Rattle.format.specs.Header.{Laid};
 ghost use Rattle.format.specs.Contents.{contents_at};
 ghost use Rattle.rules.specs.Schema.{schema_of};
@@ -125,6 +126,16 @@ fn has_to_wait(
     answer == 2
 }
 
+// One of so many threads is gone: the sessions of those after it move down by one.
+fn move_down(owners: &mut [u16], count: usize, at: usize)
+    requires { (at < count) × (count ≤ length owners.old) }
+    ensures { owners.new ≡ paste owners.old at (drop (at + 1) owners.old) (count - 1 - at) }
+{
+    for k in at..count - 1 {
+        owners[k] = owners[k + 1];
+    }
+}
+
 // The threads' sessions after an answer: a new last thread has its maker's, an end takes its away.
 fn pass_on(owners: &mut [u16], count: usize, i: u16, answer: Answer)
     requires { (length owners.old ≡ 64) × PassRoom count i answer }
@@ -132,7 +143,7 @@ fn pass_on(owners: &mut [u16], count: usize, i: u16, answer: Answer)
 {
     match answer {
         Answer::Adds => owners[count] = owners[usize::from(i - 1)],
-        Answer::Ends => owners.copy_within(usize::from(i)..count, usize::from(i - 1)),
+        Answer::Ends => move_down(owners, count, usize::from(i - 1)),
         _ => {}
     }
 }

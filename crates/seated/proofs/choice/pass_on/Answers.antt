@@ -1,7 +1,8 @@
-use mathlib.Core.Path.{◌≡◌, sym, ap, ◌∙◌, subst}
-use Prim.Native.Nat.{ℕ, ◌+◌, ◌-◌}
+use mathlib.Core.Path.{sym, ap, ◌∙◌, subst}
+use Prim.Native.Nat.{ℕ, ◌-◌}
 use native.Mathlib.Omega.{arith}
 use lib.ListN.{get_or, set}
+use Rattle.steps.proofs.TableLaws.{down}
 use Rattle.seated.specs.SeatedTables.{owners_passed, PassRoom}
 use Rattle.seated.proofs.choice.pass_on.Goals as goal
 
@@ -34,12 +35,15 @@ returns-in-Adds c =
     let a = c.args in
     ap (λ (x : ℕ). set a.owners.now a.count (get_or a.owners.now x 0)) c.from.ensures ∙ sym (ap (owners_passed a.owners.now a.count a.i) c.in-Adds.is)
 
+pub move_down-requires : goal.move_down-requires
+move_down-requires c =
+    let a = c.args in
+    let r = subst (PassRoom a.count a.i) c.in-Ends.is c.requires.1 in
+    (omega (arith, r.0, r.1, c.from-in-Ends.ensures), omega (arith, r.2, c.requires.0))
+
 pub returns-in-Ends : goal.returns-in-Ends
 returns-in-Ends c =
     let a = c.args in
-    let os = a.owners.now in
-    let r = subst (PassRoom a.count a.i) c.in-Ends.is c.requires.1 in
-    let from : c.from-in-Ends.result ≡ a.i - 1 + 1 = omega (arith, r.0, c.from-in-Ends.ensures) in
-    let to : c.from-in-Ends-2.result ≡ a.i - 1 = c.from-in-Ends-2.ensures in
-    let n : a.count - (a.i - 1 + 1) ≡ a.count - 1 - (a.i - 1) = omega arith in
-    c.copy_within.ensures.after ∙ rw (from, to, n) (sym (ap (owners_passed os a.count a.i) c.in-Ends.is))
+    c.move_down.ensures
+    ∙ ap (λ (x : ℕ). down a.owners.now x 1 (a.count - 1 - x)) c.from-in-Ends.ensures
+    ∙ sym (ap (owners_passed a.owners.now a.count a.i) c.in-Ends.is)
