@@ -5,8 +5,6 @@ use mathlib.Core.List.{List, [], ◌∷◌, ◌++◌}
 use native.Mathlib.Omega.{arith}
 use lib.ListN.{length, get_or, set, take, drop, length-set, length-append, length-drop, get_or-append, drop_of_length-le}
 use lib.Seq.{sets, sets-eq, paste, paste-suc, drop-paste, get_or-drop, get_or-take, get_or-set_other, get_or-append-add, length-take-le, drop-cons, take_all}
-use borrow.Rule.Slice.PartMut.{put_mid}
-use Rattle.std.proofs.lemmas.Slice.{put_mid-paste}
 use Rattle.steps.specs.declared.Thread.{Thread}
 use Rattle.steps.specs.Threads.{no_thread}
 use Rattle.steps.specs.Records.{thread_in, threads_in}
@@ -130,17 +128,18 @@ stored_sets w p t =
     let a10 : p + 10 ≡ suc (suc (suc (suc (suc (suc (suc (suc (suc (suc p))))))))) = omega arith in
     rw (a1, a2, a3, a4, a5, a6, a7, a8, a9, a10)
 
--- three words stored and then the eight variables at once store the thread
-pub stored_put : (w : List ℕ) (p q k : ℕ) (t : Thread) (vars : List ℕ) → q ≡ p + 3 → k ≡ 8 → vars ≡ t.vars → length t.vars ≡ 8 → p + 11 ≤ length w
-    → put_mid q k (set (set (set w p t.user) (p + 1) t.node) (p + 2) t.mask) vars ≡ stored w p t
-stored_put w p q k t vars at wide same long fits =
+-- three words stored and then the eight variables, one after the other, store the thread
+pub stored_paste : (w : List ℕ) (p k : ℕ) (t : Thread) → k ≡ 8 → length t.vars ≡ 8 → p + 11 ≤ length w
+    → paste (set (set (set w p t.user) (p + 1) t.node) (p + 2) t.mask) (p + 3) t.vars k ≡ stored w p t
+stored_paste w p k t wide long fits =
+    let q : ℕ = p + 3 in
     let head : List ℕ = set (set (set w p t.user) (p + 1) t.node) (p + 2) t.mask in
     let room : length head ≡ length w = simp length-set in
     let a1 : p + 1 ≡ suc p = omega arith in
     let a2 : p + 2 ≡ suc (suc p) = omega arith in
-    let a3 : q ≡ suc (suc (suc p)) = omega arith in
+    let a3 : p + 3 ≡ suc (suc (suc p)) = omega arith in
     let begun : head ≡ set (set (set w p t.user) (suc p) t.node) (suc (suc p)) t.mask = rw (a1, a2) in
-    put_mid-paste q k head vars t.vars 8 same (sym wide) (sym long)
+    ap (paste head q t.vars) wide
     ∙ ap₂ (λ (x : List ℕ) (n : ℕ). take q head ++ x ++ drop (q + n) head) (take_all 8 t.vars (omega (arith, long))) (sym long)
     ∙ sym (sets-eq t.vars head q (omega (arith, room, long)))
     ∙ ap (sets head q) (sym (eight t.vars long))

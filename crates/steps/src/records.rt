@@ -17,7 +17,9 @@ pub fn thread_at(threads: &[u16], i: usize) -> Thread
 {
     let at = RECORD * i;
     let mut vars = [0; 8];
-    vars.copy_from_slice(&threads[at + 3..at + 11]);
+    for k in 0..8 {
+        vars[k] = threads[at + 3 + k];
+    }
     Thread {
         user: threads[at],
         node: threads[at + 1],
@@ -35,7 +37,9 @@ pub fn put_thread(threads: &mut [u16], i: usize, t: Thread)
     threads[at] = t.user;
     threads[at + 1] = t.node;
     threads[at + 2] = t.mask;
-    threads[at + 3..at + 11].copy_from_slice(&t.vars);
+    for k in 0..8 {
+        threads[at + 3 + k] = t.vars[k];
+    }
 }
 
 // Of so many threads one is removed: those after it move down by one.
