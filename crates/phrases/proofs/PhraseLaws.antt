@@ -11,8 +11,8 @@ use Rattle.std.proofs.lemmas.List.{take_all}
 use Rattle.std.specs.List.{starts_with}
 use borrow.Rule.Slice.PartMut.{put_mid}
 use lib.ListN.{length, get_or, take, drop, drop_of_length-le, get_or-eq_default}
-use lib.Seq.{slice, drop-cons, drop-drop}
-use borrow.Author.Tests.{eqb-true, eqb-false, leb-true, ltb-true, ltb-false}
+use lib.Seq.{slice, slice-cons, drop-cons, drop-drop}
+use borrow.Author.Tests.{eqb-true, eqb-false, ne_eqb, leb-true, ltb-true, ltb-false}
 use Rattle.phrases.specs.Phrases.{same_bytes, prefix, put_into, phrases, phrase, spelled, leading, all_text, laid_out, all_starts, starts_after}
 use Rattle.phrases.specs.Table.{in_words, row_count, byte_count}
 
@@ -22,6 +22,20 @@ unfolding prefix
 starts_with-prefix [] s = refl
 starts_with-prefix (x ∷ p) [] = refl
 starts_with-prefix (x ∷ p) (y ∷ s) = ap (λ (b : Bool). eqb x y && b) (starts_with-prefix p s)
+
+-- a part of a text doesn't stand where its first byte differs, and where no byte is left
+pub step_differ : (t s : List ℕ) (i to j : ℕ) → i < to → to ≤ length t → j < length s → (get_or t i 0 ≡ get_or s j 0 → ⊥)
+    → false ≡ prefix (slice i to t) (drop j s)
+unfolding prefix
+step_differ t s i to j l m k e =
+    sym (ap (λ (q : List ℕ). prefix q (drop j s)) (slice-cons i to t 0 l m)
+    ∙ ap (prefix (get_or t i 0 ∷ slice (suc i) to t)) (drop-cons s j 0 k)
+    ∙ ap (λ (b : Bool). b && prefix (slice (suc i) to t) (drop (suc j) s)) (ne_eqb (get_or t i 0) (get_or s j 0) e))
+
+pub step_short : (t s : List ℕ) (i to j : ℕ) → i < to → to ≤ length t → length s ≤ j → false ≡ prefix (slice i to t) (drop j s)
+unfolding prefix
+step_short t s i to j l m k =
+    sym (ap (λ (q : List ℕ). prefix q (drop j s)) (slice-cons i to t 0 l m) ∙ ap (prefix (get_or t i 0 ∷ slice (suc i) to t)) (drop_of_length-le s k))
 
 -- a test at all of 0 to k - 1
 unfoldable pub at_each : (ℕ → Bool) → ℕ → Bool
@@ -55,6 +69,14 @@ span_test i = leb (get_or all_starts i 0) (get_or all_starts (i + 1) 0) && (leb 
 spans : at_each span_test row_count ≡ true
 unfolding at_each same_bytes all_text laid_out all_starts starts_after phrases phrase spelled in_words
 spans = refl
+
+pub starts_length : length all_starts ≡ row_count + 1
+unfolding all_starts starts_after phrases spelled in_words
+starts_length = refl
+
+pub text_length : length all_text ≡ byte_count
+unfolding all_text laid_out phrases spelled in_words
+text_length = refl
 
 pub many : length phrases ≡ row_count
 unfolding phrases spelled in_words

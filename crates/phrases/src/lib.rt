@@ -67,6 +67,15 @@ pub fn stands(text: &[u8], from: usize, to: usize, s: &[u8], at: usize) -> bool
     requires { (from ≤ to) × (to ≤ length text.now) }
     ensures { result ≡ prefix (slice from to text.now) (drop at s.now) }
 {
+    // Most phrases that are tried differ in the first byte, which costs less to see than a call.
+    if from < to {
+        if at >= s.len() {
+            return false;
+        }
+        if text[from] != s[at] {
+            return false;
+        }
+    }
     s[at.min(s.len())..].starts_with(&text[from..to])
 }
 

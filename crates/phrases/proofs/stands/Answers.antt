@@ -2,8 +2,18 @@ use Rattle.std.proofs.Common.{◌≡◌, ℕ, ◌-◌, List, length, drop, take,
 use Rattle.std.specs.List.{starts_with}
 use Rattle.std.proofs.lemmas.List.{drop_min}
 use Rattle.std.proofs.lemmas.Slice.{between_is, between_to_end}
-use Rattle.phrases.proofs.PhraseLaws.{starts_with-prefix}
+use Rattle.phrases.proofs.PhraseLaws.{starts_with-prefix, step_differ, step_short}
 use Rattle.phrases.proofs.stands.Goals as goal
+
+pub returns-then-at-s : goal.returns-then-at-s
+returns-then-at-s c =
+    let a = c.args in
+    step_short a.text.now a.s.now a.from a.to a.at (omega arith) (omega arith) (omega arith)
+
+pub returns-then-text-from : goal.returns-then-text-from
+returns-then-text-from c =
+    let a = c.args in
+    step_differ a.text.now a.s.now a.from a.to a.at (omega arith) (omega arith) (omega arith) c.if-text-from.true
 
 pub returns : goal.returns
 returns c =
