@@ -1,5 +1,5 @@
 // The choices: read to their end, and their bytes taken as words.
-ghost use Rattle.std.specs.Prelude.{◌+◌, ◌*◌, ◌/◌, ◌≤◌, ◌≡◌, IfOk, length, take, drop};
+ghost use Rattle.std.specs.Prelude.{◌+◌, ◌*◌, ◌/◌, ◌≤◌, ◌≡◌, IfErr, IfOk, length, take, drop};
 ghost use Rattle.std.proofs.lemmas.List.Edits.{sets};
 ghost use Rattle.io.specs.Counts.{IsPrefixLen};
 ghost use Rattle.streams.specs.Kept.{kept_by};
@@ -8,7 +8,7 @@ ghost use Rattle.run.specs.WordList.{enough_bytes as WordList·enough};
 
 use format::words::inner_word;
 use std::io::Read;
-use streams::read_behind;
+use streams::{Cut, read_behind};
 
 // Room for more bytes than any list has, and for what a read puts behind them.
 pub fn no_bytes() -> [u8; 278528]
@@ -42,19 +42,21 @@ fn keep(buffer: &[u8], kept: usize, piece: usize) -> usize
     enough(kept + piece)
 }
 
-// Reads the choices to their end, of whatever length; the answer is how many bytes at the start of the buffer are kept,
-// or why a read failed. Each piece is read behind what is kept, and of both enough is kept.
+// Reads the choices to their end, of whatever length; the answer is how many bytes at the start of the buffer are kept
+// or, where a read failed, how many were. Each piece is read behind what is kept, and of both enough is kept.
 // A loop has to end, so the reads are counted, up to a number that no run reaches.
-pub fn read_choices<R: Read>(reader: &mut R, buffer: &mut [u8]) -> std::io::Result<usize>
+pub fn read_choices<R: Read>(reader: &mut R, buffer: &mut [u8]) -> Result<usize, Cut>
     requires { length buffer.old ≡ 278528 }
     ensures prefix_len { IfOk result (λ kept. IsPrefixLen kept buffer.new) }
     ensures kept_bound { IfOk result (λ kept. kept ≤ 262144) }
+    ensures cut { IfErr result (λ cut. IsPrefixLen cut.kept buffer.new × (cut.kept ≤ 262144)) }
 {
     let mut kept = 0;
     for _ in 0..u64::MAX {
-        match read_behind(reader, buffer, kept)? {
-            0 => break,
-            piece => kept = keep(buffer, kept, piece),
+        match read_behind(reader, buffer, kept) {
+            Ok(0) => break,
+            Ok(piece) => kept = keep(buffer, kept, piece),
+            Err(_) => return Err(Cut { kept }),
         }
     }
     Ok(kept)

@@ -6,7 +6,7 @@
 mod lines;
 mod list;
 
-ghost use Rattle.std.specs.Prelude.{◌≤◌, ◌≡◌, IfOk, length};
+ghost use Rattle.std.specs.Prelude.{◌≤◌, ◌≡◌, IfErr, IfOk, length};
 ghost use Rattle.io.specs.Counts.{IsPrefixLen};
 ghost use Rattle.run.specs.State.{has_state};
 
@@ -18,7 +18,7 @@ use running::run;
 use std::env::{Env, FillError};
 use std::fs::{File, Files};
 use std::str::from_utf8;
-use streams::{read_input, write_bytes, write_refused};
+use streams::{Cut, read_input, write_bytes, write_refused};
 
 // Opens the file that an argument names. An argument that is missing, too long for a path or no text counts as the empty one, which names no file.
 fn open_argument<R: Env + Files>(rt: &R, i: usize) -> std::io::Result<R::File> {
@@ -27,21 +27,29 @@ fn open_argument<R: Env + Files>(rt: &R, i: usize) -> std::io::Result<R::File> {
     File::open(rt, from_utf8(&path[..length]).unwrap_or(""))
 }
 
-// Reads the clinic file. A file that could not be opened counts as one whose read fails.
-fn load_file<R: Env + Files>(rt: &R, buffer: &mut [u8]) -> std::io::Result<usize>
+// Reads the clinic file. A file that could not be opened counts as one whose first read fails.
+fn load_file<R: Env + Files>(rt: &R, buffer: &mut [u8]) -> Result<usize, Cut>
     requires { length buffer.old ≡ 16384 }
-    ensures { IfOk result (λ kept. IsPrefixLen kept buffer.new) }
+    ensures whole { IfOk result (λ kept. IsPrefixLen kept buffer.new) }
+    ensures cut { IfErr result (λ cut. IsPrefixLen cut.kept buffer.new) }
 {
-    read_input(&mut open_argument(rt, 1)?, buffer)
+    match open_argument(rt, 1) {
+        Ok(mut file) => read_input(&mut file, buffer),
+        Err(_) => Err(Cut { kept: 0 }),
+    }
 }
 
 // Reads the choices, likewise.
-fn load_choices<R: Env + Files>(rt: &R, buffer: &mut [u8]) -> std::io::Result<usize>
+fn load_choices<R: Env + Files>(rt: &R, buffer: &mut [u8]) -> Result<usize, Cut>
     requires { length buffer.old ≡ 278528 }
     ensures prefix_len { IfOk result (λ kept. IsPrefixLen kept buffer.new) }
     ensures kept_bound { IfOk result (λ kept. kept ≤ 262144) }
+    ensures cut { IfErr result (λ cut. IsPrefixLen cut.kept buffer.new × (cut.kept ≤ 262144)) }
 {
-    read_choices(&mut open_argument(rt, 2)?, buffer)
+    match open_argument(rt, 2) {
+        Ok(mut file) => read_choices(&mut file, buffer),
+        Err(_) => Err(Cut { kept: 0 }),
+    }
 }
 
 // Whether a run into an output of zeros has left a state there: it went to the end of the list, or was halted at a choice, whose refusal is the

@@ -3,13 +3,19 @@
 
 pub mod line;
 
-ghost use Rattle.std.specs.Prelude.{◌+◌, ◌-◌, ◌≤◌, ◌≡◌, IfOk, length, take, drop};
+ghost use Rattle.std.specs.Prelude.{◌+◌, ◌-◌, ◌≤◌, ◌≡◌, IfErr, IfOk, length, take, drop};
 ghost use Rattle.io.specs.Counts.{IsPrefixLen};
 ghost use Rattle.format.specs.Header.{largest};
 ghost use Rattle.streams.specs.Kept.{kept_of};
 
 use line::refused_line;
 use std::io::Read;
+
+// A read failed, and so many bytes at the start of the buffer were kept until then.
+#[derive(Clone, Copy)]
+pub struct Cut {
+    pub kept: usize,
+}
 
 // One read into the buffer behind what is kept, which stays; the answer is the read's: how many bytes came, none at the input's end, or why it failed.
 pub fn read_behind<R: Read>(
@@ -34,21 +40,23 @@ pub fn keep(buffer: &[u8], kept: usize, piece: usize) -> usize
     reading::long::enough(kept + piece)
 }
 
-// Reads an input to its end, of whatever length; the answer is how many bytes at the start of the buffer stand for it,
-// or why a read failed. Each piece is read behind what is kept, and of both enough is kept; of an input longer than any
-// file the start stays, and what comes is read over the rest of the buffer again and again. That what is kept has the
-// answer of the whole input is `stands_check` of checking/proofs/CheckLaws, `stands_placed` of placing/proofs/PlaceLaws,
-// and `stands_run` and `stands_over` of running/proofs/StandLaws.
+// Reads an input to its end, of whatever length; the answer is how many bytes at the start of the buffer stand for it
+// or, where a read failed, how many were kept. Each piece is read behind what is kept, and of both enough is kept; of an
+// input longer than any file the start stays, and what comes is read over the rest of the buffer again and again.
+// That what is kept has the answer of the whole input is `stands_check` of checking/proofs/CheckLaws, `stands_placed` of
+// placing/proofs/PlaceLaws, and `stands_run` and `stands_over` of running/proofs/StandLaws.
 // A loop has to end, so the reads are counted, up to a number that no run reaches.
-pub fn read_input<R: Read>(reader: &mut R, buffer: &mut [u8]) -> std::io::Result<usize>
+pub fn read_input<R: Read>(reader: &mut R, buffer: &mut [u8]) -> Result<usize, Cut>
     requires { length buffer.old ≡ 16384 }
-    ensures { IfOk result (λ kept. IsPrefixLen kept buffer.new) }
+    ensures whole { IfOk result (λ kept. IsPrefixLen kept buffer.new) }
+    ensures cut { IfErr result (λ cut. IsPrefixLen cut.kept buffer.new) }
 {
     let mut kept = 0;
     for _ in 0..u64::MAX {
-        match read_behind(reader, buffer, kept)? {
-            0 => break,
-            piece => kept = keep(buffer, kept, piece),
+        match read_behind(reader, buffer, kept) {
+            Ok(0) => break,
+            Ok(piece) => kept = keep(buffer, kept, piece),
+            Err(_) => return Err(Cut { kept }),
         }
     }
     Ok(kept)
