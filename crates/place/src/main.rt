@@ -6,7 +6,7 @@ use format::header::LARGEST;
 
 fn main(rt: HostRuntime) {
     let mut buffer = [0u8; 16384];
-    let Ok(kept) = streams::read_input(&mut rt.stdin(), &mut buffer) else {
+    let Ok(kept) = streams::read_or_cut(&mut rt.stdin(), &mut buffer) else {
         streams::write_bytes(&rt.stderr(), b"place: standard input cannot be read\n");
         return;
     };

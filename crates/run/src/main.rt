@@ -18,7 +18,7 @@ use running::run;
 use std::env::{Env, FillError};
 use std::fs::{File, Files};
 use std::str::from_utf8;
-use streams::{Cut, read_input, write_bytes, write_refused};
+use streams::{Cut, read_or_cut, write_bytes, write_refused};
 
 // Opens the file that an argument names. An argument that is missing, too long for a path or no text counts as the empty one, which names no file.
 fn open_argument<R: Env + Files>(rt: &R, i: usize) -> std::io::Result<R::File> {
@@ -34,7 +34,7 @@ fn load_file<R: Env + Files>(rt: &R, buffer: &mut [u8]) -> Result<usize, Cut>
     ensures cut { IfErr result (λ cut. IsPrefixLen cut.kept buffer.new) }
 {
     match open_argument(rt, 1) {
-        Ok(mut file) => read_input(&mut file, buffer),
+        Ok(mut file) => read_or_cut(&mut file, buffer),
         Err(_) => Err(Cut { kept: 0 }),
     }
 }

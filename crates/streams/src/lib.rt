@@ -40,13 +40,28 @@ pub fn keep(buffer: &[u8], kept: usize, piece: usize) -> usize
     reading::long::enough(kept + piece)
 }
 
-// Reads an input to its end, of whatever length; the answer is how many bytes at the start of the buffer stand for it
-// or, where a read failed, how many were kept. Each piece is read behind what is kept, and of both enough is kept; of an
-// input longer than any file the start stays, and what comes is read over the rest of the buffer again and again.
-// That what is kept has the answer of the whole input is `stands_check` of checking/proofs/CheckLaws, `stands_placed` of
-// placing/proofs/PlaceLaws, and `stands_run` and `stands_over` of running/proofs/StandLaws.
+// Reads an input to its end, of whatever length; the answer is how many bytes at the start of the buffer stand for it,
+// or why a read failed. Each piece is read behind what is kept, and of both enough is kept; of an input longer than any
+// file the start stays, and what comes is read over the rest of the buffer again and again. That what is kept has the
+// answer of the whole input is `stands_check` of checking/proofs/CheckLaws, `stands_placed` of placing/proofs/PlaceLaws,
+// and `stands_run` and `stands_over` of running/proofs/StandLaws.
 // A loop has to end, so the reads are counted, up to a number that no run reaches.
-pub fn read_input<R: Read>(reader: &mut R, buffer: &mut [u8]) -> Result<usize, Cut>
+pub fn read_input<R: Read>(reader: &mut R, buffer: &mut [u8]) -> std::io::Result<usize>
+    requires { length buffer.old ≡ 16384 }
+    ensures { IfOk result (λ kept. IsPrefixLen kept buffer.new) }
+{
+    let mut kept = 0;
+    for _ in 0..u64::MAX {
+        match read_behind(reader, buffer, kept)? {
+            0 => break,
+            piece => kept = keep(buffer, kept, piece),
+        }
+    }
+    Ok(kept)
+}
+
+// Reads an input like `read_input`; where a read failed, the answer is how many bytes were kept, and not why.
+pub fn read_or_cut<R: Read>(reader: &mut R, buffer: &mut [u8]) -> Result<usize, Cut>
     requires { length buffer.old ≡ 16384 }
     ensures whole { IfOk result (λ kept. IsPrefixLen kept buffer.new) }
     ensures cut { IfErr result (λ cut. IsPrefixLen cut.kept buffer.new) }
@@ -72,4 +87,49 @@ pub fn write_refused(out: &impl Print, number: u16, place: u16) {
     let mut line = [0u8; 20];
     let length = refused_line(number, place, &mut line);
     write_bytes(out, &line[..length]);
+}
+
+#[cfg(test)]
+mod tests {
+    use super::*;
+    use std::io::{Error, ErrorKind};
+    use std::test::Fail;
+
+    // So many bytes, and then a read that fails.
+    #[derive(Drop)]
+    struct Failing(usize);
+
+    impl Read for Failing {
+        fn read(&mut self, buf: &mut [u8]) -> std::io::Result<usize> {
+            if self.0 == 0 {
+                return Err(Error::from(ErrorKind::TimedOut));
+            }
+            let n = self.0.min(buf.len());
+            self.0 -= n;
+            Ok(n)
+        }
+    }
+
+    #[test]
+    fn an_input_is_read_to_its_end(rt: HostRuntime) -> Result<(), Fail> {
+        let mut buffer = [0; 16384];
+        let mut input: &[u8] = b"a clinic file";
+        let kept = read_input(&mut input, &mut buffer)?;
+        assert_eq!(rt; &buffer[..kept], b"a clinic file".as_slice());
+        Ok(())
+    }
+
+    #[test]
+    fn a_failed_read_says_why(rt: HostRuntime) {
+        let mut buffer = [0; 16384];
+        let answer = read_input(&mut Failing(5), &mut buffer);
+        assert_eq!(rt; answer.map_err(|e| e.kind()), Err(ErrorKind::TimedOut));
+    }
+
+    #[test]
+    fn a_failed_read_says_how_many_bytes_were_kept(rt: HostRuntime) {
+        let mut buffer = [0; 16384];
+        let answer = read_or_cut(&mut Failing(5), &mut buffer);
+        assert_eq!(rt; answer.map_err(|cut| cut.kept), Err(5));
+    }
 }
