@@ -97,15 +97,17 @@ mod tests {
 
     // So many bytes, and then a read that fails.
     #[derive(Drop)]
-    struct Failing(usize);
+    struct Failing {
+        left: usize,
+    }
 
     impl Read for Failing {
         fn read(&mut self, buf: &mut [u8]) -> std::io::Result<usize> {
-            if self.0 == 0 {
+            if self.left == 0 {
                 return Err(Error::from(ErrorKind::TimedOut));
             }
-            let n = self.0.min(buf.len());
-            self.0 -= n;
+            let n = self.left.min(buf.len());
+            self.left -= n;
             Ok(n)
         }
     }
@@ -122,14 +124,14 @@ mod tests {
     #[test]
     fn a_failed_read_says_why(rt: HostRuntime) {
         let mut buffer = [0; 16384];
-        let answer = read_input(&mut Failing(5), &mut buffer);
+        let answer = read_input(&mut Failing { left: 5 }, &mut buffer);
         assert_eq!(rt; answer.map_err(|e| e.kind()), Err(ErrorKind::TimedOut));
     }
 
     #[test]
     fn a_failed_read_says_how_many_bytes_were_kept(rt: HostRuntime) {
         let mut buffer = [0; 16384];
-        let answer = read_or_cut(&mut Failing(5), &mut buffer);
+        let answer = read_or_cut(&mut Failing { left: 5 }, &mut buffer);
         assert_eq!(rt; answer.map_err(|cut| cut.kept), Err(5));
     }
 }
